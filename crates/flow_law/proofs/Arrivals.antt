@@ -9,7 +9,7 @@ use Rattle.link_table.specs.declared.destination.Fate.TheVariants as fate
 use Rattle.flow_law.specs.View.{View, Packet, Queued, Kind, is_request, is_refusal}
 use Rattle.flow_law.specs.Moves.{Move, New, CanNote, CanQueue, CanFree, CanTakeMessage, CanGiveUp, Brings, IsLost, IsTold, IsRefusal, Either, with_answer, with_fate, queued_text, view_moved}
 use Rattle.flow_law.specs.Invariant.{Invariant, Begun, Carried, Held, Gone, Busy, Lost, FateSays, Fated}
-use Rattle.flow_law.proofs.Clauses.{idle_new, idle_queue, dead_fits, shut_new, shut_queue, noted, begun_itself, new_too, one_there}
+use Rattle.flow_law.proofs.Clauses.{idle_new, idle_queue, dead_fits, shut_new, shut_queue, noted, begun_itself, new_too, one_there, not_taken_fits}
 
 -- ---- kinds
 
@@ -164,16 +164,23 @@ brought v t x Kind.Rfnm answer.Rfnm is brings tx awaited h =
 brought v t x Kind.Dead answer.Dead is brings tx awaited h =
     let g : Gone v.to_up v.kept v.queue v.box t = h.dead x tx (ap is_refusal is) awaited in
     record { fits = g.waiting; unread = g.unread; none = g.none }
+brought v t x Kind.Never answer.NotTaken is brings tx awaited h =
+    let g : Gone v.to_up v.kept v.queue v.box t = h.dead x tx (ap is_refusal is) awaited in
+    record { fits = not_taken_fits v.box g.waiting; unread = g.unread; none = g.none }
 brought v t x Kind.Data answer.Rfnm is brings tx awaited h = absurd brings
 brought v t x Kind.Data answer.Dead is brings tx awaited h = absurd brings
 brought v t x Kind.Data answer.Incomplete is brings tx awaited h = absurd brings
+brought v t x Kind.Data answer.NotTaken is brings tx awaited h = absurd brings
 brought v t x Kind.Rfnm answer.Dead is brings tx awaited h = absurd brings
 brought v t x Kind.Rfnm answer.Incomplete is brings tx awaited h = absurd brings
+brought v t x Kind.Rfnm answer.NotTaken is brings tx awaited h = absurd brings
 brought v t x Kind.Dead answer.Rfnm is brings tx awaited h = absurd brings
 brought v t x Kind.Dead answer.Incomplete is brings tx awaited h = absurd brings
+brought v t x Kind.Dead answer.NotTaken is brings tx awaited h = absurd brings
 brought v t x Kind.Ask answer.Rfnm is brings tx awaited h = absurd brings
 brought v t x Kind.Ask answer.Dead is brings tx awaited h = absurd brings
 brought v t x Kind.Ask answer.Incomplete is brings tx awaited h = absurd brings
+brought v t x Kind.Ask answer.NotTaken is brings tx awaited h = absurd brings
 brought v t x Kind.Never answer.Rfnm is brings tx awaited h = absurd brings
 brought v t x Kind.Never answer.Dead is brings tx awaited h = absurd brings
 brought v t x Kind.Never answer.Incomplete is brings tx awaited h = absurd brings

@@ -64,6 +64,11 @@ taken_not_waiting (Box.Taken p t) place text fits is = absurd (cc)
 pub dead_fits : (box : Box) (place : ℕ) (text : List Bool) → box ≡ Box.Waiting place text → Fits answer.Dead box
 dead_fits box place text is = subst (λ (b : Box). Fits answer.Dead b) (sym is) tt
 
+pub not_taken_fits : (box : Box) → Fits answer.Dead box → Fits answer.NotTaken box
+not_taken_fits Box.Empty fits = absurd fits
+not_taken_fits (Box.Waiting place text) fits = tt
+not_taken_fits (Box.Taken place text) fits = absurd fits
+
 -- nothing is new while the message was taken
 pub shut_new : {Piece : List Bool → Packet → Type 0} (v : View) (t : Packet → Type 0) → Invariant Piece v t → Fits answer.Rfnm v.box → (x : Packet) → t x → New v.to_up v.kept x → ⊥
 shut_new v t h fits x tx new = let c : Carried _ v.box v.queue x = h.carried x tx new in taken_not_waiting v.box c.place c.text fits c.waits

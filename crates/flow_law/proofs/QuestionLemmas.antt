@@ -1,9 +1,10 @@
 -- Machines that ask, tell or forget what is asked for where they shouldn't.
-use Rattle.std.proofs.Common.{[], inl, refl}
+use Rattle.std.proofs.Common.{[], ◌∷◌, inl, refl}
 use Rattle.flow_law.specs.View.{Kind}
-use Rattle.flow_law.specs.Counterexamples.{Breaks, dead_of, rfnm_of, ask_of, second, ReturnsAwaited, returns_awaited, ForgetsAwaited, forgets_awaited, AsksAnything, asks_anything, RepliesToNothing, replies_to_nothing, RepliesToAny, replies_to_any, RepliesFalsely, replies_falsely}
+use Rattle.flow_law.specs.Example.{first_text}
+use Rattle.flow_law.specs.Counterexamples.{Breaks, data_of, dead_of, rfnm_of, never_of, ask_of, second, ReturnsAwaited, returns_awaited, ForgetsAwaited, forgets_awaited, AsksAnything, asks_anything, RepliesToNothing, replies_to_nothing, RepliesToAny, replies_to_any, RepliesFalsely, replies_falsely, NeverOfWaiting, never_of_waiting, NeverOfTaken, never_of_taken, NeverUnnoted, never_unnoted}
 use Rattle.flow_law.proofs.Clauses.{none_there}
-use Rattle.flow_law.proofs.Left.{first_there, left_none, left_old, left_made}
+use Rattle.flow_law.proofs.Left.{first_there, second_there, left_none, left_old, left_made, left_both}
 use Rattle.flow_law.proofs.ExampleLemmas.{new_at_first}
 use Rattle.flow_law.proofs.CounterexampleLemmas.{answer_only, second_is_other}
 
@@ -12,9 +13,9 @@ returns_awaited_breaks = record {
   history = (
     record { needs = refl; left = left_none _ _ },
     (
-      record { needs = record { there = first_there (dead_of 0) []; brings = tt; awaited = refl }; left = left_none _ _ },
+      record { needs = record { there = first_there (never_of 0) []; brings = tt; awaited = refl }; left = left_none _ _ },
       (
-        record { needs = (record { there = first_there (ask_of 0) []; new = new_at_first (ask_of 0) refl }, tt); left = left_made _ _ (dead_of 0) (record { refusal = refl; number = refl }) },
+        record { needs = (record { there = first_there (ask_of 0) []; new = new_at_first (ask_of 0) refl }, tt); left = left_made _ _ (never_of 0) (record { refusal = refl; number = refl }) },
         (
           record { needs = refl; left = left_made _ _ (ask_of 0) (record { kind = refl; number = refl }) },
           (
@@ -42,9 +43,9 @@ forgets_awaited_breaks = record {
   history = (
     record { needs = refl; left = left_none _ _ },
     (
-      record { needs = record { there = first_there (dead_of 0) []; brings = tt; awaited = refl }; left = left_none _ _ },
+      record { needs = record { there = first_there (never_of 0) []; brings = tt; awaited = refl }; left = left_none _ _ },
       (
-        record { needs = (record { there = first_there (ask_of 0) []; new = new_at_first (ask_of 0) refl }, tt); left = left_made _ _ (dead_of 0) (record { refusal = refl; number = refl }) },
+        record { needs = (record { there = first_there (ask_of 0) []; new = new_at_first (ask_of 0) refl }, tt); left = left_made _ _ (never_of 0) (record { refusal = refl; number = refl }) },
         (
           record { needs = refl; left = left_made _ _ (ask_of 0) (record { kind = refl; number = refl }) },
           (
@@ -71,13 +72,13 @@ asks_anything_breaks = record {
     (
       record { needs = record { destination = refl; waits = refl }; left = left_none _ _ },
       (
-        record { needs = record { there = first_there (dead_of 0) []; brings = tt; awaited = refl }; left = left_none _ _ },
+        record { needs = record { there = first_there (never_of 0) []; brings = tt; awaited = refl }; left = left_none _ _ },
         (
           record { needs = record { offer = record { source = refl; idle = refl; answered = refl }; free = λ last is. absurd (cc); unkept = λ is. absurd (cc) }; left = λ x there. inl there },
           (
-            record { needs = record { no_request = answer_only Kind.Dead refl; idle = refl }; left = λ x there. inl there },
+            record { needs = record { no_request = answer_only Kind.Never refl; idle = refl }; left = λ x there. inl there },
             (
-              record { needs = (record { there = first_there (ask_of 0) []; new = new_at_first (ask_of 0) refl }, tt); left = left_made _ _ (dead_of 0) (record { refusal = refl; number = refl }) },
+              record { needs = (record { there = first_there (ask_of 0) []; new = new_at_first (ask_of 0) refl }, tt); left = left_made _ _ (never_of 0) (record { refusal = refl; number = refl }) },
               (
                 record { needs = tt; left = left_made _ _ (ask_of 0) (record { kind = refl; number = refl }) },
                 tt,
@@ -175,6 +176,93 @@ replies_falsely_breaks = record {
             (
               record { needs = record { offer = record { source = refl; idle = refl; answered = refl }; free = λ last is. absurd (cc); unkept = λ is. absurd (cc) }; left = λ x there. inl there },
               tt,
+            ),
+          ),
+        ),
+      ),
+    ),
+  );
+  broken = λ run. absurd run.0.1;
+}
+
+pub never_of_waiting_breaks : Breaks NeverOfWaiting never_of_waiting
+never_of_waiting_breaks = record {
+  history = (
+    record { needs = refl; left = left_none _ _ },
+    (
+      record { needs = record { there = first_there (never_of 0) []; brings = tt; awaited = refl }; left = left_none _ _ },
+      (
+        record { needs = record { destination = refl; waits = refl }; left = λ x there. inl there },
+        (
+          record { needs = (refl, first_there (ask_of 0) [], refl, refl, refl); left = left_made _ _ (never_of 0) (record { kind = refl; number = refl }) },
+          (
+            record { needs = refl; left = left_made _ _ (ask_of 0) (record { kind = refl; number = refl }) },
+            (
+              record { needs = record { offer = record { source = refl; idle = refl; answered = refl }; free = λ last is. absurd (cc); unkept = λ is. absurd (cc) }; left = λ x there. inl there },
+              tt,
+            ),
+          ),
+        ),
+      ),
+    ),
+  );
+  broken = λ run. absurd run.0.1;
+}
+
+pub never_of_taken_breaks : Breaks NeverOfTaken never_of_taken
+never_of_taken_breaks = record {
+  history = (
+    record { needs = refl; left = left_none _ _ },
+    (
+      record { needs = record { there = first_there (never_of 0) []; brings = tt; awaited = refl }; left = left_none _ _ },
+      (
+        record { needs = (refl, first_there (ask_of 0) [], refl, refl, refl); left = left_made _ _ (never_of 0) (record { kind = refl; number = refl }) },
+        (
+          record { needs = refl; left = left_made _ _ (ask_of 0) (record { kind = refl; number = refl }) },
+          (
+            record { needs = record { destination = refl; waits = refl }; left = left_none _ _ },
+            (
+              record { needs = record { offer = record { source = refl; idle = refl; answered = refl }; free = λ last is. absurd (cc); unkept = λ is. absurd (cc) }; left = λ x there. inl there },
+              tt,
+            ),
+          ),
+        ),
+      ),
+    ),
+  );
+  broken = λ run. absurd run.0.1;
+}
+
+pub never_unnoted_breaks : Breaks NeverUnnoted never_unnoted
+never_unnoted_breaks = record {
+  history = (
+    record { needs = refl; left = left_none _ _ },
+    (
+      record { needs = record { there = first_there (never_of 0) []; brings = tt; awaited = refl }; left = left_none _ _ },
+      (
+        record { needs = record { destination = refl; waits = refl }; left = λ x there. inl there },
+        (
+          record {
+            needs = record {
+              note = record { there = second_there (never_of 0) (data_of 0 first_text) []; new = new_at_first (data_of 0 first_text) refl };
+              joined = λ whole all. all (data_of 0 first_text) (second_there (never_of 0) (data_of 0 first_text) []) refl refl;
+            };
+            left = left_old _ _ (never_of 0) (first_there (never_of 0) (data_of 0 first_text ∷ []));
+          },
+          (
+            record {
+              needs = (record { there = first_there (ask_of 0) (data_of 0 first_text ∷ []); new = new_at_first (ask_of 0) refl }, refl);
+              left = left_both _ _ (never_of 0) (data_of 0 first_text) (record { kind = refl; number = refl }) (second_there (ask_of 0) (data_of 0 first_text) []);
+            },
+            (
+              record { needs = refl; left = left_both _ _ (ask_of 0) (data_of 0 first_text) (record { kind = refl; number = refl }) (first_there (data_of 0 first_text) []) },
+              (
+                record {
+                  needs = record { offer = record { source = refl; idle = refl; answered = refl }; free = λ last is. absurd (cc); unkept = λ is. absurd (cc) };
+                  left = left_made _ _ (data_of 0 first_text) (record { data_packet = refl; number = refl; piece = refl });
+                },
+                tt,
+              ),
             ),
           ),
         ),

@@ -38,6 +38,9 @@ rfnm_of = answer_packet Kind.Rfnm
 abbrev pub dead_of : ℕ → Packet
 dead_of = answer_packet Kind.Dead
 
+abbrev pub never_of : ℕ → Packet
+never_of = answer_packet Kind.Never
+
 -- a question about the message of this number
 abbrev pub ask_of : ℕ → Packet
 ask_of = answer_packet Kind.Ask
@@ -373,7 +376,7 @@ returns_alive =
     ∷ begun
     ∷ []
 
--- it comes up while a message is outstanding that was taken: a question of it is new, and the source is told Dead
+-- it comes up while a message is outstanding that was taken: a question of it is new, and the source is told NotTaken
 abbrev pub ReturnsAwaited : Machine
 ReturnsAwaited Move.StartTo v alive = (x : Packet) → alive x → is_request x.kind ≡ true → ⊥
 ReturnsAwaited m v alive = Needs InOnePacket m v alive
@@ -381,9 +384,9 @@ ReturnsAwaited m v alive = Needs InOnePacket m v alive
 -- the outstanding message is asked for, noted as never come, and its source is told so
 abbrev pub told_never : List FlowTurn → List FlowTurn
 told_never turns =
-    turn (Move.TakeAnswer answer.Dead []) []
-    ∷ turn (Move.Freed (dead_of 0) answer.Dead) []
-    ∷ turn (Move.NoteGone (ask_of 0) fate.Never) (dead_of 0 ∷ [])
+    turn (Move.TakeAnswer answer.NotTaken []) []
+    ∷ turn (Move.Freed (never_of 0) answer.NotTaken) []
+    ∷ turn (Move.NoteGone (ask_of 0) fate.Never) (never_of 0 ∷ [])
     ∷ turn (Move.Asks 0) (ask_of 0 ∷ [])
     ∷ turns
 
@@ -455,12 +458,12 @@ AsksAnything m v alive = Needs InOnePacket m v alive
 
 abbrev pub asks_anything : List FlowTurn
 asks_anything =
-    turn (Move.TakeAnswer answer.Dead []) []
+    turn (Move.TakeAnswer answer.NotTaken []) []
     ∷ taken_turn []
-    ∷ turn (Move.Freed (dead_of 0) answer.Dead) []
-    ∷ turn (Move.BeginLocal 0 first_text) (dead_of 0 ∷ [])
-    ∷ turn Move.Forget (dead_of 0 ∷ [])
-    ∷ turn (Move.NoteGone (ask_of 0) fate.Never) (dead_of 0 ∷ [])
+    ∷ turn (Move.Freed (never_of 0) answer.NotTaken) []
+    ∷ turn (Move.BeginLocal 0 first_text) (never_of 0 ∷ [])
+    ∷ turn Move.Forget (never_of 0 ∷ [])
+    ∷ turn (Move.NoteGone (ask_of 0) fate.Never) (never_of 0 ∷ [])
     ∷ turn (Move.Asks 0) (ask_of 0 ∷ [])
     ∷ []
 
@@ -518,4 +521,50 @@ replies_falsely =
     ∷ turn (Move.Reply (ask_of 0) Kind.Dead) (dead_of 0 ∷ [])
     ∷ turn (Move.Asks 0) (ask_of 0 ∷ [])
     ∷ begun_local
+    ∷ []
+
+-- a question is answered by Never while its message waits: it is taken after that
+abbrev pub NeverOfWaiting : Machine
+NeverOfWaiting (Move.Reply x told) v alive = (v.to_up ≡ true) × alive x × (v.kept ≡ Some x.number) × (v.fate ≡ fate.Waits) × (told ≡ Kind.Never)
+NeverOfWaiting m v alive = Needs InOnePacket m v alive
+
+abbrev pub never_of_waiting : List FlowTurn
+never_of_waiting =
+    turn (Move.TakeAnswer answer.NotTaken []) []
+    ∷ turn (Move.Freed (never_of 0) answer.NotTaken) []
+    ∷ taken_turn (never_of 0 ∷ [])
+    ∷ turn (Move.Reply (ask_of 0) Kind.Never) (never_of 0 ∷ [])
+    ∷ turn (Move.Asks 0) (ask_of 0 ∷ [])
+    ∷ begun_local
+    ∷ []
+
+-- a question is answered by Never though its message was taken
+abbrev pub NeverOfTaken : Machine
+NeverOfTaken (Move.Reply x told) v alive = (v.to_up ≡ true) × alive x × (v.kept ≡ Some x.number) × (v.fate ≡ fate.Taken) × (told ≡ Kind.Never)
+NeverOfTaken m v alive = Needs InOnePacket m v alive
+
+abbrev pub never_of_taken : List FlowTurn
+never_of_taken =
+    turn (Move.TakeAnswer answer.NotTaken []) []
+    ∷ turn (Move.Freed (never_of 0) answer.NotTaken) []
+    ∷ turn (Move.Reply (ask_of 0) Kind.Never) (never_of 0 ∷ [])
+    ∷ turn (Move.Asks 0) (ask_of 0 ∷ [])
+    ∷ taken_turn []
+    ∷ begun_local
+    ∷ []
+
+-- a question about a new number is answered by Never, and the number isn't noted: the message is made whole and taken after that
+abbrev pub NeverUnnoted : Machine
+NeverUnnoted (Move.Reply x told) v alive = CanNote v alive x × (told ≡ Kind.Never)
+NeverUnnoted m v alive = Needs InOnePacket m v alive
+
+abbrev pub never_unnoted : List FlowTurn
+never_unnoted =
+    turn (Move.TakeAnswer answer.NotTaken []) []
+    ∷ turn (Move.Freed (never_of 0) answer.NotTaken) []
+    ∷ taken_turn (never_of 0 ∷ [])
+    ∷ turn (Move.Whole (data_of 0 first_text) first_text) (never_of 0 ∷ [])
+    ∷ turn (Move.Reply (ask_of 0) Kind.Never) (never_of 0 ∷ data_of 0 first_text ∷ [])
+    ∷ turn (Move.Asks 0) (ask_of 0 ∷ data_of 0 first_text ∷ [])
+    ∷ begun
     ∷ []

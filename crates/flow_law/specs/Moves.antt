@@ -73,6 +73,7 @@ pub record New (to_up : Bool) (kept : Option ℕ) (x : Packet) : Type 0 where
 abbrev pub Brings : Kind → Answer → Type 0
 Brings Kind.Rfnm answer.Rfnm = Unit {0}
 Brings Kind.Dead answer.Dead = Unit {0}
+Brings Kind.Never answer.NotTaken = Unit {0}
 Brings kind told = ⊥
 
 -- the message of this number met this fate, if that number is the one noted last

@@ -14,6 +14,7 @@ ghost use Rattle.flow_law.specs.Counterexamples.{StartsAlive, starts_alive, Star
 ghost use Rattle.flow_law.specs.Counterexamples.{GivesUpNothing, gives_up_nothing, GivesUpAlive, gives_up_alive, GivesUpQueued, gives_up_queued};
 ghost use Rattle.flow_law.specs.Counterexamples.{ReturnsAwaited, returns_awaited, ForgetsAwaited, forgets_awaited, AsksAnything, asks_anything};
 ghost use Rattle.flow_law.specs.Counterexamples.{RepliesToNothing, replies_to_nothing, RepliesToAny, replies_to_any, RepliesFalsely, replies_falsely};
+ghost use Rattle.flow_law.specs.Counterexamples.{NeverOfWaiting, never_of_waiting, NeverOfTaken, never_of_taken, NeverUnnoted, never_unnoted};
 
 /// Each need of an offer counts: a machine that lacks it alone has a history that its mailbox doesn't
 /// allow.
@@ -131,4 +132,9 @@ pub fn needs_of_questions()
 
     // or that isn't true
     ensures replies_falsely { Breaks RepliesFalsely replies_falsely }
+
+    // that the message never came is told while it waits, after it was taken, or without its number being noted
+    ensures never_of_waiting { Breaks NeverOfWaiting never_of_waiting }
+    ensures never_of_taken { Breaks NeverOfTaken never_of_taken }
+    ensures never_unnoted { Breaks NeverUnnoted never_unnoted }
 {}

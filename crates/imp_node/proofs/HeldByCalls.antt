@@ -1,5 +1,5 @@
 -- A property of every packet, over each call of an IMP.
-use Rattle.std.proofs.Common.{◌≡◌, ℕ, zero, suc, ◌+◌, replicate, Bool, true, false, List, [], ◌∷◌, ◌++◌, Result, Ok, Err, refl, cond, subst, sym, All, Contains, map, ◌==◌}
+use Rattle.std.proofs.Common.{◌≡◌, ℕ, zero, suc, ◌+◌, replicate, Bool, true, false, List, [], ◌∷◌, ◌++◌, Option, Some, None, Result, Ok, Err, refl, cond, subst, sym, All, Contains, map, ◌==◌}
 use Rattle.std.specs.FinMap as finite
 use Rattle.std.specs.List.{flat_map}
 use Rattle.std.proofs.lemmas.List.Elements.{All-nil, All-cons, All-head, All-tail, All-append, All-set, All-map, All-replicate, All-weaker, All-contains_itself, Contains-append_left, Contains-append_right}
@@ -32,12 +32,14 @@ use Rattle.imp_node.specs.State.{State, ImpTurn, opening_node, up_port, host_at,
 use Rattle.imp_node.specs.Pump.{pump, stored}
 use Rattle.imp_node.specs.Flows.{freed, answered_by, answer_queued, answer_packet, next_number, fated}
 use Rattle.imp_node.specs.Offering.{Way, Nowhere, Here, Away, way_of, offered, from_host}
-use Rattle.imp_node.specs.Arrival.{Arrival, Passing, Old, Undeliverable, Piece, NoSlot, Whole, Unmarked, Answering, arrival, arrival_has_room, arrived, frame_taken, acknowledged, vector_heard, ignored, fresh, taken_frame, from_line}
+use Rattle.imp_node.specs.Arrival.{Arrival, Passing, Old, Undeliverable, Replying, Piece, NoSlot, Whole, Unmarked, Answering, arrival, arrival_has_room, arrived, frame_taken, acknowledged, vector_heard, ignored, fresh, taken_frame, from_line}
 use Rattle.imp_node.specs.Taking.{is_from_here, reply_has_room, replied, taken_by, to_host}
 use Rattle.imp_node.specs.Lines.{resent_by, resent_from, resend, told_by, told_from, route, end_down, end_up, on_port}
+use Rattle.imp_node.specs.Queries.{outstanding}
+use Rattle.imp_node.specs.Asking.{asked_by, ask}
 use Rattle.imp_node.specs.Stopping.{give_up, forget, abandon, message_returned, all_returned, stopped, host_down, host_up}
 use Rattle.imp_node.specs.Contents.{packets_in_channels, packets}
-use Rattle.imp_node.specs.Making.{Leaves, cut_for, from_host_makes, dead_for, from_line_makes, reply_for, rfnm_for, to_host_makes, host_down_makes}
+use Rattle.imp_node.specs.Making.{Leaves, cut_for, from_host_makes, told_for, from_line_makes, reply_for, rfnm_for, to_host_makes, question_for, ask_makes, host_down_makes}
 use Rattle.imp_node.proofs.Held.{PortHas, OutgoingHas, Has, TurnHas, has_packets, turn_has, port_has, pump_has, quiet_has, stored_has, answered_has, added_has, without_has}
 
 -- ---- from_host
@@ -62,29 +64,30 @@ taken_has P k f s h = record {
 acknowledged_has : (P : PacketFields → Type 0) (k : ℕ) (s : State) → All (OutgoingHas P) (acknowledged k s)
 acknowledged_has P k s = All-cons (OutgoingHas P) _ [] tt (All-nil (OutgoingHas P))
 
-arrived_has : (P : PacketFields → Type 0) (a : Arrival) (p : PacketFields) (s : State) → Has P s → P p → All P (dead_for a p) → Has P (arrived a p s)
-arrived_has P Passing p s h here dead = stored_has P p s here h
-arrived_has P Old p s h here dead = h
-arrived_has P Undeliverable p s h here dead =
-    stored_has P (answer_packet kind.Dead (flow_of p) p.number) _ (All-head P _ [] dead)
+arrived_has : (P : PacketFields → Type 0) (a : Arrival) (p : PacketFields) (s : State) → Has P s → P p → All P (told_for a p) → Has P (arrived a p s)
+arrived_has P Passing p s h here made = stored_has P p s here h
+arrived_has P Old p s h here made = h
+arrived_has P (Undeliverable new told) p s h here made =
+    stored_has P (answer_packet told (flow_of p) p.number) _ (All-head P _ [] made)
     (record { store = h.store; lines = h.lines; slots = without_has P (flow_of p) s.slots h.slots })
-arrived_has P Piece p s h here dead = record { store = h.store; lines = h.lines; slots = added_has P p s.slots here h.slots }
-arrived_has P NoSlot p s h here dead = h
-arrived_has P (Whole text) p s h here dead = record { store = h.store; lines = h.lines; slots = added_has P p s.slots here h.slots }
-arrived_has P Unmarked p s h here dead = record { store = h.store; lines = h.lines; slots = added_has P p s.slots here h.slots }
-arrived_has P (Answering kind) p s h here dead = answered_has P (release_in p.number (finite.get s.sources (flow_of p))) kind (flow_of p) p.number s h
+arrived_has P (Replying told) p s h here made = stored_has P (answer_packet told (flow_of p) p.number) s (All-head P _ [] made) h
+arrived_has P Piece p s h here made = record { store = h.store; lines = h.lines; slots = added_has P p s.slots here h.slots }
+arrived_has P NoSlot p s h here made = h
+arrived_has P (Whole text) p s h here made = record { store = h.store; lines = h.lines; slots = added_has P p s.slots here h.slots }
+arrived_has P Unmarked p s h here made = record { store = h.store; lines = h.lines; slots = added_has P p s.slots here h.slots }
+arrived_has P (Answering kind) p s h here made = answered_has P (release_in p.number (finite.get s.sources (flow_of p))) kind (flow_of p) p.number s h
 
 ignored_has : (P : PacketFields → Type 0) (s : State) → Has P s → TurnHas P (ignored s)
 ignored_has P s h = record { state = h; frames = All-nil (OutgoingHas P) }
 
-fresh_turn_has : (P : PacketFields → Type 0) (k : ℕ) (f : Frame) (p : PacketFields) (s : State) → Has P s → P p → All P (dead_for (arrival s p) p) → TurnHas P (fresh k f p s)
+fresh_turn_has : (P : PacketFields → Type 0) (k : ℕ) (f : Frame) (p : PacketFields) (s : State) → Has P s → P p → All P (told_for (arrival s p) p) → TurnHas P (fresh k f p s)
 fresh_turn_has P k f p s h here dead = at (arrival_has_room (arrival s p) s p) where
   at : (room : Bool) → TurnHas P (cond room (pump (acknowledged k (frame_taken k f s)) (arrived (arrival s p) p (frame_taken k f s))) (ignored s))
   at true = pump_has P (acknowledged k (frame_taken k f s)) (arrived (arrival s p) p (frame_taken k f s)) (acknowledged_has P k (frame_taken k f s)) (arrived_has P (arrival s p) p (frame_taken k f s) (taken_has P k f s h) here dead)
   at false = ignored_has P s h
 
 taken_frame_has : (P : PacketFields → Type 0) (answer : Result Received ChannelFault) (k : ℕ) (f : Frame) (s : State) → Has P s
-    → ((p : PacketFields) → answer ≡ Ok (received.Fresh p) → P p × All P (dead_for (arrival s p) p)) → TurnHas P (taken_frame answer k f s)
+    → ((p : PacketFields) → answer ≡ Ok (received.Fresh p) → P p × All P (told_for (arrival s p) p)) → TurnHas P (taken_frame answer k f s)
 taken_frame_has P (Ok (received.Fresh p)) k f s h brings = fresh_turn_has P k f p s h (brings p refl).0 (brings p refl).1
 taken_frame_has P (Ok received.Repeat) k f s h brings = pump_has P (acknowledged k (frame_taken k f s)) (frame_taken k f s) (acknowledged_has P k (frame_taken k f s)) (taken_has P k f s h)
 taken_frame_has P (Ok received.AckOnly) k f s h brings = quiet_has P (frame_taken k f s) (taken_has P k f s h)
@@ -97,11 +100,11 @@ taken_frame_has P (Err fault) k f s h brings = ignored_has P s h
 abbrev pub Brings : (PacketFields → Type 0) → State → Frame → Type 0
 Brings P s f = All P (from_line_makes s f)
 
-brought_has : (P : PacketFields → Type 0) (s : State) (f : Frame) (p : PacketFields) → carried_by f.content ≡ p ∷ [] → Brings P s f → P p × All P (dead_for (arrival s p) p)
+brought_has : (P : PacketFields → Type 0) (s : State) (f : Frame) (p : PacketFields) → carried_by f.content ≡ p ∷ [] → Brings P s f → P p × All P (told_for (arrival s p) p)
 brought_has P s f p is brings =
-    let whole : All P ((p ∷ dead_for (arrival s p) p) ++ []) = subst (λ (ps : List PacketFields). All P (flat_map (λ q. q ∷ dead_for (arrival s q) q) ps)) is brings in
-    let both : All P (p ∷ dead_for (arrival s p) p) = All_left P (p ∷ dead_for (arrival s p) p) [] whole in
-    (All-head P p (dead_for (arrival s p) p) both, All-tail P p (dead_for (arrival s p) p) both)
+    let whole : All P ((p ∷ told_for (arrival s p) p) ++ []) = subst (λ (ps : List PacketFields). All P (flat_map (λ q. q ∷ told_for (arrival s q) q) ps)) is brings in
+    let both : All P (p ∷ told_for (arrival s p) p) = All_left P (p ∷ told_for (arrival s p) p) [] whole in
+    (All-head P p (told_for (arrival s p) p) both, All-tail P p (told_for (arrival s p) p) both)
 
 pub from_line_has : (P : PacketFields → Type 0) (s : State) (k : ℕ) (f : Frame) → Has P s → Brings P s f → TurnHas P (from_line s k f)
 from_line_has P s k f h brings = at (port_at s.ports k).up where
@@ -213,6 +216,13 @@ end_up_has P s k h = quiet_has P _ (record {
 pub give_up_has : (P : PacketFields → Type 0) (s : State) (f : Flow) → Has P s → TurnHas P (give_up s f)
 give_up_has P s f h = quiet_has P _ (record { store = h.store; lines = h.lines; slots = h.slots })
 
+asked_has : (P : PacketFields → Type 0) (o : Option ℕ) (f : Flow) (s : State) → Has P s → All P (question_for o f) → Has P (asked_by o f s)
+asked_has P None f s h made = h
+asked_has P (Some n) f s h made = stored_has P (answer_packet kind.Ask f n) s (All-head P _ [] made) h
+
+pub ask_has : (P : PacketFields → Type 0) (s : State) (f : Flow) → Has P s → All P (ask_makes s f) → TurnHas P (ask s f)
+ask_has P s f h made = quiet_has P _ (asked_has P (outstanding s f) f s h made)
+
 pub forget_has : (P : PacketFields → Type 0) (s : State) (imp : ℕ) → Has P s → TurnHas P (forget s imp)
 forget_has P s imp h = quiet_has P _ (record { store = h.store; lines = h.lines; slots = h.slots })
 
@@ -263,6 +273,9 @@ end_up_leaves s k = leaves s [] (end_up s k) (λ h none. end_up_has (Contains (p
 
 pub give_up_leaves : (s : State) (f : Flow) → Leaves s [] (give_up s f)
 give_up_leaves s f = leaves s [] (give_up s f) (λ h none. give_up_has (Contains (packets s ++ [])) s f h)
+
+pub ask_leaves : (s : State) (f : Flow) → Leaves s (ask_makes s f) (ask s f)
+ask_leaves s f = leaves s (ask_makes s f) (ask s f) (ask_has (Contains (packets s ++ ask_makes s f)) s f)
 
 pub forget_leaves : (s : State) (imp : ℕ) → Leaves s [] (forget s imp)
 forget_leaves s imp = leaves s [] (forget s imp) (λ h none. forget_has (Contains (packets s ++ [])) s imp h)

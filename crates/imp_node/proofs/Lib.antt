@@ -3,7 +3,7 @@ pub mod HeldByCalls
 pub mod SideLemmas
 pub mod SidesOfCalls
 pub mod Sound
-pub mod Asking
+pub mod Queried
 pub mod Firsts
 pub mod Reading
 pub mod Sending
@@ -13,3 +13,4 @@ pub mod Arrivals
 pub mod Searching
 pub mod Spending
 pub mod lemmas
+pub mod SentFlow

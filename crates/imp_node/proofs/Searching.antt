@@ -17,7 +17,7 @@ use Rattle.imp_node.specs.declared.port.Port.{Port}
 use Rattle.imp_node.specs.declared.seeking.Sought.{Sought}
 use Rattle.imp_node.specs.State.{State, HostState}
 use Rattle.imp_node.specs.Contents.{packets_in_channels, messages}
-use Rattle.imp_node.specs.Queries.{is_data}
+use Rattle.imp_node.specs.Queries.{is_request}
 use Rattle.imp_node.specs.Inside.Seeking.{is_sought, packet_is, message_is, found}
 
 -- what is looked for in lists, one after another
@@ -43,7 +43,7 @@ slot_is q s = is_sought q true s.flow s.number
 
 piece_is : (q : Sought) (s : SlotState) (p : PacketFields) → IsPieceFor s.flow s.number p → packet_is q p ≡ slot_is q s
 piece_is q s p of =
-    ap (λ (kind : _). is_sought q (is_data kind) (flow_of p) p.number) of.data_kind
+    ap (λ (kind : _). is_sought q (is_request kind) (flow_of p) p.number) of.data_kind
     ∙ (ap (λ (f : Flow). is_sought q true f p.number) of.flow ∙ ap (λ (n : ℕ). is_sought q true s.flow n) of.same_number)
 
 or_itself : (a b c : Bool) → a ≡ c → b ≡ c → (a || b) ≡ c

@@ -1,5 +1,5 @@
 -- How each call moves the flows of an IMP.
-use Rattle.std.proofs.Common.{◌≡◌, ℕ, ◌<◌, zero, suc, Bool, true, false, not, List, [], ◌∷◌, length, get_or, set, Option, None, Result, Ok, Err, refl, ap, sym, ◌∙◌, subst, cond, ◌==◌, ◌⊎◌, inl, inr, eqb-true, eq-eqb, if◌then◌else◌}
+use Rattle.std.proofs.Common.{◌≡◌, ℕ, ◌<◌, zero, suc, Bool, true, false, not, List, [], ◌∷◌, length, get_or, set, Option, Some, None, Result, Ok, Err, refl, ap, sym, ◌∙◌, subst, cond, ◌==◌, ◌⊎◌, inl, inr, eqb-true, eq-eqb, if◌then◌else◌}
 use Rattle.std.proofs.lemmas.List.{get_or-set_same, get_or-set_other}
 use Rattle.std.specs.FinMap as finite
 use Rattle.std.proofs.lemmas.Bool.{cases_Bool}
@@ -8,9 +8,11 @@ use Rattle.leader1822.specs.declared.address.Flow.{Flow}
 use Rattle.leader1822.specs.declared.crossing.Answer.{Answer}
 use Rattle.leader1822.specs.declared.crossing.Answer.TheVariants as answer
 use Rattle.leader1822.specs.declared.message.HostMessage.{HostMessage}
-use Rattle.link_table.specs.Flows.{Sources, kept_in, last_in, outstanding_in, release_in, given_up, handed}
+use Rattle.link_table.specs.Flows.{Sources, kept_in, told_by, told_in, asked_in, last_in, outstanding_in, release_in, given_up, handed}
 use Rattle.link_table.specs.Keys.{is_from, drop_from}
 use Rattle.link_table.specs.Numbers.{is_new}
+use Rattle.link_table.specs.declared.destination.Asked.TheVariants as asked
+use Rattle.link_table.specs.declared.destination.Fate.{Fate}
 use Rattle.link_table.specs.declared.destination.Fate.TheVariants as fate
 use Rattle.link_table.specs.declared.destination.Noted.{Noted}
 use Rattle.link_table.specs.declared.source.Release.{Release}
@@ -35,14 +37,15 @@ use Rattle.imp_node.specs.State.{State, HostState, no_host, host_at, port_at, wi
 use Rattle.imp_node.specs.Room.{has_route}
 use Rattle.imp_node.specs.Pump.{pump, target, stored}
 use Rattle.imp_node.specs.Flows.{freed, answer_queued, next_number, with_begun, noted, fated, message_queued, answer_packet}
-use Rattle.imp_node.specs.Queries.{last, outstanding}
+use Rattle.imp_node.specs.Queries.{last, outstanding, is_request}
 use Rattle.imp_node.specs.Offering.{Way, Nowhere, Here, Away, way_of, offered, from_host}
-use Rattle.imp_node.specs.Arrival.{Arrival, Passing, Old, Undeliverable, Piece, NoSlot, Whole, Unmarked, Answering, piece_arrival, arrival_by, arrival, arrival_has_room, arrived, frame_taken, acknowledged, ignored, fresh, taken_frame, from_line}
+use Rattle.imp_node.specs.Arrival.{Arrival, Passing, Old, Undeliverable, Replying, Piece, NoSlot, Whole, Unmarked, Answering, piece_arrival, ask_arrival, arrival_by, arrival, arrival_has_room, arrived, frame_taken, acknowledged, ignored, fresh, taken_frame, from_line}
 use Rattle.imp_node.specs.Taking.{is_from_here, reply_has_room, replied, taken_by, to_host}
 use Rattle.imp_node.specs.Lines.{resend, route, end_down, end_up}
+use Rattle.imp_node.specs.Asking.{asked_by, ask}
 use Rattle.imp_node.specs.Stopping.{give_up, forget, abandon, all_handed, told_back, message_returned, stopped, host_up}
 use Rattle.imp_node.specs.Sides.{answers_of, messages_of, Sender, Receiver, sender, receiver, begun_with, ended_with, noted_with, fated_with, queued_with, Unmoved, AllUnmoved, Moved}
-use Rattle.imp_node.specs.Moves.{OfferMoves, AnswerMoves, MakesWhole, Tells, ArrivalSays, ArrivalMoves, FrameMoves, without_first, sender_told, TellingMoves, ReturningMoves, source_down, destination_down, source_up, destination_up, Becomes}
+use Rattle.imp_node.specs.Moves.{OfferMoves, AnswerMoves, MakesWhole, TellsFate, Tells, ArrivalSays, ArrivalMoves, FrameMoves, without_first, sender_told, TellingMoves, ReturningMoves, source_down, destination_down, source_up, destination_up, Becomes}
 use Rattle.imp_node.proofs.SideLemmas.{same_at, set_there, same_sender, same_receiver, told_moved, begun_moved, given_up_moved, ended_moved, freed_moved, stale_unmoved, fated_moved, noted_moved, queued_moved, queue_sender, queue_elsewhere, queue_here}
 
 -- ---- calls that move no flow
@@ -61,6 +64,13 @@ end_up_unmoved s k f = record { sender = refl; receiver = refl }
 
 pub abandon_unmoved : (s : State) (g : Flow) → AllUnmoved s (abandon s g).state
 abandon_unmoved s g f = record { sender = refl; receiver = refl }
+
+asked_unmoved : (o : Option ℕ) (g : Flow) (s : State) → AllUnmoved s (pump [] (asked_by o g s)).state
+asked_unmoved None g s f = record { sender = refl; receiver = refl }
+asked_unmoved (Some n) g s f = record { sender = refl; receiver = refl }
+
+pub ask_unmoved : (s : State) (g : Flow) → AllUnmoved s (ask s g).state
+ask_unmoved s g = asked_unmoved (outstanding s g) g s
 
 -- ---- from_host
 
@@ -112,19 +122,38 @@ give_up_moves s f = pumped_moved s (answer_queued answer.Incomplete f (record s 
 -- ---- what arrivals say
 
 data_says : (s : State) (p : PacketFields) (new up : Bool) (a : Added) → is_new (kept_in (finite.get s.kept (flow_of p))) p.number ≡ new → is_up s p.destination.host ≡ up → answer_of s.slots p ≡ a
-    → p.kind ≡ kind.Data → p.destination.imp ≡ number s → ArrivalSays (cond (not new) Old (cond (not up) Undeliverable (piece_arrival a))) s p
-data_says s p false up a is_n is_u is_a kind here = tt
-data_says s p true false a is_n is_u is_a kind here = (record { data_kind = kind; here = here; new = is_n }, is_u)
-data_says s p true true piece.Kept is_n is_u is_a kind here = (record { data_kind = kind; here = here; new = is_n }, is_a)
-data_says s p true true piece.Old is_n is_u is_a kind here = tt
-data_says s p true true piece.Full is_n is_u is_a kind here = (record { data_kind = kind; here = here; new = is_n }, is_a)
-data_says s p true true (piece.Whole body) is_n is_u is_a kind here = at (has_mark body) refl where
+    → p.kind ≡ kind.Data → p.destination.imp ≡ number s → ArrivalSays (cond (not new) Old (cond (not up) (Undeliverable fate.Dead kind.Dead) (piece_arrival a))) s p
+data_says s p false up a is_n is_u is_a data_kind here = tt
+data_says s p true false a is_n is_u is_a data_kind here = (record { request = ap is_request data_kind; here = here; new = is_n }, (refl, data_kind, is_u))
+data_says s p true true piece.Kept is_n is_u is_a data_kind here = (record { request = ap is_request data_kind; here = here; new = is_n }, data_kind, is_a)
+data_says s p true true piece.Old is_n is_u is_a data_kind here = tt
+data_says s p true true piece.Full is_n is_u is_a data_kind here = (record { request = ap is_request data_kind; here = here; new = is_n }, is_a)
+data_says s p true true (piece.Whole body) is_n is_u is_a data_kind here = at (has_mark body) refl where
   made : MakesWhole s p body
-  made = record { new = record { data_kind = kind; here = here; new = is_n }; up = is_u; whole = is_a }
+  made = record { new = record { request = ap is_request data_kind; here = here; new = is_n }; data_kind = data_kind; up = is_u; whole = is_a }
 
   at : (mark : Bool) → has_mark body ≡ mark → ArrivalSays (cond mark (Whole (text_of body)) Unmarked) s p
   at true is = (body, made, is, refl)
   at false is = (body, made, is)
+
+-- a question about the number that is kept
+told_says : (s : State) (p : PacketFields) (k : Noted) (f : Fate) → k.fate ≡ f → k.number ≡ p.number → finite.get s.kept (flow_of p) ≡ Some k → p.kind ≡ kind.Ask → p.destination.imp ≡ number s
+    → ArrivalSays (ask_arrival (told_by f)) s p
+told_says s p k fate.Waits is same kept question here = tt
+told_says s p k fate.Taken is same kept question here = record { question = question; here = here; noted = k; kept = kept; same = same; tells = subst (λ (f : Fate). TellsFate f kind.Rfnm) (sym is) refl }
+told_says s p k fate.Dead is same kept question here = record { question = question; here = here; noted = k; kept = kept; same = same; tells = subst (λ (f : Fate). TellsFate f kind.Dead) (sym is) refl }
+told_says s p k fate.Never is same kept question here = record { question = question; here = here; noted = k; kept = kept; same = same; tells = subst (λ (f : Fate). TellsFate f kind.Never) (sym is) refl }
+
+-- a question
+ask_says : (s : State) (p : PacketFields) (o : Option Noted) (new : Bool) → finite.get s.kept (flow_of p) ≡ o → is_new (kept_in o) p.number ≡ new → p.kind ≡ kind.Ask → p.destination.imp ≡ number s
+    → ArrivalSays (ask_arrival (cond new asked.Note (told_in o p.number))) s p
+ask_says s p o true is is_n question here =
+    (record { request = ap is_request question; here = here; new = ap (λ (k : Option Noted). is_new (kept_in k) p.number) is ∙ is_n }, (refl, question))
+ask_says s p None false is is_n question here = tt
+ask_says s p (Some k) false is is_n question here = elim (cases_Bool (k.number == p.number)) [
+  | inl same ↦ rw same (told_says s p k k.fate refl (eqb-true k.number p.number same) is question here)
+  | inr other ↦ rw other tt
+]
 
 kind_says : (s : State) (p : PacketFields) (k : PacketKind) → p.kind ≡ k → (target p == number s) ≡ true → ArrivalSays (arrival_by k s p) s p
 kind_says s p kind.Data is own =
@@ -134,6 +163,11 @@ kind_says s p kind.Rfnm is own =
     (eqb-true p.source.imp (number s) (let same : (p.source.imp == number s) ≡ true = rw is at own in same), subst (λ (k : PacketKind). Tells k answer.Rfnm) (sym is) tt)
 kind_says s p kind.Dead is own =
     (eqb-true p.source.imp (number s) (let same : (p.source.imp == number s) ≡ true = rw is at own in same), subst (λ (k : PacketKind). Tells k answer.Dead) (sym is) tt)
+kind_says s p kind.Ask is own =
+    ask_says s p (finite.get s.kept (flow_of p)) (is_new (kept_in (finite.get s.kept (flow_of p))) p.number) refl refl is
+    (eqb-true p.destination.imp (number s) (let same : (p.destination.imp == number s) ≡ true = rw is at own in same))
+kind_says s p kind.Never is own =
+    (eqb-true p.source.imp (number s) (let same : (p.source.imp == number s) ≡ true = rw is at own in same), subst (λ (k : PacketKind). Tells k answer.NotTaken) (sym is) tt)
 
 pub arrival_says : (s : State) (p : PacketFields) → ArrivalSays (arrival s p) s p
 arrival_says s p = by (cases_Bool (target p == number s)) where
@@ -147,11 +181,12 @@ arrival_says s p = by (cases_Bool (target p == number s)) where
 taken_moves : (a : Arrival) (k : ℕ) (f : Frame) (p : PacketFields) (s : State) → ArrivalSays a s p → ArrivalMoves a p s (pump (acknowledged k (frame_taken k f s)) (arrived a p (frame_taken k f s))).state
 taken_moves Passing k f p s says = λ g. record { sender = refl; receiver = refl }
 taken_moves Old k f p s says = λ g. record { sender = refl; receiver = refl }
-taken_moves Undeliverable k f p s says = record {
+taken_moves (Undeliverable new told) k f p s says = record {
   sender = refl;
-  receiver = (noted_moved (flow_of p) p.number fate.Dead s).receiver;
-  others = λ g other. record { sender = refl; receiver = ((noted_moved (flow_of p) p.number fate.Dead s).others g other).receiver };
+  receiver = (noted_moved (flow_of p) p.number new s).receiver;
+  others = λ g other. record { sender = refl; receiver = ((noted_moved (flow_of p) p.number new s).others g other).receiver };
 }
+taken_moves (Replying told) k f p s says = λ g. record { sender = refl; receiver = refl }
 taken_moves Piece k f p s says = λ g. record { sender = refl; receiver = refl }
 taken_moves NoSlot k f p s says = λ g. record { sender = refl; receiver = refl }
 taken_moves (Whole text) k f p s says =

@@ -34,9 +34,11 @@ use Rattle.imp_node.specs.Room.{has_route}
 use Rattle.imp_node.specs.Pump.{pump}
 use Rattle.imp_node.specs.Flows.{given, answer_queued, answered_by, noted, fated, message_queued, next_number, with_begun}
 use Rattle.imp_node.specs.Offering.{Way, Nowhere, Here, Away, way_of, is_own, offered, from_host, from_host_refusal}
-use Rattle.imp_node.specs.Arrival.{Arrival, Passing, Old, Undeliverable, Piece, NoSlot, Whole, Unmarked, Answering, arrival, arrival_has_room, arrived, frame_taken, acknowledged, ignored, fresh, taken_frame, from_line}
+use Rattle.imp_node.specs.Arrival.{Arrival, Passing, Old, Undeliverable, Replying, Piece, NoSlot, Whole, Unmarked, Answering, arrival, arrival_has_room, arrived, frame_taken, acknowledged, ignored, fresh, taken_frame, from_line}
 use Rattle.imp_node.specs.Taking.{is_from_here, reply_has_room, replied, taken_by, to_host}
 use Rattle.imp_node.specs.Lines.{resend, route, end_down, end_up}
+use Rattle.imp_node.specs.Queries.{outstanding}
+use Rattle.imp_node.specs.Asking.{ask_refusal, asked_by, ask}
 use Rattle.imp_node.specs.Stopping.{give_up, give_up_refusal, forget, abandon, message_returned, all_returned, stopped, host_down, host_up}
 use Rattle.imp_node.specs.Moves.{ArrivalSays}
 use Rattle.imp_node.specs.Sides.{IsImp}
@@ -158,18 +160,31 @@ give_up_imp imp s f accepted is =
     pumped_imp imp [] (answer_queued answer.Incomplete f (record s { sources = given_up s.sources f }))
     (told_imp imp answer.Incomplete f (record s { sources = given_up s.sources f }) (own_source s f _ accepted ∙ is.own) (record { own = is.own; live = is.live; answers = is.answers; queues = is.queues; slots = is.slots }))
 
+-- ---- ask
+
+pub asking_own : (s : State) (f : Flow) → ask_refusal s f ≡ None → f.source.imp ≡ number s
+asking_own s f accepted = own_source s f _ accepted
+
+asked_imp : (imp : ℕ) (o : Option ℕ) (f : Flow) (s : State) → IsImp imp s → IsImp imp (asked_by o f s)
+asked_imp imp None f s is = is
+asked_imp imp (Some n) f s is = record { own = is.own; live = is.live; answers = is.answers; queues = is.queues; slots = is.slots }
+
+pub ask_imp : (imp : ℕ) (s : State) (f : Flow) → IsImp imp s → IsImp imp (ask s f).state
+ask_imp imp s f is = pumped_imp imp [] (asked_by (outstanding s f) f s) (asked_imp imp (outstanding s f) f s is)
+
 -- ---- from_line
 
 arrived_imp : (imp : ℕ) (a : Arrival) (p : PacketFields) (s t : State) → ArrivalSays a s p → number s ≡ imp → IsPacket p → IsImp imp t → IsImp imp (arrived a p t)
 arrived_imp imp Passing p s t says own format is = record { own = is.own; live = is.live; answers = is.answers; queues = is.queues; slots = is.slots }
 arrived_imp imp Old p s t says own format is = is
-arrived_imp imp Undeliverable p s t says own format is = record { own = is.own; live = is.live; answers = is.answers; queues = is.queues; slots = without_table t.slots (flow_of p) is.slots }
-arrived_imp imp Piece p s t says own format is = record { own = is.own; live = is.live; answers = is.answers; queues = is.queues; slots = added_table t.slots p is.slots format says.0.data_kind }
+arrived_imp imp (Replying told) p s t says own format is = record { own = is.own; live = is.live; answers = is.answers; queues = is.queues; slots = is.slots }
+arrived_imp imp (Undeliverable new told) p s t says own format is = record { own = is.own; live = is.live; answers = is.answers; queues = is.queues; slots = without_table t.slots (flow_of p) is.slots }
+arrived_imp imp Piece p s t says own format is = record { own = is.own; live = is.live; answers = is.answers; queues = is.queues; slots = added_table t.slots p is.slots format says.1 }
 arrived_imp imp NoSlot p s t says own format is = is
 arrived_imp imp (Whole text) p s t says own format is =
     queued_imp imp (record { flow = flow_of p; number = p.number; text = text }) (noted (flow_of p) p.number fate.Waits (record t { slots = added t.slots p })) (says.1.new.here ∙ own)
-    (record { own = is.own; live = is.live; answers = is.answers; queues = is.queues; slots = added_table t.slots p is.slots format says.1.new.data_kind })
-arrived_imp imp Unmarked p s t says own format is = record { own = is.own; live = is.live; answers = is.answers; queues = is.queues; slots = added_table t.slots p is.slots format says.1.new.data_kind }
+    (record { own = is.own; live = is.live; answers = is.answers; queues = is.queues; slots = added_table t.slots p is.slots format says.1.data_kind })
+arrived_imp imp Unmarked p s t says own format is = record { own = is.own; live = is.live; answers = is.answers; queues = is.queues; slots = added_table t.slots p is.slots format says.1.data_kind }
 arrived_imp imp (Answering kind) p s t says own format is = answered_imp imp (release_in p.number (finite.get t.sources (flow_of p))) kind (flow_of p) p.number t (says.0 ∙ own) is
 
 taken_imp : (imp : ℕ) (k : ℕ) (f : Frame) (s : State) → IsImp imp s → IsImp imp (frame_taken k f s)

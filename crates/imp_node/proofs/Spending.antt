@@ -1,5 +1,5 @@
 -- No call spends an IMP, save by running out of memory.
-use Rattle.std.proofs.Common.{◌≡◌, ℕ, Bool, true, false, List, [], ◌∷◌, Result, Ok, Err, refl, ◌∙◌}
+use Rattle.std.proofs.Common.{◌≡◌, ℕ, Bool, true, false, List, [], ◌∷◌, Option, Some, None, Result, Ok, Err, refl, ◌∙◌}
 use Rattle.std.specs.Prelude.{if◌then◌else◌}
 use Rattle.leader1822.specs.declared.address.Flow.{Flow}
 use Rattle.leader1822.specs.declared.crossing.Answer.{Answer}
@@ -20,8 +20,10 @@ use Rattle.imp_node.specs.declared.waiting.Message.{Message}
 use Rattle.imp_node.specs.declared.waiting.Told.{Told}
 use Rattle.imp_node.specs.State.{State, ImpTurn, host_at, with_host, port_at}
 use Rattle.imp_node.specs.Flows.{answered_by, fated}
-use Rattle.imp_node.specs.Arrival.{Arrival, Passing, Old, Undeliverable, Piece, NoSlot, Whole, Unmarked, Answering, arrival, arrived, arrival_has_room, frame_taken, taken_frame, from_line}
+use Rattle.imp_node.specs.Arrival.{Arrival, Passing, Old, Undeliverable, Replying, Piece, NoSlot, Whole, Unmarked, Answering, arrival, arrived, arrival_has_room, frame_taken, taken_frame, from_line}
 use Rattle.imp_node.specs.Offering.{Way, Nowhere, Here, Away, way_of, offered, from_host}
+use Rattle.imp_node.specs.Queries.{outstanding}
+use Rattle.imp_node.specs.Asking.{asked_by, ask}
 use Rattle.imp_node.specs.Stopping.{message_returned, all_returned, stopped, host_down}
 use Rattle.imp_node.specs.Taking.{is_from_here, replied, reply_has_room, taken_by, to_host}
 
@@ -39,7 +41,8 @@ replied_spent kind packet m s = either_spent (is_from_here s m) s _ _ (answered_
 arrived_spent : (a : Arrival) (p : PacketFields) (s : State) → (arrived a p s).spent ≡ s.spent
 arrived_spent Passing p s = refl
 arrived_spent Old p s = refl
-arrived_spent Undeliverable p s = refl
+arrived_spent (Undeliverable new told) p s = refl
+arrived_spent (Replying told) p s = refl
 arrived_spent Piece p s = refl
 arrived_spent NoSlot p s = refl
 arrived_spent (Whole text) p s = refl
@@ -87,3 +90,10 @@ all_returned_spent (m ∷ others) s = all_returned_spent others (message_returne
 
 pub host_down_spent : (s : State) (h : ℕ) → (host_down s h).state.spent ≡ s.spent
 host_down_spent s h = all_returned_spent (host_at s h).queue (stopped s h)
+
+asked_spent : (o : Option ℕ) (f : Flow) (s : State) → (asked_by o f s).spent ≡ s.spent
+asked_spent None f s = refl
+asked_spent (Some n) f s = refl
+
+pub ask_spent : (s : State) (f : Flow) → (ask s f).state.spent ≡ s.spent
+ask_spent s f = asked_spent (outstanding s f) f s

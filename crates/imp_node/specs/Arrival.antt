@@ -6,8 +6,10 @@ use Rattle.leader1822.specs.declared.carrier.CarrierFault.{CarrierFault}
 use Rattle.leader1822.specs.declared.carrier.CarrierFault.TheVariants as fault
 use Rattle.leader1822.specs.declared.crossing.Answer.{Answer}
 use Rattle.leader1822.specs.declared.crossing.Answer.TheVariants as answer
-use Rattle.link_table.specs.Flows.{kept_in}
+use Rattle.link_table.specs.Flows.{kept_in, asked_in}
 use Rattle.link_table.specs.Numbers.{is_new}
+use Rattle.link_table.specs.declared.destination.Asked.{Asked}
+use Rattle.link_table.specs.declared.destination.Asked.TheVariants as asked
 use Rattle.link_table.specs.declared.destination.Fate.{Fate}
 use Rattle.link_table.specs.declared.destination.Fate.TheVariants as fate
 use Rattle.packetiser.specs.PacketFields.{PacketFields, flow_of}
@@ -33,10 +35,13 @@ use Rattle.imp_node.specs.Pump.{target, stored, pump}
 pub data Arrival : Type 0 where
   -- it is for another IMP
   Passing : Arrival
-  -- a piece with an old number, or one that its slot has already or that contradicts it
+  -- a piece with an old number, or one that its slot has already or that contradicts it; or a question that is not answered
   Old : Arrival
-  -- a piece with a new number, for a host that is down or not there
-  Undeliverable : Arrival
+  -- what ends a message that isn't whole: its number is noted with this fate, and its source is told so by a packet of this kind.
+  -- A piece with a new number for a host that is down or not there (Dead), or a question about a new number (Never)
+  Undeliverable : (new : Fate) → (told : PacketKind) → Arrival
+  -- a question about the number noted last, which is answered by a packet of this kind
+  Replying : (told : PacketKind) → Arrival
   -- a piece with a new number, and its message is not whole yet
   Piece : Arrival
   -- the same, and no slot is free for it
@@ -58,24 +63,36 @@ piece_arrival piece.Full = NoSlot
 abbrev pub data_arrival : State → PacketFields → Arrival
 data_arrival s p =
     if not (is_new (kept_in (map.get s.kept (flow_of p))) p.number) then Old
-    else (if not (is_up s p.destination.host) then Undeliverable
+    else (if not (is_up s p.destination.host) then Undeliverable fate.Dead kind.Dead
     else piece_arrival (answer_of s.slots p))
+
+-- a question about a new number ends that message: it never came. Else it is answered by the fate that is kept, if that is its
+-- number's and the message doesn't wait. Whether the host is up is not asked
+abbrev pub ask_arrival : Asked → Arrival
+ask_arrival asked.Note = Undeliverable fate.Never kind.Never
+ask_arrival asked.Silent = Old
+ask_arrival asked.Rfnm = Replying kind.Rfnm
+ask_arrival asked.Dead = Replying kind.Dead
+ask_arrival asked.Never = Replying kind.Never
 
 abbrev pub arrival_by : PacketKind → State → PacketFields → Arrival
 arrival_by kind.Data s p = data_arrival s p
 arrival_by kind.Rfnm s p = Answering answer.Rfnm
 arrival_by kind.Dead s p = Answering answer.Dead
+arrival_by kind.Ask s p = ask_arrival (asked_in (map.get s.kept (flow_of p)) p.number)
+arrival_by kind.Never s p = Answering answer.NotTaken
 
 abbrev pub arrival : State → PacketFields → Arrival
 arrival s p = if target p == number s then arrival_by p.kind s p else Passing
 
 -- ---- whether there is room for it
 
--- A packet that is dropped calls for no room. Of answers, Dead for the source is stored; of messages, a whole one is queued
+-- A packet that is dropped calls for no room. An answer that is made for the source is stored; a whole message is queued
 abbrev pub arrival_has_room : Arrival → State → PacketFields → Bool
 arrival_has_room Passing s p = has_room_to s (target p)
 arrival_has_room Old s p = true
-arrival_has_room Undeliverable s p = has_room_to s p.source.imp
+arrival_has_room (Undeliverable new told) s p = has_room_to s p.source.imp
+arrival_has_room (Replying told) s p = has_room_to s p.source.imp
 arrival_has_room Piece s p = true
 arrival_has_room NoSlot s p = false
 arrival_has_room (Whole text) s p = queue_has_room s p.destination.host
@@ -84,7 +101,7 @@ arrival_has_room (Answering kind) s p = true
 
 -- ---- what becomes of it
 
--- the number of a piece is its flow's last one, with this fate
+-- the number of a packet is its flow's last one, with this fate
 abbrev pub with_number : Fate → PacketFields → State → State
 with_number new p s = noted (flow_of p) p.number new s
 
@@ -99,7 +116,8 @@ without_slot p s = record s { slots = without s.slots (flow_of p) }
 abbrev pub arrived : Arrival → PacketFields → State → State
 arrived Passing p s = stored p s
 arrived Old p s = s
-arrived Undeliverable p s = stored (answer_packet kind.Dead (flow_of p) p.number) (with_number fate.Dead p (without_slot p s))
+arrived (Undeliverable new told) p s = stored (answer_packet told (flow_of p) p.number) (with_number new p (without_slot p s))
+arrived (Replying told) p s = stored (answer_packet told (flow_of p) p.number) s
 arrived Piece p s = with_piece p s
 arrived NoSlot p s = s
 arrived (Whole text) p s = message_queued (record { flow = flow_of p; number = p.number; text = text }) (with_number fate.Waits p (with_piece p s))

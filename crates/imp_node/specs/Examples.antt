@@ -5,14 +5,18 @@ use Rattle.bit_messages.specs.Body.{body}
 use Rattle.leader1822.specs.Host.{Host}
 use Rattle.leader1822.specs.declared.address.Flow.{Flow}
 use Rattle.leader1822.specs.declared.message.HostMessage.{HostMessage}
+use Rattle.link_table.specs.declared.destination.Fate.{Fate}
 use Rattle.packetiser.specs.PacketFields.{PacketFields}
 use Rattle.packetiser.specs.Slots.{SlotState}
+use Rattle.packetiser.specs.declared.packet.PacketKind.{PacketKind}
 use Rattle.packetiser.specs.declared.packet.PacketKind.TheVariants as kind
 use Rattle.imp_channel.specs.declared.frame.Content.TheVariants as content
 use Rattle.imp_channel.specs.declared.frame.Frame.{Frame}
+use Rattle.imp_node.specs.declared.outgoing.Outgoing.{Outgoing}
 use Rattle.imp_node.specs.declared.waiting.Message.{Message}
 use Rattle.imp_node.specs.State.{State, ImpTurn, opening_node, up_host}
-use Rattle.imp_node.specs.Flows.{answer_packet}
+use Rattle.imp_node.specs.Flows.{answer_packet, noted}
+use Rattle.imp_node.specs.Lines.{on_port}
 use Rattle.imp_node.specs.Offering.{from_host}
 use Rattle.imp_node.specs.Arrival.{from_line}
 use Rattle.imp_node.specs.Pump.{pump}
@@ -116,3 +120,29 @@ sent_imp = (from_host (imp 1 (Some from_2 ∷ []) []) (empty_message (flow (host
 -- and after an RFNM to that message, with this number
 abbrev pub sent_answered : ℕ → ImpTurn
 sent_answered n = from_line sent_imp 0 (packet_frame 0 (answer_packet kind.Rfnm (flow (host 0 1) (host 0 2) 7) n))
+
+-- and after that IMP 2 tells that the message with this number never came
+abbrev pub sent_never : ℕ → State → ImpTurn
+sent_never n s = from_line s 0 (packet_frame 0 (answer_packet kind.Never (flow (host 0 1) (host 0 2) 7) n))
+
+-- ---- questions
+
+-- IMP 1 with port 0 to IMP 2, which has noted this number of a flow from host 0 at IMP 2 to its host 0, with this fate
+abbrev pub noting : ℕ → Fate → State
+noting n new = noted (flow (host 0 2) (host 0 1) 2) n new (serving [])
+
+-- a question about the message of that flow with this number comes over port 0
+abbrev pub after_question : ℕ → State → ImpTurn
+after_question n s = from_line s 0 (packet_frame 0 (answer_packet kind.Ask (flow (host 0 2) (host 0 1) 2) n))
+
+-- the answer to it, which goes out with the question acknowledged
+abbrev pub told_back : PacketKind → ℕ → Outgoing
+told_back told n = on_port 0 (record (packet_frame 0 (answer_packet told (flow (host 0 2) (host 0 1) 2) n)) { acks = ack_frame.acks })
+
+-- a question about message 0 of a flow from host 0 at another IMP to host 0 at IMP 1 comes over port 1 to an IMP
+abbrev pub question_from : ℕ → State → ImpTurn
+question_from from s = from_line s 1 (packet_frame 0 (answer_packet kind.Ask (flow (host 0 from) (host 0 1) 5) 0))
+
+-- IMP 1 without a line, after its host 0 has sent an empty message to its host 1 on link 7
+abbrev pub sent_within : State
+sent_within = (from_host (queueing []) (empty_message (flow (host 0 1) (host 1 1) 7))).state

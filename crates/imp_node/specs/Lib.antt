@@ -9,6 +9,7 @@ pub mod Lines
 pub mod Stopping
 pub mod Contents
 pub mod Queries
+pub mod Asking
 pub mod Turns
 pub mod Inside
 pub mod Examples

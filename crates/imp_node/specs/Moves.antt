@@ -1,5 +1,5 @@
 -- How each call moves the flows of an IMP.
-use Rattle.std.specs.Prelude.{◌≡◌, Bool, true, false, List, [], ◌∷◌, ◌⊎◌, if◌then◌else◌}
+use Rattle.std.specs.Prelude.{◌≡◌, Bool, true, false, List, [], ◌∷◌, Some, ◌⊎◌, if◌then◌else◌}
 use Rattle.std.specs.FinMap as map
 use Rattle.bit_messages.specs.Body.{has_mark, text_of}
 use Rattle.leader1822.specs.declared.address.Flow.{Flow}
@@ -8,7 +8,9 @@ use Rattle.leader1822.specs.declared.crossing.Answer.TheVariants as answer
 use Rattle.leader1822.specs.declared.message.HostMessage.{HostMessage}
 use Rattle.link_table.specs.Flows.{release_in, kept_in}
 use Rattle.link_table.specs.Numbers.{is_new}
+use Rattle.link_table.specs.declared.destination.Fate.{Fate}
 use Rattle.link_table.specs.declared.destination.Fate.TheVariants as fate
+use Rattle.link_table.specs.declared.destination.Noted.{Noted}
 use Rattle.link_table.specs.declared.source.Release.{Release}
 use Rattle.link_table.specs.declared.source.Release.TheVariants as release
 use Rattle.packetiser.specs.PacketFields.{PacketFields, flow_of}
@@ -21,8 +23,9 @@ use Rattle.imp_channel.specs.declared.frame.Frame.{Frame}
 use Rattle.imp_node.specs.declared.waiting.Message.{Message}
 use Rattle.imp_node.specs.State.{State, number, is_up}
 use Rattle.imp_node.specs.Flows.{next_number}
+use Rattle.imp_node.specs.Queries.{is_request}
 use Rattle.imp_node.specs.Offering.{Way, Nowhere, Here, Away}
-use Rattle.imp_node.specs.Arrival.{Arrival, Passing, Old, Undeliverable, Piece, NoSlot, Whole, Unmarked, Answering, arrival}
+use Rattle.imp_node.specs.Arrival.{Arrival, Passing, Old, Undeliverable, Replying, Piece, NoSlot, Whole, Unmarked, Answering, arrival}
 use Rattle.imp_node.specs.Taking.{is_from_here}
 use Rattle.imp_node.specs.Sides.{Sender, Receiver, sender, receiver, messages_of, begun_with, told_with, ended_with, noted_with, fated_with, queued_with, AllUnmoved, Moved}
 
@@ -45,30 +48,56 @@ AnswerMoves release.Stale kind f s t = AllUnmoved s t
 
 -- ---- a frame comes in
 
--- a piece with a new number, for a host of this IMP
+-- a piece of a message with a new number for a host of this IMP, or a question about one
 pub record IsNewHere (s : State) (p : PacketFields) : Type 0 where
-  pub data_kind : p.kind ≡ kind.Data
+  pub request : is_request p.kind ≡ true
   pub here : p.destination.imp ≡ number s
   pub new : is_new (kept_in (map.get s.kept (flow_of p))) p.number ≡ true
 
 -- a piece that made this body whole, for a host that is up
 pub record MakesWhole (s : State) (p : PacketFields) (body : List Bool) : Type 0 where
   pub new : IsNewHere s p
+  pub data_kind : p.kind ≡ kind.Data
   pub up : is_up s p.destination.host ≡ true
   pub whole : answer_of s.slots p ≡ piece.Whole body
+
+-- a message ends before it is whole: a piece came and its host is down, which Dead tells, or a question, and Never tells that it
+-- never came
+abbrev pub IsRefused : Fate → PacketKind → State → PacketFields → Type 0
+IsRefused fate.Dead told s p = (told ≡ kind.Dead) × (p.kind ≡ kind.Data) × (is_up s p.destination.host ≡ false)
+IsRefused fate.Never told s p = (told ≡ kind.Never) × (p.kind ≡ kind.Ask)
+IsRefused new told s p = ⊥
+
+-- the packet that tells what became of a message of this fate; of one that waits nothing is told
+abbrev pub TellsFate : Fate → PacketKind → Type 0
+TellsFate fate.Waits told = ⊥
+TellsFate fate.Taken told = told ≡ kind.Rfnm
+TellsFate fate.Dead told = told ≡ kind.Dead
+TellsFate fate.Never told = told ≡ kind.Never
+
+-- a question about the number noted last, which this packet answers
+pub record IsAskedHere (s : State) (p : PacketFields) (told : PacketKind) : Type 0 where
+  pub question : p.kind ≡ kind.Ask
+  pub here : p.destination.imp ≡ number s
+  pub noted : Noted
+  pub kept : map.get s.kept (flow_of p) ≡ Some noted
+  pub same : noted.number ≡ p.number
+  pub tells : TellsFate noted.fate told
 
 -- the packet that brings an answer
 abbrev pub Tells : PacketKind → Answer → Type 0
 Tells kind.Rfnm answer.Rfnm = Unit {0}
 Tells kind.Dead answer.Dead = Unit {0}
+Tells kind.Never answer.NotTaken = Unit {0}
 Tells packet answer = ⊥
 
 -- what the arrival of a packet says of it
 abbrev pub ArrivalSays : Arrival → State → PacketFields → Type 0
 ArrivalSays Passing s p = Unit {0}
 ArrivalSays Old s p = Unit {0}
-ArrivalSays Undeliverable s p = IsNewHere s p × (is_up s p.destination.host ≡ false)
-ArrivalSays Piece s p = IsNewHere s p × (answer_of s.slots p ≡ piece.Kept)
+ArrivalSays (Undeliverable new told) s p = IsNewHere s p × IsRefused new told s p
+ArrivalSays (Replying told) s p = IsAskedHere s p told
+ArrivalSays Piece s p = IsNewHere s p × (p.kind ≡ kind.Data) × (answer_of s.slots p ≡ piece.Kept)
 ArrivalSays NoSlot s p = IsNewHere s p × (answer_of s.slots p ≡ piece.Full)
 ArrivalSays (Whole text) s p = (body : List Bool) × MakesWhole s p body × (has_mark body ≡ true) × (text ≡ text_of body)
 ArrivalSays Unmarked s p = (body : List Bool) × MakesWhole s p body × (has_mark body ≡ false)
@@ -78,7 +107,8 @@ ArrivalSays (Answering kind) s p = (p.source.imp ≡ number s) × Tells p.kind k
 abbrev pub ArrivalMoves : Arrival → PacketFields → State → State → Type 0
 ArrivalMoves Passing p s t = AllUnmoved s t
 ArrivalMoves Old p s t = AllUnmoved s t
-ArrivalMoves Undeliverable p s t = Moved s t (flow_of p) (sender s (flow_of p)) (noted_with p.number fate.Dead (receiver s (flow_of p)))
+ArrivalMoves (Undeliverable new told) p s t = Moved s t (flow_of p) (sender s (flow_of p)) (noted_with p.number new (receiver s (flow_of p)))
+ArrivalMoves (Replying told) p s t = AllUnmoved s t
 ArrivalMoves Piece p s t = AllUnmoved s t
 ArrivalMoves NoSlot p s t = AllUnmoved s t
 ArrivalMoves (Whole text) p s t =

@@ -11,11 +11,13 @@ use Rattle.imp_node.specs.declared.port.Port.{Port}
 use Rattle.imp_node.specs.Room.{has_route}
 use Rattle.imp_node.specs.State.{State, ImpTurn, port_at}
 
--- the IMP that a packet is for: a piece travels to its message's destination, an answer back to the source
+-- the IMP that a packet is for: a piece and a question travel to their message's destination, an answer back to the source
 abbrev pub target_by : PacketKind → PacketFields → ℕ
 target_by kind.Data p = p.destination.imp
 target_by kind.Rfnm p = p.source.imp
 target_by kind.Dead p = p.source.imp
+target_by kind.Ask p = p.destination.imp
+target_by kind.Never p = p.source.imp
 
 abbrev pub target : PacketFields → ℕ
 target p = target_by p.kind p

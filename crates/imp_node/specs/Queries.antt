@@ -50,23 +50,27 @@ message_has f n m = same_flow f m.flow && m.number == n
 abbrev pub holds : State → Flow → ℕ → Bool
 holds s f n = list_any (packet_has f n) (packets s) || list_any (message_has f n) (messages s)
 
--- data or a message from a host at one IMP to a host at another
+-- what goes from a host at one IMP to a host at another
 abbrev pub goes_between : ℕ → ℕ → Flow → Bool
 goes_between from to f = f.source.imp == from && f.destination.imp == to
 
-abbrev pub is_data : PacketKind → Bool
-is_data kind.Data = true
-is_data kind.Rfnm = false
-is_data kind.Dead = false
+-- what travels to the destination: a piece of a message, or a question about one
+abbrev pub is_request : PacketKind → Bool
+is_request kind.Data = true
+is_request kind.Rfnm = false
+is_request kind.Dead = false
+is_request kind.Ask = true
+is_request kind.Never = false
 
-abbrev pub is_data_between : ℕ → ℕ → PacketFields → Bool
-is_data_between from to p = is_data p.kind && goes_between from to (flow_of p)
+abbrev pub is_request_between : ℕ → ℕ → PacketFields → Bool
+is_request_between from to p = is_request p.kind && goes_between from to (flow_of p)
 
 abbrev pub is_message_between : ℕ → ℕ → Message → Bool
 is_message_between from to m = goes_between from to m.flow
 
+-- data, a question counted, or a message from a host at one IMP to a host at another
 abbrev pub holds_data : State → ℕ → ℕ → Bool
-holds_data s from to = list_any (is_data_between from to) (packets s) || list_any (is_message_between from to) (messages s)
+holds_data s from to = list_any (is_request_between from to) (packets s) || list_any (is_message_between from to) (messages s)
 
 -- anything of a flow from or to a host at this IMP
 abbrev pub is_at_end : ℕ → Flow → Bool

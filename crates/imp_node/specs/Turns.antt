@@ -12,6 +12,8 @@ use Rattle.imp_node.specs.State.{State, ImpTurn, host_at, is_up, port_at}
 use Rattle.imp_node.specs.Arrival.{from_line}
 use Rattle.imp_node.specs.Taking.{to_host}
 use Rattle.imp_node.specs.Lines.{resend, route, end_down, end_up}
+use Rattle.imp_node.specs.Room.{has_route}
+use Rattle.imp_node.specs.Asking.{ask}
 use Rattle.imp_node.specs.Stopping.{give_up, forget, abandon, host_down, host_up}
 
 -- A call that is refused for `refusal`, and else gives a value with this property. The first refusal of the list is given, and
@@ -59,6 +61,10 @@ end_up_grows s k = sends (end_up s k)
 -- Incomplete waits for a source that is up
 abbrev pub give_up_grows : State → Flow → Bool
 give_up_grows s f = is_up s f.source.host || sends (give_up s f)
+
+-- a question is stored where a route is
+abbrev pub ask_grows : State → Flow → Bool
+ask_grows s f = has_route s f.destination.imp || sends (ask s f)
 
 abbrev pub forget_grows : State → ℕ → Bool
 forget_grows s imp = sends (forget s imp)

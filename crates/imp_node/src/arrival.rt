@@ -1,20 +1,24 @@
 //! A frame comes in on a line.
 
+ghost use Rattle.std.specs.FinMap as map;
 ghost use Rattle.std.specs.Prelude.{◌≡◌, ◌<◌, ◌++◌, ◌∷◌, [], true, false, length, None, Ok, IfOk, OnOk, OnErr, if◌then◌else◌};
 ghost use Rattle.bit_messages.specs.Body.{has_mark, text_of};
-ghost use Rattle.packetiser.specs.PacketFields.{IsPacket, flow_of};
+ghost use Rattle.link_table.specs.Flows.{asked_in};
+ghost use Rattle.packetiser.specs.PacketFields.{IsPacket, Carries, flow_of};
 ghost use Rattle.packetiser.specs.Pieces.{IsBodySize};
 ghost use Rattle.packetiser.specs.Slots.{answer_of};
 ghost use Rattle.packetiser.specs.declared.packet.PacketKind.TheVariants as kind;
 ghost use Rattle.imp_channel.specs.Line.{answer_to, acknowledgement};
 ghost use Rattle.imp_node.specs.State.{is_up, port_at};
+ghost use Rattle.imp_node.specs.Flows as flows;
 ghost use Rattle.imp_node.specs.Flows.{noted, message_queued};
+ghost use Rattle.imp_node.specs.Pump.{stored};
 ghost use Rattle.imp_node.specs.Room.{queue_has_room};
 ghost use Rattle.imp_node.specs.Arrival as arrivals;
-ghost use Rattle.imp_node.specs.Arrival.{arrival, arrived, data_arrival, piece_arrival, arrival_has_room, acknowledged, frame_taken};
+ghost use Rattle.imp_node.specs.Arrival.{arrival, arrived, data_arrival, ask_arrival, piece_arrival, arrival_has_room, acknowledged, frame_taken};
 ghost use Rattle.imp_node.specs.Turns.{Turned, Takes, from_line_grows};
 ghost use Rattle.imp_node.specs.Inside.Parts.{IsPacketFlow};
-ghost use Rattle.imp_node.specs.Inside.Arriving.{lost_by, has_place, turned_away, completed};
+ghost use Rattle.imp_node.specs.Inside.Arriving.{lost_by, has_place, turned_away, asked_about, completed};
 
 use crate::pump::target;
 use crate::steps::answer_packet;
@@ -23,7 +27,7 @@ use crate::{Imp, Outgoing};
 use bit_messages::{BitFault, Bits};
 use imp_channel::{Content, Frame, Received};
 use leader1822::{Answer, CarrierFault, Flow, Text};
-use link_table::{Age, Fate, Number};
+use link_table::{Age, Asked, Fate, Number};
 use packetiser::{Added, Outcome, Packet, PacketFault, PacketKind};
 use std::alloc::AllocError;
 
@@ -102,7 +106,8 @@ impl Imp {
         }
         match packet.kind() {
             PacketKind::Data => self.data_has_room(packet),
-            PacketKind::Rfnm | PacketKind::Dead => true,
+            PacketKind::Ask => self.ask_has_room(packet),
+            PacketKind::Rfnm | PacketKind::Dead | PacketKind::Never => true,
         }
     }
 
@@ -128,6 +133,20 @@ impl Imp {
             Outcome::Full => false,
             Outcome::Whole => !self.slots.is_marked(packet)
                 || self.queue_has_room(destination.host()),
+        }
+    }
+
+    /// Whether there is room for the answer to a fresh question for this IMP.
+    fn ask_has_room(&self, packet: &Packet) -> bool
+        ensures { result ≡ arrival_has_room (ask_arrival (asked_in (map.get self.now.kept (flow_of packet.now)) packet.now.number)) self.now packet.now }
+    {
+        let flow = packet.flow();
+        let source = flow.source;
+        match self.kept.asked(&flow, packet.number()) {
+            Asked::Silent => true,
+            Asked::Note | Asked::Rfnm | Asked::Dead | Asked::Never => {
+                self.has_room_to(source.imp())
+            }
         }
     }
 
@@ -163,6 +182,8 @@ impl Imp {
             PacketKind::Data => self.arrive_data(packet),
             PacketKind::Rfnm => self.free(Answer::Rfnm, packet.flow(), packet.number()),
             PacketKind::Dead => self.free(Answer::Dead, packet.flow(), packet.number()),
+            PacketKind::Ask => self.arrive_ask(packet.flow(), packet.number()),
+            PacketKind::Never => self.free(Answer::NotTaken, packet.flow(), packet.number()),
         }
     }
 
@@ -180,19 +201,50 @@ impl Imp {
         }
         let destination = flow.destination;
         if !self.is_up(destination.host()) {
-            return self.turn_away(flow, number);
+            return self.turn_away(flow, number, Fate::Dead, PacketKind::Dead);
         }
         self.reassemble(packet)
     }
 
-    /// A new message is for a host that is down or not there: Dead goes to its source.
-    fn turn_away(&mut self, flow: Flow, number: Number) -> Result<(), AllocError>
+    /// A question about the message of this flow and number is for this IMP: the answer to it goes to the
+    /// source.
+    fn arrive_ask(&mut self, flow: Flow, number: Number) -> Result<(), AllocError>
         requires { IsPacketFlow flow }
-        ensures { OnOk result (self.new ≡ turned_away flow number self.old) }
+        ensures { OnOk result (self.new ≡ asked_about (asked_in (map.get self.old.kept flow) number) flow number self.old) }
+    {
+        match self.kept.asked(&flow, number) {
+            Asked::Note => self.turn_away(flow, number, Fate::Never, PacketKind::Never),
+            Asked::Silent => Ok(()),
+            Asked::Rfnm => self.tell_back(flow, number, PacketKind::Rfnm),
+            Asked::Dead => self.tell_back(flow, number, PacketKind::Dead),
+            Asked::Never => self.tell_back(flow, number, PacketKind::Never),
+        }
+    }
+
+    /// A new message ends before it is whole: its slot is cleared, its number is noted, and its source is told.
+    fn turn_away(
+        &mut self,
+        flow: Flow,
+        number: Number,
+        fate: Fate,
+        told: PacketKind,
+    ) -> Result<(), AllocError>
+        requires flow { IsPacketFlow flow }
+        requires answer { Carries told 0 true 0 }
+        ensures { OnOk result (self.new ≡ turned_away fate told flow number self.old) }
     {
         self.slots.discard(flow);
-        self.note(&flow, number, Fate::Dead)?;
-        let answer = answer_packet(self.alloc, PacketKind::Dead, flow, number);
+        self.note(&flow, number, fate)?;
+        self.tell_back(flow, number, told)
+    }
+
+    /// A packet goes to a message's source, and tells what became of it.
+    fn tell_back(&mut self, flow: Flow, number: Number, told: PacketKind) -> Result<(), AllocError>
+        requires flow { IsPacketFlow flow }
+        requires answer { Carries told 0 true 0 }
+        ensures { OnOk result (self.new ≡ stored (flows.answer_packet told flow number) self.old) }
+    {
+        let answer = answer_packet(self.alloc, told, flow, number);
         self.admit(answer)
     }
 

@@ -14,15 +14,16 @@ ghost use Rattle.leader1822.specs.declared.crossing.Answer.TheVariants as answer
 ghost use Rattle.leader1822.specs.declared.crossing.Inbound.TheVariants as inbound;
 ghost use Rattle.packetiser.specs.declared.packet.PacketKind.TheVariants as kind;
 ghost use Rattle.imp_channel.specs.declared.frame.Content.TheVariants as content;
-ghost use Rattle.imp_node.specs.Arrival.{arrival, from_line, from_line_refusal, ignored};
-ghost use Rattle.imp_node.specs.Examples.{host, flow, only_packet, first_packet, unmarked_packet, packets_to, packet_frame, ack_frame, from_1, from_2, from_3, from_3_near_2, imp, busy, messages_between, queueing, serving, slots_of, empty_message, sent_imp, sent_answered};
-ghost use Rattle.imp_node.specs.Flows.{answer_packet, is_idle, next_number};
+ghost use Rattle.imp_node.specs.Arrival.{Old, arrival, from_line, from_line_refusal, ignored};
+ghost use Rattle.imp_node.specs.Examples.{host, flow, only_packet, first_packet, unmarked_packet, packets_to, packet_frame, ack_frame, from_1, from_2, from_3, from_3_near_2, imp, busy, messages_between, queueing, serving, slots_of, empty_message, sent_imp, sent_answered, sent_never, noting, after_question, told_back, question_from, sent_within};
+ghost use Rattle.imp_node.specs.Flows.{answer_packet, is_idle, next_number, noted};
 ghost use Rattle.imp_node.specs.Lines.{on_port, route, resend, end_down, end_up, end_down_refusal, end_up_refusal};
+ghost use Rattle.imp_node.specs.Asking.{ask, ask_refusal};
 ghost use Rattle.imp_node.specs.Contents.{packets, messages};
-ghost use Rattle.imp_node.specs.Making.{Leaves, from_host_makes, from_line_makes, to_host_makes, host_down_makes};
+ghost use Rattle.imp_node.specs.Making.{Leaves, from_host_makes, from_line_makes, to_host_makes, ask_makes, host_down_makes};
 ghost use Rattle.imp_node.specs.Offering.{begins, way_of, way_has_room, from_host, from_host_refusal};
 ghost use Rattle.imp_node.specs.Pump.{pump};
-ghost use Rattle.imp_node.specs.Queries.{outstanding, last, packet_has, message_has, holds, is_data_between, is_message_between, holds_data, packet_touches, message_touches, touches};
+ghost use Rattle.imp_node.specs.Queries.{outstanding, last, kept, packet_has, message_has, holds, is_request_between, is_message_between, holds_data, packet_touches, message_touches, touches};
 ghost use Rattle.imp_node.specs.Room.{stored_count};
 ghost use Rattle.imp_node.specs.State.{State, host_at, is_up, opening_node};
 ghost use Rattle.imp_node.specs.Stopping.{give_up, give_up_refusal, forget_refusal, abandon_refusal, host_down_refusal, host_up_refusal, forget, abandon, stopped, message_returned, host_down, host_up};
@@ -36,7 +37,7 @@ ghost use Rattle.link_table.specs.Keys.{is_from};
 ghost use Rattle.link_table.specs.declared.destination.Fate.TheVariants as fate;
 ghost use Rattle.packetiser.specs.PacketFields.{PacketFields, IsPacket};
 ghost use Rattle.imp_node.specs.Taking.{is_from_here, to_host, to_host_refusal, next_for};
-ghost use Rattle.imp_node.specs.Turns.{from_line_grows, to_host_grows, resend_grows, route_grows, end_down_grows, end_up_grows, give_up_grows, forget_grows, abandon_grows, host_down_grows, host_up_grows};
+ghost use Rattle.imp_node.specs.Turns.{from_line_grows, to_host_grows, resend_grows, route_grows, end_down_grows, end_up_grows, give_up_grows, ask_grows, forget_grows, abandon_grows, host_down_grows, host_up_grows};
 
 /// Which packets are in an IMP, and in the frames that it puts on lines, after each call: those that were in
 /// it, and those that the rule of the call makes. Nothing else comes about.
@@ -44,13 +45,16 @@ pub fn holding()
     // a message that goes over lines is cut into its packets
     ensures from_host { (s : State) (m : HostMessage) → Leaves s (from_host_makes s m) (from_host s m) }
 
-    // a frame brings its packet, and a piece that can't be delivered gives Dead
+    // a frame brings its packet; a piece that can't be delivered gives Dead, and a question gives the answer to it
     ensures from_line { (s : State) (k : ℕ) (f : Frame) → Leaves s (from_line_makes s f) (from_line s k f) }
 
     // a message that is taken gives its RFNM, and one that waits for a host that goes down gives Dead, where the source is at
     // another IMP
     ensures to_host { (s : State) (h : ℕ) → Leaves s (to_host_makes s h) (to_host s h) }
     ensures host_down { (s : State) (h : ℕ) → Leaves s (host_down_makes s h) (host_down s h) }
+
+    // a question is made about the outstanding message
+    ensures ask { (s : State) (f : Flow) → Leaves s (ask_makes s f) (ask s f) }
 
     // no other call makes a packet
     ensures resend { (s : State) → Leaves s [] (resend s) }
@@ -102,6 +106,7 @@ pub fn moving()
     ensures end_down { (s : State) (k : ℕ) → AllUnmoved s (end_down s k).state }
     ensures end_up { (s : State) (k : ℕ) → AllUnmoved s (end_up s k).state }
     ensures abandon { (s : State) (f : Flow) → AllUnmoved s (abandon s f).state }
+    ensures ask { (s : State) (f : Flow) → AllUnmoved s (ask s f).state }
 {}
 
 /// What holds of an IMP that was not short of memory, after each call if it held before: it has its number,
@@ -123,19 +128,20 @@ pub fn sound()
     ensures give_up { (imp : ℕ) (s : State) (f : Flow) → give_up_refusal s f ≡ None → IsImp imp s → IsImp imp (give_up s f).state }
     ensures forget { (imp : ℕ) (s : State) (other : ℕ) → IsImp imp s → IsImp imp (forget s other).state }
     ensures abandon { (imp : ℕ) (s : State) (f : Flow) → IsImp imp s → IsImp imp (abandon s f).state }
+    ensures ask { (imp : ℕ) (s : State) (f : Flow) → IsImp imp s → IsImp imp (ask s f).state }
     ensures host_down { (imp : ℕ) (s : State) (h : ℕ) → IsImp imp s → IsImp imp (host_down s h).state }
     ensures host_up { (imp : ℕ) (s : State) (h : ℕ) → IsImp imp s → IsImp imp (host_up s h).state }
 {}
 
-/// What the answers to questions say.
+/// What the answers to queries say.
 pub fn asking()
     // what an IMP holds of a message is in one of its packets or messages, and what it doesn't hold in none
     ensures held { (s : State) (f : Flow) (n : ℕ) → holds s f n ≡ true → Any (λ p. packet_has f n p ≡ true) (packets s) ⊎ Any (λ m. message_has f n m ≡ true) (messages s) }
     ensures not_held { (s : State) (f : Flow) (n : ℕ) → holds s f n ≡ false → All (λ p. packet_has f n p ≡ false) (packets s) × All (λ m. message_has f n m ≡ false) (messages s) }
 
-    // the same of data from one IMP to another, and of anything of a flow from or to an IMP
-    ensures data { (s : State) (from to : ℕ) → holds_data s from to ≡ true → Any (λ p. is_data_between from to p ≡ true) (packets s) ⊎ Any (λ m. is_message_between from to m ≡ true) (messages s) }
-    ensures no_data { (s : State) (from to : ℕ) → holds_data s from to ≡ false → All (λ p. is_data_between from to p ≡ false) (packets s) × All (λ m. is_message_between from to m ≡ false) (messages s) }
+    // the same of data from one IMP to another, questions counted, and of anything of a flow from or to an IMP
+    ensures data { (s : State) (from to : ℕ) → holds_data s from to ≡ true → Any (λ p. is_request_between from to p ≡ true) (packets s) ⊎ Any (λ m. is_message_between from to m ≡ true) (messages s) }
+    ensures no_data { (s : State) (from to : ℕ) → holds_data s from to ≡ false → All (λ p. is_request_between from to p ≡ false) (packets s) × All (λ m. is_message_between from to m ≡ false) (messages s) }
     ensures touched { (s : State) (imp : ℕ) → touches s imp ≡ true → Any (λ p. packet_touches imp p ≡ true) (packets s) ⊎ Any (λ m. message_touches imp m ≡ true) (messages s) }
     ensures untouched { (s : State) (imp : ℕ) → touches s imp ≡ false → All (λ p. packet_touches imp p ≡ false) (packets s) × All (λ m. message_touches imp m ≡ false) (messages s) }
 
@@ -245,6 +251,79 @@ pub fn worked_arrivals()
     ensures none_told { (host_at (from_line (serving []) 0 (packet_frame 0 (answer_packet kind.Rfnm (flow (host 0 1) (host 0 2) 5) 0))).state 0).answers ≡ [] }
 {}
 
+/// What a question about a message comes to. Host 0 at IMP 1 is served over port 0, from host 0 at IMP 2 on
+/// link 2.
+pub fn worked_questions()
+    // by the fate of the number noted last it is answered by RFNM, Dead or Never; while the message waits it is only
+    // acknowledged
+    ensures taken { (after_question 5 (noting 5 fate.Taken)).frames ≡ on_port 0 ack_frame ∷ told_back kind.Rfnm 5 ∷ [] }
+    ensures dead { (after_question 5 (noting 5 fate.Dead)).frames ≡ on_port 0 ack_frame ∷ told_back kind.Dead 5 ∷ [] }
+    ensures never { (after_question 5 (noting 5 fate.Never)).frames ≡ on_port 0 ack_frame ∷ told_back kind.Never 5 ∷ [] }
+    ensures waits { (after_question 5 (noting 5 fate.Waits)).frames ≡ on_port 0 ack_frame ∷ [] }
+
+    // so it is where another number was noted since
+    ensures other_number { (after_question 4 (noting 5 fate.Taken)).frames ≡ on_port 0 ack_frame ∷ [] }
+
+    // a new number is noted as one that never came, and its source is told so
+    ensures new_number { (after_question 6 (noting 5 fate.Taken)).frames ≡ on_port 0 ack_frame ∷ told_back kind.Never 6 ∷ [] }
+    ensures first_number { (after_question 0 (serving [])).frames ≡ on_port 0 ack_frame ∷ told_back kind.Never 0 ∷ [] }
+    ensures noted { map.get (after_question 6 (noting 5 fate.Taken)).state.kept (flow (host 0 2) (host 0 1) 2) ≡ Some (record { number = 6; fate = fate.Never }) }
+
+    // after that the message's packet is old, and a question is answered so again
+    ensures too_late { arrival (after_question 0 (serving [])).state (only_packet (flow (host 0 2) (host 0 1) 2) 0) ≡ Old }
+    ensures asked_again { (after_question 6 (noting 6 fate.Never)).frames ≡ on_port 0 ack_frame ∷ told_back kind.Never 6 ∷ [] }
+
+    // once the number was forgotten nothing is known of its message: it is a new one
+    ensures forgotten { (after_question 5 (forget (noting 5 fate.Taken) 2).state).frames ≡ on_port 0 ack_frame ∷ told_back kind.Never 5 ∷ [] }
+
+    // a host that is down makes no difference
+    ensures host_is_down { (after_question 0 (host_down (serving []) 0).state).frames ≡ on_port 0 ack_frame ∷ told_back kind.Never 0 ∷ [] }
+
+    // noting clears the flow's slot, and no other; an answer by the fate clears none; a question has no slot itself
+    ensures slot_cleared { (from_line (record (serving []) { slots = slots_of 2 }) 0 (packet_frame 0 (answer_packet kind.Ask (flow (host 0 2) (host 0 1) 1) 0))).state.slots ≡ slots_of 1 }
+    ensures slot_kept { (after_question 5 (record (noting 5 fate.Taken) { slots = slots_of 3 })).state.slots ≡ slots_of 3 }
+    ensures no_slot { (after_question 0 (serving [])).state.slots ≡ [] }
+
+    // beside 32 packets the answer has no room, and the frame counts as lost: nothing is noted. What isn't answered calls for
+    // no room, and without a live route to the source the answer is dropped
+    ensures no_room { question_from 3 (busy 32) ≡ ignored (busy 32) }
+    ensures no_room_to_reply { question_from 3 (noted (flow (host 0 3) (host 0 1) 5) 0 fate.Taken (busy 32)) ≡ ignored (noted (flow (host 0 3) (host 0 1) 5) 0 fate.Taken (busy 32)) }
+    ensures silence_has_room { (question_from 3 (noted (flow (host 0 3) (host 0 1) 5) 0 fate.Waits (busy 32))).frames ≡ on_port 1 ack_frame ∷ [] }
+    ensures no_route { (question_from 5 (busy 32)).frames ≡ on_port 1 ack_frame ∷ [] }
+    ensures noted_all_the_same { kept (question_from 5 (busy 32)).state (flow (host 0 5) (host 0 1) 5) ≡ Some 0 }
+{}
+
+/// What an IMP asks, and what comes of the answer. Host 0 at IMP 1 has sent an empty message to host 0 at
+/// IMP 2 on link 7.
+pub fn worked_asking()
+    // the question goes out with the message's number, also where the host is down
+    ensures asks { (ask sent_imp (flow (host 0 1) (host 0 2) 7)).frames ≡ on_port 0 (packet_frame 1 (answer_packet kind.Ask (flow (host 0 1) (host 0 2) 7) 0)) ∷ [] }
+    ensures asks_down { (ask (host_down sent_imp 0).state (flow (host 0 1) (host 0 2) 7)).frames ≡ on_port 0 (packet_frame 1 (answer_packet kind.Ask (flow (host 0 1) (host 0 2) 7) 0)) ∷ [] }
+
+    // it is one packet, and needs one place
+    ensures one_place { ask_refusal (record sent_imp { store = packets_to 2 30 }) (flow (host 0 1) (host 0 2) 7) ≡ None }
+    ensures no_room { ask_refusal (record sent_imp { store = packets_to 2 31 }) (flow (host 0 1) (host 0 2) 7) ≡ Some fault.NoRoom }
+
+    // before that: a host of another IMP, a message that is not outstanding
+    ensures elsewhere { ask_refusal (record sent_imp { store = packets_to 2 31 }) (flow (host 0 2) (host 0 1) 7) ≡ Some fault.NoSuch }
+    ensures not_outstanding { ask_refusal (record (give_up sent_imp (flow (host 0 1) (host 0 2) 7)).state { store = packets_to 2 31 }) (flow (host 0 1) (host 0 2) 7) ≡ Some fault.NotOutstanding }
+
+    // without a live route, and within one IMP, nothing is asked, and nothing refused
+    ensures without_route { ask (end_down sent_imp 0).state (flow (host 0 1) (host 0 2) 7) ≡ record { state = (end_down sent_imp 0).state; frames = [] } }
+    ensures full_without_route { ask_refusal (record (end_down sent_imp 0).state { store = packets_to 2 32 }) (flow (host 0 1) (host 0 2) 7) ≡ None }
+    ensures within { ask sent_within (flow (host 0 1) (host 1 1) 7) ≡ record { state = sent_within; frames = [] } }
+    ensures full_within { ask_refusal (record sent_within { store = packets_to 2 32 }) (flow (host 0 1) (host 1 1) 7) ≡ None }
+
+    // Never with its number gives NotTaken, once, and with another number nothing
+    ensures not_taken { (host_at (sent_never 0 sent_imp).state 0).answers ≡ record { kind = answer.NotTaken; flow = (flow (host 0 1) (host 0 2) 7) } ∷ [] }
+    ensures ended { outstanding (sent_never 0 sent_imp).state (flow (host 0 1) (host 0 2) 7) ≡ None }
+    ensures stale { (host_at (sent_never 1 sent_imp).state 0).answers ≡ [] }
+
+    // nothing waits for a host that is down, and its flow is idle
+    ensures nobody { (host_at (sent_never 0 (host_down sent_imp 0).state).state 0).answers ≡ [] }
+    ensures idle { is_idle (sent_never 0 (host_down sent_imp 0).state).state (flow (host 0 1) (host 0 2) 7) ≡ true }
+{}
+
 /// Hosts at IMP 1: what they send, take and leave behind.
 pub fn worked_hosts()
     // nothing was heard of IMP 2, so Dead waits at once, no frame goes out, and no number is begun
@@ -331,6 +410,9 @@ pub fn worked_memory()
     // the source is down, so that no Incomplete waits; numbers and a slot are dropped
     ensures give_up { give_up_grows (host_down sent_imp 0).state (flow (host 0 1) (host 0 2) 7) ≡ false }
     ensures forget { forget_grows (serving []) 2 ≡ false }
+
+    // nothing is asked without a live route
+    ensures ask { ask_grows (end_down sent_imp 0).state (flow (host 0 1) (host 0 2) 7) ≡ false }
     ensures abandon { abandon_grows (record (serving []) { slots = slots_of 1 }) (flow (host 0 2) (host 0 1) 0) ≡ false }
 
     // no message waits for the host
@@ -366,6 +448,9 @@ pub fn worked_answers()
     // data from one IMP to another; an RFNM is none, but is something of a flow from or to both
     ensures data { (holds_data (busy 1) 1 2 ≡ true) × (holds_data (busy 1) 2 1 ≡ false) × (touches (busy 1) 1 ≡ true) × (touches (busy 1) 2 ≡ true) × (touches (busy 1) 3 ≡ false) }
     ensures no_data { (holds_data (imp 1 [] (answer_packet kind.Rfnm (flow (host 0 2) (host 0 1) 5) 0 ∷ [])) 2 1 ≡ false) × (touches (imp 1 [] (answer_packet kind.Rfnm (flow (host 0 2) (host 0 1) 5) 0 ∷ [])) 2 ≡ true) }
+
+    // a question counts as data, and what tells that a message never came doesn't
+    ensures questions { (holds_data (imp 1 [] (answer_packet kind.Ask (flow (host 0 2) (host 0 1) 5) 0 ∷ [])) 2 1 ≡ true) × (holds_data (imp 1 [] (answer_packet kind.Never (flow (host 0 2) (host 0 1) 5) 0 ∷ [])) 2 1 ≡ false) }
 
     // what would begin a number: from a host here that is up, to an IMP with a route or a host here that is up
     ensures begins { (begins (imp 1 (Some from_2 ∷ []) []) (flow (host 0 1) (host 0 2) 7) ≡ true) × (begins (imp 1 (Some from_2 ∷ []) []) (flow (host 0 1) (host 1 1) 7) ≡ true) }

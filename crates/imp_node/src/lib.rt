@@ -4,12 +4,13 @@
 //! lines, puts messages together again for its hosts, and tells sources what became of theirs. Each call of
 //! [`Imp`] is one event: it leaves one new state, and answers the frames to put on lines, or a fault.
 //!
-//! The layer above relies on each call being exact, on questions that tell what an IMP holds, and on the
+//! The layer above relies on each call being exact, on queries that tell what an IMP holds, and on the
 //! laws of [`law`]: which packets and flows a call changes, and how. Nothing here says that a packet ever
 //! goes out or that room is found. What is on the lines between IMPs is kept by the layer above.
 #![tactic(auto)]
 
 mod arrival;
+mod asking;
 mod flows;
 mod host;
 mod imp;

@@ -20,8 +20,8 @@ pub(crate) fn target(packet: &Packet) -> u8
 {
     let flow = packet.flow();
     match packet.kind() {
-        PacketKind::Data => flow.destination.imp(),
-        PacketKind::Rfnm | PacketKind::Dead => flow.source.imp(),
+        PacketKind::Data | PacketKind::Ask => flow.destination.imp(),
+        PacketKind::Rfnm | PacketKind::Dead | PacketKind::Never => flow.source.imp(),
     }
 }
 

@@ -1,4 +1,4 @@
-//! What can be asked of an IMP. The questions change nothing and take no memory.
+//! What can be asked of an IMP. The queries change nothing and take no memory.
 
 ghost use Rattle.std.specs.Prelude.{◌≡◌};
 ghost use Rattle.imp_node.specs.Queries as queries;
@@ -53,7 +53,8 @@ impl Imp {
         self.finds(&Sought::Message(*flow, number))
     }
 
-    /// Whether it holds a message, or a piece of one, from a host at one IMP to a host at another.
+    /// Whether it holds a message, a piece of one or a question about one, from a host at one IMP to a host at
+    /// another.
     pub fn holds_data(&self, from: ImpNumber, to: ImpNumber) -> bool
         ensures { result ≡ queries.holds_data self.now from to }
     {

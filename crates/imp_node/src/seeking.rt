@@ -5,7 +5,7 @@ ghost use Rattle.std.specs.List.{list_any, flat_map};
 ghost use Rattle.packetiser.specs.Slots as slots;
 ghost use Rattle.imp_channel.specs.Holding as held;
 ghost use Rattle.imp_node.specs.Contents.{packets_in_channels};
-ghost use Rattle.imp_node.specs.Queries.{is_data};
+ghost use Rattle.imp_node.specs.Queries.{is_request};
 ghost use Rattle.imp_node.specs.Inside.Seeking.{is_sought, packet_is, message_is};
 
 use crate::host::Host;
@@ -21,21 +21,22 @@ use packetiser::{Packet, PacketKind, Reassembly};
 pub enum Sought {
     /// A message of this flow and number, or a packet of it.
     Message(Flow, Number),
-    /// A message, or a piece of one, from a host at the first IMP to a host at the second.
+    /// A message, a piece of one or a question about one, from a host at the first IMP to a host at the
+    /// second.
     Between(ImpNumber, ImpNumber),
     /// A message from or to a host at this IMP, or a packet of one.
     Touching(ImpNumber),
 }
 
 impl Sought {
-    /// Whether a message or packet of this flow and number is sought, if it carries data or not.
-    pub(crate) fn is_sought(&self, carries_data: bool, flow: &Flow, number: Number) -> bool
-        ensures { result ≡ is_sought self.now carries_data flow.now number }
+    /// Whether a message or packet of this flow and number is sought, if it travels to the destination or not.
+    pub(crate) fn is_sought(&self, request: bool, flow: &Flow, number: Number) -> bool
+        ensures { result ≡ is_sought self.now request flow.now number }
     {
         match self {
             Sought::Message(wanted, of) => *wanted == *flow && number == *of,
             Sought::Between(from, to) => {
-                carries_data
+                request
                     && flow.source.imp() == from.number()
                     && flow.destination.imp() == to.number()
             }
@@ -48,7 +49,7 @@ impl Sought {
     fn is_packet(&self, packet: &Packet) -> bool
         ensures { result ≡ packet_is self.now packet.now }
     {
-        self.is_sought(is_data(packet.kind()), &packet.flow(), packet.number())
+        self.is_sought(is_request(packet.kind()), &packet.flow(), packet.number())
     }
 
     /// Whether this message is sought.
@@ -136,9 +137,12 @@ impl Sought {
     }
 }
 
-/// Whether a packet of this kind carries data.
-fn is_data(kind: PacketKind) -> bool
-    ensures { result ≡ is_data kind }
+/// Whether a packet of this kind travels to the destination: a piece or a question.
+fn is_request(kind: PacketKind) -> bool
+    ensures { result ≡ is_request kind }
 {
-    kind == PacketKind::Data
+    match kind {
+        PacketKind::Data | PacketKind::Ask => true,
+        PacketKind::Rfnm | PacketKind::Dead | PacketKind::Never => false,
+    }
 }

@@ -50,7 +50,7 @@ const NO_FRAMES: [(&[u8], ChannelFault); 16] = [
     (&[3, 0], ChannelFault::NotCanonical),
     (&[1, 0, 0], ChannelFault::NotCanonical),
     (&[0, 0, 16], ChannelFault::NotCanonical),
-    // channel 16; a distance of 17; an octet behind the distances; a packet of kind 3
+    // channel 16; a distance of 17; an octet behind the distances; a packet of kind 5
     (
         &[0, 0, 16, 1, 0x01, 0x42, 5, 0, 0x80, 0, 0],
         ChannelFault::NotCanonical,
@@ -68,7 +68,7 @@ const NO_FRAMES: [(&[u8], ChannelFault); 16] = [
         ChannelFault::NotCanonical,
     ),
     (
-        &[0, 0, 0, 3, 0x01, 0x42, 5, 0, 0x80, 0, 0],
+        &[0, 0, 0, 5, 0x01, 0x42, 5, 0, 0x80, 0, 0],
         ChannelFault::NotCanonical,
     ),
     // an answer with bits

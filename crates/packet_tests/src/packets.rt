@@ -363,7 +363,7 @@ fn verdict_zeros(alloc: Global, count: u16) -> Result<bool, PacketFault> {
 }
 
 /// Octets, and the verdict on them.
-const JUDGED: [(&[u8], Result<bool, PacketFault>); 18] = [
+const JUDGED: [(&[u8], Result<bool, PacketFault>); 24] = [
     // one octet
     (&[9], SHORT),
     // seven octets
@@ -392,8 +392,17 @@ const JUDGED: [(&[u8], Result<bool, PacketFault>); 18] = [
     (&[0, 1, 2, 5, 0, 0x88, 0, 0x10, 0x80, 0], NOT),
     // bit 6
     (&[0, 1, 2, 5, 0, 0xC0, 0, 0x10, 0x80, 0], NOT),
-    // kind 3
-    (&[3, 1, 2, 5, 0, 0x80, 0, 0], NOT),
+    // a question, and that its message never came
+    (&[3, 1, 2, 9, 0, 0x80, 0, 0], READ),
+    (&[4, 1, 2, 9, 0, 0x80, 0, 0], READ),
+    // with bits
+    (&[3, 1, 2, 9, 0, 0x80, 0, 0x10, 0x80, 0], LENGTH),
+    (&[4, 1, 2, 9, 0, 0x80, 0, 0x10, 0x80, 0], LENGTH),
+    // at place 1, or not the last
+    (&[3, 1, 2, 9, 0, 0x81, 0, 0], NOT),
+    (&[4, 1, 2, 9, 0, 0, 0, 0], NOT),
+    // kind 5
+    (&[5, 1, 2, 5, 0, 0x80, 0, 0], NOT),
     // an answer
     (&[2, 1, 2, 5, 0, 0x80, 0, 0], READ),
     // an answer at place 1
@@ -425,6 +434,32 @@ fn packets_name_the_imps_from_1_to_16(rt: HostRuntime) {
     ] {
         let octets = [2, source, destination, 5, 0, 0x80, 0, 0];
         assert_eq!(rt; verdict(rt.alloc(), &octets), want, "{octets:?}");
+    }
+}
+
+/// What kind of packet is read, and whether a packet of that kind for message 0 from 0/1 to 0/2 on link 9 is
+/// written as these octets.
+fn about(alloc: Global, octets: &[u8]) -> Result<(PacketKind, bool), PacketFault> {
+    let kind = Packet::read(alloc, octets)?.kind();
+    let packet = match kind {
+        PacketKind::Data => return Err(PacketFault::NotCanonical),
+        PacketKind::Rfnm | PacketKind::Dead | PacketKind::Ask | PacketKind::Never => {
+            Packet::new(kind, flow(9), 0, 0, true, Bits::new(alloc))
+        }
+    };
+    Ok((kind, is_written(alloc, &packet, octets)))
+}
+
+#[test]
+fn answers_and_questions_are_told_apart_by_octet_0(rt: HostRuntime) {
+    for (octet, kind) in [
+        (1, PacketKind::Rfnm),
+        (2, PacketKind::Dead),
+        (3, PacketKind::Ask),
+        (4, PacketKind::Never),
+    ] {
+        let octets = [octet, 1, 2, 9, 0, 0x80, 0, 0];
+        assert_eq!(rt; about(rt.alloc(), &octets), Ok((kind, true)), "{octets:?}");
     }
 }
 

@@ -28,7 +28,7 @@ unfolding is_short
 long_from octets e = record { header = grind (arith, nat_tests, e); body = grind (arith, nat_tests, e) }
 
 pub record IsCanonical (octets : List ℕ) : Type 0 where
-  pub kind : get_or octets 0 0 ≤ 2
+  pub kind : get_or octets 0 0 ≤ 4
   pub source : is_address (get_or octets 1 0) ≡ true
   pub destination : is_address (get_or octets 2 0) ≡ true
   pub gap : get_or octets 5 0 / 8 % 16 ≡ 0
@@ -65,7 +65,7 @@ pub canonical_from : (octets : List ℕ) → is_not_canonical octets ≡ false �
 unfolding is_not_canonical
 canonical_from octets e =
     let f = seven
-    (nat_lt 2 (get_or octets 0 0)) (not (is_address (get_or octets 1 0))) (not (is_address (get_or octets 2 0)))
+    (nat_lt 4 (get_or octets 0 0)) (not (is_address (get_or octets 1 0))) (not (is_address (get_or octets 2 0)))
     (not (get_or octets 5 0 / 8 % 16 == 0)) (not (is_last octets) && place_of octets + 1 == 8)
     (not (is_data octets) && not (get_or octets 5 0 == 128)) (nat_lt (octet_count (bit_count octets)) (length octets)) e in
     record {
@@ -127,11 +127,13 @@ packet_from octets long canonical good = record { long = long_from octets long; 
 address_is : (octet : ℕ) → octet < 256 → is_address octet ≡ true → IsPacketHost (host_of octet)
 address_is octet small e = record { some = grind (arith, nat_tests, e); imp = grind (arith, nat_tests, e); host = omega arith }
 
-carries_by : (a b : Bool) (place : ℕ) (last : Bool) (size : ℕ) → (a ≡ true → IsPiece place last size) → (a ≡ false → IsAnswer place last size)
-    → Carries (if a then kind.Data else (if b then kind.Rfnm else kind.Dead)) place last size
-carries_by true b place last size piece answer = piece refl
-carries_by false true place last size piece answer = answer refl
-carries_by false false place last size piece answer = answer refl
+carries_by : (a b c d : Bool) (place : ℕ) (last : Bool) (size : ℕ) → (a ≡ true → IsPiece place last size) → (a ≡ false → IsAnswer place last size)
+    → Carries (if a then kind.Data else (if b then kind.Rfnm else (if c then kind.Dead else (if d then kind.Ask else kind.Never)))) place last size
+carries_by true b c d place last size piece answer = piece refl
+carries_by false true c d place last size piece answer = answer refl
+carries_by false false true d place last size piece answer = answer refl
+carries_by false false false true place last size piece answer = answer refl
+carries_by false false false false place last size piece answer = answer refl
 
 -- the bits that are read are as many as the octets say
 length-read : (octets : List ℕ) → IsLong octets → length (take (bit_count octets) (bits_of (drop 8 octets))) ≡ bit_count octets
@@ -156,16 +158,18 @@ fields_fit octets small h =
       number = small 4;
       place = omega arith;
       body =
-          rw size (carries_by (is_data octets) (get_or octets 0 0 == 1) (place_of octets) (is_last octets) (bit_count octets)
+          rw size (carries_by (is_data octets) (get_or octets 0 0 == 1) (get_or octets 0 0 == 2) (get_or octets 0 0 == 3) (place_of octets) (is_last octets) (bit_count octets)
           (λ d. record { some = h.good.some d; most = h.good.most d; units = h.good.units d; full = h.good.full d; end = h.canonical.end })
           (λ d. let mark : get_or octets 5 0 ≡ 128 = h.canonical.answer d in record { first = omega (arith, mark); only = grind (arith, nat_tests, mark); empty = h.good.empty d }));
     }
 
-kind_again : (octet : ℕ) → octet ≤ 2 → kind_octet (kind_of octet) ≡ octet
+kind_again : (octet : ℕ) → octet ≤ 4 → kind_octet (kind_of octet) ≡ octet
 kind_again zero le = refl
 kind_again (suc zero) le = refl
 kind_again (suc (suc zero)) le = refl
-kind_again (suc (suc (suc n))) le = absurd (omega arith)
+kind_again (suc (suc (suc zero))) le = refl
+kind_again (suc (suc (suc (suc zero)))) le = refl
+kind_again (suc (suc (suc (suc (suc n))))) le = absurd (omega arith)
 
 place_again : (octet : ℕ) → octet < 256 → octet / 8 % 16 ≡ 0 → place_octet (octet % 8) (nat_le 128 octet) ≡ octet
 place_again octet small gap = elim (cases_Bool (nat_le 128 octet)) [
@@ -232,6 +236,8 @@ size_by : (k : PacketKind) (place : ℕ) (last : Bool) (size : ℕ) → Carries 
 size_by kind.Data place last size h = (let units : size % 16 ≡ 0 = h.units in omega arith, h.most)
 size_by kind.Rfnm place last size h = (let empty : size ≡ 0 = h.empty in omega arith, let empty : size ≡ 0 = h.empty in omega arith)
 size_by kind.Dead place last size h = (let empty : size ≡ 0 = h.empty in omega arith, let empty : size ≡ 0 = h.empty in omega arith)
+size_by kind.Ask place last size h = (let empty : size ≡ 0 = h.empty in omega arith, let empty : size ≡ 0 = h.empty in omega arith)
+size_by kind.Never place last size h = (let empty : size ≡ 0 = h.empty in omega arith, let empty : size ≡ 0 = h.empty in omega arith)
 
 none_of_two : (a b : Bool) → a ≡ false → b ≡ false → (a || b) ≡ false
 none_of_two a b ea eb = rw (ea, eb) refl
@@ -251,10 +257,12 @@ long_again p h =
     none_of_two (nat_lt (length (spelling p)) 8) (nat_lt (length (spelling p)) (octet_count (bit_count (spelling p))))
     (grind (arith, nat_tests)) (grind (arith, nat_tests, o.count, size.0))
 
-kind_small : (k : PacketKind) → kind_octet k ≤ 2
+kind_small : (k : PacketKind) → kind_octet k ≤ 4
 kind_small kind.Data = omega arith
 kind_small kind.Rfnm = omega arith
 kind_small kind.Dead = omega arith
+kind_small kind.Ask = omega arith
+kind_small kind.Never = omega arith
 
 address_again : (a : Host) → IsPacketHost a → is_address (address_octet a) ≡ true
 address_again a h =
@@ -267,11 +275,15 @@ end_as k place true size h = refl
 end_as kind.Data place false size h = ne_eqb (place + 1) 8 (λ e. let no : false ≡ true = h.end e in absurd (cc))
 end_as kind.Rfnm place false size h = let no : false ≡ true = h.only in absurd (cc)
 end_as kind.Dead place false size h = let no : false ≡ true = h.only in absurd (cc)
+end_as kind.Ask place false size h = let no : false ≡ true = h.only in absurd (cc)
+end_as kind.Never place false size h = let no : false ≡ true = h.only in absurd (cc)
 
 answer_as : (k : PacketKind) (place : ℕ) (last : Bool) (size : ℕ) → Carries k place last size → (not (kind_octet k == 0) && not (place_octet place last == 128)) ≡ false
 answer_as kind.Data place last size h = refl
 answer_as kind.Rfnm place last size h = rw (h.first, h.only) refl
 answer_as kind.Dead place last size h = rw (h.first, h.only) refl
+answer_as kind.Ask place last size h = rw (h.first, h.only) refl
+answer_as kind.Never place last size h = rw (h.first, h.only) refl
 
 canonical_again : (p : PacketFields) → IsPacket p → is_not_canonical (spelling p) ≡ false
 unfolding is_not_canonical
@@ -281,10 +293,10 @@ canonical_again p h =
     let held : HoldsPlace p.place p.last = place_held p.place p.last h.place in
     let octets : List ℕ = spelling p in
     none_of_seven
-    (nat_lt 2 (get_or octets 0 0)) (not (is_address (get_or octets 1 0))) (not (is_address (get_or octets 2 0)))
+    (nat_lt 4 (get_or octets 0 0)) (not (is_address (get_or octets 1 0))) (not (is_address (get_or octets 2 0)))
     (not (get_or octets 5 0 / 8 % 16 == 0)) (not (is_last octets) && place_of octets + 1 == 8)
     (not (is_data octets) && not (get_or octets 5 0 == 128)) (nat_lt (octet_count (bit_count octets)) (length octets))
-    (let small : kind_octet p.kind ≤ 2 = kind_small p.kind in grind (arith, nat_tests))
+    (let small : kind_octet p.kind ≤ 4 = kind_small p.kind in grind (arith, nat_tests))
     (ap not (address_again p.source h.source))
     (ap not (address_again p.destination h.destination))
     (ap not (eq-eqb (place_octet p.place p.last / 8 % 16) 0 held.gap))
@@ -297,6 +309,8 @@ good_as kind.Data place true size h = none_of_four (size == 0) (nat_lt 1008 size
 good_as kind.Data place false size h = let full : size ≡ 1008 = h.full refl in rw full refl
 good_as kind.Rfnm place last size h = let empty : size ≡ 0 = h.empty in rw empty refl
 good_as kind.Dead place last size h = let empty : size ≡ 0 = h.empty in rw empty refl
+good_as kind.Ask place last size h = let empty : size ≡ 0 = h.empty in rw empty refl
+good_as kind.Never place last size h = let empty : size ≡ 0 = h.empty in rw empty refl
 
 good_again : (p : PacketFields) → IsPacket p → is_bad_length (spelling p) ≡ false
 unfolding is_bad_length
@@ -309,6 +323,8 @@ kind_read : (k : PacketKind) → kind_of (kind_octet k) ≡ k
 kind_read kind.Data = refl
 kind_read kind.Rfnm = refl
 kind_read kind.Dead = refl
+kind_read kind.Ask = refl
+kind_read kind.Never = refl
 
 host_with : ℕ → ℕ → Host
 host_with imp host = record { imp = imp; host = host }

@@ -19,6 +19,8 @@ abbrev pub kind_octet : PacketKind → ℕ
 kind_octet kind.Data = 0
 kind_octet kind.Rfnm = 1
 kind_octet kind.Dead = 2
+kind_octet kind.Ask = 3
+kind_octet kind.Never = 4
 
 -- the octet of a place and a last flag
 abbrev pub place_octet : ℕ → Bool → ℕ
@@ -34,7 +36,12 @@ spelling p =
 
 -- the kind with this octet
 abbrev pub kind_of : ℕ → PacketKind
-kind_of octet = if octet == 0 then kind.Data else (if octet == 1 then kind.Rfnm else kind.Dead)
+kind_of octet =
+    if octet == 0 then kind.Data
+    else (if octet == 1 then kind.Rfnm
+    else (if octet == 2 then kind.Dead
+    else (if octet == 3 then kind.Ask
+    else kind.Never)))
 
 -- the host that an address octet names
 abbrev pub host_of : ℕ → Host
@@ -69,10 +76,10 @@ unfoldable pub is_short : List ℕ → Bool
 is_short octets = nat_lt (length octets) header_octets || nat_lt (length octets) (octet_count (bit_count octets))
 
 -- an unknown kind, an IMP outside 1 to 16, a bit set between place and last flag, place 7 without the last flag, an answer
--- whose octet 5 isn't 128, or octets after the end
+-- or a question whose octet 5 isn't 128, or octets after the end
 unfoldable pub is_not_canonical : List ℕ → Bool
 is_not_canonical octets =
-    nat_lt 2 (slice_index octets 0)
+    nat_lt 4 (slice_index octets 0)
     || not (is_address (slice_index octets 1))
     || not (is_address (slice_index octets 2))
     || not (slice_index octets 5 / 8 % 16 == 0)
@@ -81,7 +88,7 @@ is_not_canonical octets =
     || nat_lt (octet_count (bit_count octets)) (length octets)
 
 -- a piece with no bits, with more than 1008, or with part of a unit of sixteen; a piece that isn't the last and hasn't 1008;
--- an answer with bits
+-- an answer or a question with bits
 unfoldable pub is_bad_length : List ℕ → Bool
 is_bad_length octets =
     if is_data octets

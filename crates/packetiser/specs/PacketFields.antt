@@ -37,7 +37,7 @@ pub record IsPiece (place : ℕ) (last : Bool) (size : ℕ) : Type 0 where
   pub full : last ≡ false → size ≡ piece_bits
   pub end : place + 1 ≡ most_pieces → last ≡ true
 
--- an answer has place 0, the last flag and no bits
+-- an answer or a question has place 0, the last flag and no bits
 pub record IsAnswer (place : ℕ) (last : Bool) (size : ℕ) : Type 0 where
   pub first : place ≡ 0
   pub only : last ≡ true
@@ -48,6 +48,8 @@ abbrev pub Carries : PacketKind → ℕ → Bool → ℕ → Type 0
 Carries kind.Data place last size = IsPiece place last size
 Carries kind.Rfnm place last size = IsAnswer place last size
 Carries kind.Dead place last size = IsAnswer place last size
+Carries kind.Ask place last size = IsAnswer place last size
+Carries kind.Never place last size = IsAnswer place last size
 
 -- the format of packets: what a packet may say
 pub record IsPacket (p : PacketFields) : Type 0 where

@@ -25,12 +25,18 @@ pub enum PacketKind {
     Rfnm,
     /// The destination's host is down or not there, and did not get the message.
     Dead,
+    /// A question of the source's IMP: what became of the message.
+    Ask,
+    /// The message never came whole to its host's IMP, and now it never will.
+    Never,
 }
 
-/// A packet: a piece of a message, or an answer that tells what became of one (Heart et al., SJCC 1970).
+/// A packet: a piece of a message, an answer that tells what became of one (Heart et al., SJCC 1970), or a
+/// question about one.
 ///
-/// An answer names its message's source and destination as a piece of the message does, and travels to
-/// the source. IMPs are numbered from 1 to 16 here. A piece has a place from 0 to 7 and 16 to 1008 bits in
+/// An answer or a question names its message's source and destination as a piece of the message does. An
+/// answer travels to the source, and a question to the destination. A question has the form of an answer,
+/// and what is said of answers here holds of it. IMPs are numbered from 1 to 16 here. A piece has a place from 0 to 7 and 16 to 1008 bits in
 /// units of sixteen; each piece of a message but the last has 1008. No value of this type is outside the
 /// format.
 #[derive(Debug, Drop)]
@@ -90,7 +96,7 @@ impl Packet {
         }
     }
 
-    /// Whether it is a piece or an answer, and which answer.
+    /// Whether it is a piece, an answer or a question, and which answer.
     pub fn kind(&self) -> PacketKind
         ensures same { result ≡ self.now.kind }
         ensures format { IsPacket self.now }
@@ -148,7 +154,7 @@ impl Packet {
     /// The packet that these octets spell.
     ///
     /// Errors: `Short` for fewer than 8 octets, or fewer than the number of bits asks for; `NotCanonical`
-    /// for an octet 0 above 2, an IMP outside 1 to 16, a bit between place and last flag, place 7 without
+    /// for an octet 0 above 4, an IMP outside 1 to 16, a bit between place and last flag, place 7 without
     /// the last flag, an answer whose octet 5 isn't 128, and octets after the end; `BadLength` for an
     /// answer with bits, a piece with none, above 1008 or no multiple of 16, and a piece other than the
     /// last that hasn't 1008; `OutOfMemory` only for a packet with bits.
@@ -234,17 +240,21 @@ fn kind_octet(kind: PacketKind) -> u8
         PacketKind::Data => 0,
         PacketKind::Rfnm => 1,
         PacketKind::Dead => 2,
+        PacketKind::Ask => 3,
+        PacketKind::Never => 4,
     }
 }
 
-/// The kind with this octet, which is at most 2.
+/// The kind with this octet, which is at most 4.
 fn kind_of(octet: u8) -> PacketKind
     ensures { result ≡ kind_of octet }
 {
     match octet {
         0 => PacketKind::Data,
         1 => PacketKind::Rfnm,
-        _ => PacketKind::Dead,
+        2 => PacketKind::Dead,
+        3 => PacketKind::Ask,
+        _ => PacketKind::Never,
     }
 }
 
@@ -303,7 +313,7 @@ fn is_not_canonical(octets: &[u8]) -> bool
     ensures { result ≡ is_not_canonical octets.now }
 {
     let last = octets[5] >= 128;
-    octets[0] > 2
+    octets[0] > 4
         || !is_address(octets[1])
         || !is_address(octets[2])
         || octets[5] / 8 % 16 != 0

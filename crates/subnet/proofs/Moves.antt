@@ -1,6 +1,7 @@
 -- Each event of a subnet as moves of the flow law. Main lemmas: Offers `offer_sound`, Takes `take_sound`, Deliveries `deliver_sound` (these three
 -- events), EventSteps `step_sound` (each event keeps a subnet sound), WholeRuns `always_run` (the log is a run of the mailboxes).
 pub mod Askable
+pub mod Asking
 pub mod Deliveries
 pub mod EventSteps
 pub mod Fates

@@ -8,7 +8,7 @@ use Rattle.imp_channel.specs.declared.frame.Frame.{Frame}
 use Rattle.imp_node.specs.declared.waiting.Message.{Message}
 use Rattle.imp_node.specs.State.{State, number}
 use Rattle.imp_node.specs.Contents as imp
-use Rattle.imp_node.specs.Queries.{holds, packet_has, holds_data, is_data_between, touches, packet_touches, keeps, awaits}
+use Rattle.imp_node.specs.Queries.{holds, packet_has, holds_data, is_request_between, touches, packet_touches, keeps, awaits}
 use Rattle.subnet.specs.Net.{Net, Wire}
 
 -- ---- the packets and messages
@@ -53,9 +53,9 @@ anywhere n question test = list_any (says question) n.imps || list_any (carries 
 abbrev pub is_alive : Net → Flow → ℕ → Bool
 is_alive n f number = anywhere n (λ s. holds s f number) (packet_has f number)
 
--- data or a message from a host at one IMP to a host at another is alive
+-- data, a question or a message from a host at one IMP to a host at another is alive
 abbrev pub has_data : Net → ℕ → ℕ → Bool
-has_data n from to = anywhere n (λ s. holds_data s from to) (is_data_between from to)
+has_data n from to = anywhere n (λ s. holds_data s from to) (is_request_between from to)
 
 -- something of a flow from or to an IMP is alive
 abbrev pub has_flow : Net → ℕ → Bool

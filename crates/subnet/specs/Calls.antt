@@ -11,7 +11,7 @@ use Rattle.leader1822.specs.declared.event.NetEvent.TheVariants as event
 use Rattle.imp_channel.specs.Holding.{bits_carried}
 use Rattle.imp_channel.specs.declared.frame.Frame.{Frame}
 use Rattle.imp_node.specs.State.{State}
-use Rattle.imp_node.specs.Turns.{resend_grows, route_grows, end_down_grows, end_up_grows, give_up_grows, forget_grows, abandon_grows, from_line_grows, to_host_grows}
+use Rattle.imp_node.specs.Turns.{resend_grows, route_grows, end_down_grows, end_up_grows, give_up_grows, forget_grows, abandon_grows, ask_grows, from_line_grows, to_host_grows}
 use Rattle.subnet.specs.Net.{Net, Wire, imp_at, wire_at, port_of, frames_on, far_end}
 use Rattle.subnet.specs.Flows.{imp_is_up}
 use Rattle.subnet.specs.Events.{first_of, taken_by_host}
@@ -86,6 +86,7 @@ step_grows n (event.HostUp h) = true
 step_grows n (event.GiveUp f) = grows_at (imp_at n.imps f.source.imp) (λ s. give_up_grows s f)
 step_grows n (event.Forget at from) = grows_at (imp_at n.imps at) (λ s. forget_grows s from)
 step_grows n (event.Abandon f) = grows_at (imp_at n.imps f.destination.imp) (λ s. abandon_grows s f)
+step_grows n (event.Ask f) = grows_at (imp_at n.imps f.source.imp) (λ s. ask_grows s f)
 
 -- ---- memory in a quiet round
 

@@ -25,6 +25,7 @@ use Rattle.imp_node.specs.State as imp
 use Rattle.imp_node.specs.Offering.{begins, from_host, from_host_refusal}
 use Rattle.imp_node.specs.Arrival.{from_line}
 use Rattle.imp_node.specs.Taking.{next_for, to_host, to_host_refusal}
+use Rattle.imp_node.specs.Asking.{ask, ask_refusal}
 use Rattle.imp_node.specs.Lines.{resend, route, end_down, end_up, end_down_refusal, end_up_refusal}
 use Rattle.imp_node.specs.Stopping.{give_up, give_up_refusal, forget, abandon, abandon_refusal, host_down, host_down_refusal, host_up, host_up_refusal}
 use Rattle.imp_node.specs.Queries.{last, outstanding, kept}
@@ -157,7 +158,7 @@ all_turns (l ∷ lines) n = all_turns lines (turn_of l way.Back (turn_of l way.F
 abbrev pub quiet_round : Net → Net
 quiet_round n = all_turns (range_with_len 0 (length n.lines)) (all_refreshed (range_with_len 0 (length n.imps)) n)
 
--- ---- giving up, forgetting, abandoning
+-- ---- giving up, forgetting, asking, abandoning
 
 -- the outstanding message is alive somewhere: a packet of it, an answer to it that travels, or the message in a queue
 abbrev pub give_up_alive : Net → Flow → Option ℕ → Bool
@@ -182,13 +183,18 @@ site_at n i = slice_index_or n.sites i None
 abbrev pub is_imp : Net → ℕ → Bool
 is_imp n i = is_some (site_at n i)
 
--- an IMP forgets another's flows only where no data and no message from there to here is alive, and no message outstanding there
+-- an IMP forgets another's flows only where no data, no question and no message from there to here is alive, and no message
+-- outstanding there
 abbrev pub forgetting_refusal : Net → ℕ → ℕ → Option CarrierFault
 forgetting_refusal n at from =
     first_of (not (is_imp n at && is_imp n from)) fault.NoSuch
     (first_of (at == from) fault.NoSuch
     (first_of (has_data n from at || is_awaited_at (imp_at n.imps from) at) fault.StillAlive
     (at_up (imp_at n.imps at) accepted)))
+
+-- the source's IMP asks what became of the outstanding message; the source itself may be down
+abbrev pub asking_refusal : Net → Flow → Option CarrierFault
+asking_refusal n f = first_of (not (is_host n.hosts f.source)) fault.NoSuch (at_up (imp_at n.imps f.source.imp) (λ s. ask_refusal s f))
 
 -- an IMP that is down has no slot
 abbrev pub abandoning_refusal : Option State → Flow → Option CarrierFault
@@ -273,6 +279,7 @@ step_refusal n (event.HostUp h) = at_host_refusal n h host_up_refusal
 step_refusal n (event.GiveUp f) = giving_up_refusal n f
 step_refusal n (event.Forget at from) = forgetting_refusal n at from
 step_refusal n (event.Abandon f) = abandoning_refusal (imp_at n.imps f.destination.imp) f
+step_refusal n (event.Ask f) = asking_refusal n f
 
 abbrev pub stepped : Net → NetEvent → Net
 stepped n (event.Deliver l d k) = deliver n l d k
@@ -288,3 +295,4 @@ stepped n (event.HostUp h) = host_started n h
 stepped n (event.GiveUp f) = at_imp (imp_at n.imps f.source.imp) f.source.imp (λ s. give_up s f) n
 stepped n (event.Forget at from) = at_imp (imp_at n.imps at) at (λ s. forget s from) n
 stepped n (event.Abandon f) = at_imp (imp_at n.imps f.destination.imp) f.destination.imp (λ s. abandon s f) n
+stepped n (event.Ask f) = at_imp (imp_at n.imps f.source.imp) f.source.imp (λ s. ask s f) n

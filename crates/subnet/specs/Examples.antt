@@ -13,7 +13,7 @@ use Rattle.imp_node.specs.declared.waiting.Message.{Message}
 use Rattle.imp_node.specs.State.{State, no_host, up_host, down_port}
 use Rattle.imp_node.specs.Flows.{answer_packet}
 use Rattle.imp_node.specs.Pump.{pump}
-use Rattle.imp_node.specs.Examples.{host, flow, only_packet, packet_frame, ack_frame, empty_message, from_1, from_2, imp}
+use Rattle.imp_node.specs.Examples.{host, flow, only_packet, packets_to, packet_frame, ack_frame, empty_message, from_1, from_2, imp}
 use Rattle.subnet.specs.Net.{Net, Wire}
 use Rattle.subnet.specs.Opening.{opening_subnet, hosts_from}
 
@@ -35,6 +35,13 @@ data_frame n = packet_frame 0 (only_packet ours n)
 
 abbrev pub rfnm_frame : ℕ → Frame
 rfnm_frame n = packet_frame 0 (answer_packet kind.Rfnm ours n)
+
+-- of the question about it, and of the packet that says that it never came
+abbrev pub ask_frame : ℕ → Frame
+ask_frame n = packet_frame 0 (answer_packet kind.Ask ours n)
+
+abbrev pub never_frame : ℕ → Frame
+never_frame n = packet_frame 0 (answer_packet kind.Never ours n)
 
 -- the frame of a packet that IMP 1 only passes on, from IMP 3 to IMP 2
 abbrev pub passing_frame : Frame
@@ -76,6 +83,13 @@ begun_up_to last = record imp_1 { sources = map.insert map.empty ours (standing.
 -- IMP 1 while number 0 of our flow is outstanding
 abbrev pub expecting : State
 expecting = record imp_1 { sources = begun map.empty ours }
+
+-- the same without a live route, and with a store that is full
+abbrev pub expecting_cut_off : State
+expecting_cut_off = record expecting { routes = record { own = 1; heard = None ∷ [] } }
+
+abbrev pub expecting_full : State
+expecting_full = record expecting { store = packets_to 3 32 }
 
 -- IMP 1 with host 0 down
 abbrev pub one_host_down : State

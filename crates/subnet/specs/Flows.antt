@@ -22,6 +22,8 @@ abbrev pub kind_of : PacketKind → Kind
 kind_of kind.Data = Kind.Data
 kind_of kind.Rfnm = Kind.Rfnm
 kind_of kind.Dead = Kind.Dead
+kind_of kind.Ask = Kind.Ask
+kind_of kind.Never = Kind.Never
 
 -- a packet of a flow as the flow's law sees it
 abbrev pub packet_of : PacketFields → Packet

@@ -2,6 +2,7 @@
 use Rattle.std.specs.Prelude.{ℕ, List, [], ◌++◌, Option, Some, None, slice_get}
 use Rattle.std.specs.List.{flat_map}
 use Rattle.leader1822.specs.Host.{Host}
+use Rattle.leader1822.specs.declared.address.Flow.{Flow}
 use Rattle.leader1822.specs.declared.event.Direction.{Direction}
 use Rattle.leader1822.specs.declared.message.HostMessage.{HostMessage}
 use Rattle.packetiser.specs.PacketFields.{PacketFields}
@@ -10,7 +11,7 @@ use Rattle.imp_channel.specs.Holding.{carried_by}
 use Rattle.imp_channel.specs.declared.frame.Frame.{Frame}
 use Rattle.imp_node.specs.State.{State}
 use Rattle.imp_node.specs.Arrival.{arrival}
-use Rattle.imp_node.specs.Making.{dead_for, from_host_makes, to_host_makes, host_down_makes}
+use Rattle.imp_node.specs.Making.{told_for, ask_makes, from_host_makes, to_host_makes, host_down_makes}
 use Rattle.subnet.specs.Net.{Net, imp_at, wire_at, frames_on, far_end}
 use Rattle.subnet.specs.Alive.{packets}
 
@@ -35,17 +36,21 @@ offer_makes n m = made_at (imp_at n.imps m.flow.source.imp) (λ s. from_host_mak
 abbrev pub take_makes : Net → Host → List PacketFields
 take_makes n h = made_at (imp_at n.imps h.imp) (λ s. to_host_makes s h.host)
 
+-- a question about an outstanding message is a packet, where the destination is at another IMP
+abbrev pub asking_makes : Net → Flow → List PacketFields
+asking_makes n f = made_at (imp_at n.imps f.source.imp) (λ s. ask_makes s f)
+
 -- each message that waits for a host that goes down gives Dead
 abbrev pub stop_makes : Net → Host → List PacketFields
 stop_makes n h = made_at (imp_at n.imps h.imp) (λ s. host_down_makes s h.host)
 
--- a piece for a host that is down or not there gives Dead
-abbrev pub dead_made : Frame → State → List PacketFields
-dead_made f s = flat_map (λ p. dead_for (arrival s p) p) (carried_by f.content)
+-- a piece for a host that is down or not there gives Dead, and a question gives the answer to it
+abbrev pub told_made : Frame → State → List PacketFields
+told_made f s = flat_map (λ p. told_for (arrival s p) p) (carried_by f.content)
 
 abbrev pub frame_makes : Option State → Option Frame → List PacketFields
 frame_makes o None = []
-frame_makes o (Some f) = made_at o (dead_made f)
+frame_makes o (Some f) = made_at o (told_made f)
 
 abbrev pub deliver_makes : Net → ℕ → Direction → ℕ → List PacketFields
 deliver_makes n l d k = frame_makes (imp_at n.imps (far_end d (wire_at n.lines l))) (slice_get (frames_on d (wire_at n.lines l)) k)

@@ -36,6 +36,7 @@ impl Parts {
             NetEvent::GiveUp(flow) => self.give_up(flow),
             NetEvent::Forget { at, from } => self.forget(at, from),
             NetEvent::Abandon(flow) => self.abandon(flow),
+            NetEvent::Ask(flow) => self.ask(flow),
         }
     }
 }

@@ -45,6 +45,20 @@ impl Parts {
         self.at_imp(source.imp(), ImpCall::GiveUp(flow))
     }
 
+    /// The source's IMP asks what became of the outstanding message of a flow.
+    pub(crate) fn ask(&mut self, flow: Flow) -> Result<(), CarrierFault>
+        requires { AreLive self.old.imps }
+        ensures step { Steps (event.Ask flow) self.old self.new result }
+        ensures live { OnOk result (AreLive self.new.imps) }
+        ensures keeps { SameLog self.old self.new }
+    {
+        let source = flow.source;
+        if !self.is_there(&source) {
+            return Err(CarrierFault::NoSuch);
+        }
+        self.at_imp(source.imp(), ImpCall::Ask(flow))
+    }
+
     /// Whether the outstanding message of a flow is alive.
     fn is_outstanding_alive(&self, flow: &Flow) -> bool
         ensures { result ≡ give_up_alive self.now flow.now (outstanding_at (imp_at self.now.imps flow.now.source.imp) flow.now) }

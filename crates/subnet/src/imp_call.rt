@@ -32,6 +32,8 @@ pub enum ImpCall {
     Forget(ImpNumber),
     /// The slot of a flow is thrown away.
     Abandon(Flow),
+    /// The destination's IMP is asked what became of the outstanding message of a flow.
+    Ask(Flow),
     /// One of its hosts stops.
     HostDown(u8),
     /// One of its hosts starts.
@@ -55,6 +57,7 @@ impl ImpCall {
             ImpCall::GiveUp(flow) => imp.give_up(flow),
             ImpCall::Forget(from) => imp.forget(from),
             ImpCall::Abandon(flow) => imp.abandon(flow),
+            ImpCall::Ask(flow) => imp.ask(flow),
             ImpCall::HostDown(host) => imp.host_down(host),
             ImpCall::HostUp(host) => imp.host_up(host),
         }

@@ -25,9 +25,9 @@ ghost use Rattle.imp_node.specs.State.{State, opening_node, no_host, port_at};
 ghost use Rattle.subnet.specs.Calls.{Kept, running, step_grows, round_grows};
 ghost use Rattle.subnet.specs.Alive.{packets, messages, is_alive};
 ghost use Rattle.subnet.specs.Events.{offer_refusal, offer_out, take_refusal, taken_by_host, crossings_of, take_in, deliver, drop_frame, giving_up_refusal, forgetting_refusal, starting_refusal, imp_stopped, imp_started, refreshed, quiet_round, step_refusal, stepped};
-ghost use Rattle.subnet.specs.Examples.{ours, our_message, our_queued, data_frame, rfnm_frame, passing_frame, imp_1, imp_2, wire, pair, opened_pair, begun_up_to, expecting, one_host_down, hosts_down, cut_off, serving_ours, keeping_ours, keeping_own, sending_ours, past_one, full_of, triangle};
+ghost use Rattle.subnet.specs.Examples.{ours, our_message, our_queued, data_frame, rfnm_frame, ask_frame, never_frame, passing_frame, imp_1, imp_2, wire, pair, opened_pair, begun_up_to, expecting, expecting_cut_off, expecting_full, one_host_down, hosts_down, cut_off, serving_ours, keeping_ours, keeping_own, sending_ours, past_one, full_of, triangle};
 ghost use Rattle.subnet.specs.Flows.{host_is_up};
-ghost use Rattle.subnet.specs.Making.{NothingNew, OnlyNew, offer_makes, take_makes, deliver_makes, stop_makes};
+ghost use Rattle.subnet.specs.Making.{NothingNew, OnlyNew, offer_makes, take_makes, deliver_makes, asking_makes, stop_makes};
 ghost use Rattle.subnet.specs.Net.{Net, imp_at, wire_at, port_of, line_from, put_one, frames_on};
 ghost use Rattle.subnet.specs.Offers.{CanGoFrom};
 ghost use Rattle.subnet.specs.Opening.{Ends, AreHosts};
@@ -102,8 +102,11 @@ pub fn holding()
     ensures offer_out { (n : Net) (m : HostMessage) → OnlyNew n (offer_makes n m) (offer_out n m) }
     ensures take_in { (n : Net) (h : Host) → OnlyNew n (take_makes n h) (take_in n h) }
 
-    // a frame brings a packet that was alive, and a piece that can't be delivered gives Dead
+    // a frame brings a packet that was alive. A piece that can't be delivered gives Dead, and a question gives its answer, if it has one
     ensures deliver { (n : Net) (l : ℕ) (d : Direction) (k : ℕ) → OnlyNew n (deliver_makes n l d k) (stepped n (event.Deliver l d k)) }
+
+    // a question about an outstanding message, where it goes over lines
+    ensures ask { (n : Net) (f : Flow) → OnlyNew n (asking_makes n f) (stepped n (event.Ask f)) }
 
     // each message that waits for a host that goes down gives Dead
     ensures host_down { (n : Net) (h : Host) → OnlyNew n (stop_makes n h) (stepped n (event.HostDown h)) }
@@ -160,7 +163,7 @@ pub fn routed()
 {}
 
 /// A sound subnet stays sound where frames are lost or sent again, ends of lines go down and come up, slots are
-/// thrown away, and messages are given up. The log of a sound subnet is a run of the mailboxes.
+/// thrown away, and messages are given up or asked about. The log of a sound subnet is a run of the mailboxes.
 pub fn sound_events()
     ensures drop { (n : Net) (l : ℕ) (d : Direction) (k : ℕ) → IsSound n → IsSound (stepped n (event.Drop l d k)) }
     ensures resend { (n : Net) (i : ℕ) → IsSound n → IsSound (stepped n (event.Resend i)) }
@@ -171,6 +174,9 @@ pub fn sound_events()
 
     // an outstanding message is given up, where that is not refused
     ensures give_up { (n : Net) (f : Flow) → step_refusal n (event.GiveUp f) ≡ None → IsSound n → IsSound (stepped n (event.GiveUp f)) }
+
+    // an IMP asks what became of an outstanding message, where that is not refused
+    ensures ask { (n : Net) (f : Flow) → step_refusal n (event.Ask f) ≡ None → IsSound n → IsSound (stepped n (event.Ask f)) }
     ensures run { (n : Net) → IsSound n → IsRun n.hosts n.log }
 {}
 
@@ -247,13 +253,17 @@ pub fn worked_frames()
 
 /// What is alive, and the four refusals that wait for packets to die.
 pub fn worked_still_alive()
-    // data, an answer that travels and a message in a queue are alive; an answer that waits for its host is not
+    // data, an answer that travels, a question and a message in a queue are alive; an answer that waits for its host is not
     ensures alive { (is_alive (pair (Some imp_1) (Some imp_2) (data_frame 0 ∷ []) []) ours 0 ≡ true) × (is_alive (pair (Some imp_1) (Some imp_2) [] (rfnm_frame 0 ∷ [])) ours 0 ≡ true) × (is_alive (pair (Some imp_1) (Some serving_ours) [] []) ours 0 ≡ true) × (is_alive (pair (Some sending_ours) (Some imp_2) [] []) ours 0 ≡ true) }
+    ensures asked { (is_alive (pair (Some imp_1) (Some imp_2) (ask_frame 0 ∷ []) []) ours 0 ≡ true) × (is_alive (pair (Some imp_1) (Some imp_2) [] (never_frame 0 ∷ [])) ours 0 ≡ true) }
     ensures other { (is_alive (pair (Some imp_1) (Some serving_ours) (data_frame 0 ∷ []) []) ours 1 ≡ false) × (is_alive (pair (Some imp_1) (Some serving_ours) (data_frame 0 ∷ []) []) (flow (host 0 1) (host 0 2) 8) 0 ≡ false) }
 
     // an offer: the number 127 before the last is alive, and the next one is not in the way
     ensures offer_window { offer_refusal (pair (Some (begun_up_to 127)) (Some imp_2) (data_frame 0 ∷ []) []) our_message ≡ Some fault.StillAlive }
     ensures offer_within { offer_refusal (pair (Some (begun_up_to 127)) (Some imp_2) (data_frame 1 ∷ []) []) our_message ≡ None }
+
+    // a question about it counts too, and so does the packet that says that it never came
+    ensures offer_asked { (offer_refusal (pair (Some (begun_up_to 127)) (Some imp_2) (ask_frame 0 ∷ []) []) our_message ≡ Some fault.StillAlive) × (offer_refusal (pair (Some (begun_up_to 127)) (Some imp_2) [] (never_frame 0 ∷ [])) our_message ≡ Some fault.StillAlive) }
 
     // numbers wrap around, also where fewer were begun; an answer counts like data
     ensures offer_round { offer_refusal (pair (Some (begun_up_to 0)) (Some imp_2) [] (rfnm_frame 129 ∷ [])) our_message ≡ Some fault.StillAlive }
@@ -273,26 +283,30 @@ pub fn worked_still_alive()
     ensures offer_nowhere { offer_refusal (pair (Some (record (begun_up_to 127) { routes = record { own = 1; heard = None ∷ [] } })) (Some imp_2) (data_frame 0 ∷ []) []) our_message ≡ None }
     ensures offer_down { offer_refusal (pair (Some (record (begun_up_to 127) { hosts = no_host ∷ no_host ∷ [] })) (Some imp_2) (data_frame 0 ∷ []) []) our_message ≡ Some fault.IsDown }
 
-    // giving up: the outstanding number is alive, as data, as an answer that travels, or in a queue
+    // giving up: the outstanding number is alive, as data, as an answer that travels, as a question, or in a queue
     ensures give_up_data { giving_up_refusal (pair (Some expecting) (Some imp_2) (data_frame 0 ∷ []) []) ours ≡ Some fault.StillAlive }
     ensures give_up_rfnm { giving_up_refusal (pair (Some expecting) (Some imp_2) [] (rfnm_frame 0 ∷ [])) ours ≡ Some fault.StillAlive }
+    ensures give_up_asked { (giving_up_refusal (pair (Some expecting) (Some imp_2) (ask_frame 0 ∷ []) []) ours ≡ Some fault.StillAlive) × (giving_up_refusal (pair (Some expecting) (Some imp_2) [] (never_frame 0 ∷ [])) ours ≡ Some fault.StillAlive) }
     ensures give_up_queued { giving_up_refusal (pair (Some expecting) (Some serving_ours) [] []) ours ≡ Some fault.StillAlive }
     ensures give_up_other { giving_up_refusal (pair (Some expecting) (Some imp_2) (data_frame 1 ∷ []) []) ours ≡ None }
     ensures give_up_none { giving_up_refusal (pair (Some imp_1) (Some imp_2) (data_frame 0 ∷ []) []) ours ≡ Some fault.NotOutstanding }
 
-    // forgetting, at IMP 2 what came from IMP 1: data from there is alive, on a line or in a queue. Data the other way and answers
-    // don't count
+    // forgetting, at IMP 2 what came from IMP 1: data or a question from there is alive, on a line or in a queue. Data the other way
+    // and answers don't count, and neither does the packet that says that a message never came
     ensures forget_data { step_refusal (pair (Some imp_1) (Some imp_2) (data_frame 0 ∷ []) []) (event.Forget 2 1) ≡ Some fault.StillAlive }
+    ensures forget_asked { step_refusal (pair (Some imp_1) (Some imp_2) (ask_frame 0 ∷ []) []) (event.Forget 2 1) ≡ Some fault.StillAlive }
     ensures forget_queued { step_refusal (pair (Some imp_1) (Some serving_ours) [] []) (event.Forget 2 1) ≡ Some fault.StillAlive }
     ensures forget_back { step_refusal (pair (Some imp_1) (Some imp_2) (data_frame 0 ∷ []) []) (event.Forget 1 2) ≡ None }
     ensures forget_answer { step_refusal (pair (Some imp_1) (Some imp_2) [] (rfnm_frame 0 ∷ [])) (event.Forget 2 1) ≡ None }
+    ensures forget_never { step_refusal (pair (Some imp_1) (Some imp_2) [] (never_frame 0 ∷ [])) (event.Forget 2 1) ≡ None }
 
     // or a message from there to here is outstanding; one the other way doesn't count
     ensures forget_awaited { step_refusal (pair (Some expecting) (Some imp_2) [] []) (event.Forget 2 1) ≡ Some fault.StillAlive }
     ensures forget_own { step_refusal (pair (Some expecting) (Some imp_2) [] []) (event.Forget 1 2) ≡ None }
 
-    // an IMP comes up: something of a flow from it is alive, also an answer. What only travelled over it for others doesn't count
+    // an IMP comes up: something of a flow from it is alive, also an answer or a question. What only travelled over it for others doesn't count
     ensures start_answer { starting_refusal (pair None (Some imp_2) [] (rfnm_frame 0 ∷ [])) 1 ≡ Some fault.StillAlive }
+    ensures start_asked { (starting_refusal (pair None (Some imp_2) (ask_frame 0 ∷ []) []) 1 ≡ Some fault.StillAlive) × (starting_refusal (pair (Some imp_1) None [] (never_frame 0 ∷ [])) 2 ≡ Some fault.StillAlive) }
     ensures start_destination { starting_refusal (pair (Some imp_1) None (data_frame 0 ∷ []) []) 2 ≡ Some fault.StillAlive }
     ensures start_passing { starting_refusal (pair None (Some imp_2) (passing_frame ∷ []) []) 1 ≡ None }
 
@@ -303,6 +317,27 @@ pub fn worked_still_alive()
 
     // or a message to a host at it is outstanding at another IMP
     ensures start_awaited { starting_refusal (pair (Some expecting) None [] []) 2 ≡ Some fault.StillAlive }
+{}
+
+/// An IMP asks what became of a message.
+pub fn worked_asking()
+    // the question goes on the line to the destination's IMP. Without a live route nothing does
+    ensures goes { (stepped (pair (Some expecting) (Some imp_2) [] []) (event.Ask ours)).lines ≡ wire (ask_frame 0 ∷ []) [] ∷ [] }
+    ensures unrouted { (stepped (pair (Some expecting_cut_off) (Some imp_2) [] []) (event.Ask ours)).lines ≡ wire [] [] ∷ [] }
+
+    // a host that isn't there comes first, also at an IMP that is down; then the IMP, then that nothing is outstanding, then the room
+    ensures not_there { step_refusal (pair None (Some imp_2) [] []) (event.Ask (flow (host 2 1) (host 0 2) 7)) ≡ Some fault.NoSuch }
+    ensures imp_down { step_refusal (pair None (Some imp_2) [] []) (event.Ask ours) ≡ Some fault.IsDown }
+    ensures none { step_refusal (pair (Some (record imp_1 { store = packets_to 3 32 })) (Some imp_2) [] []) (event.Ask ours) ≡ Some fault.NotOutstanding }
+    ensures full { step_refusal (pair (Some expecting_full) (Some imp_2) [] []) (event.Ask ours) ≡ Some fault.NoRoom }
+
+    // the source itself may be down, without a route no room is called for, and what is alive doesn't matter
+    ensures source_down { step_refusal (pair (Some (record expecting { hosts = no_host ∷ no_host ∷ [] })) (Some imp_2) [] []) (event.Ask ours) ≡ None }
+    ensures dropped { step_refusal (pair (Some (record expecting_full { routes = record { own = 1; heard = None ∷ [] } })) (Some imp_2) [] []) (event.Ask ours) ≡ None }
+    ensures asked_again { step_refusal (pair (Some expecting) (Some imp_2) (data_frame 0 ∷ ask_frame 0 ∷ []) []) (event.Ask ours) ≡ None }
+
+    // memory may run out only where the question goes out
+    ensures memory { (step_grows (pair (Some expecting) (Some imp_2) [] []) (event.Ask ours) ≡ true) × (step_grows (pair (Some expecting_cut_off) (Some imp_2) [] []) (event.Ask ours) ≡ false) }
 {}
 
 /// IMPs that stop and start.

@@ -2,7 +2,7 @@
 
 ghost use Rattle.std.specs.Prelude.{◌≡◌, ◌||◌};
 ghost use Rattle.std.specs.List.{list_any};
-ghost use Rattle.imp_node.specs.Queries.{is_data};
+ghost use Rattle.imp_node.specs.Queries.{is_request};
 ghost use Rattle.subnet.specs.Net.{frames_on};
 ghost use Rattle.subnet.specs.Alive as alive;
 ghost use Rattle.subnet.specs.Alive.{says, carries, is_alive, is_remembered};
@@ -23,7 +23,7 @@ use std::collections::VecDeque;
 pub enum Sought {
     /// A message of this flow and number, or a packet of it.
     Message(Flow, Number),
-    /// A message, or a piece of one, from a host at the first IMP to a host at the second.
+    /// A message, a piece of one or a question about one, from a host at the first IMP to a host at the second.
     Between(ImpNumber, ImpNumber),
     /// A message from or to a host at this IMP, or a packet of one.
     Touching(ImpNumber),
@@ -66,7 +66,7 @@ impl Sought {
         match self {
             Sought::Message(wanted, number) => *wanted == flow && packet.number() == *number,
             Sought::Between(from, to) => {
-                packet.kind() == PacketKind::Data
+                is_request(packet.kind())
                     && flow.source.imp() == from.number()
                     && flow.destination.imp() == to.number()
             }
@@ -107,6 +107,13 @@ impl Sought {
     {
         lines.iter().any(|wire| self.is_on(wire))
     }
+}
+
+/// Whether packets of this kind travel to the destination: pieces of messages, and questions.
+fn is_request(kind: PacketKind) -> bool
+    ensures { result ≡ is_request kind }
+{
+    matches!(kind, PacketKind::Data | PacketKind::Ask)
 }
 
 impl Parts {

@@ -40,7 +40,7 @@ fn flow_of(way: Way) -> Flow {
     }
 }
 
-/// Something done to an IMP, or asked of it.
+/// Something done to an IMP, or looked up in it.
 #[derive(Clone, Copy)]
 pub(crate) enum Act {
     /// A host hands over a message of this flow, with so many bits of the octets beside it.
@@ -59,6 +59,8 @@ pub(crate) enum Act {
     EndUp(u8),
     /// The outstanding message of a flow is given up.
     GiveUp(Way),
+    /// The IMP asks what became of the outstanding message of a flow.
+    Ask(Way),
     /// The last numbers of flows from the IMP of this number are dropped.
     Forget(u8),
     /// The slot of a flow is thrown away.
@@ -69,7 +71,7 @@ pub(crate) enum Act {
     HostUp(u8),
     /// Whether this host is up.
     IsUp(u8),
-    /// All questions are asked about a flow and its message 0.
+    /// All queries are made about a flow and its message 0.
     Look(Way),
 }
 
@@ -89,7 +91,7 @@ pub(crate) enum Want {
     Given(Way, usize, usize),
     /// The host is up, or it isn't.
     Up(bool),
-    /// The questions have these answers.
+    /// The queries tell this.
     Seen(Seen),
 }
 
@@ -108,7 +110,7 @@ pub(crate) enum Outcome {
     Given(Flow, usize, usize),
     /// The host is up, or it isn't.
     Up(bool),
-    /// The questions have these answers.
+    /// The queries tell this.
     Seen(Seen),
 }
 
@@ -253,7 +255,7 @@ fn take(alloc: Global, imp: &mut Imp, host: u8, out: &mut Vec<u8>) -> Result<Out
 }
 
 /// What an IMP says of a flow and its message 0.
-fn asked(imp: &Imp, flow: &Flow) -> Seen {
+fn looked_up(imp: &Imp, flow: &Flow) -> Seen {
     let (from, to) = (imp_of(&flow.source), imp_of(&flow.destination));
     Seen {
         holds: imp.holds(flow, 0),
@@ -312,12 +314,13 @@ fn outcome_of(
         Act::EndDown(port) => sent(alloc, imp.end_down(port), out),
         Act::EndUp(port) => sent(alloc, imp.end_up(port), out),
         Act::GiveUp(way) => sent(alloc, imp.give_up(flow_of(way)), out),
+        Act::Ask(way) => sent(alloc, imp.ask(flow_of(way)), out),
         Act::Forget(other) => forget(alloc, imp, other, out),
         Act::Abandon(way) => sent(alloc, imp.abandon(flow_of(way)), out),
         Act::HostDown(host) => sent(alloc, imp.host_down(host), out),
         Act::HostUp(host) => sent(alloc, imp.host_up(host), out),
         Act::IsUp(host) => Ok(Outcome::Up(imp.is_up(host))),
-        Act::Look(way) => Ok(Outcome::Seen(asked(imp, &flow_of(way)))),
+        Act::Look(way) => Ok(Outcome::Seen(looked_up(imp, &flow_of(way)))),
     }
 }
 

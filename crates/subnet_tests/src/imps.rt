@@ -391,6 +391,166 @@ fn a_message_that_is_lost_is_given_up(rt: HostRuntime) {
     assert_eq!(rt; other_at(rt.alloc(), 1, 1, &LOST), Ok(None));
 }
 
+/// The question about the message of eight bits, as it goes out on port 0 beside that message, and the answer that it never
+/// came, which acknowledges both.
+const ASK_OUT: [u8; 12] = [0, 0, 0, 1, 3, 0x01, 0x02, 9, 0, 0x80, 0, 0];
+
+const NEVER: [u8; 11] = [0, 3, 0, 4, 0x01, 0x02, 9, 0, 0x80, 0, 0];
+
+/// A message is asked for, and never came. Within the IMP, nothing is asked.
+const ASKED: [Row<'static>; 9] = [
+    (Act::Hear(0), &FROM_2, Want::Sent(0), &[]),
+    (
+        Act::Ask(Way::Forth(9)),
+        &[],
+        Want::Refused(CarrierFault::NotOutstanding),
+        &[],
+    ),
+    (
+        Act::Offer(Way::Forth(9), 8),
+        &[0xA5],
+        Want::Sent(1),
+        &EIGHT_BITS_OUT,
+    ),
+    (Act::Ask(Way::Forth(9)), &[], Want::Sent(1), &ASK_OUT),
+    (Act::Hear(0), &NEVER, Want::Sent(1), &[0, 1, 1]),
+    (
+        Act::Ask(Way::Forth(9)),
+        &[],
+        Want::Refused(CarrierFault::NotOutstanding),
+        &[],
+    ),
+    (
+        Act::Take(0),
+        &[],
+        Want::Answered(Answer::NotTaken, Way::Forth(9)),
+        &[],
+    ),
+    (Act::Offer(Way::Here(4), 8), &[0xA5], Want::Sent(0), &[]),
+    (Act::Ask(Way::Here(4)), &[], Want::Sent(0), &[]),
+];
+
+#[test]
+fn a_message_that_never_came_is_told_as_not_taken(rt: HostRuntime) {
+    assert_eq!(rt; other_at(rt.alloc(), 1, 1, &ASKED), Ok(None));
+}
+
+/// The source goes down while its message is outstanding: it is asked for all the same, and the source is told nothing.
+const ASKED_DOWN: [Row<'static>; 7] = [
+    (Act::Hear(0), &FROM_2, Want::Sent(0), &[]),
+    (
+        Act::Offer(Way::Forth(9), 8),
+        &[0xA5],
+        Want::Sent(1),
+        &EIGHT_BITS_OUT,
+    ),
+    (Act::HostDown(0), &[], Want::Sent(0), &[]),
+    (Act::Ask(Way::Forth(9)), &[], Want::Sent(1), &ASK_OUT),
+    (Act::Hear(0), &NEVER, Want::Sent(1), &[0, 1, 1]),
+    (Act::HostUp(0), &[], Want::Sent(0), &[]),
+    (Act::Take(0), &[], Want::Nothing, &[]),
+];
+
+#[test]
+fn a_source_that_is_down_is_told_nothing(rt: HostRuntime) {
+    assert_eq!(rt; other_at(rt.alloc(), 1, 1, &ASKED_DOWN), Ok(None));
+}
+
+/// The place of the first row that something else comes of where a message is asked for beside 32 packets, and then without a
+/// route.
+fn asked_when_full(alloc: Global) -> Result<Option<usize>, CarrierFault> {
+    let (Ok(text), Ok(pieces)) = (long_text(alloc, &[]), pieces_out(alloc)) else {
+        return Err(CarrierFault::OutOfMemory);
+    };
+    let full = Want::Refused(CarrierFault::NoRoom);
+    let rows: [Row; 8] = [
+        (Act::Hear(0), &FROM_2, Want::Sent(0), &[]),
+        (
+            Act::Offer(Way::Forth(2), 8063),
+            &text,
+            Want::Sent(8),
+            &pieces,
+        ),
+        (Act::Offer(Way::Forth(3), 8063), &text, Want::Sent(0), &[]),
+        (Act::Offer(Way::Forth(4), 8063), &text, Want::Sent(0), &[]),
+        (Act::Offer(Way::Forth(5), 8063), &text, Want::Sent(0), &[]),
+        (Act::Ask(Way::Forth(2)), &[], full, &[]),
+        (Act::EndDown(0), &[], Want::Sent(0), &[]),
+        (Act::Ask(Way::Forth(2)), &[], Want::Sent(0), &[]),
+    ];
+    other_at(alloc, 1, 1, &rows)
+}
+
+#[test]
+fn a_question_needs_a_place_where_a_route_leads(rt: HostRuntime) {
+    assert_eq!(rt; asked_when_full(rt.alloc()), Ok(None));
+}
+
+/// The frame on this channel of a question about the message of this number from 0/1 to 0/2 on link 9, and that of the message
+/// itself, of eight bits.
+fn ask(channel: u8, number: u8) -> [u8; 11] {
+    [0, 0, channel, 3, 0x01, 0x02, 9, number, 0x80, 0, 0]
+}
+
+fn eight_bits(channel: u8, number: u8) -> [u8; 13] {
+    [
+        0, 0, channel, 0, 0x01, 0x02, 9, number, 0x80, 0, 16, 0xA5, 0x80,
+    ]
+}
+
+/// IMP 2 is asked for message 0 before it came, and for message 1 while it waits, after it was taken, and after its number
+/// was forgotten: the place of the first row that something else comes of.
+fn asked_for(alloc: Global) -> Result<Option<usize>, CarrierFault> {
+    let rows: [Row; 10] = [
+        (Act::Hear(0), &FROM_1, Want::Sent(0), &[]),
+        (
+            Act::Hear(0),
+            &ask(0, 0),
+            Want::Sent(2),
+            &[0, 1, 0x01, 0, 0, 0x01, 0, 4, 0x01, 0x02, 9, 0, 0x80, 0, 0],
+        ),
+        (
+            Act::Hear(0),
+            &eight_bits(1, 0),
+            Want::Sent(1),
+            &[0, 1, 0x03],
+        ),
+        (Act::Take(0), &[], Want::Nothing, &[]),
+        (
+            Act::Hear(0),
+            &eight_bits(2, 1),
+            Want::Sent(1),
+            &[0, 1, 0x07],
+        ),
+        (Act::Hear(0), &ask(3, 1), Want::Sent(1), &[0, 1, 0x0F]),
+        (
+            Act::Take(0),
+            &[],
+            Want::Given(Way::Forth(9), 8, 1),
+            &[0xA5, 0, 0, 0x0F, 1, 1, 0x01, 0x02, 9, 1, 0x80, 0, 0],
+        ),
+        (
+            Act::Hear(0),
+            &ask(4, 1),
+            Want::Sent(2),
+            &[0, 1, 0x1F, 0, 0, 0x1F, 2, 1, 0x01, 0x02, 9, 1, 0x80, 0, 0],
+        ),
+        (Act::Forget(1), &[], Want::Sent(0), &[]),
+        (
+            Act::Hear(0),
+            &ask(5, 1),
+            Want::Sent(2),
+            &[0, 1, 0x3F, 0, 0, 0x3F, 3, 4, 0x01, 0x02, 9, 1, 0x80, 0, 0],
+        ),
+    ];
+    other_at(alloc, 2, 1, &rows)
+}
+
+#[test]
+fn a_question_is_answered_by_what_became_of_its_message(rt: HostRuntime) {
+    assert_eq!(rt; asked_for(rt.alloc()), Ok(None));
+}
+
 /// What is seen of a flow of which a Dead is held, and of one whose message waits for its host.
 const ABOUT: Seen = Seen {
     holds: true,
@@ -481,7 +641,7 @@ fn a_host_comes_up_once_its_messages_are_settled(rt: HostRuntime) {
 }
 
 /// Acts about hosts, lines, IMPs and flows that are not there.
-const NOTHING: [Row<'static>; 10] = [
+const NOTHING: [Row<'static>; 11] = [
     (
         Act::Offer(Way::Back(5), 0),
         &[],
@@ -504,6 +664,12 @@ const NOTHING: [Row<'static>; 10] = [
     (Act::EndUp(1), &[], Want::Refused(CarrierFault::NoSuch), &[]),
     (
         Act::GiveUp(Way::Back(5)),
+        &[],
+        Want::Refused(CarrierFault::NoSuch),
+        &[],
+    ),
+    (
+        Act::Ask(Way::Back(5)),
         &[],
         Want::Refused(CarrierFault::NoSuch),
         &[],

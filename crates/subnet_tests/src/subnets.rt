@@ -1,7 +1,8 @@
 //! Worked examples of a subnet, by its calls.
 //!
 //! Each test is a table of acts, each with what has to come of it. Three IMPs stand in a row: line 0 joins IMPs 1
-//! and 2, and line 1 IMPs 2 and 3. IMP 1 has hosts 0 and 1, and the others have host 0.
+//! and 2, and line 1 IMPs 2 and 3. IMP 1 has hosts 0 and 1, and the others have host 0. Some rows have IMPs 1 and
+//! 2 alone, each with host 0.
 
 use bit_messages::Bits;
 use leader1822::{
@@ -59,34 +60,53 @@ enum Act {
     /// So many quiet rounds.
     Rounds(u8),
     /// Whether something of the flow's message with this number is alive.
-    Ask(Who, u8),
+    IsAlive(Who, u8),
+}
+
+/// The IMPs of the rows, by their numbers.
+#[derive(Clone, Copy)]
+enum At {
+    One,
+    Two,
+    Three,
+}
+
+/// An IMP's number.
+fn imp_of(at: At) -> ImpNumber {
+    match at {
+        At::One => ImpNumber::new(1).unwrap(),
+        At::Two => ImpNumber::new(2).unwrap(),
+        At::Three => ImpNumber::new(3).unwrap(),
+    }
 }
 
 /// Something that happens in a subnet.
 #[derive(Clone, Copy)]
 enum Event {
-    /// The oldest frame of line 0 this way arrives.
-    Deliver(Direction),
+    /// The frame at this place of line 0 this way arrives.
+    Deliver(Direction, u32),
     /// The frame at this place of line 0 from IMP 1 on is lost.
     Drop(u32),
     /// IMP 1 sends again.
     Resend,
     /// IMP 2 tells its distances.
     Route,
-    /// The end of line 0 at IMP 1 stops.
-    EndDown,
+    /// The end of line 0 at this IMP stops.
+    EndDown(At),
     /// It starts.
-    EndUp,
-    /// IMP 3 stops.
-    ImpDown,
+    EndUp(At),
+    /// This IMP stops.
+    ImpDown(At),
     /// It starts.
-    ImpUp,
+    ImpUp(At),
     /// This host stops.
     HostDown(Who),
     /// This host starts.
     HostUp(Who),
     /// The outstanding message to this host is given up.
     GiveUp(Who),
+    /// IMP 1 asks what became of the outstanding message to this host.
+    Ask(Who),
     /// The slot of the flow to this host is thrown away.
     Abandon(Who),
     /// IMP 2 drops the last numbers of flows from IMP 1.
@@ -95,31 +115,38 @@ enum Event {
 
 /// An event as a carrier is told of it.
 fn event_of(event: Event) -> NetEvent {
-    let one = ImpNumber::new(1).unwrap();
-    let two = ImpNumber::new(2).unwrap();
-    let three = ImpNumber::new(3).unwrap();
     match event {
-        Event::Deliver(direction) => NetEvent::Deliver {
+        Event::Deliver(direction, frame) => NetEvent::Deliver {
             line: 0,
             direction,
-            frame: 0,
+            frame,
         },
         Event::Drop(frame) => NetEvent::Drop {
             line: 0,
             direction: Direction::Forward,
             frame,
         },
-        Event::Resend => NetEvent::Resend(one),
-        Event::Route => NetEvent::Route(two),
-        Event::EndDown => NetEvent::EndDown { imp: one, line: 0 },
-        Event::EndUp => NetEvent::EndUp { imp: one, line: 0 },
-        Event::ImpDown => NetEvent::ImpDown(three),
-        Event::ImpUp => NetEvent::ImpUp(three),
+        Event::Resend => NetEvent::Resend(imp_of(At::One)),
+        Event::Route => NetEvent::Route(imp_of(At::Two)),
+        Event::EndDown(at) => NetEvent::EndDown {
+            imp: imp_of(at),
+            line: 0,
+        },
+        Event::EndUp(at) => NetEvent::EndUp {
+            imp: imp_of(at),
+            line: 0,
+        },
+        Event::ImpDown(at) => NetEvent::ImpDown(imp_of(at)),
+        Event::ImpUp(at) => NetEvent::ImpUp(imp_of(at)),
         Event::HostDown(who) => NetEvent::HostDown(host_of(who)),
         Event::HostUp(who) => NetEvent::HostUp(host_of(who)),
         Event::GiveUp(who) => NetEvent::GiveUp(flow_to(who, 5)),
+        Event::Ask(who) => NetEvent::Ask(flow_to(who, 5)),
         Event::Abandon(who) => NetEvent::Abandon(flow_to(who, 5)),
-        Event::Forget => NetEvent::Forget { at: two, from: one },
+        Event::Forget => NetEvent::Forget {
+            at: imp_of(At::Two),
+            from: imp_of(At::One),
+        },
     }
 }
 
@@ -222,7 +249,7 @@ fn acted(alloc: Global, subnet: &mut Subnet, act: Act) -> Outcome {
         Act::Take(who) => taken(subnet.take_in(host_of(who))),
         Act::Step(event) => done(subnet.step(event_of(event))),
         Act::Rounds(count) => done(rounds(subnet, count)),
-        Act::Ask(who, number) => Outcome::Alive(subnet.alive(&flow_to(who, 5), number)),
+        Act::IsAlive(who, number) => Outcome::Alive(subnet.alive(&flow_to(who, 5), number)),
     }
 }
 
@@ -266,20 +293,41 @@ fn is_log(alloc: Global, subnet: &Subnet, log: &str) -> Result<bool, AllocError>
     Ok(text.as_str() == log)
 }
 
-/// How many rows go as they have to from the opening on, and whether this is the log then.
-fn played(alloc: Global, rows: &[Row], log: &str) -> Result<(usize, bool), AllocError> {
-    let mut subnet = row(alloc)?;
+/// IMPs 1 and 2 and the line between them, at their opening.
+fn pair(alloc: Global) -> Result<Subnet, AllocError> {
+    let hosts = vec![in alloc; HostAddr::new(0, 1).unwrap(), HostAddr::new(0, 2).unwrap()]?;
+    let sites = vec![in alloc; None, Some(1), Some(1)]?;
+    Subnet::new(alloc, hosts, sites, &[Ends { a: 1, b: 2 }])
+}
+
+/// How many rows go as they have to in this subnet, and whether this is the log then.
+fn played_in(
+    alloc: Global,
+    mut subnet: Subnet,
+    rows: &[Row],
+    log: &str,
+) -> Result<(usize, bool), AllocError> {
     let count = fitting(alloc, &mut subnet, rows);
     Ok((count, is_log(alloc, &subnet, log)?))
+}
+
+/// The same of three IMPs in a row, from the opening on.
+fn played(alloc: Global, rows: &[Row], log: &str) -> Result<(usize, bool), AllocError> {
+    played_in(alloc, row(alloc)?, rows, log)
+}
+
+/// And of two IMPs.
+fn played_by_two(alloc: Global, rows: &[Row], log: &str) -> Result<(usize, bool), AllocError> {
+    played_in(alloc, pair(alloc)?, rows, log)
 }
 
 /// A message to a host two lines away, and its RFNM.
 const THERE_AND_BACK: [Row; 12] = [
     (Act::Rounds(2), Want::Done),
-    (Act::Ask(Who::Far, 0), Want::Alive(false)),
+    (Act::IsAlive(Who::Far, 0), Want::Alive(false)),
     (Act::Offer(Who::Far, 5, 8, 0xA5), Want::Done),
-    (Act::Ask(Who::Far, 0), Want::Alive(true)),
-    (Act::Ask(Who::Far, 1), Want::Alive(false)),
+    (Act::IsAlive(Who::Far, 0), Want::Alive(true)),
+    (Act::IsAlive(Who::Far, 1), Want::Alive(false)),
     (Act::Take(Who::Far), Want::Nothing),
     // line 0 has its turns before line 1: the packet arrives, and the RFNM needs a second round
     (Act::Rounds(1), Want::Done),
@@ -404,10 +452,10 @@ fn sixteen_messages_wait_for_a_host_and_no_more(rt: HostRuntime) {
 const BY_EVENTS: [Row; 25] = [
     // IMP 2 tells IMP 1 its distances
     (Act::Step(Event::Route), Want::Done),
-    (Act::Step(Event::Deliver(Direction::Back)), Want::Done),
+    (Act::Step(Event::Deliver(Direction::Back, 0)), Want::Done),
     // a message of two packets, of which one arrives and is thrown away
     (Act::Offer(Who::Near, 5, 1016, 0x11), Want::Done),
-    (Act::Step(Event::Deliver(Direction::Forward)), Want::Done),
+    (Act::Step(Event::Deliver(Direction::Forward, 0)), Want::Done),
     (Act::Step(Event::Abandon(Who::Near)), Want::Done),
     (
         Act::Step(Event::Abandon(Who::Near)),
@@ -433,20 +481,23 @@ const BY_EVENTS: [Row; 25] = [
         Want::Answered(Answer::Incomplete, Who::Near),
     ),
     (Act::Step(Event::Forget), Want::Done),
-    (Act::Step(Event::EndDown), Want::Done),
+    (Act::Step(Event::EndDown(At::One)), Want::Done),
     (
-        Act::Step(Event::EndDown),
+        Act::Step(Event::EndDown(At::One)),
         Want::Refused(CarrierFault::IsDown),
     ),
-    (Act::Step(Event::EndUp), Want::Done),
-    (Act::Step(Event::EndUp), Want::Refused(CarrierFault::IsUp)),
-    (Act::Step(Event::ImpDown), Want::Done),
+    (Act::Step(Event::EndUp(At::One)), Want::Done),
     (
-        Act::Step(Event::ImpDown),
+        Act::Step(Event::EndUp(At::One)),
+        Want::Refused(CarrierFault::IsUp),
+    ),
+    (Act::Step(Event::ImpDown(At::Three)), Want::Done),
+    (
+        Act::Step(Event::ImpDown(At::Three)),
         Want::Refused(CarrierFault::IsDown),
     ),
     (Act::Take(Who::Far), Want::Refused(CarrierFault::IsDown)),
-    (Act::Step(Event::ImpUp), Want::Done),
+    (Act::Step(Event::ImpUp(At::Three)), Want::Done),
     (Act::Step(Event::HostUp(Who::Far)), Want::Done),
 ];
 
@@ -454,4 +505,148 @@ const BY_EVENTS: [Row; 25] = [
 fn lines_imps_and_slots_by_single_events(rt: HostRuntime) {
     let log = "out 0/1 0/2 5 1016\nanswer incomplete 0/1 0/2 5\ndown 0/3\nup 0/3\n";
     assert_eq!(rt; played(rt.alloc(), &BY_EVENTS, log), Ok((25, true)));
+}
+
+/// A question that comes before its message: it never came, and the message that comes later is not taken.
+const NEVER_SENT: [Row; 8] = [
+    (Act::Rounds(2), Want::Done),
+    (Act::Offer(Who::Near, 5, 8, 0xFF), Want::Done),
+    (Act::Step(Event::Ask(Who::Near)), Want::Done),
+    // the question is the second frame, behind the message's packet
+    (Act::Step(Event::Deliver(Direction::Forward, 1)), Want::Done),
+    (Act::Rounds(3), Want::Done),
+    (
+        Act::Take(Who::Here),
+        Want::Answered(Answer::NotTaken, Who::Near),
+    ),
+    (Act::Take(Who::Near), Want::Nothing),
+    (
+        Act::Step(Event::Ask(Who::Near)),
+        Want::Refused(CarrierFault::NotOutstanding),
+    ),
+];
+
+#[test]
+fn what_never_came_is_not_taken_later(rt: HostRuntime) {
+    let log = "out 0/1 0/2 5 8\nanswer incomplete 0/1 0/2 5\n";
+    assert_eq!(rt; played_by_two(rt.alloc(), &NEVER_SENT, log), Ok((8, true)));
+}
+
+/// A message that was taken while its RFNM had no line to go on.
+const RFNM_LOST: [Row; 11] = [
+    (Act::Rounds(2), Want::Done),
+    (Act::Offer(Who::Near, 5, 8, 0xFF), Want::Done),
+    (Act::Step(Event::Deliver(Direction::Forward, 0)), Want::Done),
+    (Act::Step(Event::EndDown(At::Two)), Want::Done),
+    (Act::Take(Who::Near), Want::Given(Who::Near, 5, 8, 0xFF)),
+    (Act::Step(Event::EndUp(At::Two)), Want::Done),
+    (Act::Rounds(3), Want::Done),
+    // without a question no answer comes
+    (Act::Take(Who::Here), Want::Nothing),
+    (Act::Step(Event::Ask(Who::Near)), Want::Done),
+    (Act::Rounds(3), Want::Done),
+    (
+        Act::Take(Who::Here),
+        Want::Answered(Answer::Rfnm, Who::Near),
+    ),
+];
+
+#[test]
+fn a_lost_rfnm_comes_by_asking(rt: HostRuntime) {
+    let log = "out 0/1 0/2 5 8\nin 0/1 0/2 5 8\nanswer rfnm 0/1 0/2 5\n";
+    assert_eq!(rt; played_by_two(rt.alloc(), &RFNM_LOST, log), Ok((11, true)));
+}
+
+/// A question while the message waits for its host: nothing is told, and it is answered when it is taken.
+const STILL_WAITS: [Row; 12] = [
+    (Act::Rounds(2), Want::Done),
+    (Act::Offer(Who::Near, 5, 8, 0xFF), Want::Done),
+    (Act::Step(Event::Deliver(Direction::Forward, 0)), Want::Done),
+    (Act::Step(Event::Ask(Who::Near)), Want::Done),
+    (Act::Step(Event::Deliver(Direction::Forward, 1)), Want::Done),
+    (
+        Act::Step(Event::GiveUp(Who::Near)),
+        Want::Refused(CarrierFault::StillAlive),
+    ),
+    (Act::Rounds(3), Want::Done),
+    (Act::Take(Who::Here), Want::Nothing),
+    (Act::Take(Who::Near), Want::Given(Who::Near, 5, 8, 0xFF)),
+    (Act::Rounds(3), Want::Done),
+    (
+        Act::Take(Who::Here),
+        Want::Answered(Answer::Rfnm, Who::Near),
+    ),
+    (Act::Take(Who::Here), Want::Nothing),
+];
+
+#[test]
+fn a_question_about_a_message_that_waits_tells_nothing(rt: HostRuntime) {
+    let log = "out 0/1 0/2 5 8\nin 0/1 0/2 5 8\nanswer rfnm 0/1 0/2 5\n";
+    assert_eq!(rt;
+        played_by_two(rt.alloc(), &STILL_WAITS, log),
+        Ok((12, true))
+    );
+}
+
+/// The destination's IMP comes up only once the message is given up, and then there is nothing to ask about.
+const GIVEN_UP_FIRST: [Row; 10] = [
+    (Act::Rounds(2), Want::Done),
+    (Act::Offer(Who::Near, 5, 8, 0xFF), Want::Done),
+    (Act::Step(Event::Drop(0)), Want::Done),
+    (Act::Step(Event::EndDown(At::One)), Want::Done),
+    (Act::Step(Event::ImpDown(At::Two)), Want::Done),
+    // the message is outstanding
+    (
+        Act::Step(Event::ImpUp(At::Two)),
+        Want::Refused(CarrierFault::StillAlive),
+    ),
+    (Act::Step(Event::GiveUp(Who::Near)), Want::Done),
+    (Act::Step(Event::ImpUp(At::Two)), Want::Done),
+    (
+        Act::Take(Who::Here),
+        Want::Answered(Answer::Incomplete, Who::Near),
+    ),
+    (
+        Act::Step(Event::Ask(Who::Near)),
+        Want::Refused(CarrierFault::NotOutstanding),
+    ),
+];
+
+#[test]
+fn an_imp_comes_up_where_nobody_asks_about_a_message_to_it(rt: HostRuntime) {
+    let log = "out 0/1 0/2 5 8\ndown 0/2\nanswer incomplete 0/1 0/2 5\n";
+    assert_eq!(rt;
+        played_by_two(rt.alloc(), &GIVEN_UP_FIRST, log),
+        Ok((10, true))
+    );
+}
+
+/// A message may be asked about while its source is down, at an IMP that is up. No answer waits for the source then.
+const WHO_ASKS: [Row; 13] = [
+    (
+        Act::Step(Event::Ask(Who::Near)),
+        Want::Refused(CarrierFault::NotOutstanding),
+    ),
+    (Act::Rounds(2), Want::Done),
+    (Act::Offer(Who::Near, 5, 8, 0xFF), Want::Done),
+    (Act::Step(Event::Drop(0)), Want::Done),
+    (Act::Step(Event::HostDown(Who::Here)), Want::Done),
+    (Act::Step(Event::Ask(Who::Near)), Want::Done),
+    // the question arrives before the packet that is sent again
+    (Act::Step(Event::Deliver(Direction::Forward, 0)), Want::Done),
+    (Act::Rounds(3), Want::Done),
+    (Act::IsAlive(Who::Near, 0), Want::Alive(false)),
+    (Act::Step(Event::HostUp(Who::Here)), Want::Done),
+    (Act::Take(Who::Here), Want::Nothing),
+    (Act::Step(Event::ImpDown(At::One)), Want::Done),
+    (
+        Act::Step(Event::Ask(Who::Near)),
+        Want::Refused(CarrierFault::IsDown),
+    ),
+];
+
+#[test]
+fn a_source_that_is_down_may_be_asked_for(rt: HostRuntime) {
+    let log = "out 0/1 0/2 5 8\ndown 0/1\nup 0/1\ndown 0/1\n";
+    assert_eq!(rt; played_by_two(rt.alloc(), &WHO_ASKS, log), Ok((13, true)));
 }

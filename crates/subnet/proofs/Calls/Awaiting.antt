@@ -1,13 +1,16 @@
 -- Whether a message to a host at an IMP is outstanding, in tables of known flows.
-use Rattle.std.proofs.Common.{◌≡◌, ℕ, true, false, [], Some, None, IsSome, is_some, ap, sym, ◌==◌, inl, inr}
+use Rattle.std.proofs.Common.{◌≡◌, ℕ, true, false, [], Option, Some, None, IsSome, is_some, ap, sym, ◌∙◌, ◌==◌, inl, inr}
 use Rattle.std.proofs.lemmas.Bool.{cases_Bool}
 use Rattle.std.specs.FinMap.{get, empty, get-empty}
 use Rattle.leader1822.specs.Flow.{flow_cmp}
 use Rattle.leader1822.specs.declared.address.Flow.{Flow}
-use Rattle.link_table.specs.Flows.{Sources, outstanding_in, has_outstanding_to}
+use Rattle.link_table.specs.Flows.{Sources, begun, number_in, outstanding_in, has_outstanding_to}
 use Rattle.link_table.specs.Keys.{has_from}
 use Rattle.link_table.specs.declared.destination.Noted.{Noted}
-use Rattle.link_table.proofs.lemmas.{asked, outstanding_to_none, outstanding_to_one}
+use Rattle.link_table.specs.declared.source.Standing.{Standing}
+use Rattle.link_table.specs.declared.source.Standing.TheVariants as standing
+use Rattle.link_table.proofs.lemmas.{asked, get_begun, outstanding_to_none, outstanding_to_one}
+use Rattle.subnet.specs.Examples.{ours}
 
 pub some_outstanding : (m : Sources) (imp : ℕ) (g : Flow) (n : ℕ) → (g.destination.imp == imp) ≡ true → outstanding_in (get m g) ≡ Some n → has_outstanding_to imp m ≡ true
 some_outstanding m imp g n to is = elim (cases_Bool (has_outstanding_to imp m)) [
@@ -23,6 +26,10 @@ none_outstanding m imp nothing = elim (cases_Bool (has_outstanding_to imp m)) [
       absurd (cc))
   | inr none ↦ none
 ]
+
+-- the first message of our flow
+pub is_begun : get (begun empty ours) ours ≡ Some (standing.Outstanding 0)
+is_begun = get_begun empty ours ours ∙ ap (λ (s : Option Standing). Some (standing.Outstanding (number_in s))) (get-empty flow_cmp ours)
 
 -- where nothing was begun, none is
 pub nothing_begun : (imp : ℕ) → has_outstanding_to imp empty ≡ false

@@ -1,5 +1,5 @@
 -- No call changes the number of an IMP.
-use Rattle.std.proofs.Common.{◌≡◌, ℕ, Bool, true, false, List, [], ◌∷◌, Result, Ok, Err, refl, ◌∙◌}
+use Rattle.std.proofs.Common.{◌≡◌, ℕ, Bool, true, false, List, [], ◌∷◌, Option, Some, None, Result, Ok, Err, refl, ◌∙◌}
 use Rattle.std.specs.Prelude.{if◌then◌else◌}
 use Rattle.leader1822.specs.declared.address.Flow.{Flow}
 use Rattle.leader1822.specs.declared.crossing.Answer.{Answer}
@@ -20,8 +20,10 @@ use Rattle.imp_node.specs.declared.waiting.Told.{Told}
 use Rattle.imp_node.specs.State.{State, ImpTurn, number, host_at, with_host, port_at}
 use Rattle.imp_node.specs.Flows.{answered_by, fated}
 use Rattle.link_table.specs.declared.destination.Fate.TheVariants as fate
-use Rattle.imp_node.specs.Arrival.{Arrival, Passing, Old, Undeliverable, Piece, NoSlot, Whole, Unmarked, Answering, arrival, arrived, arrival_has_room, frame_taken, taken_frame, from_line}
+use Rattle.imp_node.specs.Arrival.{Arrival, Passing, Old, Undeliverable, Replying, Piece, NoSlot, Whole, Unmarked, Answering, arrival, arrived, arrival_has_room, frame_taken, taken_frame, from_line}
 use Rattle.imp_node.specs.Offering.{Way, Nowhere, Here, Away, way_of, offered}
+use Rattle.imp_node.specs.Asking.{asked_by}
+use Rattle.imp_node.specs.Queries.{outstanding}
 use Rattle.imp_node.specs.Stopping.{message_returned, all_returned, stopped}
 use Rattle.imp_node.specs.Taking.{is_from_here, replied, reply_has_room, taken_by, to_host}
 use Rattle.subnet.specs.declared.imp_call.ImpCall.{ImpCall}
@@ -42,7 +44,8 @@ replied_own kind packet m s = either_own (is_from_here s m) s _ _ (answered_own 
 arrived_own : (a : Arrival) (p : PacketFields) (s : State) → number (arrived a p s) ≡ number s
 arrived_own Passing p s = refl
 arrived_own Old p s = refl
-arrived_own Undeliverable p s = refl
+arrived_own (Undeliverable new told) p s = refl
+arrived_own (Replying told) p s = refl
 arrived_own Piece p s = refl
 arrived_own NoSlot p s = refl
 arrived_own (Whole text) p s = refl
@@ -85,6 +88,10 @@ all_returned_own : (ms : List Message) (s : State) → number (all_returned ms s
 all_returned_own [] s = refl
 all_returned_own (m ∷ others) s = all_returned_own others (message_returned m s) ∙ returned_own m s
 
+asked_own : (o : Option ℕ) (f : Flow) (s : State) → number (asked_by o f s) ≡ number s
+asked_own None f s = refl
+asked_own (Some n) f s = refl
+
 pub call_own : (c : ImpCall) (s : State) → number (call_turn c s).state ≡ number s
 call_own (call.Offer m) s = offered_own (way_of s m.flow) m s
 call_own (call.Arrive k f) s = from_line_own s k f
@@ -95,5 +102,6 @@ call_own (call.EndUp k) s = refl
 call_own (call.GiveUp f) s = refl
 call_own (call.Forget i) s = refl
 call_own (call.Abandon f) s = refl
+call_own (call.Ask f) s = asked_own (outstanding s f) f s
 call_own (call.HostDown h) s = all_returned_own (host_at s h).queue (stopped s h)
 call_own (call.HostUp h) s = refl

@@ -27,6 +27,7 @@ use Rattle.imp_node.specs.State.{State, HostState, ImpTurn, no_host, host_at}
 use Rattle.imp_node.specs.Arrival.{from_line}
 use Rattle.imp_node.specs.Lines.{resend, route, end_down, end_up}
 use Rattle.imp_node.specs.Offering.{from_host}
+use Rattle.imp_node.specs.Asking.{ask}
 use Rattle.imp_node.specs.Stopping.{give_up, forget, abandon, host_down, host_up}
 use Rattle.imp_node.specs.Taking.{to_host, first_of}
 use Rattle.subnet.specs.Net.{Net, imp_at, wire_at, port_of, frames_on, far_end}
@@ -232,6 +233,7 @@ step_log n (event.HostUp h) allowed listed is = ap (λ (log : List Crossing). cr
 step_log n (event.GiveUp f) allowed listed is = call_log (imp_at n.imps f.source.imp) f.source.imp (λ s. give_up s f) n
 step_log n (event.Forget at from) allowed listed is = call_log (imp_at n.imps at) at (λ s. forget s from) n
 step_log n (event.Abandon f) allowed listed is = call_log (imp_at n.imps f.destination.imp) f.destination.imp (λ s. abandon s f) n
+step_log n (event.Ask f) allowed listed is = call_log (imp_at n.imps f.source.imp) f.source.imp (λ s. ask s f) n
 
 pub round_log : (n : Net) → (quiet_round n).log ≡ n.log
 round_log n = round_keeps (λ m. m.log ≡ n.log) (record {
@@ -291,6 +293,7 @@ step_same n (event.HostUp h) = logged_same n (at_imp (imp_at n.imps h.imp) h.imp
 step_same n (event.GiveUp f) = call_same (imp_at n.imps f.source.imp) f.source.imp (λ s. give_up s f) n
 step_same n (event.Forget at from) = call_same (imp_at n.imps at) at (λ s. forget s from) n
 step_same n (event.Abandon f) = call_same (imp_at n.imps f.destination.imp) f.destination.imp (λ s. abandon s f) n
+step_same n (event.Ask f) = call_same (imp_at n.imps f.source.imp) f.source.imp (λ s. ask s f) n
 
 pub round_same : (n : Net) → SameNetwork n (quiet_round n)
 round_same n = round_keeps (SameNetwork n) (record {

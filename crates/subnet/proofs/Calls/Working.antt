@@ -22,13 +22,15 @@ use Rattle.imp_node.specs.State.{State, host_at, is_there, is_up, port_at}
 use Rattle.imp_node.specs.Flows.{is_idle}
 use Rattle.imp_node.specs.Offering.{is_own, way_of, way_has_room, from_host_refusal}
 use Rattle.imp_node.specs.Taking.{host_refusal, taking_has_room, to_host_refusal}
+use Rattle.imp_node.specs.Asking.{ask_refusal}
 use Rattle.imp_node.specs.Queries.{outstanding}
+use Rattle.imp_node.specs.Room.{has_room_to}
 use Rattle.imp_node.specs.Lines.{end_down_refusal, end_up_refusal}
 use Rattle.imp_node.specs.Stopping.{own_host, give_up_refusal, host_down_refusal, host_up_refusal}
 use Rattle.subnet.specs.Net.{Net, imp_at, wire_at, port_of, frames_on}
 use Rattle.subnet.specs.Alive.{has_data, has_flow, is_remembered, is_awaited, is_awaited_at}
 use Rattle.subnet.specs.Calls.{Kept, running, refusal_of, HasHalted, Fails, take_grows, step_grows, round_grows}
-use Rattle.subnet.specs.Events.{at_up, first_of, accepted, is_imp, has_end, give_up_alive, outstanding_at, offer_refusal, offer_out, take_refusal, taken_by_host, crossings_of, take_in, frame_refusal, imp_refusal, at_end_refusal, at_host_refusal, starting_refusal, abandoning_refusal, giving_up_refusal, forgetting_refusal, step_refusal, stepped, quiet_round}
+use Rattle.subnet.specs.Events.{at_up, first_of, accepted, is_imp, has_end, give_up_alive, outstanding_at, offer_refusal, offer_out, take_refusal, taken_by_host, crossings_of, take_in, frame_refusal, imp_refusal, at_end_refusal, at_host_refusal, starting_refusal, abandoning_refusal, asking_refusal, giving_up_refusal, forgetting_refusal, step_refusal, stepped, quiet_round}
 use Rattle.subnet.specs.Flows.{Alive, view}
 use Rattle.subnet.specs.Opening.{Ends, hosts_from, opening_subnet}
 use Rattle.subnet.specs.Routed.{IsHostMessage}
@@ -132,6 +134,16 @@ give_up_plain f s =
     let last : Option CarrierFault = if is_none (outstanding s f) then Some fault.NotOutstanding else None in
     first_plain (not (is_own s f.source)) fault.NoSuch last refl (first_plain (is_none (outstanding s f)) fault.NotOutstanding None refl tt)
 
+ask_plain : (f : Flow) (s : State) → Plain (ask_refusal s f)
+ask_plain f s =
+    first_plain (not (is_own s f.source)) fault.NoSuch _ refl
+    (first_plain (is_none (outstanding s f)) fault.NotOutstanding _ refl
+    (first_plain (not (has_room_to s f.destination.imp)) fault.NoRoom None refl tt))
+
+asking_plain : (n : Net) (f : Flow) → Plain (asking_refusal n f)
+asking_plain n f =
+    first_plain (not (is_host n.hosts f.source)) fault.NoSuch _ refl (up_plain (imp_at n.imps f.source.imp) (λ s. ask_refusal s f) (ask_plain f))
+
 giving_up_plain : (n : Net) (f : Flow) → Plain (giving_up_refusal n f)
 giving_up_plain n f =
     let last : Option CarrierFault = at_up (imp_at n.imps f.source.imp) (λ s. give_up_refusal s f) in
@@ -165,6 +177,7 @@ step_plain (event.HostUp h) n = at_host_plain n h host_up_refusal (host_up_plain
 step_plain (event.GiveUp f) n = giving_up_plain n f
 step_plain (event.Forget at from) n = forgetting_plain n at from
 step_plain (event.Abandon f) n = abandoning_plain (imp_at n.imps f.destination.imp) f
+step_plain (event.Ask f) n = asking_plain n f
 
 -- ---- calls that fail
 
@@ -314,6 +327,7 @@ same_crossings hosts log s (event.HostUp h) = refl
 same_crossings hosts log s (event.GiveUp f) = refl
 same_crossings hosts log s (event.Forget at from) = refl
 same_crossings hosts log s (event.Abandon f) = refl
+same_crossings hosts log s (event.Ask f) = refl
 
 pub step_shown : (old : Kept) (e : NetEvent) (r : Result (Unit {0}) CarrierFault) (new : Kept) → IsWorking old → SubnetStep old e r new → ShowsStep (seen_of old) e r (seen_of new)
 step_shown old e (Ok done) new is went =

@@ -11,7 +11,7 @@ use Rattle.leader1822.specs.declared.address.Flow.{Flow}
 use Rattle.leader1822.specs.declared.crossing.Answer.{Answer}
 use Rattle.leader1822.specs.declared.crossing.Answer.TheVariants as answer
 use Rattle.leader1822.specs.declared.event.Direction.{Direction}
-use Rattle.link_table.specs.Flows.{outstanding_in, release_in, kept_in}
+use Rattle.link_table.specs.Flows.{outstanding_in, release_in, kept_in, fate_in}
 use Rattle.link_table.specs.declared.destination.Fate.{Fate}
 use Rattle.link_table.specs.declared.destination.Fate.TheVariants as fate
 use Rattle.link_table.specs.Numbers.{is_new}
@@ -19,7 +19,7 @@ use Rattle.link_table.specs.declared.source.Release.{Release}
 use Rattle.link_table.specs.declared.source.Release.TheVariants as release
 use Rattle.link_table.specs.declared.source.Standing.{Standing}
 use Rattle.link_table.specs.declared.source.Standing.TheVariants as standing
-use Rattle.packetiser.specs.PacketFields.{PacketFields, IsPacket, flow_of}
+use Rattle.packetiser.specs.PacketFields.{PacketFields, Carries, IsPacket, flow_of}
 use Rattle.packetiser.specs.Pieces.{CarriesPieceOf}
 use Rattle.packetiser.specs.Rejoining.{IsRejoined}
 use Rattle.packetiser.specs.Slots as slots
@@ -34,17 +34,18 @@ use Rattle.imp_channel.specs.declared.frame.Frame.{Frame}
 use Rattle.imp_channel.specs.declared.line.Received.{Received}
 use Rattle.imp_channel.specs.declared.line.Received.TheVariants as received
 use Rattle.imp_channel.proofs.lemmas.{fresh_carried}
-use Rattle.flow_law.specs.View.{View, Packet, Queued, is_request}
-use Rattle.flow_law.specs.Moves.{Move, NoteGone, Whole, Freed, Brings, CanNote, Joined, IsLost, IsRefusal, view_moved}
+use Rattle.flow_law.specs.View.{View, Packet, Queued, is_refusal}
+use Rattle.flow_law.specs.Moves as law
+use Rattle.flow_law.specs.Moves.{Move, NoteGone, Whole, Freed, Reply, Brings, CanNote, Joined, IsLost, IsRefusal, IsTold, view_moved}
 use Rattle.flow_law.proofs.lemmas.{makes_one}
 use Rattle.imp_node.specs.declared.waiting.Message.{Message}
 use Rattle.imp_node.specs.State.{State, ImpTurn, number, host_at, port_at}
 use Rattle.imp_node.specs.Arrival as arrivals
-use Rattle.imp_node.specs.Arrival.{Arrival, Passing, Old, Undeliverable, Piece, NoSlot, Unmarked, Answering, arrival, arrival_has_room, arrived, frame_taken, acknowledged, vector_heard, ignored, taken_frame, from_line}
+use Rattle.imp_node.specs.Arrival.{Arrival, Passing, Old, Undeliverable, Replying, Piece, NoSlot, Unmarked, Answering, arrival, arrival_has_room, arrived, frame_taken, acknowledged, vector_heard, ignored, taken_frame, from_line}
 use Rattle.imp_node.specs.Contents as contents
 use Rattle.imp_node.specs.Flows.{answer_packet}
-use Rattle.imp_node.specs.Making.{dead_for}
-use Rattle.imp_node.specs.Moves.{IsNewHere, MakesWhole, Tells, ArrivalSays, ArrivalMoves, AnswerMoves, FrameMoves}
+use Rattle.imp_node.specs.Making.{told_for}
+use Rattle.imp_node.specs.Moves.{IsNewHere, IsAskedHere, IsRefused, TellsFate, MakesWhole, Tells, ArrivalSays, ArrivalMoves, AnswerMoves, FrameMoves}
 use Rattle.imp_node.specs.Pump.{pump}
 use Rattle.imp_node.specs.Sides.{Sender, Receiver, sender, receiver, ended_with, noted_with, queued_with, IsImp, AllUnmoved, Moved}
 use Rattle.imp_node.proofs.lemmas.{Has, OutgoingHas, TurnHas, arrival_says, from_line_has, from_line_imp, from_line_moves, noted_moved, pump_has, quiet_has, taken_has}
@@ -53,12 +54,14 @@ use Rattle.subnet.specs.Alive.{packets}
 use Rattle.subnet.specs.Events.{at_imp, delivered, deliver}
 use Rattle.subnet.specs.Flows as flows
 use Rattle.subnet.specs.Flows.{Alive, kind_of, packet_of, queued_of, imp_is_up, sender_at, receiver_at, view_of, view}
-use Rattle.subnet.specs.Making.{NothingNew, OnlyNew, dead_made}
+use Rattle.subnet.specs.Making.{NothingNew, OnlyNew, told_made}
 use Rattle.subnet.specs.Sound.{IsAt, IsSound}
 use Rattle.subnet.proofs.Packets.Having.{FrameHas, ImpHas, GotHas, net_itself, content_has, frame_packets, imp_has, wire_has, way_has, got_has}
 use Rattle.subnet.proofs.Packets.HavingByEvents.{brings}
 use Rattle.subnet.proofs.Moves.Offers.{answer_format}
 use Rattle.subnet.proofs.Calls.Silence.{at_host_all}
+use Rattle.subnet.proofs.Moves.Fates.{request_is}
+use Rattle.subnet.proofs.Moves.Views.{turn_view}
 use Rattle.subnet.proofs.Moves.Takes.{freed_messages}
 use Rattle.subnet.proofs.Moves.Turns.{Answerable, turn_only, turn_nothing, alive_or_made, set_queue, answerable, source_changed, source_same, destination_changed, destination_same, moved_view, none_cross, followed_turn, silent_turn}
 
@@ -70,7 +73,8 @@ told_format p format = answer_format kind.Rfnm (flow_of p) p.number (record { fi
 arrived_answers : (a : Arrival) (p : PacketFields) (s : State) → IsPacket p → All Answerable (contents.messages s) → All Answerable (contents.messages (arrived a p s))
 arrived_answers Passing p s format all = all
 arrived_answers Old p s format all = all
-arrived_answers Undeliverable p s format all = all
+arrived_answers (Undeliverable new told) p s format all = all
+arrived_answers (Replying told) p s format all = all
 arrived_answers Piece p s format all = all
 arrived_answers NoSlot p s format all = all
 arrived_answers (arrivals.Whole text) p s format all =
@@ -101,7 +105,7 @@ silent_arrival n i s p turn b still only is = silent_turn n i s turn b.at still 
 alive_here : (n : Net) (p : PacketFields) → Contains (packets n) p → Alive n (flow_of p) (packet_of p)
 alive_here n p there = record { fields = p; there = there; flow = refl; packet = refl }
 
--- the IMP of a piece's destination
+-- the IMP of a request's destination
 home : (n : Net) (i : ℕ) (s : State) (p : PacketFields) (turn : ImpTurn) → IsBrought n i s p turn → IsNewHere s p → p.destination.imp ≡ i
 home n i s p turn b new = new.here ∙ b.old.own
 
@@ -113,7 +117,7 @@ can_note n i s p turn b new =
       there = alive_here n p b.there;
       new = record {
         up = ap imp_is_up at;
-        request = ap (λ (k : PacketKind). is_request (kind_of k)) new.data_kind;
+        request = request_is p.kind ∙ new.request;
         new = ap (λ (o : Option State). is_new (kept_in (receiver_at o g).kept) p.number) at ∙ new.new;
       };
     }
@@ -147,20 +151,86 @@ noted_sound n i s p turn made lost gone b new moved only of_flow formats dead is
       begun = inl refl;
     }) is
 
--- it came for a host that is down or not there: Dead is made
-undeliverable_sound : (n : Net) (i : ℕ) (s : State) (p : PacketFields) (turn : ImpTurn) → IsBrought n i s p turn → IsNewHere s p
-    → Moved s turn.state (flow_of p) (sender s (flow_of p)) (noted_with p.number fate.Dead (receiver s (flow_of p)))
-    → OnlyNew n (answer_packet kind.Dead (flow_of p) p.number ∷ []) (with_turn i turn n) → IsSound n → IsSound (with_turn i turn n)
-undeliverable_sound n i s p turn b new moved only is =
+-- a packet of any kind but data that tells of this one is by the format
+reply_format : (told : PacketKind) (p : PacketFields) → IsPacket p → Carries told 0 true 0 → IsPacket (answer_packet told (flow_of p) p.number)
+reply_format told p format carries = answer_format told (flow_of p) p.number carries format.source format.destination format.link format.number
+
+-- what is told of a number that is noted without its message being taken
+record RefusedWith (new : Fate) (told : PacketKind) : Type 0 where
+  pub lost : IsLost new
+  pub refusal : is_refusal (kind_of told) ≡ true
+  pub carries : Carries told 0 true 0
+
+refused_with : (new : Fate) (told : PacketKind) (s : State) (p : PacketFields) → IsRefused new told s p → RefusedWith new told
+refused_with fate.Waits told s p says = absurd says
+refused_with fate.Taken told s p says = absurd says
+refused_with fate.Dead told s p says = subst (RefusedWith fate.Dead) (sym says.0) (record { lost = tt; refusal = refl; carries = record { first = refl; only = refl; empty = refl } })
+refused_with fate.Never told s p says = subst (RefusedWith fate.Never) (sym says.0) (record { lost = tt; refusal = refl; carries = record { first = refl; only = refl; empty = refl } })
+
+-- a piece came for a host that is down or not there, and Dead is made; or a question about a new number, and Never is made
+undeliverable_sound : (n : Net) (i : ℕ) (s : State) (p : PacketFields) (turn : ImpTurn) (new : Fate) (told : PacketKind) → IsRefused new told s p → IsBrought n i s p turn → IsNewHere s p
+    → Moved s turn.state (flow_of p) (sender s (flow_of p)) (noted_with p.number new (receiver s (flow_of p)))
+    → OnlyNew n (answer_packet told (flow_of p) p.number ∷ []) (with_turn i turn n) → IsSound n → IsSound (with_turn i turn n)
+undeliverable_sound n i s p turn new told refused b here moved only is =
     let g : Flow = flow_of p in
-    let dead : PacketFields = answer_packet kind.Dead g p.number in
-    let format : IsPacket dead = answer_format kind.Dead g p.number (record { first = refl; only = refl; empty = refl }) b.format.source b.format.destination b.format.link b.format.number in
+    let reply : PacketFields = answer_packet told g p.number in
+    let r : RefusedWith new told = refused_with new told s p refused in
     let Ours : PacketFields → Type 0 = λ q. flow_of q ≡ g in
     let Told : PacketFields → Type 0 = λ q. IsRefusal p.number (packet_of q) in
-    noted_sound n i s p turn (dead ∷ []) fate.Dead tt b new moved only
-    (All-cons Ours dead [] refl (All-nil Ours))
-    (All-cons IsPacket dead [] format (All-nil IsPacket))
-    (All-cons Told dead [] (record { refusal = refl; number = refl }) (All-nil Told)) is
+    noted_sound n i s p turn (reply ∷ []) new r.lost b here moved only
+    (All-cons Ours reply [] refl (All-nil Ours))
+    (All-cons IsPacket reply [] (reply_format told p b.format r.carries) (All-nil IsPacket))
+    (All-cons Told reply [] (record { refusal = r.refusal; number = refl }) (All-nil Told)) is
+
+-- ---- a question about the number that is kept
+
+-- what is told of a fate is true
+record RepliedWith (old : Fate) (told : PacketKind) : Type 0 where
+  pub tells : law.Tells old (kind_of told)
+  pub carries : Carries told 0 true 0
+
+replied_with : (old : Fate) (told : PacketKind) → TellsFate old told → RepliedWith old told
+replied_with fate.Waits told says = absurd says
+replied_with fate.Taken told says = subst (RepliedWith fate.Taken) (sym says) (record { tells = refl; carries = record { first = refl; only = refl; empty = refl } })
+replied_with fate.Dead told says = subst (RepliedWith fate.Dead) (sym says) (record { tells = refl; carries = record { first = refl; only = refl; empty = refl } })
+replied_with fate.Never told says = subst (RepliedWith fate.Never) (sym says) (record { tells = refl; carries = record { first = refl; only = refl; empty = refl } })
+
+-- it moves no flow, and what is told goes to the source
+replying_sound : (n : Net) (i : ℕ) (s : State) (p : PacketFields) (turn : ImpTurn) (told : PacketKind) → IsBrought n i s p turn → IsAskedHere s p told → AllUnmoved s turn.state
+    → OnlyNew n (answer_packet told (flow_of p) p.number ∷ []) (with_turn i turn n) → IsSound n → IsSound (with_turn i turn n)
+replying_sound n i s p turn told b asked still only is =
+    let g : Flow = flow_of p in
+    let next : Net = with_turn i turn n in
+    let move : Move = Reply (packet_of p) (kind_of told) in
+    let reply : PacketFields = answer_packet told g p.number in
+    let r : RepliedWith asked.noted.fate told = replied_with asked.noted.fate told asked.tells in
+    let at : imp_at n.imps g.destination.imp ≡ Some s = ap (imp_at n.imps) (asked.here ∙ b.old.own) ∙ b.at in
+    let known : (receiver_at (imp_at n.imps g.destination.imp) g).kept ≡ Some asked.noted = ap (λ (o : Option State). (receiver_at o g).kept) at ∙ asked.kept in
+    let fated : asked.noted.fate ≡ (view n g).fate = sym (ap fate_in known) in
+    let Ours : PacketFields → Type 0 = λ q. flow_of q ≡ g in
+    let Told : PacketFields → Type 0 = λ q. IsTold (kind_of told) p.number (packet_of q) in
+    followed_turn n i s turn [] g (move ∷ []) (reply ∷ []) (record {
+      at = b.at;
+      sound = b.new;
+      others = λ f other. still f;
+      crossings = none_cross n.hosts g n.log;
+      only = only;
+      of_flow = All-cons Ours reply [] refl (All-nil Ours);
+      formats = All-cons IsPacket reply [] (reply_format told p b.format r.carries) (All-nil IsPacket);
+      answers = b.answers;
+      here =
+          makes_one move (view n g) (view next g) (Alive n g) (Alive next g)
+          (record {
+            up = ap imp_is_up at;
+            there = alive_here n p b.there;
+            kept = ap kept_in known ∙ ap Some asked.same;
+            tells = subst (λ (x : Fate). law.Tells x (kind_of told)) fated r.tells;
+          })
+          (turn_view n i s turn g b.at (still g))
+          (λ x. alive_or_made n next (reply ∷ []) (IsTold (kind_of told) p.number) g x only (All-cons Told reply [] (record { kind = refl; number = refl }) (All-nil Told)));
+      shown = refl;
+      begun = inl refl;
+    }) is
 
 -- ---- a piece makes its message whole
 
@@ -170,7 +240,7 @@ whole_joined n i s p turn w b makes text pieces =
     let g : Flow = flow_of p in
     let ps : List PacketFields = gathered s.slots p in
     let Held : PacketFields → Type 0 = Contains (packets n) in
-    let r : IsRejoined s.slots p w = rejoined s.slots p w b.old.slots b.format makes.new.data_kind makes.whole in
+    let r : IsRejoined s.slots p w = rejoined s.slots p w b.old.slots b.format makes.data_kind makes.whole in
     let has : Has Held s = subst (ImpHas Held) b.at (imp_has Held n.imps i (net_itself n).imps) in
     let all : All Held (slots.packets_in s.slots ++ p ∷ []) = All-push Held (slots.packets_in s.slots) p has.slots b.there in
     let held : (q : PacketFields) → Contains ps q → Held q = λ q there. All-contains Held (slots.packets_in s.slots ++ p ∷ []) q all (All-contains (Contains (slots.packets_in s.slots ++ p ∷ [])) ps q r.one_message.among there) in
@@ -223,11 +293,18 @@ whole_sound n i s p turn w text b makes is_text moved only is =
 brings_of : (k : PacketKind) (a : Answer) → Tells k a → Brings (kind_of k) a
 brings_of kind.Rfnm answer.Rfnm tells = tt
 brings_of kind.Dead answer.Dead tells = tt
+brings_of kind.Never answer.NotTaken tells = tt
 brings_of kind.Data a tells = absurd tells
+brings_of kind.Ask a tells = absurd tells
 brings_of kind.Rfnm answer.Dead tells = absurd tells
 brings_of kind.Rfnm answer.Incomplete tells = absurd tells
+brings_of kind.Rfnm answer.NotTaken tells = absurd tells
 brings_of kind.Dead answer.Rfnm tells = absurd tells
 brings_of kind.Dead answer.Incomplete tells = absurd tells
+brings_of kind.Dead answer.NotTaken tells = absurd tells
+brings_of kind.Never answer.Rfnm tells = absurd tells
+brings_of kind.Never answer.Dead tells = absurd tells
+brings_of kind.Never answer.Incomplete tells = absurd tells
 
 freed_awaited : (o : Option Standing) (number : ℕ) → release_in number o ≡ release.Freed → outstanding_in o ≡ Some number
 freed_awaited None number e = absurd (cc)
@@ -273,11 +350,12 @@ answered_sound n i s p turn k b here tells frees moved only is =
 
 -- ---- an arrival
 
-arrival_sound : (a : Arrival) (n : Net) (i : ℕ) (s : State) (p : PacketFields) (turn : ImpTurn) → IsBrought n i s p turn → ArrivalSays a s p → ArrivalMoves a p s turn.state → OnlyNew n (dead_for a p) (with_turn i turn n)
+arrival_sound : (a : Arrival) (n : Net) (i : ℕ) (s : State) (p : PacketFields) (turn : ImpTurn) → IsBrought n i s p turn → ArrivalSays a s p → ArrivalMoves a p s turn.state → OnlyNew n (told_for a p) (with_turn i turn n)
     → IsSound n → IsSound (with_turn i turn n)
 arrival_sound Passing n i s p turn b says moves only is = silent_arrival n i s p turn b moves only is
 arrival_sound Old n i s p turn b says moves only is = silent_arrival n i s p turn b moves only is
-arrival_sound Undeliverable n i s p turn b says moves only is = undeliverable_sound n i s p turn b says.0 moves only is
+arrival_sound (Undeliverable new told) n i s p turn b says moves only is = undeliverable_sound n i s p turn new told says.1 b says.0 moves only is
+arrival_sound (Replying told) n i s p turn b says moves only is = replying_sound n i s p turn told b says moves only is
 arrival_sound Piece n i s p turn b says moves only is = silent_arrival n i s p turn b moves only is
 arrival_sound NoSlot n i s p turn b says moves only is = silent_arrival n i s p turn b moves only is
 arrival_sound (arrivals.Whole text) n i s p turn b says moves only is = whole_sound n i s p turn says.0 text b says.1 says.3 moves only is
@@ -288,16 +366,17 @@ arrival_sound (Answering k) n i s p turn b says moves only is = by (release_in p
   by release.Freed frees moved = answered_sound n i s p turn k b says.0 says.1 frees moved only is
   by release.Stale stale still = silent_arrival n i s p turn b still only is
 
--- a turn that moves no flow made Dead only if a number was noted, so none
+-- a turn that moves no flow tells that a message wasn't taken only if its number was noted, so nothing was noted anew
 still_sound : (a : Arrival) (k : ℕ) (f : Frame) (n : Net) (i : ℕ) (s : State) (p : PacketFields) → (let turn : ImpTurn = pump (acknowledged k (frame_taken k f s)) (arrived a p (frame_taken k f s)) in
-    IsBrought n i s p turn → ArrivalSays a s p → AllUnmoved s turn.state → OnlyNew n (dead_for a p) (with_turn i turn n) → IsSound n → IsSound (with_turn i turn n))
+    IsBrought n i s p turn → ArrivalSays a s p → AllUnmoved s turn.state → OnlyNew n (told_for a p) (with_turn i turn n) → IsSound n → IsSound (with_turn i turn n))
 still_sound Passing k f n i s p b says still only is = silent_arrival n i s p _ b still only is
 still_sound Old k f n i s p b says still only is = silent_arrival n i s p _ b still only is
-still_sound Undeliverable k f n i s p b says still only is =
-    let turn : ImpTurn = pump (acknowledged k (frame_taken k f s)) (arrived Undeliverable p (frame_taken k f s)) in
+still_sound (Undeliverable new told) k f n i s p b says still only is =
+    let turn : ImpTurn = pump (acknowledged k (frame_taken k f s)) (arrived (Undeliverable new told) p (frame_taken k f s)) in
     let g : Flow = flow_of p in
-    let moved : Moved s turn.state g (sender s g) (noted_with p.number fate.Dead (receiver s g)) = record { sender = (still g).sender; receiver = (noted_moved g p.number fate.Dead s).receiver; others = λ f other. still f } in
-    undeliverable_sound n i s p turn b says.0 moved only is
+    let moved : Moved s turn.state g (sender s g) (noted_with p.number new (receiver s g)) = record { sender = (still g).sender; receiver = (noted_moved g p.number new s).receiver; others = λ f other. still f } in
+    undeliverable_sound n i s p turn new told says.1 b says.0 moved only is
+still_sound (Replying told) k f n i s p b says still only is = replying_sound n i s p _ told b says still only is
 still_sound Piece k f n i s p b says still only is = silent_arrival n i s p _ b still only is
 still_sound NoSlot k f n i s p b says still only is = silent_arrival n i s p _ b still only is
 still_sound (arrivals.Whole text) k f n i s p b says still only is = silent_arrival n i s p _ b still only is
@@ -310,7 +389,7 @@ still_sound (Answering x) k f n i s p b says still only is = silent_arrival n i 
 record IsFrame (n : Net) (i : ℕ) (s : State) (f : Frame) (turn : ImpTurn) : Type 0 where
   pub new : IsImp i turn.state
   pub moves : FrameMoves f s turn.state
-  pub only : OnlyNew n (dead_made f s) (with_turn i turn n)
+  pub only : OnlyNew n (told_made f s) (with_turn i turn n)
 
 -- and of the IMP to which it comes
 record IsLive (n : Net) (i : ℕ) (s : State) (f : Frame) : Type 0 where
@@ -340,8 +419,8 @@ fresh_sound n i s k f p carried live frame =
       format = format;
       answers = arrived_answers (arrival s p) p (frame_taken k f s) format (answerable n i s live.at live.sound);
     } in
-    let more : OnlyNew n (dead_for (arrival s p) p ++ []) (with_turn i turn n) = subst (λ (ps : List PacketFields). OnlyNew n (flat_map (λ (q : PacketFields). dead_for (arrival s q) q) ps) (with_turn i turn n)) carried frame.only in
-    let only : OnlyNew n (dead_for (arrival s p) p) (with_turn i turn n) = subst (λ (ps : List PacketFields). OnlyNew n ps (with_turn i turn n)) (append-nil (dead_for (arrival s p) p)) more in
+    let more : OnlyNew n (told_for (arrival s p) p ++ []) (with_turn i turn n) = subst (λ (ps : List PacketFields). OnlyNew n (flat_map (λ (q : PacketFields). told_for (arrival s q) q) ps) (with_turn i turn n)) carried frame.only in
+    let only : OnlyNew n (told_for (arrival s p) p) (with_turn i turn n) = subst (λ (ps : List PacketFields). OnlyNew n ps (with_turn i turn n)) (append-nil (told_for (arrival s p) p)) more in
     elim frame.moves [
       | inl still ↦ still_sound (arrival s p) k f n i s p brought (arrival_says s p) still only live.sound
       | inr (q, of, moves) ↦ (let same : q ≡ p = first (sym of ∙ carried) in
@@ -380,12 +459,12 @@ line_sound n i s k f live =
     let Held : PacketFields → Type 0 = Contains (packets n) in
     let carried : All Held (carried_by f.content) = frame_packets Held f live.there in
     let formats : All IsPacket (carried_by f.content) = All-weaker Held IsPacket (λ p there. All-contains IsPacket (packets n) p live.sound.formats there) (carried_by f.content) carried in
-    let Grown : PacketFields → Type 0 = Contains (packets n ++ dead_made f s) in
-    let got : FrameHas Grown f = content_has Grown f.content (All-weaker Held Grown (λ p there. Contains-append_left (packets n) (dead_made f s) p there) (carried_by f.content) carried) in
+    let Grown : PacketFields → Type 0 = Contains (packets n ++ told_made f s) in
+    let got : FrameHas Grown f = content_has Grown f.content (All-weaker Held Grown (λ p there. Contains-append_left (packets n) (told_made f s) p there) (carried_by f.content) carried) in
     at (port_at s.ports k).up (record {
       new = from_line_imp i s k f formats live.old;
       moves = from_line_moves s k f;
-      only = turn_only n i s (from_line s k f) (dead_made f s) live.at (λ has dead. from_line_has Grown s k f has (brings Grown s f got dead));
+      only = turn_only n i s (from_line s k f) (told_made f s) live.at (λ has dead. from_line_has Grown s k f has (brings Grown s f got dead));
     })
   where
     at : (up : Bool) → IsFrame n i s f (cond up (taken_frame (answer_to (port_at s.ports k).line f) k f s) (ignored s))

@@ -5,6 +5,7 @@ use Rattle.leader1822.specs.declared.event.NetEvent.TheVariants as event
 use Rattle.subnet.specs.Net.{Net, port_of}
 use Rattle.subnet.specs.Events.{step_refusal, stepped}
 use Rattle.subnet.specs.Sound.{IsSound}
+use Rattle.subnet.proofs.Moves.Asking.{ask_sound}
 use Rattle.subnet.proofs.Moves.Deliveries.{deliver_sound}
 use Rattle.subnet.proofs.Moves.Forgetting.{forget_sound}
 use Rattle.subnet.proofs.Moves.GivingUp.{give_up_sound}
@@ -28,3 +29,4 @@ step_sound n (event.HostUp h) allowed is = host_up_sound n h allowed is
 step_sound n (event.GiveUp f) allowed is = give_up_sound n f allowed is
 step_sound n (event.Forget at from) allowed is = forget_sound n at from allowed is
 step_sound n (event.Abandon f) allowed is = abandon_sound n f.destination.imp f is
+step_sound n (event.Ask f) allowed is = ask_sound n f allowed is

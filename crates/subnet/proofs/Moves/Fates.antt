@@ -12,16 +12,18 @@ use Rattle.flow_law.specs.View.{is_request}
 use Rattle.flow_law.specs.Moves.{with_fate, with_fates}
 use Rattle.imp_node.specs.declared.waiting.Message.{Message}
 use Rattle.imp_node.specs.Moves.{without_first}
-use Rattle.imp_node.specs.Queries.{is_data}
+use Rattle.imp_node.specs.Queries as queries
 use Rattle.imp_node.specs.Sides.{Sender, Receiver, messages_of, fated_with}
 use Rattle.leader1822.specs.declared.address.Flow.{Flow}
 use Rattle.subnet.specs.Flows.{kind_of, queued_of, view_of}
 
--- data is what travels to the destination
-pub request_is : (k : PacketKind) → is_request (kind_of k) ≡ is_data k
+-- data and questions are what travels to the destination
+pub request_is : (k : PacketKind) → is_request (kind_of k) ≡ queries.is_request k
 request_is kind.Data = refl
 request_is kind.Rfnm = refl
 request_is kind.Dead = refl
+request_is kind.Ask = refl
+request_is kind.Never = refl
 
 -- ---- one message met another fate
 

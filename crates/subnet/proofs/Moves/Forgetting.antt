@@ -16,7 +16,8 @@ use Rattle.flow_law.specs.Moves.{Move, CanForget, after_all, shown_by}
 use Rattle.flow_law.specs.Follows.{Follows, AllFollow}
 use Rattle.flow_law.proofs.lemmas.{makes_one, stays}
 use Rattle.imp_node.specs.State.{State, ImpTurn}
-use Rattle.imp_node.specs.Queries.{is_data, is_data_between, is_message_between}
+use Rattle.imp_node.specs.Queries as queries
+use Rattle.imp_node.specs.Queries.{is_request_between, is_message_between}
 use Rattle.imp_node.specs.Sides.{Sender, Receiver, sender, receiver}
 use Rattle.imp_node.specs.Moves.{Becomes}
 use Rattle.imp_node.specs.Stopping.{forget}
@@ -50,13 +51,13 @@ moves at from f = if goes at from f then Move.Forget ∷ [] else []
 all_three : (a b c : Bool) → a ≡ true → b ≡ true → c ≡ true → (a && (b && c)) ≡ true
 all_three a b c e f g = rw (e, f, g) refl
 
-no_request : (n : Net) (at from : ℕ) (f : Flow) → All (λ p. is_data_between from at p ≡ false) (packets n) → goes at from f ≡ true → (x : Packet) → Alive n f x → is_request x.kind ≡ true → ⊥
+no_request : (n : Net) (at from : ℕ) (f : Flow) → All (λ p. is_request_between from at p ≡ false) (packets n) → goes at from f ≡ true → (x : Packet) → Alive n f x → is_request x.kind ≡ true → ⊥
 no_request n at from f silent here x a request =
     let p : PacketFields = a.fields in
     let both : (f.destination.imp == at) ≡ true × is_from from f ≡ true = and_true (f.destination.imp == at) (is_from from f) here in
-    let missing : is_data_between from at p ≡ false = All-contains (λ (q : PacketFields). is_data_between from at q ≡ false) (packets n) p silent a.there in
-    let found : is_data_between from at p ≡ true =
-    all_three (is_data p.kind) ((flow_of p).source.imp == from) ((flow_of p).destination.imp == at)
+    let missing : is_request_between from at p ≡ false = All-contains (λ (q : PacketFields). is_request_between from at q ≡ false) (packets n) p silent a.there in
+    let found : is_request_between from at p ≡ true =
+    all_three (queries.is_request p.kind) ((flow_of p).source.imp == from) ((flow_of p).destination.imp == at)
     (sym (request_is p.kind) ∙ ap (λ (y : Packet). is_request y.kind) a.packet ∙ request)
     (ap (λ (g : Flow). g.source.imp == from) a.flow ∙ both.1)
     (ap (λ (g : Flow). g.destination.imp == at) a.flow ∙ both.0) in
@@ -68,7 +69,7 @@ pub none_awaited : (o : Option State) (at : ℕ) (f : Flow) → is_awaited_at o 
 none_awaited None at f none here = refl
 none_awaited (Some s) at f none here = outstanding_to_none s.sources at none f here
 
-can_forget : (n : Net) (at from : ℕ) (f : Flow) → All (λ p. is_data_between from at p ≡ false) (packets n) → is_awaited_at (imp_at n.imps from) at ≡ false → goes at from f ≡ true → CanForget (view n f) (Alive n f)
+can_forget : (n : Net) (at from : ℕ) (f : Flow) → All (λ p. is_request_between from at p ≡ false) (packets n) → is_awaited_at (imp_at n.imps from) at ≡ false → goes at from f ≡ true → CanForget (view n f) (Alive n f)
 can_forget n at from f silent none here =
     let both : (f.destination.imp == at) ≡ true × is_from from f ≡ true = and_true (f.destination.imp == at) (is_from from f) here in
     record {
@@ -130,7 +131,7 @@ forgot : (n : Net) (at from : ℕ) (s : State) → imp_at n.imps at ≡ Some s �
 forgot n at from s there none idle is =
     let turn : ImpTurn = forget s from in
     let m : Net = with_turn at turn n in
-    let silent : All (λ p. is_data_between from at p ≡ false) (packets n) = (nowhere n (is_data_between from at) (is_message_between from at) none).0 in
+    let silent : All (λ p. is_request_between from at p ≡ false) (packets n) = (nowhere n (is_request_between from at) (is_message_between from at) none).0 in
     let among : NothingNew n m = subst (λ (o : Option State). NothingNew n (at_imp o at (λ (t : State). forget t from) n)) there (forget_nothing n at from) in
     let follow : AllFollow Piece n.hosts [] n.log (moves at from) (view n) (view m) (Alive n) (Alive m) = record {
       follows = λ f. follows (goes at from f) (view n f) (view m f) (Alive n f) (Alive m f) (can_forget n at from f silent idle) (new_view n at from s f there) (λ x. alive_less n m f x among);

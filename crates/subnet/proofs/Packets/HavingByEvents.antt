@@ -21,13 +21,14 @@ use Rattle.imp_node.specs.Arrival.{arrival, from_line}
 use Rattle.imp_node.specs.Offering.{from_host}
 use Rattle.imp_node.specs.Taking.{to_host}
 use Rattle.imp_node.specs.Lines.{resend, route, end_down, end_up}
+use Rattle.imp_node.specs.Asking.{ask}
 use Rattle.imp_node.specs.Stopping.{give_up, forget, abandon, host_down, host_up}
-use Rattle.imp_node.specs.Making.{dead_for, from_host_makes, from_line_makes, to_host_makes, host_down_makes}
-use Rattle.imp_node.proofs.lemmas.{Has, TurnHas, abandon_has, end_down_has, end_up_has, forget_has, from_host_has, from_line_has, give_up_has, host_down_has, host_up_has, resend_has, route_has, start_has, to_host_has}
+use Rattle.imp_node.specs.Making.{told_for, ask_makes, from_host_makes, from_line_makes, to_host_makes, host_down_makes}
+use Rattle.imp_node.proofs.lemmas.{Has, TurnHas, abandon_has, ask_has, end_down_has, end_up_has, forget_has, from_host_has, from_line_has, give_up_has, host_down_has, host_up_has, resend_has, route_has, start_has, to_host_has}
 use Rattle.subnet.specs.Net.{Net, imp_at, wire_at, ends_at, port_of, frames_on, far_end}
 use Rattle.subnet.specs.Alive.{packets}
 use Rattle.subnet.specs.Events.{at_imp, logging, offer_out, taken_by_host, crossings_of, take_in, delivered, deliver, drop_frame, host_stopped, host_started, started_imp, hosts_at, site_at, imp_started, imp_stopped}
-use Rattle.subnet.specs.Making.{NothingNew, OnlyNew, made_at, offer_makes, take_makes, stop_makes, dead_made, frame_makes, deliver_makes}
+use Rattle.subnet.specs.Making.{NothingNew, OnlyNew, made_at, offer_makes, take_makes, asking_makes, stop_makes, told_made, frame_makes, deliver_makes}
 use Rattle.subnet.proofs.Packets.Having.{FrameHas, ImpHas, NetHas, GotHas, net_packets, packets_net, net_itself, imp_has, wire_has, way_has, got_has, with_turn_has, dropped_has}
 
 -- ---- a call of one IMP
@@ -67,21 +68,26 @@ stop_has P n h has made =
     logged_has P (crossing.Down h ∷ []) (at_imp (imp_at n.imps h.imp) h.imp (λ s. host_down s h.host) n)
     (making_has P (imp_at n.imps h.imp) h.imp (λ s. host_down s h.host) (λ s. host_down_makes s h.host) n has (imp_has P n.imps h.imp has.imps) made (λ s here dead. host_down_has P s h.host here dead))
 
+-- an IMP asks
+asked_has : (P : PacketFields → Type 0) (n : Net) (f : Flow) → NetHas P n → All P (asking_makes n f) → NetHas P (at_imp (imp_at n.imps f.source.imp) f.source.imp (λ s. ask s f) n)
+asked_has P n f h made =
+    making_has P (imp_at n.imps f.source.imp) f.source.imp (λ s. ask s f) (λ s. ask_makes s f) n h (imp_has P n.imps f.source.imp h.imps) made (λ s here question. ask_has P s f here question)
+
 -- a frame brings its packet, and what that makes
-pub brings : (P : PacketFields → Type 0) (s : State) (f : Frame) → FrameHas P f → All P (dead_made f s) → All P (from_line_makes s f)
-brings P s f has dead = at f.content has dead where
-  at : (c : Content) → ContentHas P c → All P (flat_map (λ p. dead_for (arrival s p) p) (carried_by c)) → All P (flat_map (λ p. p ∷ dead_for (arrival s p) p) (carried_by c))
-  at (content.Packet carried) here dead = All-cons P carried.packet (dead_for (arrival s carried.packet) carried.packet ++ []) here dead
-  at content.Nothing here dead = All-nil P
-  at (content.Routes distances) here dead = All-nil P
+pub brings : (P : PacketFields → Type 0) (s : State) (f : Frame) → FrameHas P f → All P (told_made f s) → All P (from_line_makes s f)
+brings P s f has told = at f.content has told where
+  at : (c : Content) → ContentHas P c → All P (flat_map (λ p. told_for (arrival s p) p) (carried_by c)) → All P (flat_map (λ p. p ∷ told_for (arrival s p) p) (carried_by c))
+  at (content.Packet carried) here told = All-cons P carried.packet (told_for (arrival s carried.packet) carried.packet ++ []) here told
+  at content.Nothing here told = All-nil P
+  at (content.Routes distances) here told = All-nil P
 
 delivered_has : (P : PacketFields → Type 0) (n : Net) (l : ℕ) (d : Direction) (o : Option Frame)
     → NetHas P n → GotHas P o → All P (frame_makes (imp_at n.imps (far_end d (wire_at n.lines l))) o) → NetHas P (delivered n l d o)
 delivered_has P n l d None h got made = h
 delivered_has P n l d (Some f) h got made =
     let i : ℕ = far_end d (wire_at n.lines l) in
-    making_has P (imp_at n.imps i) i (λ s. from_line s (port_of n.lines i l) f) (dead_made f) n h (imp_has P n.imps i h.imps) made
-    (λ s has dead. from_line_has P s (port_of n.lines i l) f has (brings P s f got dead))
+    making_has P (imp_at n.imps i) i (λ s. from_line s (port_of n.lines i l) f) (told_made f) n h (imp_has P n.imps i h.imps) made
+    (λ s has told. from_line_has P s (port_of n.lines i l) f has (brings P s f got told))
 
 deliver_has : (P : PacketFields → Type 0) (n : Net) (l : ℕ) (d : Direction) (k : ℕ) → NetHas P n → All P (deliver_makes n l d k) → NetHas P (deliver n l d k)
 deliver_has P n l d k h made =
@@ -126,6 +132,10 @@ take_only n h = makes_only n (take_in n h) (take_makes n h) (take_has (Contains 
 
 pub stop_only : (n : Net) (h : Host) → OnlyNew n (stop_makes n h) (host_stopped n h)
 stop_only n h = makes_only n (host_stopped n h) (stop_makes n h) (stop_has (Contains (packets n ++ stop_makes n h)) n h)
+
+pub ask_only : (n : Net) (f : Flow) → OnlyNew n (asking_makes n f) (at_imp (imp_at n.imps f.source.imp) f.source.imp (λ s. ask s f) n)
+ask_only n f =
+    makes_only n (at_imp (imp_at n.imps f.source.imp) f.source.imp (λ s. ask s f) n) (asking_makes n f) (asked_has (Contains (packets n ++ asking_makes n f)) n f)
 
 pub deliver_only : (n : Net) (l : ℕ) (d : Direction) (k : ℕ) → OnlyNew n (deliver_makes n l d k) (deliver n l d k)
 deliver_only n l d k = makes_only n (deliver n l d k) (deliver_makes n l d k) (deliver_has (Contains (packets n ++ deliver_makes n l d k)) n l d k)

@@ -41,10 +41,12 @@ use Rattle.imp_node.specs.Room.{has_route}
 use Rattle.imp_node.specs.Flows.{answered_by, fated}
 use Rattle.link_table.specs.declared.destination.Fate.TheVariants as fate
 use Rattle.imp_node.specs.Arrival as arrivals
-use Rattle.imp_node.specs.Arrival.{Arrival, Passing, Old, Undeliverable, Piece, NoSlot, Unmarked, Answering, arrival, arrived, arrival_has_room, frame_taken, acknowledged, vector_heard, ignored, taken_frame, from_line}
+use Rattle.imp_node.specs.Arrival.{Arrival, Passing, Old, Undeliverable, Replying, Piece, NoSlot, Unmarked, Answering, arrival, arrived, arrival_has_room, frame_taken, acknowledged, vector_heard, ignored, taken_frame, from_line}
 use Rattle.imp_node.specs.Offering.{Way, Nowhere, Here, Away, way_of, offered, from_host}
 use Rattle.imp_node.specs.Pump.{Pumped, target, sent_on, packet_sent, pumped, pump}
 use Rattle.imp_node.specs.Lines.{on_port, resent_by, resent_from, resend, told_by, told_from, route, end_down, end_up}
+use Rattle.imp_node.specs.Asking.{asked_by, ask}
+use Rattle.imp_node.specs.Queries.{outstanding}
 use Rattle.imp_node.specs.Stopping.{give_up, forget, abandon, message_returned, all_returned, stopped, host_down, host_up}
 use Rattle.imp_node.specs.Taking.{is_from_here, reply_has_room, replied, taken_by, to_host}
 use Rattle.subnet.specs.Net.{Net, Wire, imp_at, wire_at, ends_at, port_of, line_places, line_from, followed_by, with_frame, put_on, put_one, put_all, with_turn, frames_on, far_end, without_at, dropping}
@@ -103,12 +105,17 @@ replied_routes k packet m s = either_routes (is_from_here s m) s _ _ (answered_r
 arrived_routes : (a : Arrival) (p : PacketFields) (s : State) → (arrived a p s).routes ≡ s.routes
 arrived_routes Passing p s = refl
 arrived_routes Old p s = refl
-arrived_routes Undeliverable p s = refl
+arrived_routes (Undeliverable new told) p s = refl
+arrived_routes (Replying told) p s = refl
 arrived_routes Piece p s = refl
 arrived_routes NoSlot p s = refl
 arrived_routes (arrivals.Whole text) p s = refl
 arrived_routes Unmarked p s = refl
 arrived_routes (Answering k) p s = answered_routes _ k _ p.number s
+
+asked_routes : (o : Option ℕ) (f : Flow) (s : State) → (asked_by o f s).routes ≡ s.routes
+asked_routes None f s = refl
+asked_routes (Some n) f s = refl
 
 offered_routes : (go : Way) (m : HostMessage) (s : State) → (offered go m s).routes ≡ s.routes
 offered_routes Nowhere m s = refl
@@ -132,6 +139,11 @@ same_heard s t same here = subst (λ (r : Table). All HeardVector r.heard) (sym 
 
 from_host_tells : (m : HostMessage) (s : State) → All HeardVector s.routes.heard → TurnTells (from_host s m)
 from_host_tells m s here = quiet_tells (offered (way_of s m.flow) m s) (same_heard s (offered (way_of s m.flow) m s) (offered_routes (way_of s m.flow) m s) here)
+
+ask_tells : (f : Flow) (s : State) → All HeardVector s.routes.heard → TurnTells (ask s f)
+ask_tells f s here =
+    let t : State = asked_by (outstanding s f) f s in
+    quiet_tells t (same_heard s t (asked_routes (outstanding s f) f s) here)
 
 to_host_tells : (h : ℕ) (s : State) → All HeardVector s.routes.heard → TurnTells (to_host s h)
 to_host_tells h s here =
@@ -334,6 +346,7 @@ step_routed n (event.HostUp h) is = logged_routed (crossing.Up h ∷ []) (at_imp
 step_routed n (event.GiveUp f) is = call_routed n f.source.imp (λ s. give_up s f) (λ s here. quiet_tells _ here) is
 step_routed n (event.Forget at from) is = call_routed n at (λ s. forget s from) (λ s here. quiet_tells _ here) is
 step_routed n (event.Abandon f) is = call_routed n f.destination.imp (λ s. abandon s f) (λ s here. quiet_tells _ here) is
+step_routed n (event.Ask f) is = call_routed n f.source.imp (λ s. ask s f) (ask_tells f) is
 
 -- ---- a quiet round
 

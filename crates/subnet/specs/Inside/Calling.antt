@@ -10,10 +10,11 @@ use Rattle.imp_channel.specs.declared.frame.Frame.{Frame}
 use Rattle.imp_node.specs.declared.outgoing.Outgoing.{Outgoing}
 use Rattle.imp_node.specs.State.{State, HostState, ImpTurn, number}
 use Rattle.imp_node.specs.Arrival.{from_line, from_line_refusal, ignored}
+use Rattle.imp_node.specs.Asking.{ask, ask_refusal}
 use Rattle.imp_node.specs.Offering.{from_host, from_host_refusal, from_host_grows}
 use Rattle.imp_node.specs.Lines.{resend, route, end_down, end_down_refusal, end_up, end_up_refusal}
 use Rattle.imp_node.specs.Stopping.{give_up, give_up_refusal, forget, forget_refusal, abandon, abandon_refusal, host_down, host_down_refusal, host_up, host_up_refusal}
-use Rattle.imp_node.specs.Turns.{from_line_grows, resend_grows, route_grows, end_down_grows, end_up_grows, give_up_grows, forget_grows, abandon_grows, host_down_grows, host_up_grows}
+use Rattle.imp_node.specs.Turns.{from_line_grows, resend_grows, route_grows, end_down_grows, end_up_grows, give_up_grows, forget_grows, abandon_grows, ask_grows, host_down_grows, host_up_grows}
 use Rattle.subnet.specs.declared.imp_call.ImpCall.{ImpCall}
 use Rattle.subnet.specs.declared.imp_call.ImpCall.TheVariants as call
 use Rattle.subnet.specs.Net.{Net, Wire, imp_at}
@@ -32,6 +33,7 @@ call_refusal (call.EndUp k) s = end_up_refusal s k
 call_refusal (call.GiveUp f) s = give_up_refusal s f
 call_refusal (call.Forget i) s = forget_refusal s i
 call_refusal (call.Abandon f) s = abandon_refusal s f
+call_refusal (call.Ask f) s = ask_refusal s f
 call_refusal (call.HostDown h) s = host_down_refusal s h
 call_refusal (call.HostUp h) s = host_up_refusal s h
 
@@ -45,6 +47,7 @@ call_turn (call.EndUp k) s = end_up s k
 call_turn (call.GiveUp f) s = give_up s f
 call_turn (call.Forget i) s = forget s i
 call_turn (call.Abandon f) s = abandon s f
+call_turn (call.Ask f) s = ask s f
 call_turn (call.HostDown h) s = host_down s h
 call_turn (call.HostUp h) s = host_up s h
 
@@ -58,6 +61,7 @@ call_grows (call.EndUp k) s = end_up_grows s k
 call_grows (call.GiveUp f) s = give_up_grows s f
 call_grows (call.Forget i) s = forget_grows s i
 call_grows (call.Abandon f) s = abandon_grows s f
+call_grows (call.Ask f) s = ask_grows s f
 call_grows (call.HostDown h) s = host_down_grows s h
 call_grows (call.HostUp h) s = host_up_grows s h
 

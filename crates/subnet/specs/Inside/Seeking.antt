@@ -5,7 +5,7 @@ use Rattle.packetiser.specs.PacketFields.{PacketFields}
 use Rattle.imp_channel.specs.Holding.{carried_by}
 use Rattle.imp_channel.specs.declared.frame.Frame.{Frame}
 use Rattle.imp_node.specs.State.{State}
-use Rattle.imp_node.specs.Queries.{holds, packet_has, holds_data, is_data_between, touches, packet_touches}
+use Rattle.imp_node.specs.Queries.{holds, packet_has, holds_data, is_request_between, touches, packet_touches}
 use Rattle.subnet.specs.declared.seeking.Sought.{Sought}
 use Rattle.subnet.specs.declared.seeking.Sought.TheVariants as sought
 use Rattle.subnet.specs.Net.{Net}
@@ -20,7 +20,7 @@ imp_has (sought.Touching i) s = touches s i
 -- a packet is what is sought
 abbrev pub packet_is : Sought → PacketFields → Bool
 packet_is (sought.Message f n) p = packet_has f n p
-packet_is (sought.Between from to) p = is_data_between from to p
+packet_is (sought.Between from to) p = is_request_between from to p
 packet_is (sought.Touching i) p = packet_touches i p
 
 abbrev pub frame_has : Sought → Frame → Bool

@@ -1,4 +1,4 @@
-use Rattle.imp_node.proofs.HeldByCalls.{from_host_leaves, from_line_leaves, to_host_leaves, host_down_leaves, resend_leaves, route_leaves, end_down_leaves, end_up_leaves, give_up_leaves, forget_leaves, abandon_leaves, host_up_leaves, start_packets}
+use Rattle.imp_node.proofs.HeldByCalls.{from_host_leaves, from_line_leaves, to_host_leaves, host_down_leaves, resend_leaves, route_leaves, end_down_leaves, end_up_leaves, give_up_leaves, ask_leaves, forget_leaves, abandon_leaves, host_up_leaves, start_packets}
 use Rattle.imp_node.proofs.law.holding.Goals as goal
 
 pub returns-clause-from_host : goal.returns-clause-from_host
@@ -39,3 +39,6 @@ returns-clause-host_up c = host_up_leaves
 
 pub returns-clause-opening : goal.returns-clause-opening
 returns-clause-opening c = start_packets
+
+pub returns-clause-ask : goal.returns-clause-ask
+returns-clause-ask c = ask_leaves

@@ -1,4 +1,4 @@
-use Rattle.imp_node.proofs.SidesOfCalls.{from_host_moves, from_line_moves, arrival_says, answer_taken, message_taken, nothing_taken, give_up_moves, forget_becomes, stopped_becomes, returned_moves, host_up_becomes, resend_unmoved, route_unmoved, end_down_unmoved, end_up_unmoved, abandon_unmoved}
+use Rattle.imp_node.proofs.SidesOfCalls.{from_host_moves, from_line_moves, arrival_says, answer_taken, message_taken, nothing_taken, give_up_moves, forget_becomes, stopped_becomes, returned_moves, host_up_becomes, resend_unmoved, route_unmoved, end_down_unmoved, end_up_unmoved, ask_unmoved, abandon_unmoved}
 use Rattle.imp_node.proofs.law.moving.Goals as goal
 
 pub returns-clause-from_host : goal.returns-clause-from_host
@@ -48,3 +48,6 @@ returns-clause-end_up c = end_up_unmoved
 
 pub returns-clause-abandon : goal.returns-clause-abandon
 returns-clause-abandon c = abandon_unmoved
+
+pub returns-clause-ask : goal.returns-clause-ask
+returns-clause-ask c = ask_unmoved

@@ -1,4 +1,4 @@
-use Rattle.imp_node.proofs.Sound.{opening_imp, from_host_imp, from_line_imp, to_host_imp, resend_imp, route_imp, end_down_imp, end_up_imp, give_up_imp, forget_imp, abandon_imp, host_down_imp, host_up_imp}
+use Rattle.imp_node.proofs.Sound.{opening_imp, from_host_imp, from_line_imp, to_host_imp, resend_imp, route_imp, end_down_imp, end_up_imp, give_up_imp, ask_imp, forget_imp, abandon_imp, host_down_imp, host_up_imp}
 use Rattle.imp_node.proofs.law.sound.Goals as goal
 
 pub returns-clause-opening : goal.returns-clause-opening
@@ -39,3 +39,6 @@ returns-clause-host_down c = host_down_imp
 
 pub returns-clause-host_up : goal.returns-clause-host_up
 returns-clause-host_up c = host_up_imp
+
+pub returns-clause-ask : goal.returns-clause-ask
+returns-clause-ask c = ask_imp

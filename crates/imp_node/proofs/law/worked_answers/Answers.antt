@@ -81,3 +81,7 @@ returns-clause-begins c = (rw (get-empty flow_cmp (flow (host 0 1) (host 0 2) 7)
 pub returns-clause-begins_none : goal.returns-clause-begins_none
 unfolding next_of submitted distance_to vector_of
 returns-clause-begins_none c = (rw (get-empty flow_cmp (flow (host 0 1) (host 0 2) 7)) refl, refl, rw (get-empty flow_cmp (flow (host 0 1) (host 2 1) 7)) refl)
+
+pub returns-clause-questions : goal.returns-clause-questions
+unfolding next_of submitted distance_to vector_of
+returns-clause-questions c = (refl, refl)

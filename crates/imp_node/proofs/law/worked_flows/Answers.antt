@@ -1,41 +1,8 @@
-use Rattle.std.proofs.Common.{◌≡◌, Option, Some, refl, ap, ◌∙◌}
-use Rattle.std.specs.Option.{option_map}
-use Rattle.std.specs.FinMap as finite
-use Rattle.leader1822.specs.Flow.{flow_cmp}
+use Rattle.std.proofs.Common.{refl}
 use Rattle.imp_channel.specs.Line.{submitted}
-use Rattle.link_table.specs.Flows.{number_in, begun, flow_answered, handed, given_up, answered_in, given_up_in, handed_in}
-use Rattle.link_table.specs.declared.source.Standing.{Standing}
-use Rattle.link_table.specs.declared.source.Standing.TheVariants as standing
-use Rattle.link_table.proofs.lemmas.{get_answered, get_begun, get_given_up, get_handed}
 use Rattle.routing.specs.RouteTable.{next_of, distance_to}
-use Rattle.imp_node.specs.Examples.{host, flow}
+use Rattle.imp_node.proofs.SentFlow.{is_begun, is_answered, is_taken, is_given_up, is_idle_again}
 use Rattle.imp_node.proofs.law.worked_flows.Goals as goal
-
--- the standing of the flow, step by step
-is_begun : finite.get (begun finite.empty (flow (host 0 1) (host 0 2) 7)) (flow (host 0 1) (host 0 2) 7) ≡ Some (standing.Outstanding 0)
-is_begun =
-    get_begun finite.empty (flow (host 0 1) (host 0 2) 7) (flow (host 0 1) (host 0 2) 7)
-    ∙ ap (λ (s : Option Standing). Some (standing.Outstanding (number_in s))) (finite.get-empty flow_cmp (flow (host 0 1) (host 0 2) 7))
-
-is_answered : finite.get (flow_answered (begun finite.empty (flow (host 0 1) (host 0 2) 7)) (flow (host 0 1) (host 0 2) 7) 0) (flow (host 0 1) (host 0 2) 7) ≡ Some (standing.Answered 0)
-is_answered =
-    get_answered (begun finite.empty (flow (host 0 1) (host 0 2) 7)) (flow (host 0 1) (host 0 2) 7) (flow (host 0 1) (host 0 2) 7) 0
-    ∙ ap (option_map (answered_in 0)) is_begun
-
-is_taken : finite.get (handed (flow_answered (begun finite.empty (flow (host 0 1) (host 0 2) 7)) (flow (host 0 1) (host 0 2) 7) 0) (flow (host 0 1) (host 0 2) 7)) (flow (host 0 1) (host 0 2) 7) ≡ Some (standing.Idle 0)
-is_taken =
-    get_handed (flow_answered (begun finite.empty (flow (host 0 1) (host 0 2) 7)) (flow (host 0 1) (host 0 2) 7) 0) (flow (host 0 1) (host 0 2) 7) (flow (host 0 1) (host 0 2) 7)
-    ∙ ap (option_map handed_in) is_answered
-
-is_given_up : finite.get (given_up (begun finite.empty (flow (host 0 1) (host 0 2) 7)) (flow (host 0 1) (host 0 2) 7)) (flow (host 0 1) (host 0 2) 7) ≡ Some (standing.Answered 0)
-is_given_up =
-    get_given_up (begun finite.empty (flow (host 0 1) (host 0 2) 7)) (flow (host 0 1) (host 0 2) 7) (flow (host 0 1) (host 0 2) 7)
-    ∙ ap (option_map given_up_in) is_begun
-
-is_idle_again : finite.get (handed (given_up (begun finite.empty (flow (host 0 1) (host 0 2) 7)) (flow (host 0 1) (host 0 2) 7)) (flow (host 0 1) (host 0 2) 7)) (flow (host 0 1) (host 0 2) 7) ≡ Some (standing.Idle 0)
-is_idle_again =
-    get_handed (given_up (begun finite.empty (flow (host 0 1) (host 0 2) 7)) (flow (host 0 1) (host 0 2) 7)) (flow (host 0 1) (host 0 2) 7) (flow (host 0 1) (host 0 2) 7)
-    ∙ ap (option_map handed_in) is_given_up
 
 pub returns-clause-begun : goal.returns-clause-begun
 unfolding next_of submitted distance_to

@@ -1,5 +1,5 @@
 use Rattle.subnet.specs.Net.{port_of}
-use Rattle.subnet.proofs.Packets.HavingByEvents.{offer_only, take_only, stop_only, deliver_only, drop_nothing, resend_nothing, route_nothing, end_down_nothing, end_up_nothing, give_up_nothing, forget_nothing, abandon_nothing, start_host_nothing, start_imp_nothing, stop_imp_nothing}
+use Rattle.subnet.proofs.Packets.HavingByEvents.{offer_only, take_only, ask_only, stop_only, deliver_only, drop_nothing, resend_nothing, route_nothing, end_down_nothing, end_up_nothing, give_up_nothing, forget_nothing, abandon_nothing, start_host_nothing, start_imp_nothing, stop_imp_nothing}
 use Rattle.subnet.proofs.law.holding.Goals as goal
 
 pub returns-clause-offer_out : goal.returns-clause-offer_out
@@ -13,6 +13,9 @@ returns-clause-deliver c = deliver_only
 
 pub returns-clause-host_down : goal.returns-clause-host_down
 returns-clause-host_down c = stop_only
+
+pub returns-clause-ask : goal.returns-clause-ask
+returns-clause-ask c = ask_only
 
 pub returns-clause-drop : goal.returns-clause-drop
 returns-clause-drop c = drop_nothing

@@ -1,6 +1,7 @@
 use Rattle.flow_law.proofs.lemmas.{sound_run}
 use Rattle.subnet.specs.Net.{port_of}
 use Rattle.subnet.specs.Flows.{Alive, view}
+use Rattle.subnet.proofs.Moves.Asking.{ask_sound}
 use Rattle.subnet.proofs.Moves.GivingUp.{give_up_sound}
 use Rattle.subnet.proofs.Moves.QuietCalls.{drop_sound, resend_sound, route_sound, end_down_sound, end_up_sound, abandon_sound}
 use Rattle.subnet.proofs.law.sound_events.Goals as goal
@@ -28,3 +29,6 @@ returns-clause-run c = λ n is. sound_run n.hosts n.log (view n) (Alive n) is.fl
 
 pub returns-clause-give_up : goal.returns-clause-give_up
 returns-clause-give_up c = give_up_sound
+
+pub returns-clause-ask : goal.returns-clause-ask
+returns-clause-ask c = ask_sound

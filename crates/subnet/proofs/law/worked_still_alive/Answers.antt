@@ -1,16 +1,15 @@
-use Rattle.std.proofs.Common.{◌≡◌, ℕ, Bool, true, false, [], ◌∷◌, Option, Some, None, refl, ap, sym, ◌∙◌, if◌then◌else◌}
+use Rattle.std.proofs.Common.{◌≡◌, ℕ, Bool, true, false, [], ◌∷◌, Some, None, refl, ap, sym, ◌∙◌, if◌then◌else◌}
 use Rattle.std.specs.FinMap.{get, insert, empty, get-empty}
 use Rattle.leader1822.specs.Flow.{flow_cmp, same_flow}
 use Rattle.leader1822.specs.declared.address.Flow.{Flow}
-use Rattle.link_table.specs.Flows.{begun, number_in, outstanding_in, has_outstanding_to}
+use Rattle.link_table.specs.Flows.{begun, outstanding_in, has_outstanding_to}
 use Rattle.link_table.specs.Keys.{has_from, drop_from}
 use Rattle.link_table.specs.declared.destination.Fate.TheVariants as fate
 use Rattle.link_table.specs.declared.destination.Noted.{Noted}
-use Rattle.link_table.specs.declared.source.Standing.{Standing}
 use Rattle.link_table.specs.declared.source.Standing.TheVariants as standing
-use Rattle.link_table.proofs.lemmas.{asked, get_begun, get_dropped, get_put}
+use Rattle.link_table.proofs.lemmas.{asked, get_dropped, get_put}
 use Rattle.subnet.specs.Examples.{ours}
-use Rattle.subnet.proofs.Calls.Awaiting.{some_outstanding, none_outstanding, nothing_begun, none_kept}
+use Rattle.subnet.proofs.Calls.Awaiting.{is_begun, some_outstanding, none_outstanding, nothing_begun, none_kept}
 use Rattle.imp_channel.specs.Line.{submitted}
 use Rattle.link_table.specs.Numbers.{is_new, oldest, modulus, next, window}
 use Rattle.routing.specs.RouteTable.{next_of, distance_to, vector_of}
@@ -19,9 +18,6 @@ use Rattle.subnet.proofs.law.worked_still_alive.Goals as goal
 -- what IMP 1 knows of the flow
 is_known : (last : ℕ) → get {R = flow_cmp} (insert empty ours (standing.Idle last)) ours ≡ Some (standing.Idle last)
 is_known last = get_put empty ours ours (standing.Idle last)
-
-is_begun : get (begun empty ours) ours ≡ Some (standing.Outstanding 0)
-is_begun = get_begun empty ours ours ∙ ap (λ (s : Option Standing). Some (standing.Outstanding (number_in s))) (get-empty flow_cmp ours)
 
 -- what IMPs keep of flows from others
 abbrev first_taken : Noted
@@ -51,6 +47,10 @@ pub returns-clause-alive : goal.returns-clause-alive
 unfolding next_of submitted distance_to vector_of is_new oldest modulus window
 returns-clause-alive c = (refl, refl, refl, refl)
 
+pub returns-clause-asked : goal.returns-clause-asked
+unfolding next_of submitted distance_to vector_of is_new oldest modulus window
+returns-clause-asked c = (refl, refl)
+
 pub returns-clause-other : goal.returns-clause-other
 unfolding next_of submitted distance_to vector_of is_new oldest modulus window
 returns-clause-other c = (refl, refl)
@@ -62,6 +62,10 @@ returns-clause-offer_window c = rw (is_known 127) refl
 pub returns-clause-offer_within : goal.returns-clause-offer_within
 unfolding next_of submitted distance_to vector_of is_new oldest modulus window
 returns-clause-offer_within c = rw (is_known 127) (rw (get-empty flow_cmp ours) refl)
+
+pub returns-clause-offer_asked : goal.returns-clause-offer_asked
+unfolding next_of submitted distance_to vector_of is_new oldest modulus window
+returns-clause-offer_asked c = (rw (is_known 127) refl, rw (is_known 127) refl)
 
 pub returns-clause-offer_round : goal.returns-clause-offer_round
 unfolding next_of submitted distance_to vector_of is_new oldest modulus window
@@ -91,6 +95,10 @@ pub returns-clause-give_up_rfnm : goal.returns-clause-give_up_rfnm
 unfolding next_of submitted distance_to vector_of is_new oldest modulus window
 returns-clause-give_up_rfnm c = rw is_begun refl
 
+pub returns-clause-give_up_asked : goal.returns-clause-give_up_asked
+unfolding next_of submitted distance_to vector_of is_new oldest modulus window
+returns-clause-give_up_asked c = (rw is_begun refl, rw is_begun refl)
+
 pub returns-clause-give_up_queued : goal.returns-clause-give_up_queued
 unfolding next_of submitted distance_to vector_of is_new oldest modulus window
 returns-clause-give_up_queued c = rw is_begun refl
@@ -107,6 +115,10 @@ pub returns-clause-forget_data : goal.returns-clause-forget_data
 unfolding next_of submitted distance_to vector_of is_new oldest modulus window
 returns-clause-forget_data c = refl
 
+pub returns-clause-forget_asked : goal.returns-clause-forget_asked
+unfolding next_of submitted distance_to vector_of is_new oldest modulus window
+returns-clause-forget_asked c = refl
+
 pub returns-clause-forget_queued : goal.returns-clause-forget_queued
 unfolding next_of submitted distance_to vector_of is_new oldest modulus window
 returns-clause-forget_queued c = refl
@@ -119,9 +131,17 @@ pub returns-clause-forget_answer : goal.returns-clause-forget_answer
 unfolding next_of submitted distance_to vector_of is_new oldest modulus window
 returns-clause-forget_answer c = rw (nothing_begun 2) refl
 
+pub returns-clause-forget_never : goal.returns-clause-forget_never
+unfolding next_of submitted distance_to vector_of is_new oldest modulus window
+returns-clause-forget_never c = rw (nothing_begun 2) refl
+
 pub returns-clause-start_answer : goal.returns-clause-start_answer
 unfolding next_of submitted distance_to vector_of is_new oldest modulus window
 returns-clause-start_answer c = refl
+
+pub returns-clause-start_asked : goal.returns-clause-start_asked
+unfolding next_of submitted distance_to vector_of is_new oldest modulus window
+returns-clause-start_asked c = (refl, refl)
 
 pub returns-clause-start_destination : goal.returns-clause-start_destination
 unfolding next_of submitted distance_to vector_of is_new oldest modulus window

@@ -1,4 +1,4 @@
--- What the answers to questions say.
+-- What the answers to queries say.
 use Rattle.std.proofs.Common.{◌≡◌, Bool, true, false, not, List, [], ◌∷◌, Some, None, refl, ap, ◌&&◌, ◌||◌, ◌⊎◌, inl, inr, All, Any, if◌then◌else◌}
 use Rattle.std.specs.List.{list_any}
 use Rattle.std.proofs.lemmas.Bool.{cases_Bool}
