@@ -1,5 +1,5 @@
 -- Which hosts there are.
-use Rattle.std.proofs.Common.{◌≡◌, ◌≤◌, refl}
+use Rattle.std.proofs.Common.{◌≤◌, refl}
 use Rattle.std.proofs.lemmas.Bool.{le-leb}
 use Rattle.leader1822.specs.Host.{Host}
 use Rattle.script.specs.Spelling.{IsHost}

@@ -1,5 +1,5 @@
 -- What is written of a log is what its audit says.
-use Rattle.std.proofs.Common.{◌≡◌, ◌<◌, ◌≤◌, ◌+◌, ◌*◌, ℕ, Bool, true, false, List, [], ◌∷◌, ◌++◌, length, take, get_or, reverse, slice_get, Option, Some, None, IfSome, codes, Result, Ok, Err, IfOk, IfErr, MatchResult, OnOk, inl, inr, ap, refl, sym, ◌∙◌, subst, arith}
+use Rattle.std.proofs.Common.{◌≡◌, ◌<◌, ◌≤◌, ◌+◌, ℕ, Bool, true, false, List, ◌++◌, length, reverse, Option, Some, None, IfSome, codes, Result, Ok, Err, MatchResult, OnOk, refl, sym, ◌∙◌, subst}
 use Rattle.std.specs.Prelude.{◌↔◌}
 use Rattle.std.proofs.lemmas.Bool.{false≢true}
 use Rattle.std.specs.Io.KnownBytes.{Appends, Keeps}

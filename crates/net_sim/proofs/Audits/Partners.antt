@@ -1,7 +1,7 @@
 -- The test of partners is true exactly where they are safe, in a book whose stamps name messages.
-use Rattle.std.proofs.Common.{◌≡◌, ℕ, ◌+◌, ◌<◌, ◌≤◌, ◌==◌, Bool, true, false, not, ◌&&◌, ◌||◌, List, [], ◌∷◌, ◌++◌, length, take, drop, get_or, refl, ap, sym, subst, ◌∙◌, inl, inr, ◌⊎◌, Option, Some, None, arith, eq-eqb}
+use Rattle.std.proofs.Common.{◌≡◌, ℕ, ◌+◌, ◌<◌, ◌==◌, Bool, true, false, ◌&&◌, ◌||◌, List, [], ◌∷◌, ◌++◌, length, take, drop, get_or, refl, ap, sym, subst, ◌∙◌, inl, inr, ◌⊎◌, Option, Some, None, arith, eq-eqb}
 use Rattle.std.specs.Prelude.{is_none}
-use Rattle.std.specs.List.{list_all, slice_get, Contains}
+use Rattle.std.specs.List.{list_all, Contains}
 use Rattle.std.proofs.lemmas.Option.{slice_get_read}
 use Rattle.std.proofs.lemmas.Bool.{eqb-true}
 use Rattle.std.proofs.lemmas.List.{append_assoc, take-append-drop, take_more}
@@ -12,13 +12,13 @@ use Rattle.leader1822.specs.declared.address.Flow.{Flow}
 use Rattle.leader1822.specs.declared.crossing.Crossing.{Crossing}
 use Rattle.leader1822.specs.declared.crossing.Crossing.TheVariants as crossing
 use Rattle.leader1822.specs.declared.message.HostMessage.{HostMessage}
-use Rattle.leader1822.proofs.lemmas.{and_true, same_host-true}
+use Rattle.leader1822.proofs.lemmas.{and_true}
 use Rattle.net_sim.specs.Audit.{IsStamped}
 use Rattle.net_sim.specs.Book.{Life}
 use Rattle.net_sim.specs.Findings.{AreAtPeace, AreStamped}
-use Rattle.net_sim.specs.Inside.Audit.{asked_at, is_there, is_place, same_own, same_asked, are_mates, differ, is_one_way, are_at_odds, may_both, partners_hold, Found, FoundTwo}
+use Rattle.net_sim.specs.Inside.Audit.{asked_at, is_place, same_own, same_asked, are_mates, differ, is_one_way, are_at_odds, may_both, partners_hold, Found, FoundTwo}
 use Rattle.net_sim.specs.Safe.{AreTwo, SafePartners, control_flow, own_request, partner_request}
-use Rattle.net_sim.proofs.Audits.Elements.{all_at, all_fewer, all_from, false_not, and_is, contains_cases, contains_head, contains_none, contains_split, contains_tail, contains_take, is_false, none_of, not_is, or_cases}
+use Rattle.net_sim.proofs.Audits.Elements.{all_at, all_fewer, all_from, false_not, and_is, contains_cases, contains_head, contains_none, contains_split, contains_take, is_false, none_of, not_is, or_cases}
 use Rattle.net_sim.proofs.Audits.Requests.{WentAt, asked_is, asked_true, asked_went, crossed_one, named_is, named_some, own_is, own_true, place_is, place_true, same_host-is, some_named}
 
 -- ---- two lives

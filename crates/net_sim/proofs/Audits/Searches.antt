@@ -1,5 +1,5 @@
 -- What searches find: how many of the first entries are well.
-use Rattle.std.proofs.Common.{◌≡◌, ℕ, ◌+◌, ◌<◌, ◌≤◌, Bool, true, false, ◌&&◌, not, List, [], ◌∷◌, length, take, get_or, refl, sym, subst, ◌∙◌, arith, Option, Some, None}
+use Rattle.std.proofs.Common.{◌≡◌, ℕ, ◌+◌, ◌<◌, Bool, true, false, not, List, length, take, get_or, refl, sym, subst, ◌∙◌, arith, Option, Some, None}
 use Rattle.std.specs.Prelude.{is_none, is_some}
 use Rattle.std.specs.List.{list_all}
 use Rattle.std.proofs.lemmas.List.{take_all}
@@ -14,11 +14,6 @@ pub found_here : {X : Type 0} (test : X → Bool) (xs : List X) (i : ℕ) (x : X
     → Found (λ n. list_all test (take n xs)) (length xs) (Some i)
 found_here {X} test xs i x lt at e h =
     (lt, h, list_all_more test xs i x lt ∙ and_false (list_all test (take i xs)) (test (get_or xs i x)) (subst (λ (z : X). test z ≡ false) at e))
-
-pub found_none : {X : Type 0} (test : X → Bool) (xs : List X) (i : ℕ) → length xs ≤ i → list_all test (take i xs) ≡ true → Found (λ n. list_all test (take n xs)) (length xs) None
-found_none {X} test xs i past h =
-    let same : take i xs ≡ take (length xs) xs = take_all i xs past ∙ sym (take_all (length xs) xs (omega arith)) in
-    subst (λ (zs : List X). list_all test zs ≡ true) same h
 
 -- ---- whether there is nothing to find
 

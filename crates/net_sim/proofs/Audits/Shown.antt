@@ -1,13 +1,13 @@
 -- Where it shows what an audit says: what the searches find is what the definitions say.
-use Rattle.std.proofs.Common.{◌≡◌, ◌⊎◌, ◌<◌, ℕ, ◌+◌, Bool, true, false, ◌&&◌, List, [], ◌∷◌, length, take, reverse, refl, sym, subst, ◌∙◌, inl, inr, arith, Option, Some, None, MatchOption}
+use Rattle.std.proofs.Common.{◌≡◌, ℕ, Bool, true, List, length, take, reverse, refl, subst, inr, arith, Option, Some, None, MatchOption}
 use Rattle.std.specs.List.{list_all, slice_get}
 use Rattle.std.proofs.lemmas.List.{take_all}
 use Rattle.leader1822.specs.Messages.{SafeMessages}
 use Rattle.leader1822.specs.declared.crossing.Crossing.{Crossing}
 use Rattle.net_sim.specs.Audit.{IsWellFormed, Says}
 use Rattle.net_sim.specs.Book.{Life}
-use Rattle.net_sim.specs.Findings.{AreAtPeace, AreFed, AreStamped, EndsAt, HaveGranted, Shows, ShowsCrossing, ShowsLife, ShowsMalformed, ShowsTwo, WithMatch, AreUnmatched, first_fed, first_granted}
-use Rattle.net_sim.specs.Inside.Audit.{Found, FoundTwo, messages_hold, partners_hold, is_stamped, has_granted, is_fed, are_handed, is_unmatched, may_both, some_fed, streams_hold, grants_hold}
+use Rattle.net_sim.specs.Findings.{AreAtPeace, AreFed, AreStamped, HaveGranted, Shows, ShowsCrossing, ShowsLife, ShowsMalformed, ShowsTwo, WithMatch, AreUnmatched, first_fed, first_granted}
+use Rattle.net_sim.specs.Inside.Audit.{Found, FoundTwo, messages_hold, partners_hold, is_stamped, has_granted, is_unmatched, may_both, some_fed}
 use Rattle.net_sim.specs.Safe.{SafePartners, before}
 use Rattle.net_sim.specs.declared.auditing.findings.Finding.{Finding}
 use Rattle.net_sim.specs.declared.auditing.findings.Finding.TheVariants as finding
@@ -16,9 +16,9 @@ use Rattle.net_sim.specs.declared.auditing.said.Audit.TheVariants as audit
 use Rattle.net_sim.specs.declared.auditing.said.Part.TheVariants as part
 use Rattle.net_sim.proofs.Audits.Elements.{contains_got}
 use Rattle.net_sim.proofs.Audits.Searches.{ends_at}
-use Rattle.net_sim.proofs.Audits.Grants.{granted_decides, safe_grants}
+use Rattle.net_sim.proofs.Audits.Grants.{granted_decides}
 use Rattle.net_sim.proofs.Audits.Messages.{messages_at, messages_decide}
-use Rattle.net_sim.proofs.Audits.Partners.{partners_at, partners_decide, peace_at}
+use Rattle.net_sim.proofs.Audits.Partners.{partners_at, peace_at}
 use Rattle.net_sim.proofs.Audits.Stamps.{stamped_decides}
 use Rattle.net_sim.proofs.Audits.Streams.{fed_decides, matched_at, safe_streams}
 
