@@ -1,4 +1,4 @@
-use Rattle.std.proofs.Common.{sym, subst, rules}
+use Rattle.std.proofs.Common.{◌+◌, sym, subst, rules}
 use Rattle.leader1822.specs.Host.{most_imps}
 use Rattle.topology.specs.Topology.{IsRising}
 use Rattle.topology.proofs.Order.{numbered_rising}

@@ -1,4 +1,4 @@
-use Rattle.std.proofs.Common.{◌≡◌, ◌<◌, true, sym, ap, ◌∙◌, subst, ◌++◌, ◌+◌, ◌/◌, ◌%◌}
+use Rattle.std.proofs.Common.{◌≡◌, ◌<◌, true, sym, ap, ◌∙◌, subst, ◌++◌, ◌+◌, ◌*◌, ◌/◌, ◌%◌}
 use Rattle.leader1822.specs.Host.{Host, most_imps}
 use Rattle.leader1822.specs.Calls.{InOrder}
 use Rattle.topology.specs.Topology.{TopologyFields, most_hosts, hosts_below, host_if, has_host}
