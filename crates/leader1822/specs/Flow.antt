@@ -15,6 +15,6 @@ flow_cmp f g = ordering_then (host_cmp f.source g.source) (ordering_then (host_c
 abbrev pub flow_before : Flow → Flow → Bool
 flow_before f g = is_lt (flow_cmp f g)
 
--- the messages of a flow are numbered 0 to 255, and 0 follows 255
+-- the messages of a flow are numbered 0 to 65,535, and 0 follows 65,535
 abbrev pub message_numbers : ℕ
-message_numbers = 256
+message_numbers = 65536

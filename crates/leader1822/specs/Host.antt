@@ -16,9 +16,9 @@ is_imp imp = nat_le 1 imp && nat_le imp 63
 abbrev pub imp_at : ℕ → Option ℕ
 imp_at imp = if is_imp imp then Some imp else None
 
--- the IMPs of a network are numbered from 1 to 16; an address can name greater ones, which are in no network
+-- the IMPs of a network are numbered from 1 to 63, the greatest number that an address can name
 abbrev pub most_imps : ℕ
-most_imps = 16
+most_imps = 63
 
 -- an IMP has hosts 0 to 3
 abbrev pub host_at : ℕ → ℕ → Option Host

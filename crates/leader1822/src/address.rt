@@ -139,16 +139,16 @@ impl fmt::Display for HostAddr {
 #[derive(Clone, Copy, Debug, PartialEq, Eq, PartialOrd, Ord)]
 pub struct Link(pub u8);
 
-/// The greatest number of an IMP that a network has: its IMPs are numbered from 1 to this one. An address
-/// can name greater ones, which are in no network.
-pub const MOST_IMPS: usize = 16;
+/// The greatest number of an IMP that a network has: its IMPs are numbered from 1 to this one, and it is the
+/// greatest that an address can name.
+pub const MOST_IMPS: usize = 63;
 
 /// The number of a message among those of its flow, of which there are [`MESSAGE_NUMBERS`]. A flow's first
 /// message has the number 0.
-pub type Number = u8;
+pub type Number = u16;
 
-/// How many numbers the messages of a flow go by: they begin with 0, and 0 follows 255.
-pub const MESSAGE_NUMBERS: u32 = 256;
+/// How many numbers the messages of a flow go by: they begin with 0, and 0 follows 65,535.
+pub const MESSAGE_NUMBERS: u32 = 65_536;
 
 /// The messages from one host to another on one link. At most one of them is outstanding.
 #[derive(Clone, Copy, Debug, PartialEq, Eq, PartialOrd, Ord)]
