@@ -7,7 +7,7 @@
 use bit_messages::Bits;
 use leader1822::{
     Answer, Carrier, CarrierFault, Direction, Flow, HostAddr, HostMessage, ImpNumber, Inbound,
-    Link, NetEvent, Text,
+    Link, NetEvent, Number, Text,
 };
 use std::alloc::{AllocError, Global};
 use subnet::{Ends, Subnet};
@@ -60,7 +60,7 @@ enum Act {
     /// So many quiet rounds.
     Rounds(u8),
     /// Whether something of the flow's message with this number is alive.
-    IsAlive(Who, u8),
+    IsAlive(Who, Number),
 }
 
 /// The IMPs of the rows, by their numbers.
