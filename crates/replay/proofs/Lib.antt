@@ -1,5 +1,6 @@
 mod Counting
 pub mod InTurn
+pub mod Lines
 pub mod Passing
 pub mod Replays
 pub mod Settled

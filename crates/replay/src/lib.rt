@@ -16,10 +16,12 @@
 mod calm;
 mod events;
 pub mod law;
+mod line;
 mod output;
 mod print;
 pub mod worked;
 
 pub use events::{ReplayFault, replay_events};
+pub use line::Line;
 pub use output::{Output, Printer, WriteFailed};
 pub use print::{Detail, carrier_refusal, print_crossing};

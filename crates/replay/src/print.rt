@@ -12,6 +12,7 @@ ghost use Rattle.script.specs.Input.{ended_line};
 ghost use Rattle.script.specs.Spelling.{octets_text};
 
 use crate::events::ReplayFault;
+use crate::line::line_of;
 use crate::output::{Output, WriteFailed};
 use leader1822::{CarrierFault, Crossing, Text};
 
@@ -75,7 +76,7 @@ pub fn print_crossing<W: Output>(
     ensures failed { TellsFailure result (W.failed writer.new) }
 {
     match detail {
-        Detail::Sizes => writeln!(writer, "{crossing}"),
+        Detail::Sizes => writer.write_all(line_of(crossing).as_octets()),
         Detail::Texts => {
             write!(writer, "{crossing}")?;
             print_spelled(crossing, writer)?;

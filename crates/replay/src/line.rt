@@ -1,0 +1,181 @@
+//! A line that is printed, put together from its end to its front.
+
+ghost use Rattle.std.specs.Prelude.{◌≡◌, ◌+◌, ◌≤◌, ◌++◌, ◌∷◌, [], codes, drop, length};
+ghost use Rattle.std.specs.Fmt.{decimal};
+ghost use Rattle.leader1822.specs.Printed.{answer_text, crossing_text, flow_text, host_text};
+ghost use Rattle.leader1822.specs.declared.crossing.Crossing.TheVariants as crossing;
+ghost use Rattle.script.specs.Input.{ended_line};
+
+use itoa::write_digits;
+use leader1822::{Answer, Crossing, Flow, HostAddr, HostMessage};
+use std::marker::Model;
+
+/// How many octets a line has room for, with its end.
+const ROOM: usize = 256;
+
+/// A line with its end, put together from its end to its front in a buffer of its own, so that it is printed by one call. It is
+/// seen as its octets, and has room for 256 of them.
+#[derive(Drop)]
+pub struct Line {
+    octets: [u8; ROOM],
+    start: usize,
+}
+
+impl Model for Line {
+    ghost use Rattle.std.specs.Prelude.{ℕ, ◌≤◌, List, drop};
+
+    ghost Value = { List ℕ };
+
+    ghost view = { λ l. drop l.start l.octets };
+
+    ghost invariant = { λ l. l.start ≤ 256 };
+}
+
+/// Puts octets before a place of a buffer, and returns where they begin.
+fn put_before(octets: &mut [u8], start: usize, word: &[u8]) -> usize
+    requires { (length word.now ≤ start) × (start ≤ length octets.old) }
+    ensures place { result + length word.now ≡ start }
+    ensures written { drop result octets.new ≡ word.now ++ drop start octets.old }
+{
+    let at = start - word.len();
+    octets[at..start].copy_from_slice(word);
+    at
+}
+
+/// Puts a number before a place of a buffer, in decimal digits, and returns where they begin.
+fn put_digits(octets: &mut [u8], start: usize, number: u64) -> usize
+    requires { (20 ≤ start) × (start ≤ length octets.old) }
+    ensures place { (result ≤ start) × (start ≤ result + 20) }
+    ensures written { drop result octets.new ≡ decimal number ++ drop start octets.old }
+{
+    write_digits(number, octets, start)
+}
+
+impl Line {
+    /// The end of a line, with nothing before it yet.
+    pub fn new() -> Line
+        ensures { result ≡ 10 ∷ [] }
+    {
+        let mut octets = [0; ROOM];
+        octets[ROOM - 1] = b'\n';
+        Line {
+            octets,
+            start: ROOM - 1,
+        }
+    }
+
+    /// Its octets.
+    pub fn as_octets(&self) -> &[u8]
+        ensures { result.now ≡ self.now }
+    {
+        &self.octets[self.start..]
+    }
+
+    /// Puts a word in front.
+    pub fn put_word(&mut self, word: &[u8])
+        requires { length word.now + length self.old ≤ 256 }
+        ensures text { self.new ≡ word.now ++ self.old }
+        ensures room { length self.new ≡ length word.now + length self.old }
+    {
+        self.start = put_before(&mut self.octets, self.start, word);
+    }
+
+    /// Puts a number in front, in decimal digits.
+    pub fn put_number(&mut self, number: u64)
+        requires { length self.old ≤ 236 }
+        ensures text { self.new ≡ decimal number ++ self.old }
+        ensures room { length self.new ≤ length self.old + 20 }
+    {
+        self.start = put_digits(&mut self.octets, self.start, number);
+    }
+
+    /// Puts a host in front: its number, a slash, and its IMP's number.
+    #[tactic(auto, using(crate::proofs::Lines::host_before))]
+    pub fn put_host(&mut self, host: HostAddr)
+        requires { length self.old ≤ 215 }
+        ensures text { self.new ≡ host_text host ++ self.old }
+        ensures room { length self.new ≤ length self.old + 41 }
+    {
+        self.put_number(host.imp() as u64);
+        self.put_word(b"/");
+        self.put_number(host.host() as u64);
+    }
+
+    /// Puts a flow in front: its source, its destination and its link, with spaces between.
+    #[tactic(auto, using(crate::proofs::Lines::flow_before))]
+    pub fn put_flow(&mut self, flow: &Flow)
+        requires { length self.old ≤ 140 }
+        ensures text { self.new ≡ flow_text flow.now ++ self.old }
+        ensures room { length self.new ≤ length self.old + 104 }
+    {
+        self.put_number(flow.link.0 as u64);
+        self.put_word(b" ");
+        self.put_host(flow.destination);
+        self.put_word(b" ");
+        self.put_host(flow.source);
+    }
+}
+
+/// The word for what became of a message.
+fn answer_word(kind: Answer) -> &'static [u8]
+    ensures word { result.now ≡ answer_text kind }
+    ensures short { length result.now ≤ 10 }
+{
+    match kind {
+        Answer::Rfnm => b"rfnm",
+        Answer::Incomplete | Answer::NotTaken => b"incomplete",
+        Answer::Dead => b"dead",
+    }
+}
+
+/// The line of a message that crosses, behind this word: its flow and how many bits its text has.
+#[tactic(auto, using(crate::proofs::Lines::message_before))]
+fn message_line(word: &[u8], message: &HostMessage) -> Line
+    requires { length word.now ≤ 4 }
+    ensures { result ≡ ended_line (word.now ++ (flow_text message.now.flow ++ (codes " " ++ decimal (length message.now.text)))) }
+{
+    let mut line = Line::new();
+    line.put_number(message.text.bits().len() as u64);
+    line.put_word(b" ");
+    line.put_flow(&message.flow);
+    line.put_word(word);
+    line
+}
+
+/// The line of an answer.
+#[tactic(auto, using(crate::proofs::Lines::answer_before))]
+fn answer_line(kind: Answer, flow: &Flow) -> Line
+    ensures { result ≡ ended_line (crossing_text (crossing.Answer kind flow.now)) }
+{
+    let mut line = Line::new();
+    line.put_flow(flow);
+    line.put_word(b" ");
+    line.put_word(answer_word(kind));
+    line.put_word(b"answer ");
+    line
+}
+
+/// The line of a host that goes down or comes up, behind this word.
+#[tactic(auto, using(crate::proofs::Lines::one_before))]
+fn host_line(word: &[u8], host: HostAddr) -> Line
+    requires { length word.now ≤ 5 }
+    ensures { result ≡ ended_line (word.now ++ host_text host) }
+{
+    let mut line = Line::new();
+    line.put_host(host);
+    line.put_word(word);
+    line
+}
+
+/// The line of a crossing. Of a text only the number of bits is told.
+pub(crate) fn line_of(crossing: &Crossing) -> Line
+    ensures { result ≡ ended_line (crossing_text crossing.now) }
+{
+    match crossing {
+        Crossing::Out(message) => message_line(b"out ", message),
+        Crossing::In(message) => message_line(b"in ", message),
+        Crossing::Answer(kind, flow) => answer_line(*kind, flow),
+        Crossing::Down(host) => host_line(b"down ", *host),
+        Crossing::Up(host) => host_line(b"up ", *host),
+    }
+}
