@@ -32,7 +32,7 @@ MOST_OCTETS = 300_000
 STATES = {"rfnm": fold.TAKEN, "dead": fold.DEAD, "incomplete": fold.GIVEN_UP}
 IN_BROWSER = [  # examples, and whether what is inside is shown
     ("first-message", False), ("two-users-at-one-server", False), ("from-a-terminal-to-a-server", True),
-    ("rerouted-over-a-triangle", True), ("a-restart-in-mid-stream", False), ("the-window-comes-round", False), ("a-question-overtakes-its-message", True),
+    ("rerouted-over-a-triangle", True), ("a-restart-in-mid-stream", False), ("a-destination-that-lags", False), ("a-question-overtakes-its-message", True),
 ]  # fmt: skip
 # what is planted in a page's script, and words of what has to be found
 FAULTS = [
