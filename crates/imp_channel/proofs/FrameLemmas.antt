@@ -13,7 +13,7 @@ use Rattle.imp_channel.specs.declared.frame.Content.{Content}
 use Rattle.imp_channel.specs.declared.frame.Content.TheVariants as content
 use Rattle.imp_channel.specs.declared.frame.Frame.{Frame}
 use Rattle.imp_channel.specs.declared.frame.TheConstants.{ACKS}
-use Rattle.imp_channel.specs.Format.{octet_of, bits_of, bit_value, channel_octet, kind_octet, rest_of, content_of, read_of, framed, Gives}
+use Rattle.imp_channel.specs.Format.{octet_of, bits_of, bit_value, channel_octet, kind_octet, rest_of, content_of, frame_in, framed, Gives}
 
 -- so many bits make a number below that power of two
 octet_of-below : (bits : List Bool) (n : ℕ) → length bits ≤ n → octet_of bits < 2 ^ n
@@ -122,9 +122,10 @@ framed_fault acks (Err other) fault.OutOfMemory h = cc
 framed_fault acks said fault.Short h = let F : Result Content ChannelFault → Result Frame ChannelFault = λ r. framed acks r in ap F h
 framed_fault acks said fault.NotCanonical h = let F : Result Content ChannelFault → Result Frame ChannelFault = λ r. framed acks r in ap F h
 framed_fault acks said fault.BadLength h = let F : Result Content ChannelFault → Result Frame ChannelFault = λ r. framed acks r in ap F h
+framed_fault acks said fault.BadVersion h = let F : Result Content ChannelFault → Result Frame ChannelFault = λ r. framed acks r in ap F h
 
 pub read_fault : (octets : List ℕ) (e : ChannelFault) → 2 ≤ length octets
-    → Gives (content_of (get_or octets 0 0) (take (length octets - 2) (drop 2 octets))) (Err e) → Gives (read_of octets) (Err e)
+    → Gives (content_of (get_or octets 0 0) (take (length octets - 2) (drop 2 octets))) (Err e) → Gives (frame_in octets) (Err e)
 read_fault [] e two h = absurd (omega arith)
 read_fault (kind ∷ []) e two h = absurd (omega arith)
 read_fault (kind ∷ acks ∷ rest) e two h =

@@ -1,8 +1,8 @@
 -- Frames and their octets.
 --
--- Octet 0 is the kind, octet 1 the acknowledgement bits, that of channel 0 in the lowest place. In a packet frame octet 2
--- has the channel in its lowest three places and the packet's bit in the next, and the packet follows. In a routes frame
--- the distances follow, an octet each, that to IMP 1 first.
+-- Octet 0 is the version, the same in every frame, octet 1 the kind, octet 2 the acknowledgement bits, that of channel 0 in
+-- the lowest place. In a packet frame octet 3 has the channel in its lowest three places and the packet's bit in the next, and
+-- the packet follows. In a routes frame the distances follow, an octet each, that to IMP 1 first.
 use Rattle.std.specs.Prelude.{◌≡◌, ℕ, zero, suc, ◌+◌, ◌*◌, ◌/◌, ◌%◌, Bool, true, false, List, [], ◌∷◌, length, Result, Ok, Err, IsOk, nat_lt, nat_le, ◌==◌, if◌then◌else◌}
 use Rattle.leader1822.specs.Host.{most_imps}
 use Rattle.packetiser.specs.PacketFields.{PacketFields}
@@ -16,6 +16,10 @@ use Rattle.imp_channel.specs.declared.fault.ChannelFault.TheVariants as fault
 use Rattle.imp_channel.specs.declared.frame.Content.{Content}
 use Rattle.imp_channel.specs.declared.frame.Content.TheVariants as content
 use Rattle.imp_channel.specs.declared.frame.Frame.{Frame}
+
+-- the version of this format (F2, in hexadecimal)
+abbrev pub version : ℕ
+version = 242
 
 -- ---- writing
 
@@ -43,9 +47,13 @@ rest_of (content.Packet carried) = channel_octet carried ∷ packets.spelling ca
 rest_of content.Nothing = []
 rest_of (content.Routes distances) = distances
 
+-- what follows the version
+abbrev pub after_version : Frame → List ℕ
+after_version f = kind_octet f.content ∷ octet_of f.acks ∷ rest_of f.content
+
 -- how a frame is written
 abbrev pub spelling : Frame → List ℕ
-spelling f = kind_octet f.content ∷ octet_of f.acks ∷ rest_of f.content
+spelling f = version ∷ after_version f
 
 -- ---- reading
 
@@ -94,21 +102,31 @@ abbrev pub framed : List Bool → Result Content ChannelFault → Result Frame C
 framed acks (Ok brings) = Ok (record { acks = acks; content = brings })
 framed acks (Err e) = Err e
 
--- how octets are read: the first fault, or the frame
+-- how what follows the version is read: the first fault, or the frame
+abbrev pub frame_in : List ℕ → Result Frame ChannelFault
+frame_in [] = Err fault.Short
+frame_in (kind ∷ []) = Err fault.Short
+frame_in (kind ∷ acks ∷ rest) = framed (bits_of 8 acks) (content_of kind rest)
+
+-- how octets are read: nothing of another version's is looked at
 abbrev pub read_of : List ℕ → Result Frame ChannelFault
 read_of [] = Err fault.Short
-read_of (kind ∷ []) = Err fault.Short
-read_of (kind ∷ acks ∷ rest) = framed (bits_of 8 acks) (content_of kind rest)
+read_of (octet ∷ rest) = if octet == version then frame_in rest else Err fault.BadVersion
 
 -- how many bits the packet of a packet frame says that it has; any other frame has none
 abbrev pub packet_bits_in : ℕ → List ℕ → ℕ
 packet_bits_in kind [] = 0
 packet_bits_in kind (octet ∷ body) = if kind == 0 then packets.bit_count body else 0
 
+-- the same of what follows the version, and of a frame's octets
+abbrev pub packet_bits_after : List ℕ → ℕ
+packet_bits_after [] = 0
+packet_bits_after (kind ∷ []) = 0
+packet_bits_after (kind ∷ acks ∷ rest) = packet_bits_in kind rest
+
 abbrev pub packet_bits : List ℕ → ℕ
 packet_bits [] = 0
-packet_bits (kind ∷ []) = 0
-packet_bits (kind ∷ acks ∷ rest) = packet_bits_in kind rest
+packet_bits (octet ∷ rest) = packet_bits_after rest
 
 -- a call that answers `said`; it can find no memory only where nothing else refuses it
 abbrev pub Gives : {T : Type 0} → Result T ChannelFault → Result T ChannelFault → Type 0

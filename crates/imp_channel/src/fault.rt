@@ -8,7 +8,8 @@ use packetiser::{Packet, PacketFault};
 use std::alloc::{AllocError, AllocFailed};
 use thiserror::Error;
 
-/// Why octets are no frame. Where several apply, the first one here is given.
+/// Why octets are no frame. Where several apply, the first one here is given, with one exception:
+/// `BadVersion`, the last, is looked for before all others.
 #[derive(Clone, Copy, Debug, Drop, PartialEq, Eq, Error)]
 pub enum ChannelFault {
     /// Fewer octets than the frame needs.
@@ -23,6 +24,9 @@ pub enum ChannelFault {
     /// No memory was left.
     #[error("out of memory")]
     OutOfMemory,
+    /// The first octet isn't [`VERSION`](crate::VERSION).
+    #[error("bad version")]
+    BadVersion,
 }
 
 impl From<PacketFault> for ChannelFault {

@@ -2,7 +2,7 @@
 
 ghost use Rattle.std.specs.Prelude.{◌≡◌, ◌<◌, ◌++◌, [], Ok, IfOk, IfErr, OnOk};
 ghost use Rattle.imp_channel.specs.Holding.{bits_carried};
-ghost use Rattle.imp_channel.specs.Format.{Gives, read_of, packet_bits, packet_bits_in, spelling, content_of, kind_octet, rest_of, packet_in, routes_in, channel_octet, octet_of, bits_of, bit_value};
+ghost use Rattle.imp_channel.specs.Format.{Gives, read_of, frame_in, packet_bits, packet_bits_after, packet_bits_in, spelling, after_version, content_of, kind_octet, rest_of, packet_in, routes_in, channel_octet, octet_of, bits_of, bit_value};
 
 use crate::ChannelFault;
 use leader1822::MOST_IMPS;
@@ -10,6 +10,9 @@ use packetiser::Packet;
 use routing::Vector;
 use std::alloc::{AllocError, Global};
 use std::marker::Model;
+
+/// The first octet of every frame: the version of this format.
+pub const VERSION: u8 = 0xF2;
 
 /// How many channels a frame can name, and acknowledge.
 pub const ACKS: usize = 8;
@@ -114,23 +117,23 @@ impl Carried {
 impl Frame {
     /// The frame that these octets spell.
     ///
-    /// Errors: `Short` for fewer than two octets, a packet frame without a channel, a routes frame with
-    /// fewer than [`MOST_IMPS`] distances; `NotCanonical` for a kind above 2, a bit above the channel and its
-    /// bit, octets after the end, a distance above [`routing::INFINITE`]; then those of the packet.
-    /// `OutOfMemory` is given only for a packet with bits.
+    /// Errors: `BadVersion` for a first octet that isn't [`VERSION`], whatever follows it; `Short` for fewer
+    /// than three octets, a packet frame without a channel, a routes frame with fewer than [`MOST_IMPS`]
+    /// distances; `NotCanonical` for a kind above 2, a bit above the channel and its bit, octets after the
+    /// end, a distance above [`routing::INFINITE`]; then those of the packet. `OutOfMemory` is given only
+    /// for a packet with bits.
     pub fn read(alloc: Global, octets: &[u8]) -> Result<Frame, ChannelFault>
         ensures exact { Gives (read_of octets.now) result }
         ensures found { IfOk result (λ frame. octets.now ≡ spelling frame) }
         ensures memory { IfErr result (λ fault. fault ≡ ChannelFault.OutOfMemory → 0 < packet_bits octets.now) }
     {
-        let [kind, acks, rest @ ..] = octets else {
+        let [version, rest @ ..] = octets else {
             return Err(ChannelFault::Short);
         };
-        let content = read_content(alloc, *kind, rest)?;
-        Ok(Frame {
-            acks: bits_of(*acks),
-            content,
-        })
+        if *version != VERSION {
+            return Err(ChannelFault::BadVersion);
+        }
+        read_frame(alloc, rest)
     }
 
     /// The octets that spell it.
@@ -142,7 +145,7 @@ impl Frame {
         ensures memory { IfErr result (λ fault. fault ≡ ChannelFault.OutOfMemory) }
     {
         let kind = kind_octet(&self.content);
-        let mut octets = Vec::from_slice(alloc, &[kind, octet_of(&self.acks)])?;
+        let mut octets = Vec::from_slice(alloc, &[VERSION, kind, octet_of(&self.acks)])?;
         write_rest(&self.content, alloc, &mut octets)?;
         Ok(octets)
     }
@@ -188,6 +191,22 @@ impl Clone for Carried {
             packet: self.packet.clone()?,
         })
     }
+}
+
+/// Reads what follows the version octet.
+fn read_frame(alloc: Global, octets: &[u8]) -> Result<Frame, ChannelFault>
+    ensures exact { Gives (frame_in octets.now) result }
+    ensures found { IfOk result (λ frame. octets.now ≡ after_version frame) }
+    ensures memory { IfErr result (λ fault. fault ≡ ChannelFault.OutOfMemory → 0 < packet_bits_after octets.now) }
+{
+    let [kind, acks, rest @ ..] = octets else {
+        return Err(ChannelFault::Short);
+    };
+    let content = read_content(alloc, *kind, rest)?;
+    Ok(Frame {
+        acks: bits_of(*acks),
+        content,
+    })
 }
 
 /// Reads what follows the acknowledgement bits in a frame of this kind.

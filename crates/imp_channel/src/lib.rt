@@ -19,5 +19,5 @@ mod line;
 
 pub use channel::{CHANNELS, Channel};
 pub use fault::{ChannelFault, SubmitFault};
-pub use frame::{ACKS, Carried, Content, Frame};
+pub use frame::{ACKS, Carried, Content, Frame, VERSION};
 pub use line::{Line, Received};

@@ -4,77 +4,71 @@
 
 use crate::values::is_told;
 use imp_channel::{ACKS, ChannelFault, Content, Frame, Line, Received, SubmitFault};
+use leader1822::Number;
 use packetiser::Packet;
 use routing::Vector;
 use std::alloc::{AllocError, Global};
 
 /// An answer about a message of host 0 at IMP 1 to host 1 at IMP 2, and a piece of sixteen bits of another.
-const READY: [u8; 8] = [1, 0x01, 0x42, 5, 0, 0x80, 0, 0];
+const READY: [u8; 9] = [1, 0x01, 0x42, 5, 0, 0, 0x80, 0, 0];
 
-const PIECE: [u8; 10] = [0, 0x01, 0x42, 5, 1, 0x80, 0, 16, 0xAB, 0xCD];
+const PIECE: [u8; 11] = [0, 0x01, 0x42, 5, 0, 1, 0x80, 0, 16, 0xAB, 0xCD];
 
 /// The frame of that answer on channel 0 under bit 0, and of the piece there under bit 1.
-const READY_FRAME: [u8; 11] = [0, 0, 0, 1, 0x01, 0x42, 5, 0, 0x80, 0, 0];
+const READY_FRAME: [u8; 13] = [0xF2, 0, 0, 0, 1, 0x01, 0x42, 5, 0, 0, 0x80, 0, 0];
 
-const PIECE_FRAME: [u8; 13] = [0, 0, 8, 0, 0x01, 0x42, 5, 1, 0x80, 0, 16, 0xAB, 0xCD];
+const PIECE_FRAME: [u8; 15] = [
+    0xF2, 0, 0, 8, 0, 0x01, 0x42, 5, 0, 1, 0x80, 0, 16, 0xAB, 0xCD,
+];
 
 /// A routes frame's octets: its acknowledgements and distances.
-const ROUTES: [u8; 18] = [
-    2, 1, 1, 0, 1, 16, 16, 16, 16, 16, 16, 16, 16, 16, 16, 16, 16, 16,
+const ROUTES: [u8; 66] = [
+    0xF2, 2, 1, 1, 0, 1, 63, 63, 63, 63, 63, 63, 63, 63, 63, 63, 63, 63, 63, 63, 63, 63, 63, 63,
+    63, 63, 63, 63, 63, 63, 63, 63, 63, 63, 63, 63, 63, 63, 63, 63, 63, 63, 63, 63, 63, 63, 63, 63,
+    63, 63, 63, 63, 63, 63, 63, 63, 63, 63, 63, 63, 63, 63, 63, 63, 63, 63,
 ];
 
 /// Octets that are no frame, and why.
-const NO_FRAMES: [(&[u8], ChannelFault); 16] = [
+const NO_FRAMES: [(&[u8], ChannelFault); 20] = [
     (&[], ChannelFault::Short),
-    (&[1], ChannelFault::Short),
-    (&[3], ChannelFault::Short),
-    (&[0, 0], ChannelFault::Short),
-    (&[0, 0, 0], ChannelFault::Short),
-    // fifteen distances, and with one of them 17; a cut packet
+    (&[0xF2], ChannelFault::Short),
+    (&[0xF2, 1], ChannelFault::Short),
+    (&[0xF2, 3], ChannelFault::Short),
+    (&[0xF2, 0, 0], ChannelFault::Short),
+    (&[0xF2, 0, 0, 0], ChannelFault::Short),
+    // a cut packet
     (
-        &[
-            2, 1, 1, 0, 1, 16, 16, 16, 16, 16, 16, 16, 16, 16, 16, 16, 16,
-        ],
+        &[0xF2, 0, 0, 0, 1, 0x01, 0x42, 5, 0, 0, 0x80, 0],
         ChannelFault::Short,
     ),
+    (&[0xF2, 3, 0], ChannelFault::NotCanonical),
+    (&[0xF2, 1, 0, 0], ChannelFault::NotCanonical),
+    (&[0xF2, 0, 0, 16], ChannelFault::NotCanonical),
+    // channel 16; a packet of kind 5
     (
-        &[
-            2, 1, 1, 0, 17, 16, 16, 16, 16, 16, 16, 16, 16, 16, 16, 16, 16,
-        ],
-        ChannelFault::Short,
-    ),
-    (
-        &[0, 0, 0, 1, 0x01, 0x42, 5, 0, 0x80, 0],
-        ChannelFault::Short,
-    ),
-    (&[3, 0], ChannelFault::NotCanonical),
-    (&[1, 0, 0], ChannelFault::NotCanonical),
-    (&[0, 0, 16], ChannelFault::NotCanonical),
-    // channel 16; a distance of 17; an octet behind the distances; a packet of kind 5
-    (
-        &[0, 0, 16, 1, 0x01, 0x42, 5, 0, 0x80, 0, 0],
+        &[0xF2, 0, 0, 16, 1, 0x01, 0x42, 5, 0, 0, 0x80, 0, 0],
         ChannelFault::NotCanonical,
     ),
     (
-        &[
-            2, 1, 1, 0, 17, 16, 16, 16, 16, 16, 16, 16, 16, 16, 16, 16, 16, 16,
-        ],
-        ChannelFault::NotCanonical,
-    ),
-    (
-        &[
-            2, 1, 1, 0, 1, 16, 16, 16, 16, 16, 16, 16, 16, 16, 16, 16, 16, 16, 0,
-        ],
-        ChannelFault::NotCanonical,
-    ),
-    (
-        &[0, 0, 0, 5, 0x01, 0x42, 5, 0, 0x80, 0, 0],
+        &[0xF2, 0, 0, 0, 5, 0x01, 0x42, 5, 0, 0, 0x80, 0, 0],
         ChannelFault::NotCanonical,
     ),
     // an answer with bits
     (
-        &[0, 0, 0, 1, 0x01, 0x42, 5, 0, 0x80, 0, 16, 0, 0],
+        &[0xF2, 0, 0, 0, 1, 0x01, 0x42, 5, 0, 0, 0x80, 0, 16, 0, 0],
         ChannelFault::BadLength,
+    ),
+    // another version: alone, with a frame's rest and with a whole frame behind it; a frame without its
+    // version; then with a kind that is none, with a cut packet, and with an answer that has bits
+    (&[0xF3], ChannelFault::BadVersion),
+    (&[0xF3, 1, 1], ChannelFault::BadVersion),
+    (&[0xF3, 0xF2, 1, 1], ChannelFault::BadVersion),
+    (&[1, 1], ChannelFault::BadVersion),
+    (&[0xF0, 3, 0], ChannelFault::BadVersion),
+    (&[0x72, 0, 0, 0, 1, 0x01, 0x42], ChannelFault::BadVersion),
+    (
+        &[0, 0, 0, 0, 1, 0x01, 0x42, 5, 0, 0, 0x80, 0, 16, 0, 0],
+        ChannelFault::BadVersion,
     ),
 ];
 
@@ -90,10 +84,35 @@ fn octets_that_are_no_frame_are_refused(rt: HostRuntime) {
     }
 }
 
-/// A packet frame and an acknowledgement frame.
-const PACKET: [u8; 13] = [0, 0xA5, 0x0F, 0, 0x01, 0x42, 5, 1, 0x80, 0, 16, 0xAB, 0xCD];
+/// Why a routes frame is none with its fourth distance changed to this one: with its last octet missing, with
+/// all, and with an octet behind them.
+fn routes_refusals(alloc: Global, distance: u8) -> [Option<ChannelFault>; 3] {
+    let mut longer = [0; 67];
+    longer[..66].copy_from_slice(&ROUTES);
+    longer[6] = distance;
+    [
+        refusal(alloc, &longer[..65]),
+        refusal(alloc, &longer[..66]),
+        refusal(alloc, &longer),
+    ]
+}
 
-const ALONE: [u8; 2] = [1, 0xFF];
+#[test]
+fn a_routes_frame_has_63_distances_of_at_most_63(rt: HostRuntime) {
+    let (short, not) = (Some(ChannelFault::Short), Some(ChannelFault::NotCanonical));
+    let found = [
+        routes_refusals(rt.alloc(), 63),
+        routes_refusals(rt.alloc(), 64),
+    ];
+    assert_eq!(rt; found, [[short, None, not], [short, not, not]]);
+}
+
+/// A packet frame and an acknowledgement frame.
+const PACKET: [u8; 15] = [
+    0xF2, 0, 0xA5, 0x0F, 0, 0x01, 0x42, 5, 0, 1, 0x80, 0, 16, 0xAB, 0xCD,
+];
+
+const ALONE: [u8; 3] = [0xF2, 1, 0xFF];
 
 /// Whether a frame is written as these octets.
 fn is_written(alloc: Global, frame: &Frame, octets: &[u8]) -> Result<bool, ChannelFault> {
@@ -164,8 +183,9 @@ fn each_fault_has_its_text(rt: HostRuntime) {
         is_told(alloc, ChannelFault::NotCanonical, "not canonical"),
         is_told(alloc, ChannelFault::BadLength, "bad length"),
         is_told(alloc, ChannelFault::OutOfMemory, "out of memory"),
+        is_told(alloc, ChannelFault::BadVersion, "bad version"),
     ];
-    assert_eq!(rt; are_told, [true; 4]);
+    assert_eq!(rt; are_told, [true; 5]);
 }
 
 #[test]
@@ -175,8 +195,10 @@ fn a_fault_equals_itself_alone(rt: HostRuntime) {
         ChannelFault::Short == ChannelFault::NotCanonical,
         ChannelFault::BadLength == ChannelFault::BadLength,
         ChannelFault::BadLength == ChannelFault::OutOfMemory,
+        ChannelFault::BadVersion == ChannelFault::BadVersion,
+        ChannelFault::OutOfMemory == ChannelFault::BadVersion,
     ];
-    assert_eq!(rt; equal, [true, false, true, false]);
+    assert_eq!(rt; equal, [true, false, true, false, true, false]);
 }
 
 /// The acknowledgement bits of a packet frame, its packet's channel and bit, and whether that packet has
@@ -193,7 +215,7 @@ fn places(alloc: Global, frame: &[u8], packet: &[u8]) -> Option<([bool; ACKS], u
 
 #[test]
 fn channels_and_bits_stand_in_their_places(rt: HostRuntime) {
-    let octets: &[u8] = &[0, 0x06, 0x0D, 1, 0x01, 0x42, 5, 0, 0x80, 0, 0];
+    let octets: &[u8] = &[0xF2, 0, 0x06, 0x0D, 1, 0x01, 0x42, 5, 0, 0, 0x80, 0, 0];
     let acks = [false, true, true, false, false, false, false, false];
     assert_eq!(rt;
         places(rt.alloc(), octets, &READY),
@@ -261,7 +283,7 @@ fn submit(alloc: Global, line: &mut Line, octets: &[u8], frame: &[u8]) -> Came {
 /// The octets of a packet frame's packet.
 fn body(frame: &[u8]) -> &[u8] {
     match frame {
-        [_, _, _, packet @ ..] => packet,
+        [_, _, _, _, packet @ ..] => packet,
         _ => frame,
     }
 }
@@ -360,10 +382,10 @@ fn fitting(alloc: Global, rows: &[Row]) -> Result<usize, AllocError> {
 const GIVEN_ONCE: [Row<'static>; 7] = [
     (End::Left, Act::Submit(&READY, &READY_FRAME), Came::Sent),
     (End::Right, Act::Hear(&READY_FRAME), Came::Fresh),
-    (End::Right, Act::Acknowledge(&[1, 1]), Came::Sent),
+    (End::Right, Act::Acknowledge(&[0xF2, 1, 1]), Came::Sent),
     (End::Right, Act::Hear(&READY_FRAME), Came::Repeat),
-    (End::Right, Act::Acknowledge(&[1, 1]), Came::Sent),
-    (End::Left, Act::Hear(&[1, 1]), Came::Acknowledgements),
+    (End::Right, Act::Acknowledge(&[0xF2, 1, 1]), Came::Sent),
+    (End::Left, Act::Hear(&[0xF2, 1, 1]), Came::Acknowledgements),
     (End::Left, Act::Submit(&PIECE, &PIECE_FRAME), Came::Sent),
 ];
 
@@ -385,11 +407,15 @@ fn resend(alloc: Global, line: &Line, octets: &[u8]) -> Came {
 const BUSY: [Row<'static>; 10] = [
     (End::Left, Act::Submit(&READY, &READY_FRAME), Came::Sent),
     (End::Left, Act::Resend(&READY_FRAME), Came::Sent),
-    (End::Left, Act::Hear(&[1, 0xFE]), Came::Acknowledgements),
+    (
+        End::Left,
+        Act::Hear(&[0xF2, 1, 0xFE]),
+        Came::Acknowledgements,
+    ),
     (End::Left, Act::Waits(0, &READY), Came::Waits),
     (End::Left, Act::Waits(1, &READY), Came::Nothing),
     (End::Left, Act::Waits(8, &READY), Came::Nothing),
-    (End::Left, Act::Hear(&[1, 1]), Came::Acknowledgements),
+    (End::Left, Act::Hear(&[0xF2, 1, 1]), Came::Acknowledgements),
     (End::Left, Act::Waits(0, &READY), Came::Nothing),
     (End::Left, Act::Submit(&PIECE, &PIECE_FRAME), Came::Sent),
     (End::Left, Act::Resend(&PIECE_FRAME), Came::Sent),
@@ -402,18 +428,19 @@ fn a_busy_channel_sends_its_packet_again(rt: HostRuntime) {
 
 /// The frame of the piece at this place of a message of eight pieces of 1008 bits each, on the channel of
 /// the same number under bit 0.
-fn piece_frame(place: u8) -> [u8; 137] {
+fn piece_frame(place: u8) -> [u8; 139] {
     let last = if place == 7 { 0x80 } else { 0 };
-    let mut frame = [0; 137];
-    frame[2] = place;
-    frame[4] = 0x01;
-    frame[5] = 0x42;
-    frame[6] = 5;
-    frame[7] = 9;
-    frame[8] = last | place;
-    frame[9] = 0x03;
-    frame[10] = 0xF0;
-    frame[11] = place;
+    let mut frame = [0; 139];
+    frame[0] = 0xF2;
+    frame[3] = place;
+    frame[5] = 0x01;
+    frame[6] = 0x42;
+    frame[7] = 5;
+    frame[9] = 9;
+    frame[10] = last | place;
+    frame[11] = 0x03;
+    frame[12] = 0xF0;
+    frame[13] = place;
     frame
 }
 
@@ -437,8 +464,8 @@ fn eight_and_one(alloc: Global) -> Result<([(Came, Came); 8], [Came; 4]), Channe
     let came = eight_pieces(alloc, &mut left, &mut right);
     let then = [
         submit(alloc, &mut left, &READY, &[]),
-        sent(alloc, &right.ack_frame(), &[1, 0xFF]),
-        hear(alloc, &mut left, &[1, 0xFF]),
+        sent(alloc, &right.ack_frame(), &ALONE),
+        hear(alloc, &mut left, &ALONE),
         submit(alloc, &mut left, &READY, &answer_frame(8, 0)),
     ];
     Ok((came, then))
@@ -453,19 +480,19 @@ fn eight_packets_go_out_on_eight_channels(rt: HostRuntime) {
     );
 }
 
-/// An answer with this number, in a frame with this octet 2.
-fn answer_frame(octet: u8, number: u8) -> [u8; 11] {
-    [0, 0, octet, 1, 0x01, 0x42, 5, number, 0x80, 0, 0]
+/// An answer with this number, in a frame with this octet 3.
+fn answer_frame(octet: u8, number: u8) -> [u8; 13] {
+    [0xF2, 0, 0, octet, 1, 0x01, 0x42, 5, 0, number, 0x80, 0, 0]
 }
 
-/// What comes of an answer with this number that has to go out in a frame with this octet 2.
+/// What comes of an answer with this number that has to go out in a frame with this octet 3.
 fn submit_answer(alloc: Global, line: &mut Line, octet: u8, number: u8) -> Came {
     let frame = answer_frame(octet, number);
     submit(alloc, line, body(&frame), &frame)
 }
 
 /// The channels, bits and numbers of the first eight packets that are sent again.
-fn sent_again(alloc: Global, line: &Line) -> Result<[(u8, bool, u8); 8], AllocError> {
+fn sent_again(alloc: Global, line: &Line) -> Result<[(u8, bool, Number); 8], AllocError> {
     let mut found = [(0, false, 0); 8];
     let frames = line.resend(alloc)?;
     for (frame, told) in frames.iter().zip(found.iter_mut()) {
@@ -477,7 +504,7 @@ fn sent_again(alloc: Global, line: &Line) -> Result<[(u8, bool, u8); 8], AllocEr
 }
 
 /// The numbers of the first eight packets that a reset gives back, and how many these are.
-fn given_back(alloc: Global, line: &mut Line) -> Result<([u8; 8], usize), AllocError> {
+fn given_back(alloc: Global, line: &mut Line) -> Result<([Number; 8], usize), AllocError> {
     let mut found = [0; 8];
     let packets = line.reset(alloc)?;
     for (packet, number) in packets.iter().zip(found.iter_mut()) {
@@ -495,7 +522,7 @@ fn filled(alloc: Global, line: &mut Line) -> ([Came; 8], [Came; 5]) {
     }
     let then = [
         // the next packets of these channels have bit 1
-        hear(alloc, line, &[1, 0x25]),
+        hear(alloc, line, &[0xF2, 1, 0x25]),
         submit_answer(alloc, line, 0x08, 8),
         submit_answer(alloc, line, 0x0A, 9),
         submit_answer(alloc, line, 0x0D, 10),
@@ -505,7 +532,7 @@ fn filled(alloc: Global, line: &mut Line) -> ([Came; 8], [Came; 5]) {
 }
 
 /// What stands in an end's channels: what is sent again, and what a reset gives back.
-type Standing = ([(u8, bool, u8); 8], ([u8; 8], usize));
+type Standing = ([(u8, bool, Number); 8], ([Number; 8], usize));
 
 /// What comes of the answers, and what stands in the channels then.
 fn taken_in_turn(alloc: Global) -> Result<(([Came; 8], [Came; 5]), Standing), AllocError> {
@@ -541,24 +568,24 @@ fn the_lowest_free_channel_is_taken_and_frames_go_again_in_channel_order(rt: Hos
     );
 }
 
-/// Frames of answers, by their octet 2 and their number.
-const ANSWER_5_1: [u8; 11] = [0, 0, 5, 1, 0x01, 0x42, 5, 1, 0x80, 0, 0];
+/// Frames of answers, by their octet 3 and their number.
+const ANSWER_5_1: [u8; 13] = [0xF2, 0, 0, 5, 1, 0x01, 0x42, 5, 0, 1, 0x80, 0, 0];
 
-const ANSWER_4_1: [u8; 11] = [0, 0, 4, 1, 0x01, 0x42, 5, 1, 0x80, 0, 0];
+const ANSWER_4_1: [u8; 13] = [0xF2, 0, 0, 4, 1, 0x01, 0x42, 5, 0, 1, 0x80, 0, 0];
 
-const ANSWER_13_2: [u8; 11] = [0, 0, 13, 1, 0x01, 0x42, 5, 2, 0x80, 0, 0];
+const ANSWER_13_2: [u8; 13] = [0xF2, 0, 0, 13, 1, 0x01, 0x42, 5, 0, 2, 0x80, 0, 0];
 
-const ANSWER_15_2: [u8; 11] = [0, 0, 15, 1, 0x01, 0x42, 5, 2, 0x80, 0, 0];
+const ANSWER_15_2: [u8; 13] = [0xF2, 0, 0, 15, 1, 0x01, 0x42, 5, 0, 2, 0x80, 0, 0];
 
 /// Packets come on three channels.
 const BY_CHANNEL: [Row<'static>; 7] = [
     (End::Left, Act::Hear(&ANSWER_5_1), Came::Fresh),
-    (End::Left, Act::Acknowledge(&[1, 0x20]), Came::Sent),
+    (End::Left, Act::Acknowledge(&[0xF2, 1, 0x20]), Came::Sent),
     (End::Left, Act::Hear(&ANSWER_5_1), Came::Repeat),
     (End::Left, Act::Hear(&ANSWER_4_1), Came::Fresh),
     (End::Left, Act::Hear(&ANSWER_13_2), Came::Fresh),
     (End::Left, Act::Hear(&ANSWER_15_2), Came::Repeat),
-    (End::Left, Act::Acknowledge(&[1, 0x10]), Came::Sent),
+    (End::Left, Act::Acknowledge(&[0xF2, 1, 0x10]), Came::Sent),
 ];
 
 #[test]
@@ -578,17 +605,19 @@ fn reset(alloc: Global, line: &mut Line, octets: &[u8]) -> Came {
 }
 
 /// The piece's frame that acknowledges one packet.
-const UNDER_1: [u8; 13] = [0, 1, 8, 0, 0x01, 0x42, 5, 1, 0x80, 0, 16, 0xAB, 0xCD];
+const UNDER_1: [u8; 15] = [
+    0xF2, 0, 1, 8, 0, 0x01, 0x42, 5, 0, 1, 0x80, 0, 16, 0xAB, 0xCD,
+];
 
 /// An end that has sent and heard is reset.
 const BEGUN_ANEW: [Row<'static>; 9] = [
     (End::Left, Act::Submit(&READY, &READY_FRAME), Came::Sent),
     (End::Left, Act::Hear(&READY_FRAME), Came::Fresh),
-    (End::Left, Act::Hear(&[1, 1]), Came::Acknowledgements),
+    (End::Left, Act::Hear(&[0xF2, 1, 1]), Came::Acknowledgements),
     (End::Left, Act::Submit(&PIECE, &UNDER_1), Came::Sent),
     (End::Left, Act::Reset(&PIECE), Came::Back),
     (End::Left, Act::Waits(0, &PIECE), Came::Nothing),
-    (End::Left, Act::Acknowledge(&[1, 0]), Came::Sent),
+    (End::Left, Act::Acknowledge(&[0xF2, 1, 0]), Came::Sent),
     (End::Left, Act::Submit(&READY, &READY_FRAME), Came::Sent),
     (End::Left, Act::Hear(&READY_FRAME), Came::Fresh),
 ];
@@ -609,13 +638,13 @@ fn tell(alloc: Global, line: &Line, octets: &[u8]) -> Came {
 /// The distances in a routes frame.
 fn distances_in(frame: &[u8]) -> &[u8] {
     match frame {
-        [_, _, distances @ ..] => distances,
+        [_, _, _, distances @ ..] => distances,
         _ => frame,
     }
 }
 
 /// The answer's frame that acknowledges one packet.
-const ACKNOWLEDGING: [u8; 11] = [0, 1, 0, 1, 0x01, 0x42, 5, 0, 0x80, 0, 0];
+const ACKNOWLEDGING: [u8; 13] = [0xF2, 0, 1, 0, 1, 0x01, 0x42, 5, 0, 0, 0x80, 0, 0];
 
 /// Each kind of frame acknowledges and is acknowledged.
 const ACKNOWLEDGED: [Row<'static>; 14] = [
@@ -636,7 +665,7 @@ const ACKNOWLEDGED: [Row<'static>; 14] = [
     (End::Left, Act::Resend(&UNDER_1), Came::Sent),
     (End::Left, Act::Tell(&ROUTES), Came::Sent),
     // the packet's own bit frees nothing
-    (End::Left, Act::Hear(&[1, 1]), Came::Acknowledgements),
+    (End::Left, Act::Hear(&[0xF2, 1, 1]), Came::Acknowledgements),
     (End::Left, Act::Waits(0, &PIECE), Came::Waits),
 ];
 
@@ -660,7 +689,7 @@ fn told_on(alloc: Global, octets: &[u8], onward: &[u8]) -> Result<(bool, Came), 
 #[test]
 fn distances_come_with_acknowledgements(rt: HostRuntime) {
     let mut onward = ROUTES;
-    onward[1] = 0;
+    onward[2] = 0;
     assert_eq!(rt;
         told_on(rt.alloc(), &ROUTES, &onward),
         Ok((true, Came::Sent))

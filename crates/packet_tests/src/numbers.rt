@@ -25,12 +25,12 @@ fn only_the_window_ahead_of_the_last_number_is_new(rt: HostRuntime) {
     let ages = [
         judged(&mut flows, &flow, 5, 5),
         judged(&mut flows, &flow, 5, 6),
-        judged(&mut flows, &flow, 5, 132),
-        judged(&mut flows, &flow, 5, 133),
+        judged(&mut flows, &flow, 5, 32_772),
+        judged(&mut flows, &flow, 5, 32_773),
         judged(&mut flows, &flow, 5, 4),
-        judged(&mut flows, &flow, 255, 0),
-        judged(&mut flows, &flow, 255, 126),
-        judged(&mut flows, &flow, 255, 127),
+        judged(&mut flows, &flow, 65_535, 0),
+        judged(&mut flows, &flow, 65_535, 32_766),
+        judged(&mut flows, &flow, 65_535, 32_767),
     ];
     let (old, new) = (Some(Age::Old), Some(Age::New));
     assert_eq!(rt; ages, [old, new, new, old, old, new, new, old]);
@@ -38,7 +38,7 @@ fn only_the_window_ahead_of_the_last_number_is_new(rt: HostRuntime) {
 
 /// The first number that isn't new.
 fn first_old(flows: &DestFlows, flow: &Flow) -> Option<Number> {
-    for number in 0..=255u8 {
+    for number in 0..=Number::MAX {
         if flows.judge(flow, number) == Age::Old {
             return Some(number);
         }
@@ -55,20 +55,20 @@ fn every_number_is_new_where_none_is_kept(rt: HostRuntime) {
 
 #[test]
 fn numbers_go_round(rt: HostRuntime) {
-    let followed = [next(0), next(127), next(254), next(255)];
-    let reached = [oldest(127), oldest(128), oldest(126), oldest(0)];
+    let followed = [next(0), next(32_767), next(65_534), next(65_535)];
+    let reached = [oldest(32_767), oldest(32_768), oldest(32_766), oldest(0)];
     let news = [
         is_new(None, 9),
-        is_new(Some(0), 127),
-        is_new(Some(0), 128),
-        is_new(Some(200), 71),
-        is_new(Some(200), 72),
+        is_new(Some(0), 32_767),
+        is_new(Some(0), 32_768),
+        is_new(Some(50_000), 17_231),
+        is_new(Some(50_000), 17_232),
     ];
     assert_eq!(rt;
         (followed, reached, news),
         (
-            [1, 128, 255, 0],
-            [0, 1, 255, 129],
+            [1, 32_768, 65_535, 0],
+            [0, 1, 65_535, 32_769],
             [true, true, false, true, false]
         )
     );
@@ -301,9 +301,9 @@ fn number_of_next(flows: &mut SourceFlows, flow: &Flow) -> Result<Number, FlowFa
     number
 }
 
-/// The first number at which a flow's messages aren't numbered from 0 to 255, and the number after them.
+/// The first number at which a flow's messages aren't numbered from 0 to 65,535, and the number after them.
 fn numbered(flows: &mut SourceFlows, flow: &Flow) -> (Option<Number>, Result<Number, FlowFault>) {
-    for expected in 0..=255u8 {
+    for expected in 0..=Number::MAX {
         if number_of_next(flows, flow) != Ok(expected) {
             return (Some(expected), BLOCKED);
         }
@@ -312,7 +312,7 @@ fn numbered(flows: &mut SourceFlows, flow: &Flow) -> (Option<Number>, Result<Num
 }
 
 #[test]
-fn after_255_comes_0(rt: HostRuntime) {
+fn after_65535_comes_0(rt: HostRuntime) {
     let flow = flow(5);
     let mut flows = SourceFlows::new(rt.alloc());
     assert_eq!(rt; numbered(&mut flows, &flow), (None, Ok(0)));
@@ -362,13 +362,14 @@ fn a_question_is_answered_by_the_fate_of_the_number_noted_last(rt: HostRuntime) 
     }
 }
 
-/// What questions come to where no number is kept, and where the kept one lies 127 and 128 behind.
+/// What questions come to where no number is kept, and where the kept one lies 32,767 and 32,768 behind.
 fn asked_far_off(alloc: Global) -> Result<[Asked; 3], FlowFault> {
     let flow = flow(5);
     let mut flows = DestFlows::new(alloc);
     let none = flows.asked(&flow, 9);
     flows.note(&flow, 0, Fate::Taken)?;
-    Ok([none, flows.asked(&flow, 127), flows.asked(&flow, 128)])
+    let [near, far] = [flows.asked(&flow, 32_767), flows.asked(&flow, 32_768)];
+    Ok([none, near, far])
 }
 
 #[test]

@@ -2,7 +2,7 @@
 
 use crate::values::{flow, is_told};
 use bit_messages::{BitFault, Bits};
-use leader1822::{HostMessage, Link, Text};
+use leader1822::{HostMessage, Number, Text};
 use packetiser::{Added, Held, Outcome, Packet, PacketFault, PacketKind, Reassembly, cut};
 use std::alloc::{AllocError, Global};
 
@@ -16,7 +16,12 @@ fn striped(alloc: Global, count: usize) -> Result<Bits, BitFault> {
 }
 
 /// The packets of the message with this number and so many such bits from 0/1 to 0/2.
-fn pieces(alloc: Global, link: u8, number: u8, count: usize) -> Result<Vec<Packet>, PacketFault> {
+fn pieces(
+    alloc: Global,
+    link: u8,
+    number: Number,
+    count: usize,
+) -> Result<Vec<Packet>, PacketFault> {
     let Ok(bits) = striped(alloc, count) else {
         return Err(PacketFault::OutOfMemory);
     };
@@ -31,7 +36,7 @@ fn pieces(alloc: Global, link: u8, number: u8, count: usize) -> Result<Vec<Packe
 fn piece(
     alloc: Global,
     link: u8,
-    number: u8,
+    number: Number,
     count: usize,
     place: usize,
 ) -> Result<Packet, PacketFault> {
@@ -70,7 +75,7 @@ fn named(added: &Added) -> Outcome {
 
 /// A piece that comes: its link, its message's number and how many bits that has, its place, and what
 /// becomes of it.
-type Row = (u8, u8, usize, usize, Outcome);
+type Row = (u8, Number, usize, usize, Outcome);
 
 /// Whether of a row's piece comes what has to, as was said before.
 fn fits(alloc: Global, slots: &mut Reassembly, row: Row) -> Result<bool, PacketFault> {
@@ -129,7 +134,7 @@ fn links_held(slots: &Reassembly, count: usize) -> Option<u16> {
     let mut links = 0;
     for k in 0..count {
         let held = slots.held(k)?;
-        if held.flow.link != Link(held.number) {
+        if Number::from(held.flow.link.0) != held.number {
             return None;
         }
         links ^= 1u16 << (held.number % 16);
@@ -171,20 +176,22 @@ fn empty_cut(alloc: Global) -> Result<bool, PacketFault> {
 }
 
 /// What a packet says of itself: its kind; the host and IMP of its source, those of its destination, its
-/// link, number and place; whether it is the last, and whether its bits are these octets.
-fn said_by(packet: &Packet, octets: &[u8]) -> (PacketKind, [u8; 7], [bool; 2]) {
+/// link and place; its number; whether it is the last, and whether its bits are these octets.
+type Said = (PacketKind, [u8; 6], Number, [bool; 2]);
+
+fn said_by(packet: &Packet, octets: &[u8]) -> Said {
     let flow = packet.flow();
-    let numbers = [
+    let parts = [
         flow.source.host(),
         flow.source.imp(),
         flow.destination.host(),
         flow.destination.imp(),
         flow.link.0,
-        packet.number(),
         packet.place(),
     ];
     let is_spelled = packet.bits().as_octets() == octets;
-    (packet.kind(), numbers, [packet.is_last(), is_spelled])
+    let ends = [packet.is_last(), is_spelled];
+    (packet.kind(), parts, packet.number(), ends)
 }
 
 /// A packet's place, whether it is the last, and how many bits it has.
@@ -224,18 +231,18 @@ const NOT: Result<bool, PacketFault> = Err(PacketFault::NotCanonical);
 const LENGTH: Result<bool, PacketFault> = Err(PacketFault::BadLength);
 
 /// The empty message from 0/1 to 0/2 on link 5, number 0.
-const EMPTY: [u8; 10] = [0, 1, 2, 5, 0, 0x80, 0, 0x10, 0x80, 0];
+const EMPTY: [u8; 11] = [0, 1, 2, 5, 0, 0, 0x80, 0, 0x10, 0x80, 0];
 
 /// Its RFNM.
-const RFNM: [u8; 8] = [1, 1, 2, 5, 0, 0x80, 0, 0];
+const RFNM: [u8; 9] = [1, 1, 2, 5, 0, 0, 0x80, 0, 0];
 
 /// A request for connection from 0/1 to 0/3: receive socket 16, send socket 33, link 5.
-const RTS: [u8; 24] = [
-    0, 1, 3, 0, 0, 0x80, 0, 0x80, 0, 8, 0, 10, 0, 1, 0, 0, 0, 16, 0, 0, 0, 33, 5, 0x80,
+const RTS: [u8; 25] = [
+    0, 1, 3, 0, 0, 0, 0x80, 0, 0x80, 0, 8, 0, 10, 0, 1, 0, 0, 0, 16, 0, 0, 0, 33, 5, 0x80,
 ];
 
 /// What becomes of a header when one octet of it is changed to 0, 127 and 255.
-type Sweep = [[Result<bool, PacketFault>; 3]; 8];
+type Sweep = [[Result<bool, PacketFault>; 3]; 9];
 
 /// How many shorter fronts of a packet are short, from the empty one on.
 fn short_fronts(alloc: Global, octets: &[u8]) -> usize {
@@ -278,8 +285,9 @@ fn swept(alloc: Global, octets: &[u8], table: &Sweep) -> [bool; 3] {
 /// What becomes of the empty message.
 const EMPTY_CHANGED: Sweep = [
     [READ, NOT, NOT],
-    [NOT, NOT, NOT],
-    [NOT, NOT, NOT],
+    [NOT, READ, READ],
+    [NOT, READ, READ],
+    [READ, READ, READ],
     [READ, READ, READ],
     [READ, READ, READ],
     [LENGTH, NOT, NOT],
@@ -290,8 +298,9 @@ const EMPTY_CHANGED: Sweep = [
 /// What becomes of its RFNM.
 const RFNM_CHANGED: Sweep = [
     [LENGTH, NOT, NOT],
-    [NOT, NOT, NOT],
-    [NOT, NOT, NOT],
+    [NOT, READ, READ],
+    [NOT, READ, READ],
+    [READ, READ, READ],
     [READ, READ, READ],
     [READ, READ, READ],
     [NOT, NOT, NOT],
@@ -302,8 +311,9 @@ const RFNM_CHANGED: Sweep = [
 /// What becomes of the request.
 const RTS_CHANGED: Sweep = [
     [READ, NOT, NOT],
-    [NOT, NOT, NOT],
-    [NOT, NOT, NOT],
+    [NOT, READ, READ],
+    [NOT, READ, READ],
+    [READ, READ, READ],
     [READ, READ, READ],
     [READ, READ, READ],
     [LENGTH, NOT, NOT],
@@ -314,8 +324,9 @@ const RTS_CHANGED: Sweep = [
 /// What becomes of a piece of 1008 bits.
 const FULL_CHANGED: Sweep = [
     [READ, NOT, NOT],
-    [NOT, NOT, NOT],
-    [NOT, NOT, NOT],
+    [NOT, READ, READ],
+    [NOT, READ, READ],
+    [READ, READ, READ],
     [READ, READ, READ],
     [READ, READ, READ],
     [READ, NOT, NOT],
@@ -349,14 +360,14 @@ fn a_full_packet_is_read_and_refused_octet_by_octet(rt: HostRuntime) {
 /// The verdict on a packet with the last flag that says that it has so many bits, all of them zeros, with
 /// their octets.
 fn verdict_zeros(alloc: Global, count: u16) -> Result<bool, PacketFault> {
-    let mut octets = [0; 136];
+    let mut octets = [0; 137];
     octets[1] = 1;
     octets[2] = 2;
     octets[3] = 5;
-    octets[5] = 0x80;
-    octets[6] = (count / 256) as u8;
-    octets[7] = (count % 256) as u8;
-    match octets.get(..8 + count.div_ceil(8) as usize) {
+    octets[6] = 0x80;
+    octets[7] = (count / 256) as u8;
+    octets[8] = (count % 256) as u8;
+    match octets.get(..9 + count.div_ceil(8) as usize) {
         Some(packet) => verdict(alloc, packet),
         None => Ok(false),
     }
@@ -366,49 +377,49 @@ fn verdict_zeros(alloc: Global, count: u16) -> Result<bool, PacketFault> {
 const JUDGED: [(&[u8], Result<bool, PacketFault>); 24] = [
     // one octet
     (&[9], SHORT),
-    // seven octets
-    (&[9, 0, 0, 0, 0, 0, 0], SHORT),
+    // eight octets
+    (&[9, 0, 0, 0, 0, 0, 0, 0], SHORT),
     // nine bits
-    (&[0, 1, 2, 5, 0, 0x80, 0, 9, 0x80], SHORT),
+    (&[0, 1, 2, 5, 0, 0, 0x80, 0, 9, 0x80], SHORT),
     // no unit
-    (&[0, 1, 2, 5, 0, 0x80, 0, 9, 0x80, 0], LENGTH),
+    (&[0, 1, 2, 5, 0, 0, 0x80, 0, 9, 0x80, 0], LENGTH),
     // half a unit
-    (&[0, 1, 2, 5, 0, 0x80, 0, 8, 0x80], LENGTH),
+    (&[0, 1, 2, 5, 0, 0, 0x80, 0, 8, 0x80], LENGTH),
     // no bits
-    (&[0, 1, 2, 5, 0, 0x80, 0, 0], LENGTH),
+    (&[0, 1, 2, 5, 0, 0, 0x80, 0, 0], LENGTH),
     // not full
-    (&[0, 1, 2, 5, 0, 1, 0, 0x10, 0x80, 0], LENGTH),
+    (&[0, 1, 2, 5, 0, 0, 1, 0, 0x10, 0x80, 0], LENGTH),
     // RFNM
-    (&[1, 1, 2, 5, 0, 0x80, 0, 0x10, 0x80, 0], LENGTH),
+    (&[1, 1, 2, 5, 0, 0, 0x80, 0, 0x10, 0x80, 0], LENGTH),
     // Dead
-    (&[2, 1, 2, 5, 0, 0x80, 0, 0x10, 0x80, 0], LENGTH),
+    (&[2, 1, 2, 5, 0, 0, 0x80, 0, 0x10, 0x80, 0], LENGTH),
     // after the end
-    (&[0, 1, 2, 5, 0, 0x80, 0, 0x10, 0x80, 0, 0], NOT),
+    (&[0, 1, 2, 5, 0, 0, 0x80, 0, 0x10, 0x80, 0, 0], NOT),
     // place 7, not the last
-    (&[0, 1, 2, 5, 0, 0x07, 0, 0x10, 0x80, 0], NOT),
+    (&[0, 1, 2, 5, 0, 0, 0x07, 0, 0x10, 0x80, 0], NOT),
     // place 7, the last
-    (&[0, 1, 2, 5, 0, 0x87, 0, 0x10, 0x80, 0], READ),
+    (&[0, 1, 2, 5, 0, 0, 0x87, 0, 0x10, 0x80, 0], READ),
     // bit 3
-    (&[0, 1, 2, 5, 0, 0x88, 0, 0x10, 0x80, 0], NOT),
+    (&[0, 1, 2, 5, 0, 0, 0x88, 0, 0x10, 0x80, 0], NOT),
     // bit 6
-    (&[0, 1, 2, 5, 0, 0xC0, 0, 0x10, 0x80, 0], NOT),
+    (&[0, 1, 2, 5, 0, 0, 0xC0, 0, 0x10, 0x80, 0], NOT),
     // a question, and that its message never came
-    (&[3, 1, 2, 9, 0, 0x80, 0, 0], READ),
-    (&[4, 1, 2, 9, 0, 0x80, 0, 0], READ),
+    (&[3, 1, 2, 9, 0, 0, 0x80, 0, 0], READ),
+    (&[4, 1, 2, 9, 0, 0, 0x80, 0, 0], READ),
     // with bits
-    (&[3, 1, 2, 9, 0, 0x80, 0, 0x10, 0x80, 0], LENGTH),
-    (&[4, 1, 2, 9, 0, 0x80, 0, 0x10, 0x80, 0], LENGTH),
+    (&[3, 1, 2, 9, 0, 0, 0x80, 0, 0x10, 0x80, 0], LENGTH),
+    (&[4, 1, 2, 9, 0, 0, 0x80, 0, 0x10, 0x80, 0], LENGTH),
     // at place 1, or not the last
-    (&[3, 1, 2, 9, 0, 0x81, 0, 0], NOT),
-    (&[4, 1, 2, 9, 0, 0, 0, 0], NOT),
+    (&[3, 1, 2, 9, 0, 0, 0x81, 0, 0], NOT),
+    (&[4, 1, 2, 9, 0, 0, 0, 0, 0], NOT),
     // kind 5
-    (&[5, 1, 2, 5, 0, 0x80, 0, 0], NOT),
+    (&[5, 1, 2, 5, 0, 0, 0x80, 0, 0], NOT),
     // an answer
-    (&[2, 1, 2, 5, 0, 0x80, 0, 0], READ),
+    (&[2, 1, 2, 5, 0, 0, 0x80, 0, 0], READ),
     // an answer at place 1
-    (&[1, 1, 2, 5, 0, 0x81, 0, 0], NOT),
+    (&[1, 1, 2, 5, 0, 0, 0x81, 0, 0], NOT),
     // an answer, not the last
-    (&[2, 1, 2, 5, 0, 0, 0, 0], NOT),
+    (&[2, 1, 2, 5, 0, 0, 0, 0, 0], NOT),
 ];
 
 #[test]
@@ -422,17 +433,17 @@ fn octets_that_spell_no_packet_are_refused_by_name(rt: HostRuntime) {
 }
 
 #[test]
-fn packets_name_the_imps_from_1_to_16(rt: HostRuntime) {
+fn packets_name_the_imps_from_1_to_63(rt: HostRuntime) {
     for (source, destination, want) in [
-        (0x10, 2, READ),
-        (0x11, 2, NOT),
-        (1, 0x10, READ),
-        (1, 0x11, NOT),
-        (0xD0, 0xC1, READ),
-        (0xC0, 2, NOT),
+        (0x3F, 2, READ),
+        (0x40, 2, NOT),
+        (1, 0x3F, READ),
         (1, 0x40, NOT),
+        (0xFF, 0xD1, READ),
+        (0xC0, 2, NOT),
+        (1, 0, NOT),
     ] {
-        let octets = [2, source, destination, 5, 0, 0x80, 0, 0];
+        let octets = [2, source, destination, 5, 0, 0, 0x80, 0, 0];
         assert_eq!(rt; verdict(rt.alloc(), &octets), want, "{octets:?}");
     }
 }
@@ -458,23 +469,24 @@ fn answers_and_questions_are_told_apart_by_octet_0(rt: HostRuntime) {
         (3, PacketKind::Ask),
         (4, PacketKind::Never),
     ] {
-        let octets = [octet, 1, 2, 9, 0, 0x80, 0, 0];
+        let octets = [octet, 1, 2, 9, 0, 0, 0x80, 0, 0];
         assert_eq!(rt; about(rt.alloc(), &octets), Ok((kind, true)), "{octets:?}");
     }
 }
 
 /// What a packet of sixteen bits says.
-fn spelled(alloc: Global) -> Result<(PacketKind, [u8; 7], [bool; 2]), PacketFault> {
-    let packet = Packet::read(alloc, &[0, 0xC1, 0x42, 9, 200, 0x83, 0, 0x10, 0xA5, 0x80])?;
+fn spelled(alloc: Global) -> Result<Said, PacketFault> {
+    let octets = [0, 0xC1, 0x42, 9, 2, 200, 0x83, 0, 0x10, 0xA5, 0x80];
+    let packet = Packet::read(alloc, &octets)?;
     Ok(said_by(&packet, &[0xA5, 0x80]))
 }
 
 #[test]
 fn a_packet_says_what_its_octets_spell(rt: HostRuntime) {
-    let numbers = [3, 1, 1, 2, 9, 200, 3];
+    let parts = [3, 1, 1, 2, 9, 3];
     assert_eq!(rt;
         spelled(rt.alloc()),
-        Ok((PacketKind::Data, numbers, [true; 2]))
+        Ok((PacketKind::Data, parts, 2 * 256 + 200, [true; 2]))
     );
 }
 
@@ -696,8 +708,8 @@ fn pieces_that_contradict_a_slot_are_dropped(rt: HostRuntime) {
 /// Pieces of messages on one flow, with numbers that change.
 const OTHER_NUMBERS: [Row; 7] = [
     (5, 0, 1008, 0, Outcome::Kept),
-    (5, 1, 1008, 1, Outcome::Kept),
-    (5, 1, 1008, 0, Outcome::Whole),
+    (5, 256, 1008, 1, Outcome::Kept),
+    (5, 256, 1008, 0, Outcome::Whole),
     (5, 2, 1008, 0, Outcome::Kept),
     (5, 2, 7, 0, Outcome::Old),
     (5, 3, 7, 0, Outcome::Whole),

@@ -1,6 +1,7 @@
 //! Route tables.
 
 use crate::values::far_from_others;
+use leader1822::MOST_IMPS;
 use routing::{RouteTable, Vector};
 use std::alloc::{AllocError, Global};
 
@@ -9,11 +10,11 @@ fn near(first: [u8; 4]) -> Option<Vector> {
     Vector::from_slice(&far_from_others(first))
 }
 
-/// What a table says: its distances, and its next lines to the IMPs 0 to 5 and 17.
-type Said = ([u8; 16], [Option<usize>; 7]);
+/// What a table says: its distances, and its next lines to the IMPs 0 to 5 and 64.
+type Said = ([u8; MOST_IMPS], [Option<usize>; 7]);
 
 fn said(table: &RouteTable) -> Said {
-    let mut distances = [0; 16];
+    let mut distances = [0; MOST_IMPS];
     distances.copy_from_slice(table.vector().distances());
     let next = [
         table.next(0),
@@ -22,7 +23,7 @@ fn said(table: &RouteTable) -> Said {
         table.next(3),
         table.next(4),
         table.next(5),
-        table.next(17),
+        table.next(64),
     ];
     (distances, next)
 }
@@ -39,7 +40,7 @@ fn story(alloc: Global) -> Result<[Said; 6], AllocError> {
         table.hear(1, vector);
     }
     let both_heard = said(&table);
-    if let Some(vector) = near([1, 3, 14, 15]) {
+    if let Some(vector) = near([1, 3, 61, 62]) {
         table.hear(0, vector);
     }
     let heard_anew = said(&table);
@@ -55,7 +56,7 @@ fn story(alloc: Global) -> Result<[Said; 6], AllocError> {
 #[test]
 fn a_table_follows_what_its_lines_tell(rt: HostRuntime) {
     let wanted = [
-        (far_from_others([0, 16, 16, 16]), [None; 7]),
+        (far_from_others([0, 63, 63, 63]), [None; 7]),
         (
             far_from_others([0, 1, 2, 3]),
             [None, None, Some(0), Some(0), Some(0), None, None],
@@ -70,12 +71,12 @@ fn a_table_follows_what_its_lines_tell(rt: HostRuntime) {
             far_from_others([0, 2, 1, 3]),
             [None, None, Some(1), Some(1), Some(1), None, None],
         ),
-        // distances end at 16
+        // distances end at 63
         (
-            far_from_others([0, 4, 15, 16]),
+            far_from_others([0, 4, 62, 63]),
             [None, None, Some(0), Some(0), None, None, None],
         ),
-        (far_from_others([0, 16, 16, 16]), [None; 7]),
+        (far_from_others([0, 63, 63, 63]), [None; 7]),
     ];
     assert_eq!(rt; story(rt.alloc()), Ok(wanted));
 }

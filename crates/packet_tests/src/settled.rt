@@ -2,7 +2,8 @@
 
 ghost use Rattle.std.specs.Prelude.{◌≡◌, ◌≤◌, length, IfOk};
 
-use crate::values::far_from_others;
+use crate::values::{distances, far_from_others};
+use leader1822::MOST_IMPS;
 use routing::{RouteTable, Vector, settle};
 use std::alloc::{AllocError, Global};
 
@@ -14,22 +15,22 @@ fn misled(alloc: Global, own: u8, ports: u8) -> Result<RouteTable, AllocError>
 {
     let mut table = RouteTable::new(alloc, own, ports)?;
     if ports > 0 {
-        table.hear(0, Vector::new([0; 16]));
+        table.hear(0, Vector::new([0; MOST_IMPS]));
     }
     if ports > 1 {
-        table.hear(1, Vector::new([0; 16]));
+        table.hear(1, Vector::new([0; MOST_IMPS]));
     }
     Ok(table)
 }
 
 /// What a table says: its distances, and its next line to IMP 3.
-type Said = ([u8; 16], Option<usize>);
+type Said = ([u8; MOST_IMPS], Option<usize>);
 
 /// What each of four tables says.
 fn told(tables: &[RouteTable; 4]) -> [Said; 4] {
-    let mut found = [([0; 16], None); 4];
+    let mut found = [([0; MOST_IMPS], None); 4];
     for (place, table) in tables.iter().enumerate() {
-        let mut distances = [0; 16];
+        let mut distances = [0; MOST_IMPS];
         distances.copy_from_slice(table.vector().distances());
         found[place] = (distances, table.next(3));
     }
@@ -44,11 +45,11 @@ fn row(alloc: Global) -> Result<[Said; 4], AllocError> {
         misled(alloc, 3, 1)?,
         misled(alloc, 4, 0)?,
     ];
-    settle(alloc, &[(1, 2), (2, 3)], &mut tables, 16)?;
+    settle(alloc, &[(1, 2), (2, 3)], &mut tables, 63)?;
     Ok(told(&tables))
 }
 
-/// The same row without a round, after sixteen rounds of a network without tables.
+/// The same row without a round, after 63 rounds of a network without tables.
 fn row_at_first(alloc: Global) -> Result<[Said; 4], AllocError> {
     let mut tables = [
         misled(alloc, 1, 1)?,
@@ -56,7 +57,7 @@ fn row_at_first(alloc: Global) -> Result<[Said; 4], AllocError> {
         misled(alloc, 3, 1)?,
         misled(alloc, 4, 0)?,
     ];
-    settle(alloc, &[], &mut [], 16)?;
+    settle(alloc, &[], &mut [], 63)?;
     settle(alloc, &[(1, 2), (2, 3)], &mut tables, 0)?;
     Ok(told(&tables))
 }
@@ -69,7 +70,7 @@ fn ring(alloc: Global) -> Result<[Said; 4], AllocError> {
         misled(alloc, 3, 2)?,
         misled(alloc, 4, 2)?,
     ];
-    settle(alloc, &[(1, 2), (2, 3), (3, 4), (4, 1)], &mut tables, 16)?;
+    settle(alloc, &[(1, 2), (2, 3), (3, 4), (4, 1)], &mut tables, 63)?;
     Ok(told(&tables))
 }
 
@@ -81,17 +82,17 @@ fn islands(alloc: Global) -> Result<[Said; 4], AllocError> {
         misled(alloc, 3, 1)?,
         misled(alloc, 4, 1)?,
     ];
-    settle(alloc, &[(1, 2), (3, 4)], &mut tables, 16)?;
+    settle(alloc, &[(1, 2), (3, 4)], &mut tables, 63)?;
     Ok(told(&tables))
 }
 
 #[test]
-fn sixteen_rounds_tell_shortest_walks(rt: HostRuntime) {
+fn sixty_three_rounds_tell_shortest_walks(rt: HostRuntime) {
     let in_a_row = [
-        (far_from_others([0, 1, 2, 16]), Some(0)),
-        (far_from_others([1, 0, 1, 16]), Some(1)),
-        (far_from_others([2, 1, 0, 16]), None),
-        (far_from_others([16, 16, 16, 0]), None),
+        (far_from_others([0, 1, 2, 63]), Some(0)),
+        (far_from_others([1, 0, 1, 63]), Some(1)),
+        (far_from_others([2, 1, 0, 63]), None),
+        (far_from_others([63, 63, 63, 0]), None),
     ];
     let in_a_ring = [
         (far_from_others([0, 1, 2, 1]), Some(0)),
@@ -100,20 +101,18 @@ fn sixteen_rounds_tell_shortest_walks(rt: HostRuntime) {
         (far_from_others([1, 2, 1, 0]), Some(0)),
     ];
     let on_islands = [
-        (far_from_others([0, 1, 16, 16]), None),
-        (far_from_others([1, 0, 16, 16]), None),
-        (far_from_others([16, 16, 0, 1]), None),
-        (far_from_others([16, 16, 1, 0]), Some(0)),
+        (far_from_others([0, 1, 63, 63]), None),
+        (far_from_others([1, 0, 63, 63]), None),
+        (far_from_others([63, 63, 0, 1]), None),
+        (far_from_others([63, 63, 1, 0]), Some(0)),
     ];
     let found = [row(rt.alloc()), ring(rt.alloc()), islands(rt.alloc())];
     assert_eq!(rt; found, [Ok(in_a_row), Ok(in_a_ring), Ok(on_islands)]);
 }
 
 /// Distances of 1 to all but the first four IMPs.
-const fn near_to_others(first: [u8; 4]) -> [u8; 16] {
-    [
-        first[0], first[1], first[2], first[3], 1, 1, 1, 1, 1, 1, 1, 1, 1, 1, 1, 1,
-    ]
+fn near_to_others(first: [u8; 4]) -> [u8; MOST_IMPS] {
+    distances(first, 1)
 }
 
 #[test]
@@ -122,7 +121,7 @@ fn no_round_changes_nothing(rt: HostRuntime) {
         (near_to_others([0, 1, 1, 1]), Some(0)),
         (near_to_others([1, 0, 1, 1]), Some(0)),
         (near_to_others([1, 1, 0, 1]), None),
-        (far_from_others([16, 16, 16, 0]), None),
+        (far_from_others([63, 63, 63, 0]), None),
     ];
     assert_eq!(rt; row_at_first(rt.alloc()), Ok(misled));
 }

@@ -1,15 +1,17 @@
 //! Values that the rows share.
 
 ghost use Rattle.std.specs.Prelude.{◌≤◌};
+ghost use Rattle.leader1822.specs.Host.{most_imps};
 
-use leader1822::{Flow, HostAddr, Link};
+use leader1822::{Flow, HostAddr, Link, MOST_IMPS};
+use routing::INFINITE;
 use std::alloc::Global;
 use std::fmt::Display;
 
 /// The flow on this link from 0/1 to 0/2.
 pub(crate) fn flow(link: u8) -> Flow
-    ensures source { result.source.imp ≤ 16 }
-    ensures destination { result.destination.imp ≤ 16 }
+    ensures source { result.source.imp ≤ most_imps }
+    ensures destination { result.destination.imp ≤ most_imps }
 {
     Flow {
         source: HostAddr::new(0, 1).unwrap(),
@@ -42,9 +44,17 @@ pub(crate) fn is_told<T: Display + Drop>(alloc: Global, value: T, text: &str) ->
     }
 }
 
+/// Distances to the first four IMPs, and this one to each other IMP.
+pub(crate) fn distances(first: [u8; 4], other: u8) -> [u8; MOST_IMPS] {
+    let mut distances = [other; MOST_IMPS];
+    distances[0] = first[0];
+    distances[1] = first[1];
+    distances[2] = first[2];
+    distances[3] = first[3];
+    distances
+}
+
 /// Distances to the first four IMPs, and infinite ones to the others.
-pub(crate) const fn far_from_others(first: [u8; 4]) -> [u8; 16] {
-    [
-        first[0], first[1], first[2], first[3], 16, 16, 16, 16, 16, 16, 16, 16, 16, 16, 16, 16,
-    ]
+pub(crate) fn far_from_others(first: [u8; 4]) -> [u8; MOST_IMPS] {
+    distances(first, INFINITE)
 }

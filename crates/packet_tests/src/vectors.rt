@@ -1,34 +1,37 @@
 //! Distances between IMPs.
 
+use crate::values::far_from_others;
+use leader1822::MOST_IMPS;
 use routing::Vector;
 use std::alloc::AllocError;
 
 /// A vector's distances as they are read from a slice, or nothing.
-fn read(distances: &[u8]) -> Option<[u8; 16]> {
+fn read(distances: &[u8]) -> Option<[u8; MOST_IMPS]> {
     let vector = Vector::from_slice(distances)?;
-    let mut found = [0; 16];
+    let mut found = [0; MOST_IMPS];
     found.copy_from_slice(vector.distances());
     Some(found)
 }
 
 #[test]
-fn a_vector_is_sixteen_distances_of_at_most_sixteen(rt: HostRuntime) {
-    let near = [1, 0, 1, 16, 15, 16, 16, 16, 16, 16, 16, 16, 16, 16, 16, 16];
-    let far = [1, 0, 17, 16, 16, 16, 16, 16, 16, 16, 16, 16, 16, 16, 16, 16];
-    let last_is_far = [1, 0, 1, 16, 16, 16, 16, 16, 16, 16, 16, 16, 16, 16, 16, 17];
+fn a_vector_is_63_distances_of_at_most_63(rt: HostRuntime) {
+    let near = far_from_others([1, 0, 1, 62]);
+    let far = far_from_others([1, 0, 64, 63]);
+    let mut last_is_far = near;
+    last_is_far[62] = 64;
     let found = [
         read(&near),
-        read(&[16; 16]),
+        read(&[63; 63]),
         read(&far),
         read(&last_is_far),
-        read(&near[..15]),
-        read(&far[..15]),
+        read(&near[..62]),
+        read(&far[..62]),
         read(&near[..0]),
-        read(&[16; 17]),
+        read(&[63; 64]),
     ];
     let wanted = [
         Some(near),
-        Some([16; 16]),
+        Some([63; 63]),
         None,
         None,
         None,
@@ -42,9 +45,11 @@ fn a_vector_is_sixteen_distances_of_at_most_sixteen(rt: HostRuntime) {
 /// Whether a copy of a vector is that vector, the copy is another one, the vector is, and whether the copy
 /// has the distances.
 fn likeness() -> Result<[bool; 4], AllocError> {
-    let distances = [1, 0, 1, 2, 3, 4, 5, 6, 7, 8, 9, 10, 11, 12, 13, 16];
+    let distances = far_from_others([1, 0, 1, 2]);
+    let mut others = distances;
+    others[62] = 62;
     let vector = Vector::new(distances);
-    let other = Vector::new([1, 0, 1, 2, 3, 4, 5, 6, 7, 8, 9, 10, 11, 12, 13, 15]);
+    let other = Vector::new(others);
     let copy = vector.clone()?;
     let has_distances = copy.distances() == distances.as_slice();
     Ok([

@@ -12,7 +12,7 @@ use Rattle.leader1822.specs.Host.{Host, address_octet}
 use Rattle.leader1822.proofs.lemmas.{not_false}
 use Rattle.packetiser.specs.PacketFields.{PacketFields, IsPacket, IsPacketHost, IsPiece, IsAnswer, Carries}
 use Rattle.packetiser.specs.Limits.{header_octets}
-use Rattle.packetiser.specs.Format.{spelling, read_of, kind_octet, kind_of, host_of, is_address, is_short, is_not_canonical, is_bad_length, bit_count, octet_count, is_data, is_last, place_of, place_octet, fields_of, kind_at, source_at, destination_at, link_at, number_at, place_at, count_at}
+use Rattle.packetiser.specs.Format.{spelling, read_of, kind_octet, kind_of, host_of, is_address, is_short, is_not_canonical, is_bad_length, two_octets, bit_count, octet_count, is_data, is_last, place_of, place_octet, fields_of, kind_at, source_at, destination_at, link_at, number_at, place_at, count_at}
 use Rattle.packetiser.specs.declared.packet.PacketKind.{PacketKind}
 use Rattle.packetiser.specs.declared.packet.PacketKind.TheVariants as kind
 use Rattle.packetiser.specs.declared.fault.PacketFault.{PacketFault}
@@ -156,7 +156,7 @@ fields_fit octets small h =
       source = address_is (get_or octets source_at 0) (small source_at) h.canonical.source;
       destination = address_is (get_or octets destination_at 0) (small destination_at) h.canonical.destination;
       link = small link_at;
-      number = small number_at;
+      number = let high : get_or octets number_at 0 < 256 = small number_at in let low : get_or octets (number_at + 1) 0 < 256 = small (number_at + 1) in omega (arith, high, low);
       place = omega arith;
       body =
           rw size (carries_by (is_data octets) (get_or octets kind_at 0 == 1) (get_or octets kind_at 0 == 2) (get_or octets kind_at 0 == 3) (place_of octets) (is_last octets) (bit_count octets)
@@ -178,12 +178,9 @@ place_again octet small gap = elim (cases_Bool (nat_le 128 octet)) [
   | inr more ↦ (let below : octet < 128 = grind (arith, nat_tests, more) in rw more (omega arith))
 ]
 
--- what two octets say, and the two octets that say it
-spelled_high : (high low n : ℕ) → low < 256 → n ≡ 256 * high + low → high ≡ n / 256
-spelled_high high low n small is = omega arith
-
-spelled_low : (high low n : ℕ) → low < 256 → n ≡ 256 * high + low → low ≡ n % 256
-spelled_low high low n small is = omega arith
+-- the two octets of a number: what they say is spelled as they are, and a number that is spelled so is said again
+two_spelled : (high low n : ℕ) → low < 256 → n ≡ 256 * high + low → (high ≡ n / 256) × (low ≡ n % 256)
+two_spelled high low n small is = (omega arith, omega arith)
 
 two_again : (n : ℕ) → 256 * (n / 256) + n % 256 ≡ n
 two_again n = omega arith
@@ -197,16 +194,16 @@ cell octets k rest there is = drop_more octets k 0 there ∙ ap (λ (others : Li
 
 -- octets with a header, as the octets of the header and those that follow
 header_cells : (octets : List ℕ) → header_octets ≤ length octets
-    → octets ≡ get_or octets kind_at 0 ∷ get_or octets source_at 0 ∷ get_or octets destination_at 0 ∷ get_or octets link_at 0 ∷ get_or octets number_at 0 ∷ get_or octets place_at 0
-    ∷ get_or octets count_at 0 ∷ get_or octets (count_at + 1) 0 ∷ drop header_octets octets
+    → octets ≡ get_or octets kind_at 0 ∷ get_or octets source_at 0 ∷ get_or octets destination_at 0 ∷ get_or octets link_at 0 ∷ get_or octets number_at 0
+    ∷ get_or octets (number_at + 1) 0 ∷ get_or octets place_at 0 ∷ get_or octets count_at 0 ∷ get_or octets (count_at + 1) 0 ∷ drop header_octets octets
 header_cells octets long =
     cell octets 0 _ (omega arith) (cell octets 1 _ (omega arith) (cell octets 2 _ (omega arith) (cell octets 3 _ (omega arith) (cell octets 4 _ (omega arith)
-    (cell octets 5 _ (omega arith) (cell octets 6 _ (omega arith) (cell octets 7 _ (omega arith) refl)))))))
+    (cell octets 5 _ (omega arith) (cell octets 6 _ (omega arith) (cell octets 7 _ (omega arith) (cell octets 8 _ (omega arith) refl))))))))
 
-same_octets : {a b c d e f g h a' b' c' d' e' f' g' h' : ℕ} {rest rest' : List ℕ}
-    → a ≡ a' → b ≡ b' → c ≡ c' → d ≡ d' → e ≡ e' → f ≡ f' → g ≡ g' → h ≡ h' → rest ≡ rest'
-    → a ∷ b ∷ c ∷ d ∷ e ∷ f ∷ g ∷ h ∷ rest ≡ a' ∷ b' ∷ c' ∷ d' ∷ e' ∷ f' ∷ g' ∷ h' ∷ rest'
-same_octets pa pb pc pd pe pf pg ph pr = cc
+same_octets : {a b c d e f g h i a' b' c' d' e' f' g' h' i' : ℕ} {rest rest' : List ℕ}
+    → a ≡ a' → b ≡ b' → c ≡ c' → d ≡ d' → e ≡ e' → f ≡ f' → g ≡ g' → h ≡ h' → i ≡ i' → rest ≡ rest'
+    → a ∷ b ∷ c ∷ d ∷ e ∷ f ∷ g ∷ h ∷ i ∷ rest ≡ a' ∷ b' ∷ c' ∷ d' ∷ e' ∷ f' ∷ g' ∷ h' ∷ i' ∷ rest'
+same_octets pa pb pc pd pe pf pg ph pi pr = cc
 
 pub spelled : (octets : List ℕ) → ((k : ℕ) → get_or octets k 0 < 256) → SpellsPacket octets → octets ≡ spelling (fields_of octets)
 spelled octets small h =
@@ -218,11 +215,15 @@ spelled octets small h =
     let bits : take count (bits_of rest) ≡ bits_of rest = ap (λ (m : ℕ). take m (bits_of rest)) all ∙ take_all (length (bits_of rest)) (bits_of rest) (omega arith) in
     let all_small : All (λ (m : ℕ). m < 256) rest =
     All-from_get_or (λ (m : ℕ). m < 256) rest 0 (λ i lt. subst (λ (m : ℕ). m < 256) (sym (get_or-drop header_octets octets i 0)) (small (header_octets + i))) in
+    let number : (get_or octets number_at 0 ≡ two_octets octets number_at / 256) × (get_or octets (number_at + 1) 0 ≡ two_octets octets number_at % 256) =
+    two_spelled (get_or octets number_at 0) (get_or octets (number_at + 1) 0) (two_octets octets number_at) (small (number_at + 1)) refl in
+    let bit_number : (get_or octets count_at 0 ≡ length (take count (bits_of rest)) / 256) × (get_or octets (count_at + 1) 0 ≡ length (take count (bits_of rest)) % 256) =
+    two_spelled (get_or octets count_at 0) (get_or octets (count_at + 1) 0) (length (take count (bits_of rest))) (small (count_at + 1)) size in
     header_cells octets h.long.header
-    ∙ same_octets (sym (kind_again (get_or octets kind_at 0) h.canonical.kind)) (address_spelled (get_or octets source_at 0)) (address_spelled (get_or octets destination_at 0)) refl refl
+    ∙ same_octets (sym (kind_again (get_or octets kind_at 0) h.canonical.kind)) (address_spelled (get_or octets source_at 0)) (address_spelled (get_or octets destination_at 0)) refl
+    number.0 number.1
     (sym (place_again (get_or octets place_at 0) (small place_at) h.canonical.gap))
-    (spelled_high (get_or octets count_at 0) (get_or octets (count_at + 1) 0) _ (small (count_at + 1)) size)
-    (spelled_low (get_or octets count_at 0) (get_or octets (count_at + 1) 0) _ (small (count_at + 1)) size)
+    bit_number.0 bit_number.1
     (sym (ap octets_of bits ∙ octets_again rest all_small))
 
 -- ---- what is written is read again
@@ -383,7 +384,7 @@ fields_again p h =
     let o : AreOctets p.bits = octets_are p.bits size.0 in
     let held : HoldsPlace p.place p.last = place_held p.place p.last h.place in
     let count : bit_count (spelling p) ≡ length p.bits = two_again (length p.bits) in
-    same_fields (fields_of (spelling p)) p (kind_read p.kind) (host_read p.source h.source) (host_read p.destination h.destination) refl refl
+    same_fields (fields_of (spelling p)) p (kind_read p.kind) (host_read p.source h.source) (host_read p.destination h.destination) refl (two_again p.number)
     held.low held.high
     (ap (λ (n : ℕ). take n (bits_of (octets_of p.bits))) count ∙ ap (λ (b : List Bool). take (length p.bits) b) o.again ∙ take_all (length p.bits) p.bits (omega arith))
 
@@ -394,7 +395,7 @@ read_again p h = rw (long_again p h, canonical_again p h, good_again p h) (ap Ok
 
 -- what is read, given by its parts
 pub fields_made : (octets : List ℕ) (p : PacketFields) (body : List ℕ) (count : ℕ) → p.kind ≡ kind_of (get_or octets kind_at 0) → p.source ≡ host_of (get_or octets source_at 0)
-    → p.destination ≡ host_of (get_or octets destination_at 0) → p.link ≡ get_or octets link_at 0 → p.number ≡ get_or octets number_at 0 → p.place ≡ place_of octets
+    → p.destination ≡ host_of (get_or octets destination_at 0) → p.link ≡ get_or octets link_at 0 → p.number ≡ two_octets octets number_at → p.place ≡ place_of octets
     → p.last ≡ is_last octets → p.bits ≡ take count (bits_of body) → body ≡ drop header_octets octets → count ≡ bit_count octets → fields_of octets ≡ p
 fields_made octets p body count kinds sources destinations links numbers places lasts bits at counts =
     same_fields (fields_of octets) p (sym kinds) (sym sources) (sym destinations) (sym links) (sym numbers) (sym places) (sym lasts)

@@ -1,10 +1,11 @@
 -- Packets and their octets.
 --
--- In order: the kind, the addresses of the message's source and destination, the link, the number, the place (lower three
--- bits) with the last flag (upper bit), and two octets with the number of bits; then the bits follow.
+-- In order: the kind, the addresses of the message's source and destination, the link, two octets with the message's
+-- number, the place (lower three bits) with the last flag (upper bit), and two octets with the number of bits; then the bits
+-- follow. Of two octets the first is the higher one.
 use Rattle.std.specs.Prelude.{ℕ, ◌+◌, ◌*◌, ◌/◌, ◌%◌, Bool, not, List, ◌∷◌, length, take, drop, slice_index, Result, Ok, Err, nat_lt, nat_le, ◌||◌, ◌&&◌, ◌==◌, if◌then◌else◌}
 use Rattle.bit_messages.specs.Octets.{bits_of, octets_of}
-use Rattle.leader1822.specs.Host.{Host, address_octet, most_imps}
+use Rattle.leader1822.specs.Host.{Host, address_octet}
 use Rattle.packetiser.specs.PacketFields.{PacketFields}
 use Rattle.packetiser.specs.Limits.{header_octets, piece_bits, most_pieces}
 use Rattle.packetiser.specs.declared.packet.PacketKind.{PacketKind}
@@ -14,8 +15,8 @@ use Rattle.packetiser.specs.declared.fault.PacketFault.TheVariants as fault
 
 -- ---- places
 
--- where the octets of a packet stand: its kind, the addresses of its message's source and destination, the link, the
--- number, the place of its piece with the last flag, and the two octets that say how many bits follow the header
+-- where the octets of a packet stand: its kind, the addresses of its message's source and destination, the link, the two
+-- octets of the number, the place of its piece with the last flag, and the two that say how many bits follow the header
 abbrev pub kind_at : ℕ
 kind_at = 0
 
@@ -32,10 +33,10 @@ abbrev pub number_at : ℕ
 number_at = 4
 
 abbrev pub place_at : ℕ
-place_at = 5
+place_at = 6
 
 abbrev pub count_at : ℕ
-count_at = 6
+count_at = 7
 
 -- ---- writing
 
@@ -54,8 +55,8 @@ place_octet place last = if last then place + 128 else place
 -- the octets of a packet
 abbrev pub spelling : PacketFields → List ℕ
 spelling p =
-    kind_octet p.kind ∷ address_octet p.source ∷ address_octet p.destination ∷ p.link ∷ p.number ∷ place_octet p.place p.last
-    ∷ (length p.bits / 256) ∷ (length p.bits % 256) ∷ octets_of p.bits
+    kind_octet p.kind ∷ address_octet p.source ∷ address_octet p.destination ∷ p.link ∷ (p.number / 256) ∷ (p.number % 256)
+    ∷ place_octet p.place p.last ∷ (length p.bits / 256) ∷ (length p.bits % 256) ∷ octets_of p.bits
 
 -- ---- reading
 
@@ -96,15 +97,15 @@ is_last octets = nat_le 128 (slice_index octets place_at)
 abbrev pub place_of : List ℕ → ℕ
 place_of octets = slice_index octets place_at % 8
 
--- an address octet with the number of an IMP of the subnet
+-- an address octet that names an IMP: its lower six bits are 1 to 63
 abbrev pub is_address : ℕ → Bool
-is_address octet = nat_le 1 (octet % 64) && nat_le (octet % 64) most_imps
+is_address octet = nat_le 1 (octet % 64)
 
 -- fewer octets than a header has, or than the number of bits asks for
 unfoldable pub is_short : List ℕ → Bool
 is_short octets = nat_lt (length octets) header_octets || nat_lt (length octets) (octet_count (bit_count octets))
 
--- an unknown kind, an IMP that no network has, a bit set between place and last flag, place 7 without the last flag, an answer
+-- an unknown kind, an IMP numbered 0, a bit set between place and last flag, place 7 without the last flag, an answer
 -- or a question whose octet of the place isn't 128, or octets after the end
 unfoldable pub is_not_canonical : List ℕ → Bool
 is_not_canonical octets =
@@ -131,7 +132,7 @@ fields_of octets = record {
   source = host_of (slice_index octets source_at);
   destination = host_of (slice_index octets destination_at);
   link = slice_index octets link_at;
-  number = slice_index octets number_at;
+  number = two_octets octets number_at;
   place = place_of octets;
   last = is_last octets;
   bits = take (bit_count octets) (bits_of (drop header_octets octets));

@@ -3,7 +3,7 @@ use Rattle.std.specs.Prelude.{ℕ}
 
 -- so many octets precede a packet's bits
 abbrev pub header_octets : ℕ
-header_octets = 8
+header_octets = 9
 
 -- a piece has at most so many bits (Heart et al., SJCC 1970: a packet is about a thousand bits)
 abbrev pub piece_bits : ℕ

@@ -12,17 +12,17 @@ pub const DESTINATION_AT: usize = 2;
 /// Where its message's link stands.
 pub const LINK_AT: usize = 3;
 
-/// Where its message's number stands.
+/// Where the two octets of its message's number begin.
 pub const NUMBER_AT: usize = 4;
 
 /// Where the place of its piece stands, with the last flag.
-pub const PLACE_AT: usize = 5;
+pub const PLACE_AT: usize = 6;
 
 /// Where the two octets that say how many bits it has begin.
-pub const COUNT_AT: usize = 6;
+pub const COUNT_AT: usize = 7;
 
 /// How many octets precede a packet's bits.
-pub const HEADER_OCTETS: usize = 8;
+pub const HEADER_OCTETS: usize = 9;
 
 /// The most bits in a packet (Heart et al., SJCC 1970: a packet is about a thousand bits).
 pub const PACKET_BITS: usize = 1008;

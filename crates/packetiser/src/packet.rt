@@ -16,7 +16,7 @@ use crate::format::{
     PLACE_AT, SOURCE_AT,
 };
 use bit_messages::Bits;
-use leader1822::{Flow, HostAddr, Link, MOST_IMPS, Number};
+use leader1822::{Flow, HostAddr, Link, Number};
 use std::alloc::{AllocError, Global};
 use std::marker::Model;
 
@@ -40,7 +40,7 @@ pub enum PacketKind {
 ///
 /// An answer or a question names its message's source and destination as a piece of the message does. An
 /// answer travels to the source, and a question to the destination. A question has the form of an answer,
-/// and what is said of answers here holds of it. IMPs are numbered from 1 to [`MOST_IMPS`]. A piece has a place from 0 to 7 and 16 to 1008 bits in
+/// and what is said of answers here holds of it. IMPs are numbered from 1 to [`MOST_IMPS`](leader1822::MOST_IMPS). A piece has a place from 0 to 7 and 16 to 1008 bits in
 /// units of sixteen; each piece of a message but the last has 1008. No value of this type is outside the
 /// format.
 #[derive(Debug, Drop)]
@@ -66,7 +66,7 @@ impl Model for Packet {
 }
 
 impl Packet {
-    /// The packet with these fields. The flow's IMPs are numbered from 1 to [`MOST_IMPS`], and the place is 0 to 7. A
+    /// The packet with these fields. The flow's IMPs are numbered from 1 to [`MOST_IMPS`](leader1822::MOST_IMPS), and the place is 0 to 7. A
     /// piece has 16 to 1008 bits in units of sixteen, 1008 if it isn't the last, and the one at place 7 is
     /// the last. An answer has place 0, the last flag and no bits.
     pub fn new(
@@ -157,8 +157,8 @@ impl Packet {
 
     /// The packet that these octets spell.
     ///
-    /// Errors: `Short` for fewer than 8 octets, or fewer than the number of bits asks for; `NotCanonical`
-    /// for a kind above 4, an IMP outside 1 to [`MOST_IMPS`], a bit between place and last flag, place 7 without
+    /// Errors: `Short` for fewer than 9 octets, or fewer than the number of bits asks for; `NotCanonical`
+    /// for a kind above 4, an IMP numbered 0, a bit between place and last flag, place 7 without
     /// the last flag, an answer whose place octet isn't 128, and octets after the end; `BadLength` for an
     /// answer with bits, a piece with none, above 1008 or no multiple of 16, and a piece other than the
     /// last that hasn't 1008; `OutOfMemory` only for a packet with bits.
@@ -183,7 +183,7 @@ impl Packet {
             source: host_of(octets[SOURCE_AT]),
             destination: host_of(octets[DESTINATION_AT]),
             link: Link(octets[LINK_AT]),
-            number: octets[NUMBER_AT],
+            number: two_octets(octets, NUMBER_AT),
             place: octets[PLACE_AT] % 8,
             last: octets[PLACE_AT] >= 128,
             bits,
@@ -204,7 +204,8 @@ impl Packet {
             self.source.octet(),
             self.destination.octet(),
             self.link.0,
-            number,
+            (number / 256) as u8,
+            (number % 256) as u8,
             place_octet(self.place, self.last),
             (count / 256) as u8,
             (count % 256) as u8,
@@ -270,11 +271,11 @@ fn place_octet(place: u8, last: bool) -> u8
     if last { place + 128 } else { place }
 }
 
-/// Whether an address octet has the number of an IMP of the subnet.
+/// Whether an address octet names an IMP: its lower six bits are 1 to 63.
 fn is_address(octet: u8) -> bool
     ensures { result ≡ is_address octet }
 {
-    1 <= octet % 64 && usize::from(octet % 64) <= MOST_IMPS
+    1 <= octet % 64
 }
 
 /// The host that such an address octet names.

@@ -2,7 +2,7 @@ use Rattle.std.proofs.Common.{rules, take, Bool, length, length-drop, le-ltb, No
 use Rattle.packetiser.specs.PacketFields.{PacketFields, IsPacket}
 use Rattle.bit_messages.specs.Octets.{bits_of, octets_fault}
 use Rattle.packetiser.specs.Limits.{header_octets}
-use Rattle.packetiser.specs.Format.{spelling, is_last, link_at, number_at, place_of}
+use Rattle.packetiser.specs.Format.{spelling, is_last, link_at, place_of}
 use Rattle.packetiser.proofs.Calls.{only_memory}
 use Rattle.packetiser.proofs.Packets.{IsLong, long_from, SpellsPacket, packet_from, fields_fit, spelled, canonical_from, fields_made}
 use Rattle.packetiser.proofs.packet.Packet.read.Goals as goal
@@ -35,12 +35,12 @@ invariant_of-result c =
       source = c.host_of.result;
       destination = c.host_of-2.result;
       link = get_or octets link_at 0;
-      number = get_or octets number_at 0;
+      number = c.two_octets.result;
       place = place_of octets;
       last = is_last octets;
       bits = c.in_ok-bits.bits;
     } in
-    subst IsPacket (fields_made octets made c.split_at.result.1.now c.bit_count.result c.kind_of.ensures c.host_of.ensures c.host_of-2.ensures refl refl refl refl
+    subst IsPacket (fields_made octets made c.split_at.result.1.now c.bit_count.result c.kind_of.ensures c.host_of.ensures c.host_of-2.ensures refl c.two_octets.ensures refl refl
     bits c.split_at.ensures.back c.bit_count.ensures) (fields_fit octets small packet)
 
 pub returns-clause-found : goal.returns-clause-found
@@ -56,10 +56,10 @@ returns-clause-found c =
       source = c.host_of.result;
       destination = c.host_of-2.result;
       link = get_or octets link_at 0;
-      number = get_or octets number_at 0;
+      number = c.two_octets.result;
       place = place_of octets;
       last = is_last octets;
       bits = c.in_ok-bits.bits;
     } in
-    spelled octets small packet ∙ ap spelling (fields_made octets made c.split_at.result.1.now c.bit_count.result c.kind_of.ensures c.host_of.ensures c.host_of-2.ensures refl refl refl refl
+    spelled octets small packet ∙ ap spelling (fields_made octets made c.split_at.result.1.now c.bit_count.result c.kind_of.ensures c.host_of.ensures c.host_of-2.ensures refl c.two_octets.ensures refl refl
     bits c.split_at.ensures.back c.bit_count.ensures)

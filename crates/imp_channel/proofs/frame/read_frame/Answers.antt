@@ -1,6 +1,6 @@
 use Rattle.std.proofs.lemmas.Result.{err_from_is_err_and}
 use Rattle.imp_channel.proofs.FrameLemmas.{read_fault}
-use Rattle.imp_channel.proofs.frame.Frame.read.Goals as goal
+use Rattle.imp_channel.proofs.frame.read_frame.Goals as goal
 
 pub returns-in_err-content-clause-exact : goal.returns-in_err-content-clause-exact
 returns-in_err-content-clause-exact c =
