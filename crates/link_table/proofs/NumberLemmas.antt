@@ -1,5 +1,5 @@
 -- The window of this network. Here alone its two numbers are looked at.
-use Rattle.std.proofs.Common.{◌≡◌, ◌≢◌, ℕ, ◌+◌, ◌-◌, ◌*◌, ◌<◌, ◌≤◌, true, false, Some, arith}
+use Rattle.std.proofs.Common.{◌≡◌, ◌≢◌, ℕ, ◌+◌, ◌-◌, ◌*◌, ◌<◌, ◌≤◌, true, false, Some, refl, arith}
 use Rattle.link_table.specs.Window.{NearOf}
 use Rattle.link_table.specs.Numbers.{modulus, window, next, ahead, oldest, is_new, Near}
 use Rattle.link_table.proofs.WindowLemmas as any
@@ -63,3 +63,21 @@ next_new l lm = any.next_new modulus window l wide some_ahead lm
 pub new_again : is_new (Some (modulus - window)) 0 ≡ true
 unfolding is_new
 new_again = any.new_again modulus window wide some_ahead
+
+-- ---- the numbers of this network
+
+pub last_new : is_new (Some 5) 32772 ≡ true
+unfolding is_new modulus window
+last_new = refl
+
+pub first_old : is_new (Some 5) 32773 ≡ false
+unfolding is_new modulus window
+first_old = refl
+
+pub round : (next 65535 ≡ 0) × (is_new (Some 65535) 0 ≡ true)
+unfolding next is_new modulus window
+round = (refl, refl)
+
+pub next_begun : (next 32767 ≡ 32768) × (oldest 32767 ≡ 0)
+unfolding next oldest modulus window
+next_begun = (refl, refl)

@@ -3,13 +3,13 @@ use Rattle.std.specs.Prelude.{ℕ, ◌≤◌, ◌<◌, Bool, Option}
 use Rattle.link_table.specs.Window.{next_of, ahead_of, oldest_of, is_new_of}
 use Rattle.leader1822.specs.Flow.{message_numbers}
 
--- how many numbers there are: 256
+-- how many numbers there are: 65,536
 unfoldable pub modulus : ℕ
 modulus = message_numbers
 
 -- how far ahead of the last one a number is new
 unfoldable pub window : ℕ
-window = 127
+window = 32767
 
 -- the number after n
 unfoldable pub next : ℕ → ℕ

@@ -66,6 +66,19 @@ pub fn window_holds()
     ensures next_new { (l : ℕ) → l < modulus → is_new (Some l) (next l) ≡ true }
 {}
 
+/// Numbers at the ends of the window, and where numbers wrap around.
+pub fn worked_numbers()
+    // after 5, numbers are new up to 32,772
+    ensures last_new { is_new (Some 5) 32772 ≡ true }
+    ensures first_old { is_new (Some 5) 32773 ≡ false }
+
+    // 0 follows 65,535, and is new against it
+    ensures round { (next 65535 ≡ 0) × (is_new (Some 65535) 0 ≡ true) }
+
+    // where 0 to 32,767 were begun, the next is 32,768, and the window reaches back to 0 until it is begun
+    ensures begun { (number_in (Some (standing.Idle 32767)) ≡ 32768) × (oldest 32767 ≡ 0) }
+{}
+
 /// What the calls of a source do to each flow: the named one changes, and no other.
 pub fn source_flows()
     // begin

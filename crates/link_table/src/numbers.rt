@@ -6,7 +6,7 @@ ghost use Rattle.link_table.specs.Numbers.{next, oldest, is_new};
 use leader1822::{MESSAGE_NUMBERS, Number};
 
 /// How far ahead of the last number a number counts as new.
-pub const WINDOW: u32 = 127;
+pub const WINDOW: u32 = 32_767;
 
 /// The number after this one.
 #[tactic(auto, unfolding(crate::specs::Numbers::next, crate::specs::Numbers::modulus))]

@@ -39,7 +39,7 @@ ghost use Rattle.subnet.specs.Seen.{seen, IsListed, SameNetwork};
 ghost use Rattle.subnet.specs.Sound.{IsSound};
 ghost use Rattle.subnet.specs.Working.{IsWorking, SubnetOffer, SubnetTake, SubnetStep, SubnetRound, seen_of};
 
-/// The law of the subnet: for every topology of at most sixteen IMPs, with any lines, and for every list of offers,
+/// The law of the subnet: for every topology of at most 63 IMPs, with any lines, and for every list of offers,
 /// takings, events and quiet rounds from its opening on, of which some are refused, the log that the hosts see is
 /// a run of the mailboxes.
 pub fn whole_runs()
@@ -259,30 +259,30 @@ pub fn worked_still_alive()
     ensures asked { (is_alive (pair (Some imp_1) (Some imp_2) (ask_frame 0 ∷ []) []) ours 0 ≡ true) × (is_alive (pair (Some imp_1) (Some imp_2) [] (never_frame 0 ∷ [])) ours 0 ≡ true) }
     ensures other { (is_alive (pair (Some imp_1) (Some serving_ours) (data_frame 0 ∷ []) []) ours 1 ≡ false) × (is_alive (pair (Some imp_1) (Some serving_ours) (data_frame 0 ∷ []) []) (flow (host 0 1) (host 0 2) 8) 0 ≡ false) }
 
-    // an offer: the number 127 before the last is alive, and the next one is not in the way
-    ensures offer_window { offer_refusal (pair (Some (begun_up_to 127)) (Some imp_2) (data_frame 0 ∷ []) []) our_message ≡ Some fault.StillAlive }
-    ensures offer_within { offer_refusal (pair (Some (begun_up_to 127)) (Some imp_2) (data_frame 1 ∷ []) []) our_message ≡ None }
+    // an offer: the number 32,767 before the last is alive, and the next one is not in the way
+    ensures offer_window { offer_refusal (pair (Some (begun_up_to 32767)) (Some imp_2) (data_frame 0 ∷ []) []) our_message ≡ Some fault.StillAlive }
+    ensures offer_within { offer_refusal (pair (Some (begun_up_to 32767)) (Some imp_2) (data_frame 1 ∷ []) []) our_message ≡ None }
 
     // a question about it counts too, and so does the packet that says that it never came
-    ensures offer_asked { (offer_refusal (pair (Some (begun_up_to 127)) (Some imp_2) (ask_frame 0 ∷ []) []) our_message ≡ Some fault.StillAlive) × (offer_refusal (pair (Some (begun_up_to 127)) (Some imp_2) [] (never_frame 0 ∷ [])) our_message ≡ Some fault.StillAlive) }
+    ensures offer_asked { (offer_refusal (pair (Some (begun_up_to 32767)) (Some imp_2) (ask_frame 0 ∷ []) []) our_message ≡ Some fault.StillAlive) × (offer_refusal (pair (Some (begun_up_to 32767)) (Some imp_2) [] (never_frame 0 ∷ [])) our_message ≡ Some fault.StillAlive) }
 
     // numbers wrap around, also where fewer were begun; an answer counts like data
-    ensures offer_round { offer_refusal (pair (Some (begun_up_to 0)) (Some imp_2) [] (rfnm_frame 129 ∷ [])) our_message ≡ Some fault.StillAlive }
+    ensures offer_round { offer_refusal (pair (Some (begun_up_to 0)) (Some imp_2) [] (rfnm_frame 32769 ∷ [])) our_message ≡ Some fault.StillAlive }
 
     // before the first number nothing is in the way
-    ensures offer_first { offer_refusal (pair (Some imp_1) (Some imp_2) (data_frame 129 ∷ []) []) our_message ≡ None }
+    ensures offer_first { offer_refusal (pair (Some imp_1) (Some imp_2) (data_frame 32769 ∷ []) []) our_message ≡ None }
 
-    // or the destination's IMP keeps the number that would be begun: number 0 was taken and answered, and 1 to 255 were given up.
+    // or the destination's IMP keeps the number that would be begun: number 0 was taken and answered, and 1 to 65,535 were given up.
     // Another number that it keeps is not in the way, and neither is this one once it was forgotten
-    ensures offer_kept { offer_refusal (pair (Some (begun_up_to 255)) (Some keeping_ours) [] []) our_message ≡ Some fault.StillAlive }
-    ensures offer_unkept { offer_refusal (pair (Some (begun_up_to 254)) (Some keeping_ours) [] []) our_message ≡ None }
-    ensures forget_kept { step_refusal (pair (Some (begun_up_to 255)) (Some keeping_ours) [] []) (event.Forget 2 1) ≡ None }
-    ensures offer_forgotten { offer_refusal (stepped (pair (Some (begun_up_to 255)) (Some keeping_ours) [] []) (event.Forget 2 1)) our_message ≡ None }
+    ensures offer_kept { offer_refusal (pair (Some (begun_up_to 65535)) (Some keeping_ours) [] []) our_message ≡ Some fault.StillAlive }
+    ensures offer_unkept { offer_refusal (pair (Some (begun_up_to 65534)) (Some keeping_ours) [] []) our_message ≡ None }
+    ensures forget_kept { step_refusal (pair (Some (begun_up_to 65535)) (Some keeping_ours) [] []) (event.Forget 2 1) ≡ None }
+    ensures offer_forgotten { offer_refusal (stepped (pair (Some (begun_up_to 65535)) (Some keeping_ours) [] []) (event.Forget 2 1)) our_message ≡ None }
 
     // `NoRoom` comes after it; and what would begin no number, without a route or from a host that is down, does not wait
-    ensures offer_full { (offer_refusal (pair (Some (record (begun_up_to 127) { store = packets_to 3 32 })) (Some imp_2) (data_frame 0 ∷ []) []) our_message ≡ Some fault.StillAlive) × (offer_refusal (pair (Some (record (begun_up_to 127) { store = packets_to 3 32 })) (Some imp_2) (data_frame 1 ∷ []) []) our_message ≡ Some fault.NoRoom) }
-    ensures offer_nowhere { offer_refusal (pair (Some (record (begun_up_to 127) { routes = record { own = 1; heard = None ∷ [] } })) (Some imp_2) (data_frame 0 ∷ []) []) our_message ≡ None }
-    ensures offer_down { offer_refusal (pair (Some (record (begun_up_to 127) { hosts = no_host ∷ no_host ∷ [] })) (Some imp_2) (data_frame 0 ∷ []) []) our_message ≡ Some fault.IsDown }
+    ensures offer_full { (offer_refusal (pair (Some (record (begun_up_to 32767) { store = packets_to 3 32 })) (Some imp_2) (data_frame 0 ∷ []) []) our_message ≡ Some fault.StillAlive) × (offer_refusal (pair (Some (record (begun_up_to 32767) { store = packets_to 3 32 })) (Some imp_2) (data_frame 1 ∷ []) []) our_message ≡ Some fault.NoRoom) }
+    ensures offer_nowhere { offer_refusal (pair (Some (record (begun_up_to 32767) { routes = record { own = 1; heard = None ∷ [] } })) (Some imp_2) (data_frame 0 ∷ []) []) our_message ≡ None }
+    ensures offer_down { offer_refusal (pair (Some (record (begun_up_to 32767) { hosts = no_host ∷ no_host ∷ [] })) (Some imp_2) (data_frame 0 ∷ []) []) our_message ≡ Some fault.IsDown }
 
     // giving up: the outstanding number is alive, as data, as an answer that travels, as a question, or in a queue
     ensures give_up_data { giving_up_refusal (pair (Some expecting) (Some imp_2) (data_frame 0 ∷ []) []) ours ≡ Some fault.StillAlive }

@@ -9,7 +9,7 @@ use bit_messages::Bits;
 use imp_channel::Frame;
 use imp_node::{Imp, Outgoing};
 use leader1822::{
-    Answer, CarrierFault, Flow, HostAddr, HostMessage, ImpNumber, Inbound, Link, Text,
+    Answer, CarrierFault, Flow, HostAddr, HostMessage, ImpNumber, Inbound, Link, Number, Text,
 };
 use std::alloc::{AllocError, Global};
 
@@ -128,9 +128,9 @@ pub(crate) struct Seen {
     /// Whether a message of the flow would begin.
     pub(crate) begins: bool,
     /// The flow's outstanding number.
-    pub(crate) outstanding: Option<u8>,
+    pub(crate) outstanding: Option<Number>,
     /// The number that it began last.
-    pub(crate) last: Option<u8>,
+    pub(crate) last: Option<Number>,
 }
 
 /// The outcome that is wanted.
@@ -357,7 +357,7 @@ fn first_other(alloc: Global, imp: &mut Imp, rows: &[Row]) -> Result<Option<usiz
 /// The IMP with this number.
 fn number(imp: u8) -> ImpNumber
     requires low { 1 ≤ imp }
-    requires high { imp ≤ 16 }
+    requires high { imp ≤ 63 }
     ensures { result ≡ imp }
 {
     ImpNumber::new(imp).unwrap()
@@ -366,7 +366,7 @@ fn number(imp: u8) -> ImpNumber
 /// IMP `own` with two hosts and so many ports.
 fn opened(alloc: Global, own: u8, ports: u8) -> Result<Imp, CarrierFault>
     requires low { 1 ≤ own }
-    requires high { own ≤ 16 }
+    requires high { own ≤ 63 }
     ensures { IfOk result (λ imp. imp.spent ≡ false) }
 {
     let Ok(imp) = Imp::new(alloc, number(own), 2, ports) else {
@@ -383,7 +383,7 @@ pub(crate) fn other_at(
     rows: &[Row],
 ) -> Result<Option<usize>, CarrierFault>
     requires low { 1 ≤ own }
-    requires high { own ≤ 16 }
+    requires high { own ≤ 63 }
 {
     let mut imp = opened(alloc, own, ports)?;
     first_other(alloc, &mut imp, rows)

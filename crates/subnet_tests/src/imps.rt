@@ -7,27 +7,37 @@ use leader1822::{Answer, CarrierFault};
 use std::alloc::{AllocError, Global};
 
 /// The distances of IMPs that have heard nothing, and of IMP 3 where it has heard IMP 2.
-const FROM_1: [u8; 18] = [
-    2, 0, 0, 16, 16, 16, 16, 16, 16, 16, 16, 16, 16, 16, 16, 16, 16, 16,
+const FROM_1: [u8; 66] = [
+    0xF2, 2, 0, 0, 63, 63, 63, 63, 63, 63, 63, 63, 63, 63, 63, 63, 63, 63, 63, 63, 63, 63, 63, 63,
+    63, 63, 63, 63, 63, 63, 63, 63, 63, 63, 63, 63, 63, 63, 63, 63, 63, 63, 63, 63, 63, 63, 63, 63,
+    63, 63, 63, 63, 63, 63, 63, 63, 63, 63, 63, 63, 63, 63, 63, 63, 63, 63,
 ];
 
-const FROM_2: [u8; 18] = [
-    2, 0, 16, 0, 16, 16, 16, 16, 16, 16, 16, 16, 16, 16, 16, 16, 16, 16,
+const FROM_2: [u8; 66] = [
+    0xF2, 2, 0, 63, 0, 63, 63, 63, 63, 63, 63, 63, 63, 63, 63, 63, 63, 63, 63, 63, 63, 63, 63, 63,
+    63, 63, 63, 63, 63, 63, 63, 63, 63, 63, 63, 63, 63, 63, 63, 63, 63, 63, 63, 63, 63, 63, 63, 63,
+    63, 63, 63, 63, 63, 63, 63, 63, 63, 63, 63, 63, 63, 63, 63, 63, 63, 63,
 ];
 
-const FROM_3: [u8; 18] = [
-    2, 0, 16, 16, 0, 16, 16, 16, 16, 16, 16, 16, 16, 16, 16, 16, 16, 16,
+const FROM_3: [u8; 66] = [
+    0xF2, 2, 0, 63, 63, 0, 63, 63, 63, 63, 63, 63, 63, 63, 63, 63, 63, 63, 63, 63, 63, 63, 63, 63,
+    63, 63, 63, 63, 63, 63, 63, 63, 63, 63, 63, 63, 63, 63, 63, 63, 63, 63, 63, 63, 63, 63, 63, 63,
+    63, 63, 63, 63, 63, 63, 63, 63, 63, 63, 63, 63, 63, 63, 63, 63, 63, 63,
 ];
 
-const FROM_3_NEAR_2: [u8; 18] = [
-    2, 0, 16, 1, 0, 16, 16, 16, 16, 16, 16, 16, 16, 16, 16, 16, 16, 16,
+const FROM_3_NEAR_2: [u8; 66] = [
+    0xF2, 2, 0, 63, 1, 0, 63, 63, 63, 63, 63, 63, 63, 63, 63, 63, 63, 63, 63, 63, 63, 63, 63, 63,
+    63, 63, 63, 63, 63, 63, 63, 63, 63, 63, 63, 63, 63, 63, 63, 63, 63, 63, 63, 63, 63, 63, 63, 63,
+    63, 63, 63, 63, 63, 63, 63, 63, 63, 63, 63, 63, 63, 63, 63, 63, 63, 63,
 ];
 
 /// The frame of the empty message 0 from 0/2 to 0/1 on link 4, on channel 0 under bit 0.
-const EMPTY: [u8; 13] = [0, 0, 0, 0, 0x02, 0x01, 4, 0, 0x80, 0, 16, 0x80, 0];
+const EMPTY: [u8; 15] = [0xF2, 0, 0, 0, 0, 0x02, 0x01, 4, 0, 0, 0x80, 0, 16, 0x80, 0];
 
 /// That of the message 0 of eight bits from 0/1 to 0/2 on link 9, as it goes out on port 0.
-const EIGHT_BITS_OUT: [u8; 14] = [0, 0, 0, 0, 0, 0x01, 0x02, 9, 0, 0x80, 0, 16, 0xA5, 0x80];
+const EIGHT_BITS_OUT: [u8; 16] = [
+    0, 0xF2, 0, 0, 0, 0, 0x01, 0x02, 9, 0, 0, 0x80, 0, 16, 0xA5, 0x80,
+];
 
 /// A message to a host that no route leads to.
 const UNROUTED: [Row<'static>; 4] = [
@@ -66,19 +76,21 @@ fn long_text(alloc: Global, behind: &[u8]) -> Result<Vec<u8>, AllocError> {
 
 /// The frame of that text's piece at this place, as of message 0 from 0/1 to 0/2 on a link, with this octet
 /// for its channel and bit.
-fn piece(place: u8, link: u8, channel: u8) -> [u8; 137] {
-    let mut frame = [place; 137];
-    frame[0] = 0;
+fn piece(place: u8, link: u8, channel: u8) -> [u8; 139] {
+    let mut frame = [place; 139];
+    frame[0] = 0xF2;
     frame[1] = 0;
-    frame[2] = channel;
-    frame[3] = 0;
-    frame[4] = 0x01;
-    frame[5] = 0x02;
-    frame[6] = link;
-    frame[7] = 0;
-    frame[8] = if place == 7 { 0x87 } else { place };
-    frame[9] = 0x03;
-    frame[10] = 0xF0;
+    frame[2] = 0;
+    frame[3] = channel;
+    frame[4] = 0;
+    frame[5] = 0x01;
+    frame[6] = 0x02;
+    frame[7] = link;
+    frame[8] = 0;
+    frame[9] = 0;
+    frame[10] = if place == 7 { 0x87 } else { place };
+    frame[11] = 0x03;
+    frame[12] = 0xF0;
     frame
 }
 
@@ -110,7 +122,7 @@ fn filled(alloc: Global) -> Result<Option<usize>, CarrierFault> {
         (Act::Offer(Way::Forth(4), 8063), &text, Want::Sent(0), &[]),
         (Act::Offer(Way::Forth(5), 8063), &text, Want::Sent(0), &[]),
         (Act::Offer(Way::Forth(6), 0), &[], full, &[]),
-        (Act::Hear(0), &EMPTY, Want::Sent(1), &[0, 1, 1]),
+        (Act::Hear(0), &EMPTY, Want::Sent(1), &[0, 0xF2, 1, 1]),
         (Act::Take(0), &[], full, &[]),
     ];
     other_at(alloc, 1, 1, &rows)
@@ -122,9 +134,9 @@ fn the_store_has_thirty_two_places(rt: HostRuntime) {
 }
 
 /// The frames of two messages from 0/2 to 1/1 on link 4: a body without a mark on channel 0, and the empty message on channel 1.
-const UNMARKED: [u8; 13] = [0, 0, 0, 0, 0x02, 0x41, 4, 0, 0x80, 0, 16, 0, 0];
+const UNMARKED: [u8; 15] = [0xF2, 0, 0, 0, 0, 0x02, 0x41, 4, 0, 0, 0x80, 0, 16, 0, 0];
 
-const EMPTY_HERE: [u8; 13] = [0, 0, 1, 0, 0x02, 0x41, 4, 1, 0x80, 0, 16, 0x80, 0];
+const EMPTY_HERE: [u8; 15] = [0xF2, 0, 0, 1, 0, 0x02, 0x41, 4, 0, 1, 0x80, 0, 16, 0x80, 0];
 
 /// Host 0 at IMP 1 hands over empty messages to host 1 there, on links 2 to 17, and then one more. Beside the sixteen another
 /// IMP's message counts as lost, and a body without a mark needs no room.
@@ -151,7 +163,7 @@ const SIXTEEN: [Row<'static>; 23] = [
         Want::Refused(CarrierFault::NoRoom),
         &[],
     ),
-    (Act::Hear(0), &UNMARKED, Want::Sent(1), &[0, 1, 1]),
+    (Act::Hear(0), &UNMARKED, Want::Sent(1), &[0, 0xF2, 1, 1]),
     (Act::Hear(0), &EMPTY_HERE, Want::Sent(0), &[]),
     (Act::Take(1), &[], Want::Given(Way::Here(2), 0, 0), &[]),
     (
@@ -170,7 +182,9 @@ fn sixteen_messages_wait_for_a_host(rt: HostRuntime) {
 }
 
 /// That frame as it goes out on port 1.
-const REROUTED_OUT: [u8; 14] = [1, 0, 0, 0, 0, 0x01, 0x02, 9, 0, 0x80, 0, 16, 0xA5, 0x80];
+const REROUTED_OUT: [u8; 16] = [
+    1, 0xF2, 0, 0, 0, 0, 0x01, 0x02, 9, 0, 0, 0x80, 0, 16, 0xA5, 0x80,
+];
 
 /// A line goes down while a packet is in its channel.
 const REROUTED: [Row<'static>; 4] = [
@@ -191,9 +205,13 @@ fn a_packet_in_a_channel_takes_another_route(rt: HostRuntime) {
 }
 
 /// The distances of IMP 2 between IMPs 1 and 3, as they go out on ports 0 and 1.
-const TOLD_OUT: [u8; 38] = [
-    0, 2, 0, 1, 0, 1, 16, 16, 16, 16, 16, 16, 16, 16, 16, 16, 16, 16, 16, //
-    1, 2, 0, 1, 0, 1, 16, 16, 16, 16, 16, 16, 16, 16, 16, 16, 16, 16, 16,
+const TOLD_OUT: [u8; 134] = [
+    0, 0xF2, 2, 0, 1, 0, 1, 63, 63, 63, 63, 63, 63, 63, 63, 63, 63, 63, 63, 63, 63, 63, 63, 63, 63,
+    63, 63, 63, 63, 63, 63, 63, 63, 63, 63, 63, 63, 63, 63, 63, 63, 63, 63, 63, 63, 63, 63, 63, 63,
+    63, 63, 63, 63, 63, 63, 63, 63, 63, 63, 63, 63, 63, 63, 63, 63, 63, 63, //
+    1, 0xF2, 2, 0, 1, 0, 1, 63, 63, 63, 63, 63, 63, 63, 63, 63, 63, 63, 63, 63, 63, 63, 63, 63, 63,
+    63, 63, 63, 63, 63, 63, 63, 63, 63, 63, 63, 63, 63, 63, 63, 63, 63, 63, 63, 63, 63, 63, 63, 63,
+    63, 63, 63, 63, 63, 63, 63, 63, 63, 63, 63, 63, 63, 63, 63, 63, 63, 63,
 ];
 
 /// The middle of three hears its neighbours and tells its distances.
@@ -209,7 +227,7 @@ fn the_middle_of_three_tells_its_distances(rt: HostRuntime) {
 }
 
 /// The RFNM of the long message, as its frame goes out on port 0.
-const RFNM_OUT: [u8; 12] = [0, 0, 0, 0, 1, 0x01, 0x02, 5, 0, 0x80, 0, 0];
+const RFNM_OUT: [u8; 14] = [0, 0xF2, 0, 0, 0, 1, 0x01, 0x02, 5, 0, 0, 0x80, 0, 0];
 
 /// The pieces of the long message come to IMP 2, the last first, and each under both bits of its channel, and
 /// the message is taken: the place of the first row that something else comes of.
@@ -219,22 +237,22 @@ fn rejoined(alloc: Global) -> Result<Option<usize>, CarrierFault> {
     };
     let once = Want::Sent(1);
     let rows: [Row; 19] = [
-        (Act::Hear(0), &piece(7, 5, 7), once, &[0, 1, 0x80]),
-        (Act::Hear(0), &piece(7, 5, 15), once, &[0, 1, 0]),
-        (Act::Hear(0), &piece(6, 5, 6), once, &[0, 1, 0x40]),
-        (Act::Hear(0), &piece(6, 5, 14), once, &[0, 1, 0]),
-        (Act::Hear(0), &piece(5, 5, 5), once, &[0, 1, 0x20]),
-        (Act::Hear(0), &piece(5, 5, 13), once, &[0, 1, 0]),
-        (Act::Hear(0), &piece(4, 5, 4), once, &[0, 1, 0x10]),
-        (Act::Hear(0), &piece(4, 5, 12), once, &[0, 1, 0]),
-        (Act::Hear(0), &piece(3, 5, 3), once, &[0, 1, 0x08]),
-        (Act::Hear(0), &piece(3, 5, 11), once, &[0, 1, 0]),
-        (Act::Hear(0), &piece(2, 5, 2), once, &[0, 1, 0x04]),
-        (Act::Hear(0), &piece(2, 5, 10), once, &[0, 1, 0]),
-        (Act::Hear(0), &piece(1, 5, 1), once, &[0, 1, 0x02]),
-        (Act::Hear(0), &piece(1, 5, 9), once, &[0, 1, 0]),
-        (Act::Hear(0), &piece(0, 5, 0), once, &[0, 1, 0x01]),
-        (Act::Hear(0), &piece(0, 5, 8), once, &[0, 1, 0]),
+        (Act::Hear(0), &piece(7, 5, 7), once, &[0, 0xF2, 1, 0x80]),
+        (Act::Hear(0), &piece(7, 5, 15), once, &[0, 0xF2, 1, 0]),
+        (Act::Hear(0), &piece(6, 5, 6), once, &[0, 0xF2, 1, 0x40]),
+        (Act::Hear(0), &piece(6, 5, 14), once, &[0, 0xF2, 1, 0]),
+        (Act::Hear(0), &piece(5, 5, 5), once, &[0, 0xF2, 1, 0x20]),
+        (Act::Hear(0), &piece(5, 5, 13), once, &[0, 0xF2, 1, 0]),
+        (Act::Hear(0), &piece(4, 5, 4), once, &[0, 0xF2, 1, 0x10]),
+        (Act::Hear(0), &piece(4, 5, 12), once, &[0, 0xF2, 1, 0]),
+        (Act::Hear(0), &piece(3, 5, 3), once, &[0, 0xF2, 1, 0x08]),
+        (Act::Hear(0), &piece(3, 5, 11), once, &[0, 0xF2, 1, 0]),
+        (Act::Hear(0), &piece(2, 5, 2), once, &[0, 0xF2, 1, 0x04]),
+        (Act::Hear(0), &piece(2, 5, 10), once, &[0, 0xF2, 1, 0]),
+        (Act::Hear(0), &piece(1, 5, 1), once, &[0, 0xF2, 1, 0x02]),
+        (Act::Hear(0), &piece(1, 5, 9), once, &[0, 0xF2, 1, 0]),
+        (Act::Hear(0), &piece(0, 5, 0), once, &[0, 0xF2, 1, 0x01]),
+        (Act::Hear(0), &piece(0, 5, 8), once, &[0, 0xF2, 1, 0]),
         (Act::Hear(0), &FROM_1, Want::Sent(0), &[]),
         (
             Act::Take(0),
@@ -259,14 +277,14 @@ fn slots_filled(alloc: Global) -> Result<Option<usize>, CarrierFault> {
     let once = Want::Sent(1);
     let ninth = piece(0, 8, 8);
     let rows: [Row; 12] = [
-        (Act::Hear(0), &piece(0, 0, 0), once, &[0, 1, 0x01]),
-        (Act::Hear(0), &piece(0, 1, 1), once, &[0, 1, 0x03]),
-        (Act::Hear(0), &piece(0, 2, 2), once, &[0, 1, 0x07]),
-        (Act::Hear(0), &piece(0, 3, 3), once, &[0, 1, 0x0F]),
-        (Act::Hear(0), &piece(0, 4, 4), once, &[0, 1, 0x1F]),
-        (Act::Hear(0), &piece(0, 5, 5), once, &[0, 1, 0x3F]),
-        (Act::Hear(0), &piece(0, 6, 6), once, &[0, 1, 0x7F]),
-        (Act::Hear(0), &piece(0, 7, 7), once, &[0, 1, 0xFF]),
+        (Act::Hear(0), &piece(0, 0, 0), once, &[0, 0xF2, 1, 0x01]),
+        (Act::Hear(0), &piece(0, 1, 1), once, &[0, 0xF2, 1, 0x03]),
+        (Act::Hear(0), &piece(0, 2, 2), once, &[0, 0xF2, 1, 0x07]),
+        (Act::Hear(0), &piece(0, 3, 3), once, &[0, 0xF2, 1, 0x0F]),
+        (Act::Hear(0), &piece(0, 4, 4), once, &[0, 0xF2, 1, 0x1F]),
+        (Act::Hear(0), &piece(0, 5, 5), once, &[0, 0xF2, 1, 0x3F]),
+        (Act::Hear(0), &piece(0, 6, 6), once, &[0, 0xF2, 1, 0x7F]),
+        (Act::Hear(0), &piece(0, 7, 7), once, &[0, 0xF2, 1, 0xFF]),
         (Act::Hear(0), &ninth, Want::Sent(0), &[]),
         (Act::Abandon(Way::Forth(3)), &[], Want::Sent(0), &[]),
         (
@@ -275,7 +293,7 @@ fn slots_filled(alloc: Global) -> Result<Option<usize>, CarrierFault> {
             Want::Refused(CarrierFault::NoSuch),
             &[],
         ),
-        (Act::Hear(0), &ninth, once, &[0, 1, 0xFE]),
+        (Act::Hear(0), &ninth, once, &[0, 0xF2, 1, 0xFE]),
     ];
     other_at(alloc, 2, 1, &rows)
 }
@@ -290,11 +308,11 @@ fn a_frame_that_finds_no_slot_is_not_acknowledged(rt: HostRuntime) {
 fn begun_anew(alloc: Global) -> Result<Option<usize>, CarrierFault> {
     let once = Want::Sent(1);
     let mut next = piece(1, 5, 1);
-    next[7] = 1;
-    next[8] = 0x81;
+    next[9] = 1;
+    next[10] = 0x81;
     let rows: [Row; 3] = [
-        (Act::Hear(0), &piece(0, 5, 0), once, &[0, 1, 0x01]),
-        (Act::Hear(0), &next, once, &[0, 1, 0x03]),
+        (Act::Hear(0), &piece(0, 5, 0), once, &[0, 0xF2, 1, 0x01]),
+        (Act::Hear(0), &next, once, &[0, 0xF2, 1, 0x03]),
         (Act::Take(0), &[], Want::Nothing, &[]),
     ];
     other_at(alloc, 2, 1, &rows)
@@ -393,9 +411,9 @@ fn a_message_that_is_lost_is_given_up(rt: HostRuntime) {
 
 /// The question about the message of eight bits, as it goes out on port 0 beside that message, and the answer that it never
 /// came, which acknowledges both.
-const ASK_OUT: [u8; 12] = [0, 0, 0, 1, 3, 0x01, 0x02, 9, 0, 0x80, 0, 0];
+const ASK_OUT: [u8; 14] = [0, 0xF2, 0, 0, 1, 3, 0x01, 0x02, 9, 0, 0, 0x80, 0, 0];
 
-const NEVER: [u8; 11] = [0, 3, 0, 4, 0x01, 0x02, 9, 0, 0x80, 0, 0];
+const NEVER: [u8; 13] = [0xF2, 0, 3, 0, 4, 0x01, 0x02, 9, 0, 0, 0x80, 0, 0];
 
 /// A message is asked for, and never came. Within the IMP, nothing is asked.
 const ASKED: [Row<'static>; 9] = [
@@ -413,7 +431,7 @@ const ASKED: [Row<'static>; 9] = [
         &EIGHT_BITS_OUT,
     ),
     (Act::Ask(Way::Forth(9)), &[], Want::Sent(1), &ASK_OUT),
-    (Act::Hear(0), &NEVER, Want::Sent(1), &[0, 1, 1]),
+    (Act::Hear(0), &NEVER, Want::Sent(1), &[0, 0xF2, 1, 1]),
     (
         Act::Ask(Way::Forth(9)),
         &[],
@@ -446,7 +464,7 @@ const ASKED_DOWN: [Row<'static>; 7] = [
     ),
     (Act::HostDown(0), &[], Want::Sent(0), &[]),
     (Act::Ask(Way::Forth(9)), &[], Want::Sent(1), &ASK_OUT),
-    (Act::Hear(0), &NEVER, Want::Sent(1), &[0, 1, 1]),
+    (Act::Hear(0), &NEVER, Want::Sent(1), &[0, 0xF2, 1, 1]),
     (Act::HostUp(0), &[], Want::Sent(0), &[]),
     (Act::Take(0), &[], Want::Nothing, &[]),
 ];
@@ -486,61 +504,77 @@ fn a_question_needs_a_place_where_a_route_leads(rt: HostRuntime) {
     assert_eq!(rt; asked_when_full(rt.alloc()), Ok(None));
 }
 
-/// The frame on this channel of a question about the message of this number from 0/1 to 0/2 on link 9, and that of the message
-/// itself, of eight bits.
-fn ask(channel: u8, number: u8) -> [u8; 11] {
-    [0, 0, channel, 3, 0x01, 0x02, 9, number, 0x80, 0, 0]
+/// The frame on this channel of a question about the message of this number, by its two octets, from 0/1 to 0/2 on link 9, and
+/// that of the message itself, of eight bits.
+fn ask(channel: u8, number: [u8; 2]) -> [u8; 13] {
+    let [high, low] = number;
+    [0xF2, 0, 0, channel, 3, 0x01, 0x02, 9, high, low, 0x80, 0, 0]
 }
 
-fn eight_bits(channel: u8, number: u8) -> [u8; 13] {
+fn eight_bits(channel: u8, number: [u8; 2]) -> [u8; 15] {
+    let [high, low] = number;
     [
-        0, 0, channel, 0, 0x01, 0x02, 9, number, 0x80, 0, 16, 0xA5, 0x80,
+        0xF2, 0, 0, channel, 0, 0x01, 0x02, 9, high, low, 0x80, 0, 16, 0xA5, 0x80,
     ]
 }
 
-/// IMP 2 is asked for message 0 before it came, and for message 1 while it waits, after it was taken, and after its number
+/// IMP 2 is asked for message 0 before it came, and for message 257 while it waits, after it was taken, and after its number
 /// was forgotten: the place of the first row that something else comes of.
 fn asked_for(alloc: Global) -> Result<Option<usize>, CarrierFault> {
+    let (first, later) = ([0, 0], [1, 1]);
     let rows: [Row; 10] = [
         (Act::Hear(0), &FROM_1, Want::Sent(0), &[]),
         (
             Act::Hear(0),
-            &ask(0, 0),
+            &ask(0, first),
             Want::Sent(2),
-            &[0, 1, 0x01, 0, 0, 0x01, 0, 4, 0x01, 0x02, 9, 0, 0x80, 0, 0],
+            &[
+                0, 0xF2, 1, 0x01, 0, 0xF2, 0, 0x01, 0, 4, 0x01, 0x02, 9, 0, 0, 0x80, 0, 0,
+            ],
         ),
         (
             Act::Hear(0),
-            &eight_bits(1, 0),
+            &eight_bits(1, first),
             Want::Sent(1),
-            &[0, 1, 0x03],
+            &[0, 0xF2, 1, 0x03],
         ),
         (Act::Take(0), &[], Want::Nothing, &[]),
         (
             Act::Hear(0),
-            &eight_bits(2, 1),
+            &eight_bits(2, later),
             Want::Sent(1),
-            &[0, 1, 0x07],
+            &[0, 0xF2, 1, 0x07],
         ),
-        (Act::Hear(0), &ask(3, 1), Want::Sent(1), &[0, 1, 0x0F]),
+        (
+            Act::Hear(0),
+            &ask(3, later),
+            Want::Sent(1),
+            &[0, 0xF2, 1, 0x0F],
+        ),
         (
             Act::Take(0),
             &[],
             Want::Given(Way::Forth(9), 8, 1),
-            &[0xA5, 0, 0, 0x0F, 1, 1, 0x01, 0x02, 9, 1, 0x80, 0, 0],
+            &[
+                0xA5, 0, 0xF2, 0, 0x0F, 1, 1, 0x01, 0x02, 9, 1, 1, 0x80, 0, 0,
+            ],
         ),
         (
             Act::Hear(0),
-            &ask(4, 1),
+            &ask(4, later),
             Want::Sent(2),
-            &[0, 1, 0x1F, 0, 0, 0x1F, 2, 1, 0x01, 0x02, 9, 1, 0x80, 0, 0],
+            &[
+                0, 0xF2, 1, 0x1F, 0, 0xF2, 0, 0x1F, 2, 1, 0x01, 0x02, 9, 1, 1, 0x80, 0, 0,
+            ],
         ),
         (Act::Forget(1), &[], Want::Sent(0), &[]),
         (
             Act::Hear(0),
-            &ask(5, 1),
+            &ask(5, later),
             Want::Sent(2),
-            &[0, 1, 0x3F, 0, 0, 0x3F, 3, 4, 0x01, 0x02, 9, 1, 0x80, 0, 0],
+            &[
+                0, 0xF2, 1, 0x3F, 0, 0xF2, 0, 0x3F, 3, 4, 0x01, 0x02, 9, 1, 1, 0x80, 0, 0,
+            ],
         ),
     ];
     other_at(alloc, 2, 1, &rows)
@@ -565,12 +599,12 @@ const WAITS: Seen = Seen {
 };
 
 /// The Dead about the empty message, as it goes out on port 0.
-const DEAD: [u8; 12] = [0, 0, 1, 0, 2, 0x02, 0x01, 4, 0, 0x80, 0, 0];
+const DEAD: [u8; 14] = [0, 0xF2, 0, 1, 0, 2, 0x02, 0x01, 4, 0, 0, 0x80, 0, 0];
 
 /// A host stops while a message waits for it, and starts again.
 const STOPPED: [Row<'static>; 13] = [
     (Act::Hear(0), &FROM_2, Want::Sent(0), &[]),
-    (Act::Hear(0), &EMPTY, Want::Sent(1), &[0, 1, 1]),
+    (Act::Hear(0), &EMPTY, Want::Sent(1), &[0, 0xF2, 1, 1]),
     (Act::Look(Way::Back(4)), &[], Want::Seen(WAITS), &[]),
     (Act::HostDown(0), &[], Want::Sent(1), &DEAD),
     (

@@ -7,7 +7,7 @@
 use bit_messages::Bits;
 use leader1822::{
     Answer, Carrier, CarrierFault, Direction, Flow, HostAddr, HostMessage, ImpNumber, Inbound,
-    Link, NetEvent, Text,
+    Link, NetEvent, Number, Text,
 };
 use std::alloc::{AllocError, Global};
 use subnet::{Ends, Subnet};
@@ -60,7 +60,7 @@ enum Act {
     /// So many quiet rounds.
     Rounds(u8),
     /// Whether something of the flow's message with this number is alive.
-    IsAlive(Who, u8),
+    IsAlive(Who, Number),
 }
 
 /// The IMPs of the rows, by their numbers.
@@ -85,8 +85,8 @@ fn imp_of(at: At) -> ImpNumber {
 enum Event {
     /// The frame at this place of line 0 this way arrives.
     Deliver(Direction, u32),
-    /// The frame at this place of line 0 from IMP 1 on is lost.
-    Drop(u32),
+    /// The frame at this place of line 0 this way is lost.
+    Drop(Direction, u32),
     /// IMP 1 sends again.
     Resend,
     /// IMP 2 tells its distances.
@@ -95,6 +95,8 @@ enum Event {
     EndDown(At),
     /// It starts.
     EndUp(At),
+    /// The end of line 1 at IMP 2 stops.
+    CutOff,
     /// This IMP stops.
     ImpDown(At),
     /// It starts.
@@ -109,8 +111,8 @@ enum Event {
     Ask(Who),
     /// The slot of the flow to this host is thrown away.
     Abandon(Who),
-    /// IMP 2 drops the last numbers of flows from IMP 1.
-    Forget,
+    /// This IMP drops the last numbers of flows from IMP 1.
+    Forget(At),
 }
 
 /// An event as a carrier is told of it.
@@ -121,9 +123,9 @@ fn event_of(event: Event) -> NetEvent {
             direction,
             frame,
         },
-        Event::Drop(frame) => NetEvent::Drop {
+        Event::Drop(direction, frame) => NetEvent::Drop {
             line: 0,
-            direction: Direction::Forward,
+            direction,
             frame,
         },
         Event::Resend => NetEvent::Resend(imp_of(At::One)),
@@ -136,6 +138,10 @@ fn event_of(event: Event) -> NetEvent {
             imp: imp_of(at),
             line: 0,
         },
+        Event::CutOff => NetEvent::EndDown {
+            imp: imp_of(At::Two),
+            line: 1,
+        },
         Event::ImpDown(at) => NetEvent::ImpDown(imp_of(at)),
         Event::ImpUp(at) => NetEvent::ImpUp(imp_of(at)),
         Event::HostDown(who) => NetEvent::HostDown(host_of(who)),
@@ -143,8 +149,8 @@ fn event_of(event: Event) -> NetEvent {
         Event::GiveUp(who) => NetEvent::GiveUp(flow_to(who, 5)),
         Event::Ask(who) => NetEvent::Ask(flow_to(who, 5)),
         Event::Abandon(who) => NetEvent::Abandon(flow_to(who, 5)),
-        Event::Forget => NetEvent::Forget {
-            at: imp_of(At::Two),
+        Event::Forget(at) => NetEvent::Forget {
+            at: imp_of(at),
             from: imp_of(At::One),
         },
     }
@@ -461,9 +467,9 @@ const BY_EVENTS: [Row; 25] = [
         Act::Step(Event::Abandon(Who::Near)),
         Want::Refused(CarrierFault::NoSuch),
     ),
-    (Act::Step(Event::Drop(0)), Want::Done),
+    (Act::Step(Event::Drop(Direction::Forward, 0)), Want::Done),
     (
-        Act::Step(Event::Drop(9)),
+        Act::Step(Event::Drop(Direction::Forward, 9)),
         Want::Refused(CarrierFault::NoSuch),
     ),
     // the second piece is sent again and arrives, and the message is never whole
@@ -471,7 +477,7 @@ const BY_EVENTS: [Row; 25] = [
     (Act::Rounds(1), Want::Done),
     (Act::Take(Who::Near), Want::Nothing),
     (
-        Act::Step(Event::Forget),
+        Act::Step(Event::Forget(At::Two)),
         Want::Refused(CarrierFault::StillAlive),
     ),
     (Act::Step(Event::Abandon(Who::Near)), Want::Done),
@@ -480,7 +486,7 @@ const BY_EVENTS: [Row; 25] = [
         Act::Take(Who::Here),
         Want::Answered(Answer::Incomplete, Who::Near),
     ),
-    (Act::Step(Event::Forget), Want::Done),
+    (Act::Step(Event::Forget(At::Two)), Want::Done),
     (Act::Step(Event::EndDown(At::One)), Want::Done),
     (
         Act::Step(Event::EndDown(At::One)),
@@ -592,7 +598,7 @@ fn a_question_about_a_message_that_waits_tells_nothing(rt: HostRuntime) {
 const GIVEN_UP_FIRST: [Row; 10] = [
     (Act::Rounds(2), Want::Done),
     (Act::Offer(Who::Near, 5, 8, 0xFF), Want::Done),
-    (Act::Step(Event::Drop(0)), Want::Done),
+    (Act::Step(Event::Drop(Direction::Forward, 0)), Want::Done),
     (Act::Step(Event::EndDown(At::One)), Want::Done),
     (Act::Step(Event::ImpDown(At::Two)), Want::Done),
     // the message is outstanding
@@ -629,7 +635,7 @@ const WHO_ASKS: [Row; 13] = [
     ),
     (Act::Rounds(2), Want::Done),
     (Act::Offer(Who::Near, 5, 8, 0xFF), Want::Done),
-    (Act::Step(Event::Drop(0)), Want::Done),
+    (Act::Step(Event::Drop(Direction::Forward, 0)), Want::Done),
     (Act::Step(Event::HostDown(Who::Here)), Want::Done),
     (Act::Step(Event::Ask(Who::Near)), Want::Done),
     // the question arrives before the packet that is sent again
@@ -649,4 +655,72 @@ const WHO_ASKS: [Row; 13] = [
 fn a_source_that_is_down_may_be_asked_for(rt: HostRuntime) {
     let log = "out 0/1 0/2 5 8\ndown 0/1\nup 0/1\ndown 0/1\n";
     assert_eq!(rt; played_by_two(rt.alloc(), &WHO_ASKS, log), Ok((13, true)));
+}
+
+/// Message 0 to a host two lines away is taken and answered. Then IMP 2 forgets what IMP 1 told it, tells IMP 1 its own
+/// distances once more, and is cut off from that host's IMP.
+const FIRST: [Row; 14] = [
+    (Act::Rounds(2), Want::Done),
+    (Act::Offer(Who::Far, 5, 0, 0), Want::Done),
+    (Act::Rounds(1), Want::Done),
+    (Act::Take(Who::Far), Want::Given(Who::Far, 5, 0, 0)),
+    (Act::Rounds(3), Want::Done),
+    (Act::Take(Who::Here), Want::Answered(Answer::Rfnm, Who::Far)),
+    (Act::Step(Event::EndDown(At::One)), Want::Done),
+    (Act::Step(Event::EndDown(At::Two)), Want::Done),
+    (Act::Step(Event::EndUp(At::One)), Want::Done),
+    (Act::Step(Event::EndUp(At::Two)), Want::Done),
+    (Act::Step(Event::Route), Want::Done),
+    (Act::Step(Event::Deliver(Direction::Back, 0)), Want::Done),
+    (Act::Step(Event::Drop(Direction::Back, 0)), Want::Done),
+    (Act::Step(Event::CutOff), Want::Done),
+];
+
+/// A further one is acknowledged by IMP 2 and dropped there, since no route leads on, and its source gives it up.
+const LOST: [Row; 7] = [
+    (Act::Offer(Who::Far, 5, 0, 0), Want::Done),
+    (Act::Step(Event::Deliver(Direction::Forward, 0)), Want::Done),
+    (Act::Step(Event::Drop(Direction::Forward, 0)), Want::Done),
+    (Act::Step(Event::Deliver(Direction::Back, 0)), Want::Done),
+    (Act::Step(Event::Drop(Direction::Back, 0)), Want::Done),
+    (Act::Step(Event::GiveUp(Who::Far)), Want::Done),
+    (
+        Act::Take(Who::Here),
+        Want::Answered(Answer::Incomplete, Who::Far),
+    ),
+];
+
+/// The next one would be message 0 again, whose number the destination's IMP still keeps.
+const AGAIN: [Row; 5] = [
+    (
+        Act::Offer(Who::Far, 5, 0, 0),
+        Want::Refused(CarrierFault::StillAlive),
+    ),
+    (Act::Step(Event::Forget(At::Three)), Want::Done),
+    (Act::IsAlive(Who::Far, 0), Want::Alive(false)),
+    (Act::Offer(Who::Far, 5, 0, 0), Want::Done),
+    (Act::IsAlive(Who::Far, 0), Want::Alive(true)),
+];
+
+/// How many of so many messages are lost as they have to be, from the first on.
+fn lost(alloc: Global, subnet: &mut Subnet, count: usize) -> usize {
+    for place in 0..count {
+        if fitting(alloc, subnet, &LOST) != LOST.len() {
+            return place;
+        }
+    }
+    count
+}
+
+/// How many rows go as they have to before all other numbers, how many of these, and how many rows after them.
+fn come_round(alloc: Global) -> Result<[usize; 3], AllocError> {
+    let mut subnet = row(alloc)?;
+    let before = fitting(alloc, &mut subnet, &FIRST);
+    let others = lost(alloc, &mut subnet, 65_535);
+    Ok([before, others, fitting(alloc, &mut subnet, &AGAIN)])
+}
+
+#[test]
+fn a_number_comes_round_after_all_others(rt: HostRuntime) {
+    assert_eq!(rt; come_round(rt.alloc()), Ok([14, 65_535, 5]));
 }

@@ -57,15 +57,15 @@ returns-clause-other c = (refl, refl)
 
 pub returns-clause-offer_window : goal.returns-clause-offer_window
 unfolding next_of submitted distance_to vector_of is_new oldest modulus window
-returns-clause-offer_window c = rw (is_known 127) refl
+returns-clause-offer_window c = rw (is_known 32767) refl
 
 pub returns-clause-offer_within : goal.returns-clause-offer_within
 unfolding next_of submitted distance_to vector_of is_new oldest modulus window
-returns-clause-offer_within c = rw (is_known 127) (rw (get-empty flow_cmp ours) refl)
+returns-clause-offer_within c = rw (is_known 32767) (rw (get-empty flow_cmp ours) refl)
 
 pub returns-clause-offer_asked : goal.returns-clause-offer_asked
 unfolding next_of submitted distance_to vector_of is_new oldest modulus window
-returns-clause-offer_asked c = (rw (is_known 127) refl, rw (is_known 127) refl)
+returns-clause-offer_asked c = (rw (is_known 32767) refl, rw (is_known 32767) refl)
 
 pub returns-clause-offer_round : goal.returns-clause-offer_round
 unfolding next_of submitted distance_to vector_of is_new oldest modulus window
@@ -77,11 +77,11 @@ returns-clause-offer_first c = rw (get-empty flow_cmp ours) (rw (get-empty flow_
 
 pub returns-clause-offer_full : goal.returns-clause-offer_full
 unfolding next_of submitted distance_to vector_of is_new oldest modulus window
-returns-clause-offer_full c = (rw (is_known 127) refl, rw (is_known 127) (rw (get-empty flow_cmp ours) refl))
+returns-clause-offer_full c = (rw (is_known 32767) refl, rw (is_known 32767) (rw (get-empty flow_cmp ours) refl))
 
 pub returns-clause-offer_nowhere : goal.returns-clause-offer_nowhere
 unfolding next_of submitted distance_to vector_of is_new oldest modulus window
-returns-clause-offer_nowhere c = rw (is_known 127) refl
+returns-clause-offer_nowhere c = rw (is_known 32767) refl
 
 pub returns-clause-offer_down : goal.returns-clause-offer_down
 unfolding next_of submitted distance_to vector_of is_new oldest modulus window
@@ -165,19 +165,19 @@ returns-clause-start_own c = rw (none_kept 1, nothing_begun 1) refl
 
 pub returns-clause-offer_kept : goal.returns-clause-offer_kept
 unfolding next_of submitted distance_to vector_of is_new oldest modulus window next
-returns-clause-offer_kept c = rw (is_known 255, is_kept_there) refl
+returns-clause-offer_kept c = rw (is_known 65535, is_kept_there) refl
 
 pub returns-clause-offer_unkept : goal.returns-clause-offer_unkept
 unfolding next_of submitted distance_to vector_of is_new oldest modulus window next
-returns-clause-offer_unkept c = rw (is_known 254, is_kept_there) refl
+returns-clause-offer_unkept c = rw (is_known 65534, is_kept_there) refl
 
 pub returns-clause-forget_kept : goal.returns-clause-forget_kept
 unfolding next_of submitted distance_to vector_of is_new oldest modulus window next
-returns-clause-forget_kept c = rw (all_answered 255 2) refl
+returns-clause-forget_kept c = rw (all_answered 65535 2) refl
 
 pub returns-clause-offer_forgotten : goal.returns-clause-offer_forgotten
 unfolding next_of submitted distance_to vector_of is_new oldest modulus window next
-returns-clause-offer_forgotten c = rw (is_known 255, is_forgotten) refl
+returns-clause-offer_forgotten c = rw (is_known 65535, is_forgotten) refl
 
 pub returns-clause-forget_awaited : goal.returns-clause-forget_awaited
 unfolding next_of submitted distance_to vector_of is_new oldest modulus window next
