@@ -1,5 +1,5 @@
 -- Distances and next lines of a table.
-use Rattle.std.proofs.Common.{◌≡◌, ℕ, ◌+◌, ◌-◌, ◌<◌, ◌≤◌, ◌==◌, Bool, true, false, List, length, get_or, min, Option, Some, None, IsSome, refl, ◌∙◌, ap, arith, inl, inr, eqb, nat_lt, subst, map}
+use Rattle.std.proofs.Common.{◌≡◌, ℕ, ◌+◌, ◌-◌, ◌<◌, ◌≤◌, ◌==◌, Bool, true, false, List, length, get_or, min, Option, Some, None, IsSome, refl, ◌∙◌, ap, arith, inl, inr, eqb, nat_lt, subst, map, if◌then◌else◌}
 use Rattle.std.specs.Prelude.{◌⊎◌}
 use Rattle.std.specs.List.{position_or_len, range_with_len}
 use Rattle.std.proofs.lemmas.Bool.{cases_lt, eq-eqb, eqb-true, eqb-false}
@@ -33,6 +33,11 @@ distance-own t imp own = (let yes : (imp == t.own) ≡ true = eq-eqb imp t.own o
 pub distance-other : (t : Table) (imp : ℕ) → (imp ≡ t.own → ⊥) → distance_to t imp ≡ min (least_heard t.heard imp + 1) infinite
 unfolding distance_to
 distance-other t imp other = (let no : (imp == t.own) ≡ false = is_other imp t.own other in rw no refl)
+
+-- a distance, where the least that was heard is known
+pub distance-by : (t : Table) (imp least : ℕ) → least ≡ least_heard t.heard imp → (if imp == t.own then 0 else min (least + 1) infinite) ≡ distance_to t imp
+unfolding distance_to
+distance-by t imp least is = ap (λ (n : ℕ). if imp == t.own then 0 else min (n + 1) infinite) is
 
 pub distance-le : (t : Table) (imp : ℕ) → distance_to t imp ≤ infinite
 distance-le t imp = elim (same_or_other imp t.own) [

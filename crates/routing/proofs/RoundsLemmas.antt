@@ -175,7 +175,7 @@ has_walk graph tables (suc rounds) from to are there is_imp early finite =
           record { walk = []; is_walk = sym same; long = sym nothing }
     ]
 
--- ---- after sixteen rounds
+-- ---- after as many rounds as the infinite distance
 
 -- no distance is above the length of any walk
 below_walks : (graph : List (ℕ × ℕ)) (tables : List Table) (rounds from to : ℕ) → AreTablesOf graph tables → IsImp (length tables) from → IsImp most_imps to → infinite ≤ rounds

@@ -1,8 +1,10 @@
 -- What a route table concludes.
-use Rattle.std.proofs.Common.{◌≡◌, ℕ, zero, suc, ◌<◌, ◌≤◌, List, [], ◌∷◌, length, get_or, Option, None, sym, ◌∙◌, arith, inl, inr}
+use Rattle.std.proofs.Common.{◌≡◌, ℕ, zero, suc, ◌+◌, ◌-◌, ◌==◌, ◌<◌, ◌≤◌, min, false, List, [], ◌∷◌, length, get_or, drop, Option, None, sym, ap, ◌∙◌, arith, inl, inr}
+use Rattle.std.proofs.lemmas.Bool.Decides.{nat_tests}
+use Rattle.std.proofs.lemmas.List.{drop_more, get_or_default}
 use Rattle.std.proofs.lemmas.Bool.{cases_lt}
 use Rattle.routing.specs.Vector.{infinite}
-use Rattle.routing.specs.RouteTable.{heard_distance, least_heard}
+use Rattle.routing.specs.RouteTable.{distance_in, heard_distance, least_heard}
 
 pub least_heard-le : (ports : List (Option (List ℕ))) (imp : ℕ) → least_heard ports imp ≤ infinite
 least_heard-le [] imp = omega arith
@@ -31,3 +33,18 @@ least_heard-attained (heard ∷ others) imp finite = elim (cases_lt (least_heard
       let least : least_heard (heard ∷ others) imp ≡ heard_distance heard imp = omega (arith, le) in
       record { port = 0; there = omega arith; is = sym least }
 ]
+
+-- ---- the ports one after the other
+
+-- a distance by its place
+pub distance_at : (distances : List ℕ) (k : ℕ) → k < length distances → distance_in distances (k + 1) ≡ get_or distances k 0
+distance_at distances k there =
+    let some : (k + 1 == 0) ≡ false = grind (arith, nat_tests) in
+    let back : k + 1 - 1 ≡ k = omega arith in
+    rw (some, back) (get_or_default distances k infinite 0 there)
+
+-- the port at a place and those behind it
+pub heard_next : (ports : List (Option (List ℕ))) (i : ℕ) (heard : Option (List ℕ)) (imp : ℕ) → i < length ports → heard ≡ get_or ports i heard
+    → least_heard (drop i ports) imp ≡ min (heard_distance heard imp) (least_heard (drop (i + 1) ports) imp)
+heard_next ports i heard imp there is =
+    ap (λ (ports : List (Option (List ℕ))). least_heard ports imp) (drop_more ports i heard there) ∙ ap (λ (heard : Option (List ℕ)). min (heard_distance heard imp) (least_heard (drop (i + 1) ports) imp)) (sym is)

@@ -5,7 +5,7 @@ use Rattle.leader1822.specs.Host.{most_imps}
 
 -- the distance of an IMP that no path leads to
 abbrev pub infinite : ℕ
-infinite = 16
+infinite = 63
 
 -- one distance for each IMP that there can be, none above the infinite one
 pub record IsVector (distances : List ℕ) : Type 0 where

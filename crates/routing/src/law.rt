@@ -35,6 +35,6 @@ pub fn wrong_distances()
     ensures shorter { IsDistance ((1, 2) ∷ []) 1 2 0 → ⊥ }
 
     // infinite where there is a walk, and finite where there is none
-    ensures joined { IsDistance ((1, 2) ∷ []) 1 2 16 → ⊥ }
+    ensures joined { IsDistance ((1, 2) ∷ []) 1 2 63 → ⊥ }
     ensures apart { IsDistance [] 1 2 1 → ⊥ }
 {}

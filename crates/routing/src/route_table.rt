@@ -1,6 +1,6 @@
 //! What an IMP knows of routes.
 
-ghost use Rattle.std.specs.Prelude.{◌≡◌, ◌≢◌, ◌+◌, ◌<◌, ◌≤◌, ◌==◌, IfOk, IfSome, OnErr, length, position, ◌-◌, All, Some, map, [], slice_index_or};
+ghost use Rattle.std.specs.Prelude.{◌≡◌, ◌≢◌, ◌+◌, ◌<◌, ◌≤◌, ◌==◌, ℕ, min, if◌then◌else◌, IfOk, IfSome, OnErr, length, position, ◌-◌, All, Some, map, [], slice_index_or};
 ghost use Rattle.routing.specs.RouteTable.{opening_table, hears, loses, distance_in, heard_distance, least_heard, distance_to, vector_of, next_of};
 ghost use Rattle.leader1822.specs.Host.{most_imps};
 ghost use Rattle.routing.specs.Vector.{infinite, IsVector};
@@ -64,9 +64,10 @@ impl RouteTable {
     pub fn vector(&self) -> Vector
         ensures { result ≡ vector_of self.now }
     {
+        let least = all_least_heard(&self.heard);
         let mut distances = [INFINITE; MOST_IMPS];
         for place in 0..MOST_IMPS {
-            distances[place] = self.distance_to(place as u8 + 1);
+            distances[place] = distance_by(self.own, place as u8 + 1, least[place]);
         }
         Vector::new(distances)
     }
@@ -109,10 +110,22 @@ impl RouteTable {
         ensures most { result ≤ infinite }
         ensures no_imp { most_imps < imp → imp ≢ self.now.own → result ≡ infinite }
     {
-        if imp == self.own {
-            return 0;
-        }
-        (least_heard(&self.heard, imp) + 1).min(INFINITE)
+        distance_by(self.own, imp, least_heard(&self.heard, imp))
+    }
+}
+
+/// The distance to an IMP, of which this is the least that was heard.
+fn distance_by(own: u8, imp: u8, least: u8) -> u8
+    ensures value { result ≡ (if imp == own then 0 else min (least + 1) infinite) }
+    ensures most { result ≤ infinite }
+{
+    if imp == own {
+        return 0;
+    }
+    if least < INFINITE {
+        least + 1
+    } else {
+        INFINITE
     }
 }
 
@@ -153,6 +166,20 @@ fn least_heard(ports: &[Option<Vector>], imp: u8) -> u8
     let mut least = INFINITE;
     for heard in ports {
         least = least.min(heard_distance(heard, imp));
+    }
+    least
+}
+
+/// The least distance to each IMP that was heard on any port, that to IMP 1 first. It takes one port's
+/// distances after the other, which is faster than to ask every port for each IMP.
+fn all_least_heard(ports: &[Option<Vector>]) -> [u8; MOST_IMPS]
+    ensures { (place : ℕ) → place < most_imps → slice_index_or result place 0 ≡ least_heard ports.now (place + 1) }
+{
+    let mut least = [INFINITE; MOST_IMPS];
+    for heard in ports {
+        if let Some(vector) = heard {
+            vector.lower(&mut least);
+        }
     }
     least
 }

@@ -1,6 +1,7 @@
 //! What an IMP tells its neighbours: its distance to every IMP.
 
-ghost use Rattle.std.specs.Prelude.{◌≡◌, ◌≤◌, ◌↔◌, All, IsTrue, nat_le, Some, None, if◌then◌else◌};
+ghost use Rattle.std.specs.Prelude.{◌≡◌, ◌≤◌, ◌<◌, ◌↔◌, ℕ, min, slice_index_or, All, IsTrue, nat_le, Some, None, if◌then◌else◌};
+ghost use Rattle.leader1822.specs.Host.{most_imps};
 ghost use Rattle.std.specs.List.{list_all};
 ghost use Rattle.routing.specs.Vector.{IsVector, is_vector, infinite};
 
@@ -9,7 +10,7 @@ use std::alloc::AllocError;
 use std::marker::Model;
 
 /// The distance of an IMP that no path leads to. Every other distance is below it.
-pub const INFINITE: u8 = 16;
+pub const INFINITE: u8 = 63;
 
 /// The distances of an IMP to IMP 1, IMP 2 and so on to the last: [`MOST_IMPS`] of them, each at most
 /// [`INFINITE`].
@@ -72,6 +73,16 @@ impl Vector {
     {
         Vector {
             distances: self.distances,
+        }
+    }
+
+    /// Lowers each of these distances to the vector's own to the same IMP, where that is less.
+    pub(crate) fn lower(&self, least: &mut [u8; MOST_IMPS])
+        ensures a_vector { IsVector self.now }
+        ensures lowered { (place : ℕ) → place < most_imps → slice_index_or least.new place 0 ≡ min (slice_index_or least.old place 0) (slice_index_or self.now place 0) }
+    {
+        for place in 0..MOST_IMPS {
+            least[place] = least[place].min(self.distances[place]);
         }
     }
 

@@ -1,11 +1,12 @@
-use Rattle.std.proofs.Common.{◌≡◌, ◌+◌, ◌≤◌, ℕ, arith, sym, ◌∙◌, subst, get_or, slice_set}
+use Rattle.std.proofs.Common.{◌≡◌, ◌+◌, ◌≤◌, ℕ, arith, ap, sym, ◌∙◌, subst, get_or, slice_set}
 use Rattle.std.proofs.lemmas.List.FromFn.{fill_by_all}
 use Rattle.std.proofs.lemmas.List.Edits.{fill_by_more}
 use Rattle.std.proofs.lemmas.List.Elements.{All-set, All-replicate}
 use Rattle.std.proofs.lemmas.List.{length-set, length-replicate}
 use Rattle.leader1822.specs.Host.{most_imps}
 use Rattle.routing.specs.Vector.{infinite}
-use Rattle.routing.specs.RouteTable.{vector_of, distance_to}
+use Rattle.routing.specs.RouteTable.{Table, vector_of, distance_to, least_heard}
+use Rattle.routing.proofs.Nexts.{distance-by}
 use Rattle.routing.proofs.route_table.RouteTable.vector.Goals as goal
 
 pub loop-place-init : goal.loop-place-init
@@ -16,12 +17,19 @@ loop-place-init c = record {
 }
 
 pub loop-place-preserved : goal.loop-place-preserved
-loop-place-preserved c = record {
-  one_each = omega (arith, length-set {A = ℕ} c.loop-place.distances c.loop-place.place c.distance_to.result);
-  far = λ k below. subst (λ (v : ℕ). get_or (slice_set c.loop-place.distances c.loop-place.place v) k 0 ≡ distance_to c.args.self.now (k + 1)) (sym c.distance_to.ensures.value)
-      (fill_by_more (λ (k : ℕ). distance_to c.args.self.now (k + 1)) c.loop-place.distances c.loop-place.place 0 (omega arith) c.loop-place.invariant.far k below);
-  in_range = All-set (λ (d : ℕ). d ≤ infinite) c.loop-place.distances c.loop-place.place c.distance_to.result c.distance_to.ensures.most c.loop-place.invariant.in_range;
-}
+loop-place-preserved c =
+    let imp : ℕ = c.loop-place.place + 1 in
+    let least : get_or c.all_least_heard-least.result c.loop-place.place 0 ≡ least_heard c.self.inside.heard.items imp =
+    c.all_least_heard-least.ensures c.loop-place.place c.loop-place-test.true ∙ ap (λ ports. least_heard ports imp) c.deref.ensures.value in
+    let is : c.distance_by.result ≡ distance_to c.args.self.now imp =
+    c.distance_by.ensures.value ∙ distance-by (record { own = c.self.inside.own; heard = c.self.inside.heard.items }) imp (get_or c.all_least_heard-least.result c.loop-place.place 0) least
+    ∙ ap (λ (t : Table). distance_to t imp) c.self.view_is in
+    record {
+      one_each = omega (arith, length-set {A = ℕ} c.loop-place.distances c.loop-place.place c.distance_by.result);
+      far = λ k below. subst (λ (v : ℕ). get_or (slice_set c.loop-place.distances c.loop-place.place v) k 0 ≡ distance_to c.args.self.now (k + 1)) (sym is)
+          (fill_by_more (λ (k : ℕ). distance_to c.args.self.now (k + 1)) c.loop-place.distances c.loop-place.place 0 (omega arith) c.loop-place.invariant.far k below);
+      in_range = All-set (λ (d : ℕ). d ≤ infinite) c.loop-place.distances c.loop-place.place c.distance_by.result c.distance_by.ensures.most c.loop-place.invariant.in_range;
+    }
 
 pub returns : goal.returns
 unfolding vector_of
