@@ -27,7 +27,7 @@ most_hosts = 4
 abbrev pub most_lines : ℕ
 most_lines = 5
 
--- lines of a network, each of which has two ends: 40
+-- lines of a network, each of which has two ends: 157
 abbrev pub most_network_lines : ℕ
 most_network_lines = most_lines * most_imps / 2
 

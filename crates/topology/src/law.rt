@@ -27,7 +27,7 @@ pub fn worked_sites()
     ensures hosts { hosts_from 0 (None ∷ Some 1 ∷ None ∷ Some 2 ∷ []) ≡ record { imp = 1; host = 0 } ∷ record { imp = 3; host = 0 } ∷ record { imp = 3; host = 1 } ∷ [] }
 {}
 
-/// There are at most 40 lines: each has two ends, and each of sixteen IMPs has five at most.
+/// There are at most 157 lines: each has two ends, and each of 63 IMPs has five at most.
 pub fn few_lines()
     ensures { (t : TopologyFields) → IsTopology t → length t.lines ≤ most_network_lines }
 {}

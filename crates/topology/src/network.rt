@@ -193,7 +193,7 @@ impl Topology {
         Ok(sites)
     }
 
-    /// The lines, in the order of the document: at most half as many as [`MOST_IMPS`] have ends for, 40. They are numbered from 0.
+    /// The lines, in the order of the document: at most half as many as [`MOST_IMPS`] have ends for, 157. They are numbered from 0.
     pub fn lines(&self) -> &[LineEnds]
         ensures all { result.now ≡ self.now.lines }
         ensures few { length result.now ≤ most_network_lines }
