@@ -664,7 +664,7 @@ const FIRST: [Row; 14] = [
     (Act::Offer(Who::Far, 5, 0, 0), Want::Done),
     (Act::Rounds(1), Want::Done),
     (Act::Take(Who::Far), Want::Given(Who::Far, 5, 0, 0)),
-    (Act::Rounds(3), Want::Done),
+    (Act::Rounds(4), Want::Done),
     (Act::Take(Who::Here), Want::Answered(Answer::Rfnm, Who::Far)),
     (Act::Step(Event::EndDown(At::One)), Want::Done),
     (Act::Step(Event::EndDown(At::Two)), Want::Done),
