@@ -18,7 +18,7 @@ TEXTS = ["1" * 8, "", "10" * 520, "01" * 1500]
 
 def some_network(chance):
     """Two or three IMPs in a row or a ring, with one or two hosts each."""
-    numbers = sorted(chance.sample(range(1, 17), chance.choice([2, 2, 2, 3])))
+    numbers = sorted(chance.sample(range(1, 64), chance.choice([2, 2, 2, 3])))
     lines = [*zip(numbers, numbers[1:])]
     if len(numbers) == 3 and chance.random() < 0.5:
         lines.append((numbers[0], numbers[2]))

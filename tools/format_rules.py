@@ -9,13 +9,13 @@ Octets are `bytes`, and bits a text of the digits 0 and 1.
 
 from host_rules import ALL, CLS, ECO, ERP, ERR, GVB, HEADER, INR, INS, LENGTHS, LINKS, QUOTED, RET, RTS, STR
 from host_rules import header, read_numbers, split
-from imp_rules import ASK, DATA, DEAD, INFINITE, NEVER, PIECE, RFNM, body, octets, spell_host
+from imp_rules import ASK, DATA, DEAD, INFINITE, MOST_IMPS, NEVER, PIECE, RFNM, VERSION, body, octets, spell_host
 from script_rules import MOST_TEXT
 
 NOP, ANSWERS = 4, {5: "rfnm", 7: "dead", 9: "incomplete"}
 KINDS = {DATA: "data", RFNM: "rfnm", DEAD: "dead", ASK: "ask", NEVER: "never"}
-PACKET_HEAD, UNIT = 8, 16
-IMPS = range(1, 17)
+PACKET_HEAD, UNIT = 9, 16
+IMPS = range(1, MOST_IMPS + 1)
 COMMANDS = "NOP RTS STR CLS ALL GVB RET INR INS ECO ERP ERR RST RRP".split()
 
 
@@ -79,8 +79,8 @@ def stripped(bits):
 
 def packet_in_words(octets_in):
     refuse_if(len(octets_in) < PACKET_HEAD, "Short")
-    kind, source, destination, link, number, place_octet = octets_in[:6]
-    count = octets_in[6] << 8 | octets_in[7]
+    kind, source, destination, link = octets_in[:4]
+    number, place_octet, count = octets_in[4] << 8 | octets_in[5], octets_in[6], octets_in[7] << 8 | octets_in[8]
     end = PACKET_HEAD + -(-count // 8)
     refuse_if(len(octets_in) < end, "Short")
     place, last, between = place_octet & 7, place_octet >> 7 == 1, place_octet >> 3 & 15
@@ -109,8 +109,10 @@ def packet(octets_in):
 
 
 def frame(octets_in):
-    refuse_if(len(octets_in) < 2, "Short")
-    kind, acknowledged, content = octets_in[0], octets_in[1], octets_in[2:]
+    refuse_if(not octets_in, "Short")
+    refuse_if(octets_in[0] != VERSION, "BadVersion")
+    refuse_if(len(octets_in) < 3, "Short")
+    kind, acknowledged, content = octets_in[1], octets_in[2], octets_in[3:]
     refuse_if(kind == 0 and not content or kind == 2 and len(content) < len(IMPS), "Short")
     channels = "".join(str(channel) for channel in range(8) if acknowledged >> channel & 1)
     if kind == 0:

@@ -5,8 +5,9 @@ from the formats. `check imp` compares the code with it, and `subnet_rules` join
 """
 
 CHANNELS, SLOTS, STORE, QUEUE = 8, 8, 32, 16
-PIECE, INFINITE = 1008, 16
-NUMBERS, WINDOW = 256, 127
+PIECE, VERSION = 1008, 0xF2  # the bits of a full piece, and the octet that each frame begins with
+MOST_IMPS, INFINITE = 63, 63
+NUMBERS, WINDOW = 65536, 32767
 DATA, RFNM, DEAD, ASK, NEVER = range(5)
 REQUESTS = DATA, ASK  # these travel to a message's destination, all others to its source
 TELLS = {"taken": RFNM, "dead": DEAD, "never": NEVER}  # the answer to a question about a message of this fate
@@ -37,17 +38,17 @@ def body(text):
 
 def spell_packet(packet):
     kind, (source, destination, link), number, place, last, bits = packet
-    head = [kind, address(source), address(destination), link, number, place | last << 7, len(bits) >> 8, len(bits) & 255]
+    head = [kind, address(source), address(destination), link, *number.to_bytes(2, "big"), place | last << 7, *len(bits).to_bytes(2, "big")]
     return bytes(head) + octets(bits)
 
 
 def spell_frame(acknowledged, content):
     if content is None:
-        return bytes([1, acknowledged])
+        return bytes([VERSION, 1, acknowledged])
     if content[0] == "routes":
-        return bytes([2, acknowledged, *content[1]])
+        return bytes([VERSION, 2, acknowledged, *content[1]])
     _, channel, bit, packet = content
-    return bytes([0, acknowledged, channel | bit << 3]) + spell_packet(packet)
+    return bytes([VERSION, 0, acknowledged, channel | bit << 3]) + spell_packet(packet)
 
 
 # ---- a line's end
@@ -126,7 +127,7 @@ class Imp:
 
     def route(self, imp):
         """The port that leads to an IMP."""
-        if not 1 <= imp <= 16 or imp == self.number:
+        if not 1 <= imp <= MOST_IMPS or imp == self.number:
             return None
         ways = [(self.distance(port, imp), port) for port in range(len(self.ports)) if self.ports[port].is_up]
         best = min(ways, default=(INFINITE, 0))
@@ -136,7 +137,7 @@ class Imp:
         ports = range(len(self.ports))
         return [
             0 if imp == self.number else min((self.distance(port, imp) for port in ports), default=INFINITE)
-            for imp in range(1, 17)
+            for imp in range(1, MOST_IMPS + 1)
         ]
 
     def packets(self):

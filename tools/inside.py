@@ -8,7 +8,7 @@ from dataclasses import dataclass
 
 from alive import everything, frame_in_words, listed, of_imp, packet_in_words
 from crossings import ANSWERS
-from imp_rules import ASK, BRINGS, DATA, NUMBERS, WINDOW, body, octets, spell_flow, spell_host, target
+from imp_rules import ASK, BRINGS, DATA, INFINITE, NUMBERS, WINDOW, body, octets, spell_flow, spell_host, target
 from in_the_way import InTheWay, hops
 from script_rules import opened
 from subnet_rules import Subnet
@@ -297,7 +297,7 @@ class Inside:
         if not imp.frames:
             return f"No end of a line is up at IMP {number}, so it tells nobody its distances."
         vector = imp.vector()
-        told = listed([f"IMP {it} at {vector[it - 1]}" for it in self.subnet.sites if vector[it - 1] < 16], 16)
+        told = listed([f"IMP {it} at {vector[it - 1]}" for it in self.subnet.sites if vector[it - 1] < INFINITE], 16)
         over = listed([f"line {lines[port]}" for port, _, _ in imp.frames])
         return f"IMP {number} puts its distances on {over}: {told}."
 

@@ -8,6 +8,7 @@ import difflib
 import re
 
 from decode import count
+from imp_rules import MOST_IMPS
 
 try:
     import tomllib
@@ -288,8 +289,8 @@ def wrong_with_network(document, lines):
     if not isinstance(document.get("raw", False), bool):
         return line_of_key(lines, "raw"), "`raw` is `true` or `false`, without quotation marks."
     imps, joined = document.get("imp"), document.get("line", [])
-    if not is_tables(imps) or not 1 <= len(imps) <= 16:
-        return None, "A network has 1 to 16 IMPs, each a table `[[imp]]`."
+    if not is_tables(imps) or not 1 <= len(imps) <= MOST_IMPS:
+        return None, f"A network has 1 to {MOST_IMPS} IMPs, each a table `[[imp]]`."
     if not is_tables(joined):
         return None, "Each line is a table `[[line]]`."
     return wrong_with_imps(imps, lines) or wrong_with_lines(joined, [imp["id"] for imp in imps], lines)
@@ -298,7 +299,7 @@ def wrong_with_network(document, lines):
 def wrong_with_imps(imps, lines):
     """The same of the tables of IMPs."""
     for place, imp in enumerate(imps):
-        if found := wrong_with_table("imp", place, imp, {"id": (1, 16), "hosts": (0, 4)}, lines):
+        if found := wrong_with_table("imp", place, imp, {"id": (1, MOST_IMPS), "hosts": (0, 4)}, lines):
             return found
     numbers = [imp["id"] for imp in imps]
     for place, number in enumerate(numbers):
@@ -310,7 +311,7 @@ def wrong_with_imps(imps, lines):
 def wrong_with_lines(joined, numbers, lines):
     """The same of the tables of lines, between IMPs of these numbers."""
     for place, line in enumerate(joined):
-        if found := wrong_with_table("line", place, line, {"a": (1, 16), "b": (1, 16)}, lines):
+        if found := wrong_with_table("line", place, line, {"a": (1, MOST_IMPS), "b": (1, MOST_IMPS)}, lines):
             return found
         if line["a"] == line["b"] or not {line["a"], line["b"]} <= {*numbers}:
             return line_of_table(lines, "line", place), f"The line from {line['a']} to {line['b']} does not join two different IMPs of the network."

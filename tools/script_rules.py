@@ -7,6 +7,7 @@ import re
 from collections import Counter
 
 from box_rules import Boxes
+from imp_rules import MOST_IMPS
 from imp_rules import octets as octets_of
 from subnet_rules import Subnet
 from world_rules import World
@@ -72,8 +73,8 @@ def network_is_good(network, runs=()):
     return (
         carrier in ("plain", "subnet")
         and (raw or "worlds" in runs)
-        and 1 <= len(imps) <= 16
-        and all(1 <= number <= 16 and 0 <= hosts <= 4 for number, hosts in imps)
+        and 1 <= len(imps) <= MOST_IMPS
+        and all(1 <= number <= MOST_IMPS and 0 <= hosts <= 4 for number, hosts in imps)
         and len({*numbers}) == len(numbers)
         and all(a != b and a in numbers and b in numbers for a, b in lines)
         and len({frozenset(line) for line in lines}) == len(lines)

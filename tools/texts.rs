@@ -63,8 +63,8 @@ fn text(alloc: Global) -> Result<Bits, PacketFault> {
 
 /// The flow from 0/1 to 0/2 on link 5.
 fn flow() -> Flow
-    ensures source { result.source.imp ≤ 16 }
-    ensures destination { result.destination.imp ≤ 16 }
+    ensures source { result.source.imp ≤ 63 }
+    ensures destination { result.destination.imp ≤ 63 }
 {
     Flow {
         source: HostAddr::new(0, 1).unwrap(),

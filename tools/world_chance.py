@@ -42,7 +42,7 @@ def spell_event(kind, *parts):
 
 def some_world(chance):
     """A network for hosts with programs."""
-    numbers = sorted(chance.sample(range(1, 17), chance.choice([1, 2, 2, 2, 3])))
+    numbers = sorted(chance.sample(range(1, 64), chance.choice([1, 2, 2, 2, 3])))
     imps = [(number, chance.choice([1, 1, 1, 2])) for number in numbers]
     lines = [*zip(numbers, numbers[1:])]
     if len(numbers) == 3 and chance.random() < 0.4:

@@ -8,7 +8,7 @@
 use crate::words::{Words, spell_bits, spell_octets};
 use imp_channel::Frame;
 use imp_node::{Imp, Outgoing};
-use leader1822::{Answer, CarrierFault, Flow, HostMessage, ImpNumber, Inbound, Text};
+use leader1822::{Answer, CarrierFault, Flow, HostMessage, ImpNumber, Inbound, Number, Text};
 use std::alloc::Global;
 
 /// What is printed for an IMP and the calls on it.
@@ -127,7 +127,7 @@ fn refused(alloc: Global, fault: CarrierFault) -> Option<String> {
 /// What the queries tell of a flow and a number of it.
 fn told(alloc: Global, imp: &Imp, mut words: Words<'_>) -> Option<String> {
     let flow = words.flow()?;
-    let number = words.octet()?;
+    let number = words.message_number()?;
     let (source, destination) = (flow.source.imp(), flow.destination.imp());
     let mut answer = String::new(alloc);
     write!(answer, "{} ", u8::from(imp.begins(&flow))).ok()?;
@@ -144,7 +144,7 @@ fn told(alloc: Global, imp: &Imp, mut words: Words<'_>) -> Option<String> {
 }
 
 /// A number that may be there.
-fn number_or_dash(answer: &mut String, number: Option<u8>) -> Option<()> {
+fn number_or_dash(answer: &mut String, number: Option<Number>) -> Option<()> {
     match number {
         Some(number) => write!(answer, "{number} ").ok(),
         None => answer.push_str("- ").ok(),

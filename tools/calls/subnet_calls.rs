@@ -67,7 +67,7 @@ fn asked(subnet: &Subnet, line: &str) -> Option<bool> {
         return None;
     }
     let flow = words.flow()?;
-    Some(subnet.alive(&flow, words.octet()?))
+    Some(subnet.alive(&flow, words.message_number()?))
 }
 
 /// What became of a line; `None` where it can't be read.

@@ -1,7 +1,7 @@
 //! The words of a line that names a call.
 
 use bit_messages::Bits;
-use leader1822::{Direction, Flow, HostAddr, ImpNumber, Link};
+use leader1822::{Direction, Flow, HostAddr, ImpNumber, Link, Number};
 use std::alloc::Global;
 
 /// The words of a line that are left.
@@ -32,6 +32,11 @@ impl<'a> Words<'a> {
     /// The next word as a number of eight bits.
     pub fn octet(&mut self) -> Option<u8> {
         self.word()?.parse::<u8>().ok()
+    }
+
+    /// The next word as the number of a message.
+    pub fn message_number(&mut self) -> Option<Number> {
+        self.word()?.parse::<Number>().ok()
     }
 
     /// The next word as a number of messages.

@@ -40,7 +40,7 @@ FIVE = (
     "first-message", "three-imps-in-a-row", "resets-that-cross", "a-reset-that-fails-and-one-that-works",
     "from-a-terminal-to-a-server", "sent-within-the-allocation-and-asked-back", "two-octets", "a-connection",
 )  # fmt: skip
-LONG = ("numbers-come-round-under-a-stream",)
+LONG = ("a-stream-over-a-line-that-loses-frames",)
 LONGEST = 1000  # octets of a short example
 CORES = os.cpu_count() or 1
 

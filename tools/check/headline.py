@@ -5,8 +5,12 @@ Shows what each rule of docs/headline.md is there for: ./check headline [FILE]
 Each file of `without` has a network and a script, and says in its first two lines which rule is lacking and what breaks.
 It runs in the model that lacks this rule (tools/without_rules.py), where the audit of the book has to find that part of the
 promise broken; in the model with all its rules, where nothing may break; and once more without each of its lines, where
-nothing may break either: so no line could be left out, but for one that a file may name as standing there for the reader, and those
-that a file repeats. With a FILE it prints both outputs, without the rule and with it.
+nothing may break either: so no line could be left out, but for one that a file may name as standing there for the reader. With a
+FILE it prints both outputs, without the rule and with it.
+
+What comes of numbers that wrap around is the same whatever their number, as long as it is more than twice the window
+(docs/numbers.md). So a file may have a line `# numbers: N W`: there the model has N numbers and a window of W, and few messages
+do for tens of thousands.
 
 Nothing of this is the program: it has all its rules. Some rules of the page are not in `without`, since no book was seen to
 break where one of them alone is lacking: ./check headline --harmless [RUNS] tries these by chance.
@@ -18,13 +22,12 @@ import random
 import sys
 
 
+import imp_rules
 from audit_rules import audit, messages_are_kept
 from model import network_of
 from parts import ROOT
 from without_rules import LACKING, opened_without, read_line
 from world_chance import Script, some_world
-
-REPEATED = 50  # an event that stands so often is one of those that a file repeats
 
 HARMLESS = [
     "an RRP before that RFNM is remembered",
@@ -32,6 +35,11 @@ HARMLESS = [
     "ALL adds to the counters",
     "a receiver subtracts what was returned",
 ]
+
+
+def two_numbers(words):
+    """Two numbers that words spell; None where there are no words."""
+    return tuple(map(int, words.split())) if words else None
 
 
 def unrolled(lines):
@@ -52,23 +60,38 @@ class Lesson:
             self.lines = file.read().splitlines()
         self.rule = self.lines[0].removeprefix("# lacks: ")
         self.breaks = self.lines[1].removeprefix("# breaks: ")
-        # an event that stands there for the reader alone
-        self.beside = read_line((self.lines[2].removeprefix("# beside: ")), False) if self.lines[2].startswith("# beside: ") else None
+        self.beside = self.said("beside")  # a line that stands there for the reader alone
+        self.numbers = two_numbers(self.said("numbers")) or (imp_rules.NUMBERS, imp_rules.WINDOW)
         marker = self.lines.index("%")
         self.network = network_of("\n".join(self.lines[:marker]))
-        self.events = [event for event in (read_line(it, self.network[1]) for it in unrolled(self.lines[marker + 1 :])) if event]
-        self.repeats = [event for event in self.events if self.events.count(event) > REPEATED]
+        self.script = self.lines[marker + 1 :]
 
-    def run(self, rule, events):
+    def said(self, name):
+        """What the third line says under a name, None where it is another line."""
+        return self.lines[2].removeprefix(f"# {name}: ") if self.lines[2].startswith(f"# {name}: ") else None
+
+    def run(self, rule, script):
         place = opened_without(rule, self.network)
-        for event in events:
-            place.happen(*event)
+        before = imp_rules.NUMBERS, imp_rules.WINDOW
+        imp_rules.NUMBERS, imp_rules.WINDOW = self.numbers
+        try:
+            for line in unrolled(script):
+                if event := read_line(line, self.network[1]):
+                    place.happen(*event)
+        finally:
+            imp_rules.NUMBERS, imp_rules.WINDOW = before
         return place
 
-    def part(self, rule, events):
+    def part(self, rule, script):
         """What breaks without a rule."""
-        place = self.run(rule, events)
+        place = self.run(rule, script)
         return broken_raw(place) if self.network[1] else broken(place)
+
+    def without_a_line(self):
+        """Each line that has to be needed, with its number in the file and the script without it."""
+        for at, line in enumerate(self.script):
+            if line != self.beside and line and not line.startswith(("#", "repeat ", "done")):
+                yield len(self.lines) - len(self.script) + at + 1, line, self.script[:at] + self.script[at + 1 :]
 
 
 def broken_raw(carrier):
@@ -91,13 +114,13 @@ def check(path):
     lesson = Lesson(path)
     if lesson.rule not in LACKING:
         return f"there is no rule `{lesson.rule}`"
-    if (found := lesson.part(lesson.rule, lesson.events)) != lesson.breaks:
+    if (found := lesson.part(lesson.rule, lesson.script)) != lesson.breaks:
         return f"without the rule it breaks {found}, not {lesson.breaks}"
-    if found := lesson.part(None, lesson.events):
+    if found := lesson.part(None, lesson.script):
         return f"with the rule it breaks {found}"
-    for at in range(len(lesson.events)):
-        if lesson.events[at] not in [lesson.beside, *lesson.repeats] and lesson.part(lesson.rule, lesson.events[:at] + lesson.events[at + 1 :]) == lesson.breaks:
-            return f"it breaks {lesson.breaks} without its event {at + 1} too: {lesson.events[at]}"
+    for number, line, script in lesson.without_a_line():
+        if lesson.part(lesson.rule, script) == lesson.breaks:
+            return f"it breaks {lesson.breaks} without line {number} too: {line}"
     return None
 
 
@@ -121,9 +144,9 @@ def main():
     if len(sys.argv) > 1:
         lesson = Lesson(sys.argv[1])
         for title, rule in (f"without the rule: {lesson.rule}", lesson.rule), ("with it", None):
-            place = lesson.run(rule, lesson.events)
+            place = lesson.run(rule, lesson.script)
             lives = [] if lesson.network[1] else place.end_of_book()
-            print(f"-- {title}", *place.printed, *lives, f"breaks: {lesson.part(rule, lesson.events) or 'nothing'}", sep="\n")
+            print(f"-- {title}", *place.printed, *lives, f"breaks: {lesson.part(rule, lesson.script) or 'nothing'}", sep="\n")
         return 0
     wrong, paths = 0, sorted(glob.glob(f"{ROOT}/without/*"))
     for path in paths:

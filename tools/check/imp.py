@@ -17,7 +17,7 @@ from collections import Counter
 
 
 from drivers import run_cases, write_case
-from imp_rules import ASK, CHANNELS, DATA, DEAD, NEVER, PIECE, REQUESTS, RFNM, Imp, Refused, body, octets, spell_flow, spell_frame
+from imp_rules import ASK, CHANNELS, DATA, DEAD, INFINITE, MOST_IMPS, NEVER, NUMBERS, PIECE, REQUESTS, RFNM, WINDOW, Imp, Refused, body, octets, spell_flow, spell_frame
 
 RUNS = 1000
 CALLS = 100
@@ -64,7 +64,8 @@ class Chance:
 
     def __init__(self, seed):
         self.random = random.Random(seed)
-        number = self.random.randint(1, 4)
+        self.near = self.random.sample(range(1, MOST_IMPS + 1), 5)
+        number = self.near[0]
         self.imp = Imp(number, self.random.choice((1, 2, 2, 3, 4, 4, 0)), self.random.choice((1, 1, 2, 2, 3, 5, 0)))
         self.lines = [f"new {number} {len(self.imp.hosts)} {len(self.imp.ports)}"]
         self.bodies = {}
@@ -78,7 +79,7 @@ class Chance:
         self.lengths = self.random.choice(((0, 8, 24), (0, 24, 1007, 1008, 2100), (0, 2100, 8063)))
 
     def host(self, own=0.5):
-        imp = self.imp.number if self.random.random() < own else self.random.randint(1, 5)
+        imp = self.imp.number if self.random.random() < own else self.random.choice(self.near)
         return self.number_below(len(self.imp.hosts) if imp == self.imp.number else 2, 3), imp
 
     def number_below(self, count, most):
@@ -96,7 +97,8 @@ class Chance:
         return "".join(self.random.choice("01") for _ in range(length))
 
     def near(self, number):
-        return 0 if number is None else (number + self.random.choice((0, 1, 1, 1, 2, 126, 127, 128, 255))) % 256
+        steps = 0, 1, 1, 1, 2, 255, 256, WINDOW - 1, WINDOW, WINDOW + 1, NUMBERS - 1
+        return 0 if number is None else (number + self.random.choice(steps)) % NUMBERS
 
     def packet(self):
         kind = self.random.choice((DATA, DATA, DATA, DATA, RFNM, DEAD, ASK, ASK, NEVER))
@@ -130,8 +132,8 @@ class Chance:
         if kind < 0.1:
             content = None
         elif kind < 0.25:
-            distances = (0, 1, 2) if self.near_all else (0, 1, 2, 14, 15, 16)
-            content = "routes", [self.random.choice(distances) for _ in range(16)]
+            distances = (0, 1, 2) if self.near_all else (0, 1, 2, 16, INFINITE - 2, INFINITE - 1, INFINITE)
+            content = "routes", [self.random.choice(distances) for _ in range(MOST_IMPS)]
         else:
             channel = self.random.randrange(CHANNELS)
             bit = line.expected[channel] ^ (self.random.random() < 0.15)
@@ -167,7 +169,7 @@ class Chance:
             number = self.number_below(len(imp.hosts), 3)
             return f"{name} {number}", lambda: getattr(imp, name)(number)
         if name == "forget":
-            other = self.random.randint(1, 5)
+            other = self.random.choice(self.near)
             return f"{name} {other}", lambda: imp.forget(other)
         pool = list(imp.slots if name == "abandon" else imp.outstanding)
         flow = self.random.choice(pool) if pool and self.random.random() < 0.7 else self.flow()

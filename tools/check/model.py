@@ -44,7 +44,7 @@ ASKING = 500
 
 def some_network(chance):
     """A network; up to one in three breaks a rule or cannot be run."""
-    numbers = chance.sample(range(1, 17), chance.choice([1, 2, 2, 3, 3, 7]))
+    numbers = chance.sample(range(1, 64), chance.choice([1, 2, 2, 3, 3, 7]))
     imps = [(number, chance.choice([0, 1, 1, 2, 4])) for number in numbers]
     # a star, or a row that may be a ring
     lines = [(number, numbers[0]) for number in numbers[1:6]]
@@ -60,9 +60,10 @@ def some_network(chance):
         case 2:
             imps = []
         case 3:
-            imps += [(number, 1) for number in range(1, 18 - len(imps)) if number not in numbers]
+            others = [(number, 1) for number in range(1, 65) if number not in numbers]
+            imps += others[: chance.choice([16, 17, 63, 64]) - len(imps)]
         case 4:
-            imps[0] = chance.choice([0, 17, 16, -1]), 1
+            imps[0] = chance.choice([0, 64, 63, 17, -1]), 1
         case 5:
             imps[0] = numbers[0], chance.choice([-1, 5, 4])
         case 6:
@@ -70,7 +71,7 @@ def some_network(chance):
         case 7:
             lines.append((numbers[0], numbers[0]))
         case 8:
-            lines.append((numbers[0], chance.randrange(18)))
+            lines.append((numbers[0], chance.randrange(66)))
         case 9:
             lines.append((numbers[0], numbers[-1]))
         case 10 | 11 if lines:

@@ -26,13 +26,15 @@ from parts import ROOT, loaded
 explain, model = loaded("explain"), loaded("tools/check/model.py")
 
 import script_rules  # noqa: E402
+from imp_rules import MOST_IMPS  # noqa: E402
 from page import book, document, fold, layout, make, pairs, steps, topology, within  # noqa: E402
 
 MOST_OCTETS = 300_000
+MOST_LINES = 5 * MOST_IMPS // 2
 STATES = {"rfnm": fold.TAKEN, "dead": fold.DEAD, "incomplete": fold.GIVEN_UP}
 IN_BROWSER = [  # examples, and whether what is inside is shown
     ("first-message", False), ("two-users-at-one-server", False), ("from-a-terminal-to-a-server", True),
-    ("rerouted-over-a-triangle", True), ("a-restart-in-mid-stream", False), ("the-window-comes-round", False), ("a-question-overtakes-its-message", True),
+    ("rerouted-over-a-triangle", True), ("a-restart-in-mid-stream", False), ("a-destination-that-lags", False), ("a-question-overtakes-its-message", True), ("arpanet-of-the-late-seventies", False),
 ]  # fmt: skip
 # what is planted in a page's script, and words of what has to be found
 FAULTS = [
@@ -212,9 +214,9 @@ def check_questions(program):
 
 def some_net(chance, count, lines):
     """A network of so many IMPs, and of so many lines if they find ends, made by chance."""
-    numbers, ends = sorted(chance.sample(range(1, 17), count)), []
+    numbers, ends = sorted(chance.sample(range(1, MOST_IMPS + 1), count)), []
     places = {it: 0 for it in numbers}
-    for _ in range(400):
+    for _ in range(20 * MOST_LINES):
         a, b = chance.sample(numbers, 2) if count > 1 else (0, 0)
         if len(ends) < lines and count > 1 and max(places[a], places[b]) < 5 and (a, b) not in ends and (b, a) not in ends:
             ends.append((a, b))
@@ -224,11 +226,11 @@ def some_net(chance, count, lines):
 
 
 def check_maps(seeds):
-    """No signs overlap on maps of networks by chance, up to sixteen IMPs with forty lines."""
+    """No signs overlap on maps of networks by chance: one of the greatest, a few others as they come, and many smaller ones."""
     for seed in range(seeds):
         chance = random.Random(seed)
-        count = 16 if seed < 3 else chance.randrange(1, 17)
-        network = some_net(chance, count, 40 if seed < 3 else chance.randrange(41))
+        count = MOST_IMPS if seed == 0 else chance.randrange(1, MOST_IMPS + 1 if seed % 10 == 0 else 21)
+        network = some_net(chance, count, 5 * count // 2 if seed < 3 else chance.randrange(5 * count // 2 + 1))
         same(layout.placed(network).overlapping(), [], f"map {seed}: signs that overlap")
     print(f"check page: no signs overlap on the maps of {seeds} networks by chance")
 
@@ -242,11 +244,12 @@ def large():
         lines += ["[[imp]]", f"id = {number} # {network.names.get(number, 'a site')}", "hosts = 4"]
     for a, b in network.lines:
         lines += ["[[line]]", f"a = {a}", f"b = {b}"]
+    stopped = [*network.imps][8]
     lines += ["%", "calm 4"]
     for link in range(16):
-        source, destination = (f"{chance.randrange(4)}/{chance.randrange(1, 17)}" for _ in "ab")
+        source, destination = (f"{chance.randrange(4)}/{chance.choice([*network.imps])}" for _ in "ab")
         lines.append(f"out {source} {destination} {link} 16 ABCD")
-    return explain.Input("\n".join([*lines, "impdown 9", "calm 8", ""]).encode())
+    return explain.Input("\n".join([*lines, f"impdown {stopped}", "calm 8", ""]).encode())
 
 
 # ---- what has to stop a page, and two scripts

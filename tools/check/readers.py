@@ -46,7 +46,7 @@ FAULTS = {
     "from_host": {"ShortLeader", "UnknownType", "BadImp"},
     "from_imp": {"ShortLeader", "UnknownType", "BadImp"},
     "packet": {"Short", "NotCanonical", "BadLength"},
-    "frame": {"Short", "NotCanonical", "BadLength"},
+    "frame": {"Short", "BadVersion", "NotCanonical", "BadLength"},
     "command": {"Short", "IllegalCode", "Erroneous"},
     "commands": {"Short", "IllegalCode", "Erroneous"},
     "header": {"malformed"},
@@ -57,11 +57,11 @@ STRIPES = "A5C3" * 31 + "A5"  # 63 octets
 RTS, STR, CLS = "01000000100000002105", "02000000210000001008", "030000001000000021"
 ALL, RET = "0405000200000064", "0605000100000064"
 ERR = "0B030007000100FE00000000"
-EMPTY, RFNM, DEAD = "00010205008000108000", "0101020500800000", "0241C3FF7F800000"
-ASK, NEVER = "0301020900800000", "0401020900800000"
-REQUEST = "0001030000800080" + "0008000A00" + RTS + "80"
-FIRST, LAST = "0001820503" + "0003F0" + STRIPES * 2, "0001820503" + "87" + "0020" + "A5C38000"
-DISTANCES = "010001" + "10" * 13
+EMPTY, RFNM, DEAD = "0001020500008000108000", "010102050000800000", "0241FFFF7FFF800000"
+ASK, NEVER = "030102090000800000", "040102090000800000"
+REQUEST = "000103000000800080" + "0008000A00" + RTS + "80"
+FIRST, LAST = "000182050103" + "0003F0" + STRIPES * 2, "000182050103" + "87" + "0020" + "A5C38000"
+DISTANCES = "010001" + "3F" * 60
 
 # a reader, octets (of bits their number before them), and what is read
 WORKED = [
@@ -80,26 +80,33 @@ WORKED = [
     ("body", "48 FFFF00000000", "15 FFFE = 16 FFFF"),
     ("packet", EMPTY, "data 0/1 0/2 5 0 0 last 16 8000 = " + EMPTY),
     ("packet", RFNM, "rfnm 0/1 0/2 5 0 0 last 0 - = " + RFNM),
-    ("packet", DEAD, "dead 1/1 3/3 255 127 0 last 0 - = " + DEAD),
+    ("packet", DEAD, "dead 1/1 3/63 255 32767 0 last 0 - = " + DEAD),
     ("packet", ASK, "ask 0/1 0/2 9 0 0 last 0 - = " + ASK),
     ("packet", NEVER, "never 0/1 0/2 9 0 0 last 0 - = " + NEVER),
-    ("packet", "0501020900800000", "NotCanonical"),
-    ("packet", "03010209008000108000", "BadLength"),
-    ("packet", "0401020900000000", "NotCanonical"),
+    ("packet", "050102090000800000", "NotCanonical"),
+    ("packet", "0301020900008000108000", "BadLength"),
+    ("packet", "040102090000000000", "NotCanonical"),
+    ("packet", "0100020900FF800000", "NotCanonical"),
+    ("packet", "0101020500800000", "Short"),
     ("packet", REQUEST, f"data 0/1 0/3 0 0 0 last 128 0008000A00{RTS}80 = {REQUEST}"),
-    ("packet", FIRST, f"data 0/1 2/2 5 3 0 more 1008 {STRIPES * 2} = {FIRST}"),
-    ("packet", LAST, f"data 0/1 2/2 5 3 7 last 32 A5C38000 = {LAST}"),
-    ("frame", "0101", "acknowledgements 0 = 0101"),
-    ("frame", "01FF", "acknowledgements 01234567 = 01FF"),
-    ("frame", "0100", "acknowledgements  = 0100"),
-    ("frame", "000007" + EMPTY, "packet  on 7 under 0 data 0/1 0/2 5 0 0 last 16 8000 = 000007" + EMPTY),
-    ("frame", "00A508" + RFNM, "packet 0257 on 0 under 1 rfnm 0/1 0/2 5 0 0 last 0 - = 00A508" + RFNM),
-    ("frame", "00800F" + DEAD, "packet 7 on 7 under 1 dead 1/1 3/3 255 127 0 last 0 - = 00800F" + DEAD),
-    ("frame", "000001" + ASK, "packet  on 1 under 0 ask 0/1 0/2 9 0 0 last 0 - = 000001" + ASK),
-    ("frame", "000200" + NEVER, "packet 1 on 0 under 0 never 0/1 0/2 9 0 0 last 0 - = 000200" + NEVER),
-    ("frame", "000000" + FIRST, f"packet  on 0 under 0 data 0/1 2/2 5 3 0 more 1008 {STRIPES * 2} = 000000{FIRST}"),
-    ("frame", "0200" + DISTANCES, "routes  1 0 1" + " 16" * 13 + " = 0200" + DISTANCES),
-    ("frame", "020F" + "000102030405060708090A0B0C0D0E0F", f"routes 0123 {' '.join(map(str, range(16)))} = 020F000102030405060708090A0B0C0D0E0F"),
+    ("packet", FIRST, f"data 0/1 2/2 5 259 0 more 1008 {STRIPES * 2} = {FIRST}"),
+    ("packet", LAST, f"data 0/1 2/2 5 259 7 last 32 A5C38000 = {LAST}"),
+    ("frame", "F20101", "acknowledgements 0 = F20101"),
+    ("frame", "F201FF", "acknowledgements 01234567 = F201FF"),
+    ("frame", "F20100", "acknowledgements  = F20100"),
+    ("frame", "F2000007" + EMPTY, "packet  on 7 under 0 data 0/1 0/2 5 0 0 last 16 8000 = F2000007" + EMPTY),
+    ("frame", "F200A508" + RFNM, "packet 0257 on 0 under 1 rfnm 0/1 0/2 5 0 0 last 0 - = F200A508" + RFNM),
+    ("frame", "F200800F" + DEAD, "packet 7 on 7 under 1 dead 1/1 3/63 255 32767 0 last 0 - = F200800F" + DEAD),
+    ("frame", "F2000001" + ASK, "packet  on 1 under 0 ask 0/1 0/2 9 0 0 last 0 - = F2000001" + ASK),
+    ("frame", "F2000200" + NEVER, "packet 1 on 0 under 0 never 0/1 0/2 9 0 0 last 0 - = F2000200" + NEVER),
+    ("frame", "F2000000" + FIRST, f"packet  on 0 under 0 data 0/1 2/2 5 259 0 more 1008 {STRIPES * 2} = F2000000{FIRST}"),
+    ("frame", "F20200" + DISTANCES, "routes  1 0 1" + " 63" * 60 + " = F20200" + DISTANCES),
+    ("frame", "F2020F" + bytes(range(63)).hex().upper(), f"routes 0123 {' '.join(map(str, range(63)))} = F2020F{bytes(range(63)).hex().upper()}"),
+    ("frame", "F20200" + "40" + "3F" * 62, "NotCanonical"),
+    ("frame", "F20200" + "40" + "3F" * 61, "Short"),
+    ("frame", "0101", "BadVersion"),
+    ("frame", "F1", "BadVersion"),
+    ("frame", "0200010001" + "10" * 13, "BadVersion"),
     ("command", "00", "NOP (00)"),
     ("command", RTS, f"RTS 16 33 5 ({RTS})"),
     ("command", STR, f"STR 33 16 8 ({STR})"),
@@ -200,34 +207,34 @@ raw = true
 id = 1
 hosts = 2
 [[imp]]
-id = 16
+id = 63
 hosts = 1
 [[line]]
 a = 1
-b = 16
+b = 63
 """
 RAW = TOPOLOGY + b"""%
 calm 2
-out 0/1 0/16 5 12 A5C0
+out 0/1 0/63 5 12 A5C0
 drop 0 + 0
 resend 1
 deliver 0 + 0
-take 0/16
-route 16
+take 0/63
+route 63
 enddown 1 0
 endup 1 0
-hostdown 0/16
+hostdown 0/63
 
 # \xe2\x98\x85
 out 1/1 0/1 255 0 -
 take 0/1
-ask 0/1 0/16 5
-giveup 0/1 0/16 5
-abandon 0/1 0/16 5
-hostup 0/16
-impdown 16
-impup 16
-forget 1 16
+ask 0/1 0/63 5
+giveup 0/1 0/63 5
+abandon 0/1 0/63 5
+hostup 0/63
+impdown 63
+impup 63
+forget 1 63
 calm 12
 """
 PLAIN = b"""carrier = "plain"

@@ -8,7 +8,7 @@ another form. Both run every event, and what crosses and what is refused has to 
 time. What happens is mostly about what is there: frames that are live, messages that are outstanding, slots that are held.
 
 The calls are made by tools/calls, built without proofs (tools/drivers.py): ./check subnet [RUNS]
-Networks of the greatest size, sixteen IMPs and forty lines, five at each IMP, are tried by ./check subnet largest [RUNS]
+Networks of the greatest size, 63 IMPs and 157 lines, five at each IMP but one, are tried by ./check subnet largest [RUNS]
 A folder of networks and scripts with their outputs can be tried too: ./check subnet FOLDER
 """
 
@@ -20,7 +20,7 @@ from collections import Counter
 
 
 from drivers import run_cases, write_case
-from imp_rules import spell_flow, spell_host
+from imp_rules import MOST_IMPS, NUMBERS, WINDOW, spell_flow, spell_host
 from subnet_rules import Subnet
 
 RUNS = 1000
@@ -43,11 +43,11 @@ class Chance:
     def __init__(self, seed, is_largest):
         self.random = random.Random(seed)
         self.events = LARGEST_EVENTS if is_largest else EVENTS
-        count = 16 if is_largest else self.random.choice([1, 2, 2, 3, 3, 4, 7])
-        numbers = sorted(self.random.sample(range(1, 17), count))
+        count = MOST_IMPS if is_largest else self.random.choice([1, 2, 2, 3, 3, 4, 7])
+        numbers = sorted(self.random.sample(range(1, MOST_IMPS + 1), count))
         self.imps = [(number, self.random.choice([0, 1, 1, 2, 4])) for number in numbers]
         shuffled = self.random.sample(numbers, len(numbers))
-        self.ends = self.forty_lines(shuffled) if is_largest else self.lines_of(shuffled)
+        self.ends = self.most_lines(shuffled) if is_largest else self.lines_of(shuffled)
         self.subnet = Subnet(self.imps, self.ends)
         there = [(host, number) for number, count in self.imps for host in range(count)]
         near = self.random.sample(there, min(len(there), 4))
@@ -69,10 +69,12 @@ class Chance:
                 return [*zip(numbers, numbers[1:] + numbers[:1])]
         return [*zip(numbers, numbers[1:])]
 
-    def forty_lines(self, numbers):
-        """From each IMP of a ring to its two neighbours each way, and to the one across."""
-        near = [(numbers[at], numbers[(at + step) % 16]) for step in (1, 2) for at in range(16)]
-        return self.random.sample(near + [*zip(numbers[:8], numbers[8:])], 40)
+    def most_lines(self, numbers):
+        """From each IMP of a ring to its two neighbours each way, and to one across, which of an odd number of IMPs one has not."""
+        count, half = len(numbers), len(numbers) // 2
+        near = [(numbers[at], numbers[(at + step) % count]) for step in (1, 2) for at in range(count)]
+        lines = near + [*zip(numbers[:half], numbers[half:])]
+        return self.random.sample(lines, len(lines))
 
     def flow(self):
         return self.random.choice(self.hosts), self.random.choice(self.hosts), self.random.choice([0, 5, 255])
@@ -105,8 +107,8 @@ class Chance:
                 return (self.random.choice(held or self.flows),)
             case "alive":
                 alive = self.subnet.alive() if sure else []
-                flow, number = self.random.choice(alive)[:2] if alive else (self.random.choice(self.flows), self.random.choice([0, 1, 255]))
-                return flow, (number + self.random.choice([0, 0, 1])) % 256
+                flow, number = self.random.choice(alive)[:2] if alive else (self.random.choice(self.flows), self.random.choice([0, 1, 256, WINDOW, NUMBERS - 1]))
+                return flow, (number + self.random.choice([0, 0, 1, 256])) % NUMBERS
             case "deliver" | "drop":
                 live = self.subnet.live if sure else []
                 ways = [(line, way) for line, ways in enumerate(live) for way in "+-" if ways[way]]

@@ -1,6 +1,8 @@
 "use strict";
 // The page: its head, one or two replays, the time axis, and the step that all of them show.
 
+const WIDE = 560; // a map of more pixels has more of the page's width
+
 /** What happens in a step, in the words of script and output. */
 function whatOf(data, step) {
   if (!step) return [];
@@ -174,7 +176,7 @@ function start(replays, pairs) {
   const pageStep = (at, step) => (isPair ? pairs.findIndex((it) => it[at] >= step) + 1 : step);
   const player = { step: -1, timer: 0, last, ownStep };
   player.views = replays.map((data, at) => {
-    const place = el("section", "view"), sentencePlace = el("div", "said");
+    const place = el("section", data.map.w > WIDE ? "view wide" : "view"), sentencePlace = el("div", "said");
     if (isPair) place.append(el("h2", "which", `${at ? "after" : "before"}: ${data.title}`));
     main.append(place);
     now.append(sentencePlace);
