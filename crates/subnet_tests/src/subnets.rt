@@ -720,6 +720,7 @@ fn come_round(alloc: Global) -> Result<[usize; 3], AllocError> {
     Ok([before, others, fitting(alloc, &mut subnet, &AGAIN)])
 }
 
+// a tenth of a second as `rt test` builds it; `rt try`, which looks at each step, runs out of time here
 #[test]
 fn a_number_comes_round_after_all_others(rt: HostRuntime) {
     assert_eq!(rt; come_round(rt.alloc()), Ok([14, 65_535, 5]));
