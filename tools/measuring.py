@@ -17,8 +17,8 @@ def processor_time(words, source="/dev/null"):
     return used.ru_utime + used.ru_stime
 
 
-def best_of_both(programs, source, rounds):
-    """The best processor time of each of two programs, run in turn."""
+def best_of_all(programs, source, rounds):
+    """The best processor time of each of these programs, run in turn."""
     runs = [[processor_time([program], source) for program in programs] for _ in range(rounds)]
     return [min(times) for times in zip(*runs)]
 

@@ -64,8 +64,8 @@ class Chance:
 
     def __init__(self, seed):
         self.random = random.Random(seed)
-        self.near = self.random.sample(range(1, MOST_IMPS + 1), 5)
-        number = self.near[0]
+        self.five = self.random.sample(range(1, MOST_IMPS + 1), 5)
+        number = self.five[0]
         self.imp = Imp(number, self.random.choice((1, 2, 2, 3, 4, 4, 0)), self.random.choice((1, 1, 2, 2, 3, 5, 0)))
         self.lines = [f"new {number} {len(self.imp.hosts)} {len(self.imp.ports)}"]
         self.bodies = {}
@@ -79,7 +79,7 @@ class Chance:
         self.lengths = self.random.choice(((0, 8, 24), (0, 24, 1007, 1008, 2100), (0, 2100, 8063)))
 
     def host(self, own=0.5):
-        imp = self.imp.number if self.random.random() < own else self.random.choice(self.near)
+        imp = self.imp.number if self.random.random() < own else self.random.choice(self.five)
         return self.number_below(len(self.imp.hosts) if imp == self.imp.number else 2, 3), imp
 
     def number_below(self, count, most):
@@ -169,7 +169,7 @@ class Chance:
             number = self.number_below(len(imp.hosts), 3)
             return f"{name} {number}", lambda: getattr(imp, name)(number)
         if name == "forget":
-            other = self.random.choice(self.near)
+            other = self.random.choice(self.five)
             return f"{name} {other}", lambda: imp.forget(other)
         pool = list(imp.slots if name == "abandon" else imp.outstanding)
         flow = self.random.choice(pool) if pool and self.random.random() < 0.7 else self.flow()

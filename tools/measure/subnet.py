@@ -1,7 +1,9 @@
-"""How many hops and events a second a subnet runs: ./measure subnet [--program FILE] [--beside FILE] [--only WORDS] [ROUNDS]
+"""How many hops and events a second a subnet runs: ./measure subnet [--program FILE] [--beside FILE] [--instructions] [--only WORDS] [ROUNDS]
 
 ./build has to be run before, or FILE is the program. With --beside, the program of an earlier state is run in turn with it, so
-that a busy machine slows both; both have to print the same. With --only, the kinds whose names have these words are measured.
+that a busy machine slows both; both have to print the same, and kinds that the earlier one refuses are measured alone. With
+--instructions, callgrind of Valgrind counts the instructions of one run, which no load changes (it may want a program without debug
+information, as `strip -g` leaves it). With --only, the kinds whose names have these words are measured.
 Each kind of script is measured at one size and at ten times that size:
 
 - messages over a chain of eight IMPs: eight messages at a time go from the first to the last, and then `calm` lets them
@@ -9,6 +11,8 @@ Each kind of script is measured at one size and at ten times that size:
 - messages between 64 hosts, four at each of 16 IMPs in a ring: one from each host at a time, each for another host, and then
   `calm` lets them and their RFNMs pass.
 - quiet rounds in that ring, with nothing but distances in transit: in each, 32 frames are delivered and 64 hosts take.
+- messages between 252 hosts, four at each of 63 IMPs, the most that there can be, with 157 lines: 250 at a time.
+- one message over 63 IMPs in a row, after as many rounds as its routes need.
 - single events by chance in a ring of 16 IMPs with eight chords. The independent model of the rules in Python goes along, so
   that frames that are there are delivered and dropped, and messages are begun on idle flows.
 
@@ -20,12 +24,14 @@ gate.
 
 import argparse
 import random
+import re
 import statistics
 import subprocess
 import sys
 import tempfile
 
-from measuring import best_of_both, most_memory, processor_time, written
+from imp_rules import MOST_IMPS
+from measuring import best_of_all, most_memory, processor_time, written
 from parts import proved_program
 from subnet_rules import Subnet
 
@@ -58,6 +64,24 @@ def between_many(messages):
 
 def quiet(rounds):
     return network([(number, 4) for number in range(1, 17)], RING), ["calm 100"] * (rounds // 100)
+
+
+def between_most(messages):
+    """A ring of all IMPs with lines to the next but one, and to the one across, and messages for hosts all over it."""
+    numbers = range(1, MOST_IMPS + 1)
+    hosts = [f"{host}/{number}" for number in numbers for host in range(4)]
+    near = [(number, (number + step - 1) % MOST_IMPS + 1) for step in (1, 2) for number in numbers]
+    lines = ["calm 12"]
+    for at in range(messages // 250):
+        lines += [f"out {source} {hosts[(place + 7 * at % 251 + 1) % 252]} {at % 8} 0 -" for place, source in enumerate(hosts[:250])]
+        lines += ["calm 16"]
+    return network([(number, 4) for number in numbers], near + [(number, number + 31) for number in range(1, 32)]), lines
+
+
+def row(messages):
+    imps = [(number, int(number in (1, MOST_IMPS))) for number in range(1, MOST_IMPS + 1)]
+    lines = ["calm 63"] + [f"out 0/1 0/{MOST_IMPS} 5 8 FF", "calm 64"] * messages
+    return network(imps, [(number, number + 1) for number in range(1, MOST_IMPS)]), lines
 
 
 def chance(events):
@@ -102,12 +126,27 @@ MEASURED = [
     ("messages between 64 hosts, 16 IMPs", between_many, (3_200, 32_000), "messages", 1),
     ("quiet rounds of 64 hosts, 16 IMPs", quiet, (1_000, 10_000), "rounds", 1),
     ("single events by chance, 16 IMPs", chance, (8_000, 80_000), "events", 1),
+    ("messages over 63 IMPs in a row", row, (1, 10), "messages", 1),
+    ("messages between 252 hosts, 63 IMPs, 157 lines", between_most, (1_000, 10_000), "messages", 1),
 ]
 
 
-def printed(program, source):
+def ended(program, source):
+    """The status of a run, and what it printed."""
     with open(source, "rb") as octets:
-        return subprocess.run([program], stdin=octets, capture_output=True, check=True).stdout
+        ran = subprocess.run([program], stdin=octets, capture_output=True)
+    return ran.returncode, ran.stdout
+
+
+def instructions(program, source):
+    """How many instructions a run has, in millions."""
+    words = ["valgrind", "--tool=callgrind", "--callgrind-out-file=/dev/null", program]
+    with open(source, "rb") as octets:
+        ran = subprocess.run(words, stdin=octets, stdout=subprocess.DEVNULL, stderr=subprocess.PIPE)
+    found = re.search(rb"Collected : (\d+)", ran.stderr)
+    if not found:
+        sys.exit(f"measure subnet: callgrind counted nothing:\n{ran.stderr.decode()}")
+    return int(found[1]) / 1e6
 
 
 def alone(program, source, rounds):
@@ -120,32 +159,55 @@ def words_of():
     words = argparse.ArgumentParser(prog="measure subnet")
     words.add_argument("--program")
     words.add_argument("--beside")
+    words.add_argument("--instructions", action="store_true")
     words.add_argument("--only", default="")
     words.add_argument("rounds", nargs="?", type=int, default=11)
     return words.parse_args()
 
 
+class Measure:
+    """The programs, how often they are run, and how what they take is told: in milliseconds or in millions of instructions."""
+
+    def __init__(self, words):
+        self.program, self.beside, self.rounds, self.counts = words.program or proved_program(), words.beside, words.rounds, words.instructions
+
+    def head(self):
+        taken = "Instructions" if self.counts else "Median | Best | A second"
+        columns = "Before | After | After by before | Most memory before | after" if self.beside else f"{taken} | Most memory"
+        told = f"| Measured | Count | {columns} | Ten times the count |"
+        return f"{told}\n|{'---|' * (told.count('|') - 1)}"
+
+    def number(self, taken):
+        return f"{taken:,.1f} M" if self.counts else f"{1000 * taken:.1f} ms"
+
+    def row(self, source, unit, count):
+        """The words of a row, and what the program takes."""
+        memory = most_memory(self.program, source)[0]
+        if not self.beside:
+            median, best = [instructions(self.program, source)] * 2 if self.counts else alone(self.program, source, self.rounds)
+            taken = self.number(best) if self.counts else f"{self.number(median)} | {self.number(best)} | {count / median:,.0f} {unit}"
+            return f"{taken} | {memory:,} KiB", best
+        (status, earlier), (_, later) = (ended(it, source) for it in (self.beside, self.program))
+        if status == 0 and earlier != later:
+            sys.exit(f"measure subnet: the two programs print something else on {source}")
+        programs = [self.beside, self.program] if status == 0 else [self.program]
+        taken = [instructions(it, source) for it in programs] if self.counts else [*best_of_all(programs, source, self.rounds)]
+        if status != 0:
+            return f"refused | {self.number(taken[0])} | | | {memory:,} KiB", taken[0]
+        before, after = taken
+        told = f"{self.number(before)} | {self.number(after)} | {after / before:.2f}"
+        return f"{told} | {most_memory(self.beside, source)[0]:,} KiB | {memory:,} KiB", after
+
+
 def main():
     words = words_of()
-    program = words.program or proved_program()
+    measure = Measure(words)
+    print(measure.head())
     with tempfile.TemporaryDirectory() as folder:
-        if words.beside:
-            print("| Measured | Count | Before | After | Times | Ten times the count |\n|---|---|---|---|---|---|")
-        else:
-            print("| Measured | Count | Median | Best | A second | Most memory | Ten times the count |\n|---|---|---|---|---|---|---|")
         for name, make, counts, unit, each in MEASURED:
             short = 0
             for count in counts if words.only in name else []:
                 source = written(folder, f"{make.__name__}-{count}", input_of(*make(count)))
-                if words.beside:
-                    if printed(words.beside, source) != printed(program, source):
-                        sys.exit(f"measure subnet: {name}: the two programs print something else")
-                    before, best = best_of_both([words.beside, program], source, words.rounds)
-                    told = f"{1000 * before:.1f} ms | {1000 * best:.1f} ms | {before / best:.2f}"
-                else:
-                    median, best = alone(program, source, words.rounds)
-                    memory = most_memory(program, source)[0]
-                    told = f"{1000 * median:.1f} ms | {1000 * best:.1f} ms | {each * count / median:,.0f} {unit} | {memory:,} KiB"
-                growth = f"{best / short:.1f} times" if short else "-"
-                print(f"| {name} | {count:,} | {told} | {growth} |", flush=True)
+                told, best = measure.row(source, unit, each * count)
+                print(f"| {name} | {count:,} | {told} | {f'{best / short:.1f} times' if short else '-'} |", flush=True)
                 short = best

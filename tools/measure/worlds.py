@@ -36,7 +36,7 @@ import statistics
 import sys
 import tempfile
 
-from measuring import best_of_both, most_memory, processor_time, written
+from measuring import best_of_all, most_memory, processor_time, written
 from parts import proved_program
 
 CONNECTIONS = 40
@@ -251,7 +251,7 @@ def beside(programs, source, rounds, wanted):
     (former, lines), (latter, others) = [memory_of(program, source, wanted) for program in programs]
     if lines != others:
         sys.exit(f"measure worlds: {source}: the two programs print something else")
-    before, after = best_of_both(programs, source, rounds)
+    before, after = best_of_all(programs, source, rounds)
     return f"{1000 * before:.1f} ms | {1000 * after:.1f} ms | {before / after:.2f} | {former:,} KiB | {latter:,} KiB", after
 
 
