@@ -1,4 +1,4 @@
--- The lemmas of this crate that others may use: the proofs of command_line and world_replay do. All others in proofs/ are its own.
+-- The lemmas of this crate that others may use: the proofs of command_line, trace and world_replay do. All others in proofs/ are its own.
 pub use Rattle.replay.proofs.InTurn.{ends_front, in_turn_once, last_shown, last_written, one_written, text_more, text_of-append}
 pub use Rattle.replay.proofs.Passing.{grown_more}
 pub use Rattle.replay.proofs.Replays.{replays_show, stops_show}

@@ -1,4 +1,4 @@
-mod Digits
+pub mod Digits
 pub mod Hosts
 pub mod Keywords
 pub mod Lines

@@ -52,7 +52,7 @@ flow_same f g fs gs same =
     let link : f.link.0 ≡ g.link.0 = decimal_injective f.link.0 g.link.0 (omega arith) (omega arith) same.third in
     λ i. record { source = source i; destination = destination i; link = record { 0 = link i } }
 
-flow_once : (f g : Flow) → IsFlow f → IsFlow g → flow_text f ≡ flow_text g → f ≡ g
+pub flow_once : (f g : Flow) → IsFlow f → IsFlow g → flow_text f ≡ flow_text g → f ≡ g
 flow_once f g fs gs e = flow_same f g fs gs
     (same_three 32 (host_text f.source) (host_text f.destination) (decimal f.link.0) (host_text g.source) (host_text g.destination) (decimal g.link.0)
     (host_unmarked 32 f.source (lit< tt) fs.0) (host_unmarked 32 f.destination (lit< tt) fs.1) (host_unmarked 32 g.source (lit< tt) gs.0) (host_unmarked 32 g.destination (lit< tt) gs.1) e)
@@ -68,7 +68,7 @@ text_once (x ∷ xs) (y ∷ ys) long e =
     let octets : octets_of (x ∷ xs) ≡ octets_of (y ∷ ys) = cc in
     sym (text_again (x ∷ xs)) ∙ ap₂ (λ n os. take n (bits_of os)) long octets ∙ text_again (y ∷ ys)
 
-message_once : (m n : HostMessage) → IsMessage m → IsMessage n → message_text m ≡ message_text n → m ≡ n
+pub message_once : (m n : HostMessage) → IsMessage m → IsMessage n → message_text m ≡ message_text n → m ≡ n
 message_once m n ms ns e =
     let m_link : m.flow.link.0 < 256 = ms.0.2 in
     let n_link : n.flow.link.0 < 256 = ns.0.2 in

@@ -1,0 +1,200 @@
+-- What an event's parts do not name is as before.
+use Rattle.std.proofs.Common.{◌≡◌, ◌||◌, Bool, true, false, List, [], ◌∷◌, ◌++◌, Option, Some, None, if◌then◌else◌, filter, inl, inr, map, refl, reverse, sym, ap, ◌∙◌}
+use Rattle.std.proofs.lemmas.Bool.{false≢true}
+use Rattle.leader1822.specs.Boxes.{Boxes, for_host, given_up, inbound_taken, next_for, offered, rest, stepped}
+use Rattle.leader1822.specs.Host.{Host, is_host, same_host}
+use Rattle.leader1822.specs.declared.address.Flow.{Flow}
+use Rattle.leader1822.specs.declared.Inbound.{Inbound}
+use Rattle.leader1822.specs.declared.Inbound.TheVariants as inbound
+use Rattle.leader1822.specs.declared.NetEvent.{NetEvent}
+use Rattle.leader1822.specs.declared.NetEvent.TheVariants as net
+use Rattle.leader1822.specs.declared.HostMessage.{HostMessage}
+use Rattle.leader1822.specs.declared.crossing.Answer.TheVariants as answer
+use Rattle.leader1822.specs.declared.crossing.Crossing.{Crossing}
+use Rattle.leader1822.specs.declared.crossing.Crossing.TheVariants as crossing
+use Rattle.replay.specs.Output.{Shown, shown_crossings, shown_refusal}
+use Rattle.replay.specs.Replay.{Happens, IsOneCall}
+use Rattle.script.specs.declared.event.RawEvent.{RawEvent}
+use Rattle.script.specs.declared.event.RawEvent.TheVariants as event
+use Rattle.trace.specs.Elements.{plain}
+use Rattle.trace.specs.Parts.{Part, Down, Waiting, IsPart, SamePart, is_named, is_source, moves_host, parts_of, reaches}
+use Rattle.trace.proofs.Each.{Left, crossings_are, left_of}
+use Rattle.trace.proofs.Queues.{for_other, host_is, queued_other}
+
+-- ---- what is not named
+
+or_false : (a b : Bool) → (a || b) ≡ false → (a ≡ false) × (b ≡ false)
+or_false true b h = absurd (cc)
+or_false false b h = (refl, h)
+
+down_named : (t : Bool) (parts : List Part) → is_named Down ((if t then Down ∷ [] else []) ++ parts) ≡ false → t ≡ false
+down_named true parts h = absurd (cc)
+down_named false parts h = refl
+
+past_down : (t : Bool) (h : Host) (parts : List Part) → is_named (Waiting h) ((if t then Down ∷ [] else []) ++ parts) ≡ is_named (Waiting h) parts
+past_down true h parts = refl
+past_down false h parts = refl
+
+host_named : (test : Host → Bool) (h : Host) (hosts : List Host) → is_host hosts h ≡ true → test h ≡ true → is_named (Waiting h) (map (λ g. Waiting g) (filter test hosts)) ≡ true
+host_named test h [] there passes = absurd (cc)
+host_named test h (g ∷ hosts) there passes = by (λ t. host_named test h hosts t passes) (same_host h g) refl (test g) refl
+  where
+    rest_there : same_host h g ≡ false → is_host hosts h ≡ true
+    rest_there e = rw e at there
+
+    by : (is_host hosts h ≡ true → is_named (Waiting h) (map (λ k. Waiting k) (filter test hosts)) ≡ true) → (b : Bool) → same_host h g ≡ b → (c : Bool) → test g ≡ c → is_named (Waiting h) (map (λ g. Waiting g) (filter test (g ∷ hosts))) ≡ true
+    by more true e true t = rw t (rw e refl)
+    by more true e false t = absurd (false≢true (sym t ∙ ap test (sym (host_is h g e)) ∙ passes))
+    by more false e true t = rw t (rw e (more (rest_there e)))
+    by more false e false t = rw t (more (rest_there e))
+
+not_reached : (hosts : List Host) (e : RawEvent) (shown : List Shown) (h : Host) → is_host hosts h ≡ true → is_named (Waiting h) (parts_of hosts e shown) ≡ false → reaches e shown h ≡ false
+not_reached hosts e shown h there none = by (reaches e shown h) refl
+  where
+    by : (b : Bool) → reaches e shown h ≡ b → reaches e shown h ≡ false
+    by false is = is
+    by true is = absurd (false≢true (sym none ∙ past_down (moves_host e) h (map (λ g. Waiting g) (filter (reaches e shown) hosts)) ∙ host_named (reaches e shown) h hosts there is))
+
+-- ---- each event
+
+-- the queues of one host
+abbrev Same : Boxes → Host → Boxes → Type 0
+Same old h new = SamePart (Waiting h) old new
+
+all_same : (old new : Boxes) (h : Host) → new ≡ old → Same old h new
+all_same old new h e = (ap (λ b. for_host b.messages h) e, ap (λ b. for_host b.answers h) e)
+
+as_left : (old left new : Boxes) (h : Host) → Same old h left → new ≡ left → Same old h new
+as_left old left new h s e = (ap (λ b. for_host b.messages h) e ∙ s.0, ap (λ b. for_host b.answers h) e ∙ s.1)
+
+offered_same : (old : Boxes) (m : HostMessage) (h : Host) → same_host h m.flow.destination ≡ false → same_host h m.flow.source ≡ false → Same old h (offered old m)
+offered_same old m h d s = (queued_other _ old.messages m.flow.destination m h d, queued_other _ old.answers m.flow.source (answer.Dead, m.flow) h s)
+
+given_up_same : (old : Boxes) (f : Flow) (h : Host) → same_host h f.destination ≡ false → same_host h f.source ≡ false → Same old h (given_up old f)
+given_up_same old f h d s = (for_other old.messages f.destination _ h d, for_other old.answers f.source _ h s)
+
+-- after what crossed, its source is told
+source_told : (h : Host) (cs log new : List Crossing) (refused : List Shown) (m : HostMessage) → new ≡ reverse cs ++ log → new ≡ crossing.In m ∷ log → is_source h (shown_crossings cs ++ refused) ≡ false → same_host h m.flow.source ≡ false
+source_told h cs log new refused m grown is none =
+    let one : cs ≡ crossing.In m ∷ [] = crossings_are cs (crossing.In m ∷ []) log new grown is in
+    (or_false (same_host h m.flow.source) (is_source h refused) (ap (λ xs. is_source h (shown_crossings xs ++ refused)) (sym one) ∙ none)).0
+
+taken_same : (old new : Boxes) (g h : Host) (o : Option Inbound) (cs : List Crossing) (refused : List Shown) → new ≡ inbound_taken old g o → new.log ≡ reverse cs ++ old.log → same_host h g ≡ false → is_source h (shown_crossings cs ++ refused) ≡ false → Same old h new
+taken_same old new g h None cs refused e grown other none = all_same old new h e
+taken_same old new g h (Some (inbound.Answer kind f)) cs refused e grown other none =
+    as_left old (inbound_taken old g (Some (inbound.Answer kind f))) new h (refl, for_other old.answers g (rest (for_host old.answers g)) h other) e
+taken_same old new g h (Some (inbound.Message m)) cs refused e grown other none =
+    let apart : same_host h m.flow.source ≡ false = source_told h cs old.log new.log refused m grown (ap (λ b. b.log) e) none in
+    as_left old (inbound_taken old g (Some (inbound.Message m))) new h
+    (for_other old.messages g (rest (for_host old.messages g)) h other, queued_other _ old.answers m.flow.source (answer.Rfnm, m.flow) h apart) e
+
+stepped_same : (old : Boxes) (e : NetEvent) (shown : List Shown) (h : Host) → reaches (event.Net e) shown h ≡ false → Same old h (stepped old e)
+stepped_same old (net.GiveUp f) shown h none = let apart = or_false (same_host h f.destination) (same_host h f.source) none in given_up_same old f h apart.0 apart.1
+stepped_same old (net.HostDown g) shown h none = absurd (cc)
+stepped_same old (net.HostUp g) shown h none = (refl, refl)
+stepped_same old (net.Deliver line way frame) shown h none = (refl, refl)
+stepped_same old (net.Drop line way frame) shown h none = (refl, refl)
+stepped_same old (net.Resend imp) shown h none = (refl, refl)
+stepped_same old (net.Route imp) shown h none = (refl, refl)
+stepped_same old (net.EndDown imp line) shown h none = (refl, refl)
+stepped_same old (net.EndUp imp line) shown h none = (refl, refl)
+stepped_same old (net.ImpDown imp) shown h none = (refl, refl)
+stepped_same old (net.ImpUp imp) shown h none = (refl, refl)
+stepped_same old (net.Forget at from) shown h none = (refl, refl)
+stepped_same old (net.Abandon f) shown h none = (refl, refl)
+stepped_same old (net.Ask f) shown h none = (refl, refl)
+
+queues_left : (old new : Boxes) (e : RawEvent) (shown : List Shown) (h : Host) → Left old new e → Happens plain old e new shown → reaches e shown h ≡ false → Same old h new
+queues_left old new (event.Out m) shown h (inl same) k none = all_same old new h same
+queues_left old new (event.Out m) shown h (inr left) k none =
+    let apart = or_false (same_host h m.flow.destination) (same_host h m.flow.source) none in
+    as_left old (offered old m) new h (offered_same old m h apart.0 apart.1) left.1
+queues_left old new (event.Take g) shown h (inl same) k none = all_same old new h same
+queues_left old new (event.Take g) shown h (inr left) k none =
+    let apart = or_false (same_host h g) (is_source h shown) none in
+    taken_same old new g h (next_for old g) k.crossings (shown_refusal k.outcome) left.1 k.grown apart.0 (ap (λ (xs : List Shown). is_source h xs) (sym k.lines) ∙ apart.1)
+queues_left old new (event.Net e) shown h (inl same) k none = all_same old new h same
+queues_left old new (event.Net e) shown h (inr left) k none = as_left old (stepped old e) new h (stepped_same old e shown h none) left.1
+queues_left old new (event.Calm rounds) shown h left k none = absurd left
+
+-- ---- hosts, and those that are down
+
+-- the hosts stay, and memory has not run out in an event that went on
+pub record Frame (old new : Boxes) : Type 0 where
+  pub hosts : new.hosts ≡ old.hosts
+  pub stopped : new.stopped ≡ old.stopped
+
+same_frame : (old new : Boxes) → new ≡ old → Frame old new
+same_frame old new e = record { hosts = ap (λ b. b.hosts) e; stopped = ap (λ b. b.stopped) e }
+
+frame_left : (old left new : Boxes) → Frame old left → new ≡ left → Frame old new
+frame_left old left new f e = record { hosts = ap (λ b. b.hosts) e ∙ f.hosts; stopped = ap (λ b. b.stopped) e ∙ f.stopped }
+
+taken_frame : (old : Boxes) (g : Host) (o : Option Inbound) → Frame old (inbound_taken old g o)
+taken_frame old g None = record { hosts = refl; stopped = refl }
+taken_frame old g (Some (inbound.Answer kind f)) = record { hosts = refl; stopped = refl }
+taken_frame old g (Some (inbound.Message m)) = record { hosts = refl; stopped = refl }
+
+taken_down : (old : Boxes) (g : Host) (o : Option Inbound) → (inbound_taken old g o).down ≡ old.down
+taken_down old g None = refl
+taken_down old g (Some (inbound.Answer kind f)) = refl
+taken_down old g (Some (inbound.Message m)) = refl
+
+stepped_frame : (old : Boxes) (e : NetEvent) → Frame old (stepped old e)
+stepped_frame old (net.GiveUp f) = record { hosts = refl; stopped = refl }
+stepped_frame old (net.HostDown g) = record { hosts = refl; stopped = refl }
+stepped_frame old (net.HostUp g) = record { hosts = refl; stopped = refl }
+stepped_frame old (net.Deliver line way frame) = record { hosts = refl; stopped = refl }
+stepped_frame old (net.Drop line way frame) = record { hosts = refl; stopped = refl }
+stepped_frame old (net.Resend imp) = record { hosts = refl; stopped = refl }
+stepped_frame old (net.Route imp) = record { hosts = refl; stopped = refl }
+stepped_frame old (net.EndDown imp line) = record { hosts = refl; stopped = refl }
+stepped_frame old (net.EndUp imp line) = record { hosts = refl; stopped = refl }
+stepped_frame old (net.ImpDown imp) = record { hosts = refl; stopped = refl }
+stepped_frame old (net.ImpUp imp) = record { hosts = refl; stopped = refl }
+stepped_frame old (net.Forget at from) = record { hosts = refl; stopped = refl }
+stepped_frame old (net.Abandon f) = record { hosts = refl; stopped = refl }
+stepped_frame old (net.Ask f) = record { hosts = refl; stopped = refl }
+
+stepped_down : (old : Boxes) (e : NetEvent) → moves_host (event.Net e) ≡ false → (stepped old e).down ≡ old.down
+stepped_down old (net.GiveUp f) none = refl
+stepped_down old (net.HostDown g) none = absurd (cc)
+stepped_down old (net.HostUp g) none = absurd (cc)
+stepped_down old (net.Deliver line way frame) none = refl
+stepped_down old (net.Drop line way frame) none = refl
+stepped_down old (net.Resend imp) none = refl
+stepped_down old (net.Route imp) none = refl
+stepped_down old (net.EndDown imp line) none = refl
+stepped_down old (net.EndUp imp line) none = refl
+stepped_down old (net.ImpDown imp) none = refl
+stepped_down old (net.ImpUp imp) none = refl
+stepped_down old (net.Forget at from) none = refl
+stepped_down old (net.Abandon f) none = refl
+stepped_down old (net.Ask f) none = refl
+
+frame_of : (old new : Boxes) (e : RawEvent) → Left old new e → Frame old new
+frame_of old new (event.Out m) (inl same) = same_frame old new same
+frame_of old new (event.Out m) (inr left) = frame_left old (offered old m) new (record { hosts = refl; stopped = refl }) left.1
+frame_of old new (event.Take g) (inl same) = same_frame old new same
+frame_of old new (event.Take g) (inr left) = frame_left old (inbound_taken old g (next_for old g)) new (taken_frame old g (next_for old g)) left.1
+frame_of old new (event.Net e) (inl same) = same_frame old new same
+frame_of old new (event.Net e) (inr left) = frame_left old (stepped old e) new (stepped_frame old e) left.1
+frame_of old new (event.Calm rounds) left = absurd left
+
+down_left : (old new : Boxes) (e : RawEvent) → Left old new e → moves_host e ≡ false → new.down ≡ old.down
+down_left old new (event.Out m) (inl same) none = ap (λ b. b.down) same
+down_left old new (event.Out m) (inr left) none = ap (λ b. b.down) left.1
+down_left old new (event.Take g) (inl same) none = ap (λ b. b.down) same
+down_left old new (event.Take g) (inr left) none = ap (λ b. b.down) left.1 ∙ taken_down old g (next_for old g)
+down_left old new (event.Net e) (inl same) none = ap (λ b. b.down) same
+down_left old new (event.Net e) (inr left) none = ap (λ b. b.down) left.1 ∙ stepped_down old e none
+down_left old new (event.Calm rounds) left none = absurd left
+
+pub frame : (old new : Boxes) (e : RawEvent) (shown : List Shown) → IsOneCall e → Happens plain old e new shown → Frame old new
+frame old new e shown one k = frame_of old new e (left_of old new e shown one k)
+
+pub rest_same : (old new : Boxes) (e : RawEvent) (shown : List Shown) (p : Part) → IsOneCall e → Happens plain old e new shown → IsPart old.hosts p → is_named p (parts_of old.hosts e shown) ≡ false → SamePart p old new
+rest_same old new e shown Down one k there none =
+    down_left old new e (left_of old new e shown one k) (down_named (moves_host e) (map (λ h. Waiting h) (filter (reaches e shown) old.hosts)) none)
+rest_same old new e shown (Waiting h) one k there none =
+    queues_left old new e shown h (left_of old new e shown one k) k (not_reached old.hosts e shown h there none)

@@ -1,0 +1,5 @@
+pub mod Elements
+pub mod Kept
+pub mod Parts
+pub mod Texts
+pub mod Worked

@@ -1,0 +1,37 @@
+-- Words for worked examples: two hosts of IMP 1, one of IMP 2, and messages from the first to the third.
+use Rattle.std.specs.Prelude.{true, false, List, [], ◌∷◌}
+use Rattle.leader1822.specs.Boxes.{Boxes, offered, opening_boxes}
+use Rattle.leader1822.specs.Host.{Host}
+use Rattle.leader1822.specs.declared.address.Flow.{Flow}
+use Rattle.leader1822.specs.declared.message.HostMessage.{HostMessage}
+
+abbrev pub first : Host
+first = record { imp = 1; host = 0 }
+
+abbrev pub second : Host
+second = record { imp = 1; host = 1 }
+
+abbrev pub third : Host
+third = record { imp = 2; host = 0 }
+
+abbrev pub hosts : List Host
+hosts = first ∷ second ∷ third ∷ []
+
+-- from the first host to the third on link 5
+abbrev pub flow : Flow
+flow = record { source = first; destination = third; link = record { 0 = 5 } }
+
+-- three bits on that link, and no bits on the next one
+abbrev pub short : HostMessage
+short = record { flow = flow; text = true ∷ false ∷ true ∷ [] }
+
+abbrev pub empty : HostMessage
+empty = record { flow = record { source = first; destination = third; link = record { 0 = 6 } }; text = [] }
+
+-- mailboxes in which the message of three bits waits
+abbrev pub one_waits : Boxes
+one_waits = offered (opening_boxes (first ∷ third ∷ [])) short
+
+-- mailboxes of which only the hosts that are down matter
+abbrev pub with_down : List Host → Boxes
+with_down down = record (opening_boxes hosts) { down = down }
