@@ -22,7 +22,8 @@ use Rattle.world_script.specs.declared.event.WorldEvent.{WorldEvent}
 use Rattle.command_line.specs.Carriers.{hosting}
 use Rattle.command_line.specs.Events.{Asked}
 use Rattle.command_line.specs.Input.{IsInput}
-use Rattle.command_line.specs.Replayed.{EndsOn, EndsOver, Ran, RanInPart, ReplaysInput, ReplaysOn, ShowsBook, ShowsFrom, StopsFrom, StopsInput, WorldShowsFrom, WorldStopsFrom, WritesAll, WritesWorld, book_text}
+use Rattle.command_line.specs.Logs.{LogsOn, LogsOver}
+use Rattle.command_line.specs.Replayed.{EndsOn, EndsOver, Ran, RanInPart, ReplaysInput, ReplaysOn, ReplaysOver, ShowsBook, ShowsFrom, StopsFrom, StopsInput, WorldShowsFrom, WorldStopsFrom, WritesAll, WritesWorld, book_text}
 use Rattle.command_line.specs.declared.fault.ScriptFault.{ScriptFault}
 
 -- ---- without host programs
@@ -102,6 +103,12 @@ world_writes_part {C} calls carrier opening last events detail a b is h promise 
 pub over_part : (carrier : CarrierKind) (network : TopologyFields) (detail : Detail) (events : Asked) (a b : Option (List ℕ)) → network.carrier ≡ carrier → (Keeps a b ⊎ EndsOver carrier network detail events a b) → Keeps a b ⊎ EndsOn network detail events a b
 over_part carrier network detail events a b is (inl kept) = inl kept
 over_part carrier network detail events a b is (inr h) = inr (subst (λ (k : CarrierKind). EndsOver k network detail events a b) (sym is) h)
+
+pub over_all : {A E : Type 0} (carrier : CarrierKind) (network : TopologyFields) (book : Bool) (detail : Detail) (events : Asked) (a b : Option (List ℕ)) (r : Result A E) → network.carrier ≡ carrier → OnOk r (ReplaysOver carrier network book detail events a b) → OnOk r (ReplaysOn network book detail events a b)
+over_all carrier network book detail events a b r is h = subst (λ (k : CarrierKind). OnOk r (ReplaysOver k network book detail events a b)) (sym is) h
+
+pub logged_over : {A E : Type 0} (carrier : CarrierKind) (network : TopologyFields) (events : Asked) (a b : Option (List ℕ)) (r : Result A E) → network.carrier ≡ carrier → OnOk r (LogsOver carrier network events a b) → OnOk r (LogsOn network events a b)
+logged_over carrier network events a b r is h = subst (λ (k : CarrierKind). OnOk r (LogsOver k network events a b)) (sym is) h
 
 -- ---- of known octets
 
