@@ -318,6 +318,27 @@ fn after_65535_comes_0(rt: HostRuntime) {
     assert_eq!(rt; numbered(&mut flows, &flow), (None, Ok(0)));
 }
 
+/// The number of the first message that its destination takes for an old one, where the destination noted
+/// the flow's first message and no other.
+fn first_behind(alloc: Global, flow: &Flow) -> Result<Option<Number>, FlowFault> {
+    let mut sources = SourceFlows::new(alloc);
+    let mut destinations = DestFlows::new(alloc);
+    let first = number_of_next(&mut sources, flow)?;
+    destinations.note(flow, first, Fate::Taken)?;
+    for _ in first..Number::MAX {
+        let number = number_of_next(&mut sources, flow)?;
+        if destinations.judge(flow, number) == Age::Old {
+            return Ok(Some(number));
+        }
+    }
+    Ok(None)
+}
+
+#[test]
+fn after_32767_messages_that_did_not_come_one_looks_old(rt: HostRuntime) {
+    assert_eq!(rt; first_behind(rt.alloc(), &flow(5)), Ok(Some(32_768)));
+}
+
 // ---- flows at their destination
 
 /// What is kept of a flow before any number is noted, and then of it and of another flow once two were.

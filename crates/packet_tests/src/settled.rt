@@ -7,6 +7,11 @@ use leader1822::MOST_IMPS;
 use routing::{RouteTable, Vector, settle};
 use std::alloc::{AllocError, Global};
 
+/// The distance 0 to every IMP.
+fn zeros() -> Vector {
+    Vector::new([0; MOST_IMPS])
+}
+
 /// The table of an IMP whose every port has heard the distance 0 to all IMPs.
 fn misled(alloc: Global, own: u8, ports: u8) -> Result<RouteTable, AllocError>
     requires { ports ≤ 2 }
@@ -15,10 +20,10 @@ fn misled(alloc: Global, own: u8, ports: u8) -> Result<RouteTable, AllocError>
 {
     let mut table = RouteTable::new(alloc, own, ports)?;
     if ports > 0 {
-        table.hear(0, Vector::new([0; MOST_IMPS]));
+        table.hear(0, zeros());
     }
     if ports > 1 {
-        table.hear(1, Vector::new([0; MOST_IMPS]));
+        table.hear(1, zeros());
     }
     Ok(table)
 }
