@@ -22,7 +22,7 @@ use Rattle.world_script.specs.declared.event.WorldEvent.{WorldEvent}
 use Rattle.command_line.specs.Carriers.{hosting}
 use Rattle.command_line.specs.Events.{Asked}
 use Rattle.command_line.specs.Input.{IsInput}
-use Rattle.command_line.specs.Replayed.{EndsOn, EndsOver, Ran, RanInPart, ReplaysInput, ReplaysOn, ShowsBook, ShowsFrom, StopsFrom, StopsInput, WorldShowsFrom, WorldStopsFrom, WritesAll, WritesWorld, book_text}
+use Rattle.command_line.specs.Replayed.{EndsOn, EndsOver, Ran, RanInPart, ReplaysInput, ReplaysOn, ReplaysOver, ShowsBook, ShowsFrom, StopsFrom, StopsInput, WorldShowsFrom, WorldStopsFrom, WritesAll, WritesWorld, book_text}
 use Rattle.command_line.specs.declared.fault.ScriptFault.{ScriptFault}
 
 -- ---- without host programs
@@ -98,6 +98,10 @@ world_writes_part {C} calls carrier opening last events detail a b is h promise 
     }
 
 -- ---- over the carrier that a topology names
+
+pub over_all : (carrier : CarrierKind) (network : TopologyFields) (book : Bool) (detail : Detail) (events : Asked) (r : Result (Unit {0}) ScriptFault) (a b : Option (List ℕ)) → network.carrier ≡ carrier
+    → OnOk r (ReplaysOver carrier network book detail events a b) → OnOk r (ReplaysOn network book detail events a b)
+over_all carrier network book detail events r a b is h = on_ok r (subst (λ (k : CarrierKind). ReplaysOver k network book detail events a b) (sym is)) h
 
 pub over_part : (carrier : CarrierKind) (network : TopologyFields) (detail : Detail) (events : Asked) (a b : Option (List ℕ)) → network.carrier ≡ carrier → (Keeps a b ⊎ EndsOver carrier network detail events a b) → Keeps a b ⊎ EndsOn network detail events a b
 over_part carrier network detail events a b is (inl kept) = inl kept
