@@ -206,7 +206,7 @@ def check_without():
     headline, wrong, seen = loaded("tools/check/headline.py"), [], Counter()
     for path in sorted(glob.glob(f"{ROOT}/without/*")):
         lesson = headline.Lesson(path)
-        octets = spelled_log(book_of(lesson.network, lesson.run(lesson.rule, lesson.events)))
+        octets = spelled_log(book_of(lesson.network, lesson.run(lesson.rule, lesson.script)))
         owed = ends_audit(octets)
         if said(owed) != (f"broken {lesson.breaks}" if lesson.breaks in PARTS else "kept"):
             wrong.append(f"{path}: it breaks {lesson.breaks}, and the audit in Python says {owed[1]}")

@@ -73,7 +73,7 @@ def between_most(messages):
     near = [(number, (number + step - 1) % MOST_IMPS + 1) for step in (1, 2) for number in numbers]
     lines = ["calm 12"]
     for at in range(messages // 250):
-        lines += [f"out {source} {hosts[(place + 7 * at % 251 + 1) % 252]} {at % 8} 0 -" for place, source in enumerate(hosts[:250])]
+        lines += [f"out {source} {hosts[(place + 7 * (place + at) % 251 + 1) % 252]} {at % 8} 0 -" for place, source in enumerate(hosts[:250])]
         lines += ["calm 16"]
     return network([(number, 4) for number in numbers], near + [(number, number + 31) for number in range(1, 32)]), lines
 
