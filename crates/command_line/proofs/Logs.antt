@@ -1,5 +1,5 @@
 -- What `--log` writes is the log of the book that a replay leaves.
-use Rattle.std.proofs.Common.{◌≡◌, ℕ, Bool, List, [], Option, Some, None, IfSome, Result, Ok, Err, OnOk, reverse, sym, subst}
+use Rattle.std.proofs.Common.{◌≡◌, ℕ, Bool, List, [], Option, Some, None, IfSome, Result, Ok, Err, OnOk, reverse, subst}
 use Rattle.std.specs.Io.KnownBytes.{Appends}
 use Rattle.book_log.specs.Log.{Book, IsBook, log_text}
 use Rattle.headline.specs.Promise.{KeepsPromise}
@@ -11,17 +11,15 @@ use Rattle.net_sim.specs.declared.life.Life.{Life}
 use Rattle.replay.specs.Output.{Writes}
 use Rattle.replay.specs.Replay.{Calls, Replays}
 use Rattle.replay.specs.declared.print.Detail.{Detail}
-use Rattle.replay.proofs.lemmas.{on_ok}
 use Rattle.script.specs.declared.event.RawEvent.{RawEvent}
 use Rattle.topology.specs.Topology.{TopologyFields}
-use Rattle.topology.specs.declared.network.CarrierKind.{CarrierKind}
 use Rattle.world_replay.specs.Output as lines
 use Rattle.world_replay.specs.Replay as worlds
 use Rattle.world_script.specs.declared.event.WorldEvent.{WorldEvent}
 use Rattle.command_line.specs.Carriers.{hosting}
 use Rattle.command_line.specs.Events.{Asked}
 use Rattle.command_line.specs.Input.{IsInput}
-use Rattle.command_line.specs.Logs.{Logged, LogsInput, LogsOn, LogsOver, LogsRaw, LogsWorld}
+use Rattle.command_line.specs.Logs.{Logged, LogsInput, LogsOn, LogsRaw, LogsWorld}
 use Rattle.command_line.specs.declared.fault.ScriptFault.{ScriptFault}
 use Rattle.command_line.specs.declared.fault.ScriptFault.TheVariants as fault
 
@@ -48,11 +46,6 @@ logs_world {C} calls opening first last events detail log lives handed x y befor
   written = subst (λ (b : Book). Appends before after (log_text b)) (λ i. record { crossings = crossings i; lives = alive i; handed = given i }) written;
   valid = subst IsBook (λ i. record { crossings = crossings i; lives = alive i; handed = given i }) valid;
 }
-
--- over the carrier that a topology names
-pub logged_over : (carrier : CarrierKind) (network : TopologyFields) (events : Asked) (r : Result (Unit {0}) ScriptFault) (before after : Option (List ℕ)) → network.carrier ≡ carrier
-    → OnOk r (LogsOver carrier network events before after) → OnOk r (LogsOn network events before after)
-logged_over carrier network events r before after is h = on_ok r (subst (λ (k : CarrierKind). LogsOver k network events before after) (sym is)) h
 
 pub logged : (network : TopologyFields) (events : Asked) (before after : Option (List ℕ)) → LogsOn network events before after → Logged before after
 logged network events before after h = record { network = network; events = events; logged = h }
