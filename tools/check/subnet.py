@@ -180,7 +180,8 @@ def with_files(folder, source):
 
     seen = Counter()
     for name in sorted(os.listdir(source)):
-        if not name.endswith(".stdout"):
+        path = f"{source}/{name}"
+        if os.path.isfile(path) and os.path.exists(f"{path}.stdout") and not os.path.exists(f"{path}.rows") and not os.path.exists(f"{path}.status"):
             with open(f"{source}/{name}", encoding="utf-8") as file:
                 topology, script = file.read().split("\n%\n", 1)
             with open(f"{source}/{name}.stdout", encoding="utf-8") as file:
