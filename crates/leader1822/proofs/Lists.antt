@@ -1,6 +1,8 @@
 -- Tests of hosts and flows, and chains of tests.
-use Rattle.std.proofs.Common.{◌≡◌, ℕ, Bool, true, false, not, ◌&&◌, ◌||◌, List, Option, Some, None, refl, ap, sym, subst, ◌∙◌, inl, inr, ◌⊎◌, ◌==◌, if◌then◌else◌, eq-eqb}
+use Rattle.std.proofs.Common.{arith, Bor, option_copied, slice_get, ◌≡◌, ℕ, Bool, true, false, not, ◌&&◌, ◌||◌, List, Option, Some, None, refl, ap, sym, subst, ◌∙◌, inl, inr, ◌⊎◌, ◌==◌, if◌then◌else◌, eq-eqb}
 use Rattle.std.proofs.lemmas.Bool.{eqb-true}
+use Rattle.std.proofs.lemmas.Option.{slice_get-get_or, slice_get_past}
+use Rattle.std.specs.Slice.{IsItemAt}
 use Rattle.leader1822.specs.Host.{Host, same_host}
 use Rattle.leader1822.specs.Mailboxes.{same_flow, Box, Empty, Waiting, Taken, WaitsWith}
 use Rattle.leader1822.specs.declared.address.Flow.{Flow}
@@ -74,3 +76,10 @@ pub waits_with : (box : Box) (text : List Bool) → WaitsWith box text → (plac
 waits_with Empty text h = absurd h
 waits_with (Waiting place kept) text h = (place, ap (λ (t : List Bool). Waiting place t) h)
 waits_with (Taken place kept) text h = absurd h
+
+-- ---- reading a place of a list
+
+-- a lent element, or none, is what the list has at its place
+pub read_at : {X : Type 0} (xs : List X) (i : ℕ) (o : Option (Bor X)) → IsItemAt xs i o → option_copied o ≡ slice_get xs i
+read_at xs i None h = sym (slice_get_past xs i h.3)
+read_at xs i (Some x) h = ap (λ y. Some y) (h.4 (omega arith) x.now) ∙ sym (slice_get-get_or xs i x.now h.3.0)

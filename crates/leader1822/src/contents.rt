@@ -85,6 +85,27 @@ impl Contents {
         &self.log
     }
 
+    /// The hosts that are down, in the order in which they went down.
+    pub(crate) fn down(&self) -> &[HostAddr]
+        ensures { result.now ≡ self.now.boxes.down }
+    {
+        &self.down
+    }
+
+    /// The messages that wait for each host.
+    pub(crate) fn messages(&self) -> &Queues<HostMessage>
+        ensures { result.now ≡ self.now.boxes.messages }
+    {
+        &self.messages
+    }
+
+    /// The answers that wait for each host.
+    pub(crate) fn answers(&self) -> &Queues<(Answer, Flow)>
+        ensures { result.now ≡ self.now.boxes.answers }
+    {
+        &self.answers
+    }
+
     /// Whether running out of memory has stopped them.
     pub(crate) fn has_stopped(&self) -> bool
         ensures { result ≡ self.now.boxes.stopped }

@@ -1,12 +1,14 @@
 //! The plainest carrier: mailboxes and nothing else.
 
-ghost use Rattle.std.specs.Prelude.{◌≡◌, true};
+ghost use Rattle.std.specs.Prelude.{◌≡◌, true, length, option_copied, slice_get};
 ghost use Rattle.leader1822.specs.Host.{InOrder};
 ghost use Rattle.leader1822.specs.Boxes as boxes;
 ghost use Rattle.leader1822.specs.Boxes.{BoxesDecided, BoxesOffer, BoxesTake, BoxesStep, BoxesRound, opening_boxes, seen_of};
 
 use crate::contents::Contents;
-use crate::{Carrier, CarrierFault, Crossing, Flow, HostAddr, HostMessage, Inbound, NetEvent};
+use crate::{
+    Answer, Carrier, CarrierFault, Crossing, Flow, HostAddr, HostMessage, Inbound, NetEvent,
+};
 use std::alloc::Global;
 use std::marker::Model;
 
@@ -41,6 +43,42 @@ impl PlainBoxes {
         PlainBoxes {
             contents: Contents::new(alloc, hosts),
         }
+    }
+
+    /// The hosts that are down, in the order in which they went down.
+    pub fn down(&self) -> &[HostAddr]
+        ensures { result.now ≡ self.now.down }
+    {
+        self.contents.down()
+    }
+
+    /// How many messages wait for a host.
+    pub fn message_count(&self, host: &HostAddr) -> usize
+        ensures { result ≡ length (boxes.for_host self.now.messages host.now) }
+    {
+        self.contents.messages().count(host)
+    }
+
+    /// The message at a place of those that wait for a host, 0 being the oldest; `None` past the newest.
+    pub fn message_at(&self, host: &HostAddr, place: usize) -> Option<&HostMessage>
+        ensures { option_copied result ≡ slice_get (boxes.for_host self.now.messages host.now) place }
+    {
+        self.contents.messages().at(host, place)
+    }
+
+    /// How many answers wait for a host.
+    pub fn answer_count(&self, host: &HostAddr) -> usize
+        ensures { result ≡ length (boxes.for_host self.now.answers host.now) }
+    {
+        self.contents.answers().count(host)
+    }
+
+    /// The answer at a place of those that wait for a host, 0 being the oldest, with the flow that it is about;
+    /// `None` past the newest.
+    pub fn answer_at(&self, host: &HostAddr, place: usize) -> Option<(Answer, Flow)>
+        ensures { result ≡ slice_get (boxes.for_host self.now.answers host.now) place }
+    {
+        self.contents.answers().at(host, place).copied()
     }
 
     /// Gives up the outstanding message of a flow.

@@ -1,6 +1,6 @@
 //! What waits for each host, oldest first.
 
-ghost use Rattle.std.specs.Prelude.{◌≡◌, ◌<◌, ◌++◌, List, [], ◌∷◌, None, OnOk, length, filter, not};
+ghost use Rattle.std.specs.Prelude.{◌≡◌, ◌<◌, ◌++◌, List, [], ◌∷◌, None, OnOk, length, filter, not, option_copied, slice_get};
 ghost use Rattle.std.specs.FinMap as map;
 ghost use Rattle.std.specs.VecDeque.{deque_len, deque_capacity};
 ghost use Rattle.leader1822.specs.Boxes.{for_host, with_queue, queued_for, first_of_list, rest, is_of, is_rfnm_about};
@@ -42,6 +42,26 @@ impl<T: Drop> Queues<T> {
         Queues {
             queues: BTreeMap::new(alloc),
             alloc,
+        }
+    }
+
+    /// How many wait for a host.
+    pub(crate) fn count(&self, host: &HostAddr) -> usize
+        ensures { result ≡ length (for_host self.now host.now) }
+    {
+        match self.queues.get(host) {
+            Some(queue) => queue.len(),
+            None => 0,
+        }
+    }
+
+    /// What stands at a place of those that wait for a host, 0 being the oldest.
+    pub(crate) fn at(&self, host: &HostAddr, place: usize) -> Option<&T>
+        ensures { option_copied result ≡ slice_get (for_host self.now host.now) place }
+    {
+        match self.queues.get(host) {
+            Some(queue) => queue.get(place),
+            None => None,
         }
     }
 
