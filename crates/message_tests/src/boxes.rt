@@ -190,6 +190,14 @@ enum Act {
     Quiet,
     /// The hosts and the log are looked at.
     Look,
+    /// What waits for this host is counted.
+    Count(Who),
+    /// The message at this place of those that wait for the host is looked at.
+    MessageAt(Who, usize),
+    /// The answer at this place of those that wait for the host is looked at.
+    AnswerAt(Who, usize),
+    /// The host at this place of those that are down is looked at.
+    DownAt(usize),
 }
 
 /// What an act gives.
@@ -207,6 +215,10 @@ enum Want {
     Answered(Answer, Way),
     /// There are so many hosts, and so many crossings on the log.
     Seen(usize, usize),
+    /// So many messages and so many answers wait.
+    Waiting(usize, usize),
+    /// It is this host.
+    Is(Who),
 }
 
 /// What an act gave.
@@ -224,6 +236,10 @@ enum Outcome {
     Answered(Answer, Flow),
     /// There are so many hosts, and so many crossings on the log.
     Seen(usize, usize),
+    /// So many messages and so many answers wait.
+    Waiting(usize, usize),
+    /// It is this host.
+    Is(HostAddr),
 }
 
 /// The outcome that is wanted.
@@ -235,6 +251,8 @@ fn outcome_of(want: Want) -> Outcome {
         Want::Message(way) => Outcome::Message(flow_of(way), 8),
         Want::Answered(kind, way) => Outcome::Answered(kind, flow_of(way)),
         Want::Seen(hosts, crossings) => Outcome::Seen(hosts, crossings),
+        Want::Waiting(messages, answers) => Outcome::Waiting(messages, answers),
+        Want::Is(who) => Outcome::Is(host_of(who)),
     }
 }
 
@@ -256,6 +274,35 @@ fn taken(answer: Result<Option<Inbound>, CarrierFault>) -> Outcome {
         Ok(None) => Outcome::Nothing,
         Err(fault) => Outcome::Refused(fault),
     }
+}
+
+/// What a place of a queue has.
+fn found(message: Option<&HostMessage>) -> Outcome {
+    match message {
+        Some(message) => Outcome::Message(message.flow, message.text.bits().len()),
+        None => Outcome::Nothing,
+    }
+}
+
+/// What a place of a queue of answers has.
+fn told(answer: Option<(Answer, Flow)>) -> Outcome {
+    match answer {
+        Some((kind, flow)) => Outcome::Answered(kind, flow),
+        None => Outcome::Nothing,
+    }
+}
+
+/// Which host a place has.
+fn named(host: Option<&HostAddr>) -> Outcome {
+    match host {
+        Some(host) => Outcome::Is(*host),
+        None => Outcome::Nothing,
+    }
+}
+
+/// What waits for a host.
+fn waiting(boxes: &PlainBoxes, host: HostAddr) -> Outcome {
+    Outcome::Waiting(boxes.message_count(&host), boxes.answer_count(&host))
 }
 
 /// A message of eight ones on this flow.
@@ -291,6 +338,10 @@ fn acted(alloc: Global, boxes: &mut PlainBoxes, act: Act) -> Result<Outcome, Bit
         Act::ImpUp => done(boxes.step(NetEvent::ImpUp(ImpNumber::new(1).unwrap()))),
         Act::Quiet => done(boxes.quiet_round()),
         Act::Look => Outcome::Seen(boxes.hosts().len(), boxes.log().len()),
+        Act::Count(who) => waiting(boxes, host_of(who)),
+        Act::MessageAt(who, place) => found(boxes.message_at(&host_of(who), place)),
+        Act::AnswerAt(who, place) => told(boxes.answer_at(&host_of(who), place)),
+        Act::DownAt(place) => named(boxes.down().get(place)),
     })
 }
 
@@ -489,6 +540,43 @@ const CLEARED: [(Act, Want); 23] = [
 #[test]
 fn a_host_that_stops_is_cleared(rt: HostRuntime) {
     assert_eq!(rt; fitting(rt.alloc(), &CLEARED), Ok(23));
+}
+
+/// What waits, and who is down, is looked at place by place, oldest first.
+const LOOKED_AT: [(Act, Want); 22] = [
+    (Act::Offer(Way::Forth(5)), Want::Done),
+    (Act::Offer(Way::Forth(6)), Want::Done),
+    (Act::Count(Who::Beyond), Want::Waiting(2, 0)),
+    (Act::Count(Who::Here), Want::Waiting(0, 0)),
+    (Act::MessageAt(Who::Beyond, 0), Want::Message(Way::Forth(5))),
+    (Act::MessageAt(Who::Beyond, 1), Want::Message(Way::Forth(6))),
+    (Act::MessageAt(Who::Beyond, 2), Want::Nothing),
+    (Act::MessageAt(Who::Here, 0), Want::Nothing),
+    (Act::Take(Who::Beyond), Want::Message(Way::Forth(5))),
+    (Act::Count(Who::Here), Want::Waiting(0, 1)),
+    (
+        Act::AnswerAt(Who::Here, 0),
+        Want::Answered(Answer::Rfnm, Way::Forth(5)),
+    ),
+    (Act::AnswerAt(Who::Here, 1), Want::Nothing),
+    (Act::AnswerAt(Who::Beyond, 0), Want::Nothing),
+    (Act::MessageAt(Who::Nobody, 0), Want::Nothing),
+    (Act::DownAt(0), Want::Nothing),
+    (Act::Down(Who::Beyond), Want::Done),
+    (Act::Count(Who::Here), Want::Waiting(0, 2)),
+    (
+        Act::AnswerAt(Who::Here, 1),
+        Want::Answered(Answer::Dead, Way::Forth(6)),
+    ),
+    (Act::Down(Who::Here), Want::Done),
+    (Act::DownAt(0), Want::Is(Who::Beyond)),
+    (Act::DownAt(1), Want::Is(Who::Here)),
+    (Act::Count(Who::Here), Want::Waiting(0, 0)),
+];
+
+#[test]
+fn what_waits_is_looked_at(rt: HostRuntime) {
+    assert_eq!(rt; fitting(rt.alloc(), &LOOKED_AT), Ok(22));
 }
 
 /// Acts for which there is more than one refusal.

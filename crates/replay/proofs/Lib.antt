@@ -5,5 +5,5 @@ pub mod Passing
 pub mod Replays
 pub mod Settled
 pub mod Shown
-mod Spelled
+pub mod Spelled
 pub mod lemmas

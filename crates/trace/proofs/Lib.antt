@@ -6,3 +6,5 @@ pub mod Rest
 pub mod Calms
 pub mod Keeping
 pub mod TwoRounds
+pub mod Joined
+pub mod Members

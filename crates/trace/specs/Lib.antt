@@ -1,4 +1,5 @@
 pub mod Elements
+pub mod Joined
 pub mod Kept
 pub mod Parts
 pub mod Texts

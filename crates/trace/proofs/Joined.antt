@@ -1,0 +1,58 @@
+-- Items are printed one after the other, with commas between.
+use Rattle.std.proofs.Common.{◌≡◌, ℕ, suc, ◌<◌, ◌≤◌, ◌+◌, List, [], ◌∷◌, ◌++◌, codes, get_or, length, map, take, Option, Some, slice_get, refl, sym, ap, subst, ◌∙◌, arith}
+use Rattle.std.proofs.lemmas.List.{append_assoc, append-nil, length-map, length-take-le, map-append, take_all, take_more}
+use Rattle.std.proofs.lemmas.Option.{slice_get-get_or, slice_get_within}
+use Rattle.std.specs.Io.KnownBytes.{Appends}
+use Rattle.replay.proofs.lemmas.{appends_more}
+use Rattle.trace.specs.Joined.{comma_before, joined_from}
+use Rattle.trace.specs.Texts.{array, further, listed, quoted}
+
+-- one more item
+pub joined_more : (place : ℕ) (xs : List (List ℕ)) (x : List ℕ) → joined_from place (xs ++ x ∷ []) ≡ joined_from place xs ++ (comma_before (place + length xs) ++ x)
+joined_more place [] x = ap (λ (n : ℕ). comma_before n ++ (x ++ [])) (omega arith) ∙ ap (λ ys. comma_before (place + 0) ++ ys) (append-nil x)
+joined_more place (y ∷ xs) x =
+    let sums : suc place + length xs ≡ place + suc (length xs) = omega arith in
+    ap (λ zs. comma_before place ++ (y ++ zs)) (joined_more (suc place) xs x ∙ ap (λ (n : ℕ). joined_from (suc place) xs ++ (comma_before n ++ x)) sums)
+    ∙ ap (λ zs. comma_before place ++ zs) (sym (append_assoc y (joined_from (suc place) xs) (comma_before (place + suc (length xs)) ++ x)))
+    ∙ sym (append_assoc (comma_before place) (y ++ joined_from (suc place) xs) (comma_before (place + suc (length xs)) ++ x))
+
+-- with the end they are the list
+further_joined : (end : List ℕ) (place : ℕ) (xs : List (List ℕ)) → further end xs ≡ joined_from (suc place) xs ++ end
+further_joined end place [] = refl
+further_joined end place (x ∷ xs) = ap (λ zs. codes "," ++ (x ++ zs)) (further_joined end (suc place) xs) ∙ ap (λ zs. codes "," ++ zs) (sym (append_assoc x (joined_from (suc (suc place)) xs) end))
+
+pub listed_joined : (end : List ℕ) (xs : List (List ℕ)) → listed end xs ≡ joined_from 0 xs ++ end
+listed_joined end [] = refl
+listed_joined end (x ∷ xs) = ap (λ zs. x ++ zs) (further_joined end 0 xs) ∙ sym (append_assoc x (joined_from 1 xs) end)
+
+pub map_twice : {X : Type 0} (text : X → List ℕ) (xs : List X) → map (λ x. quoted (text x)) xs ≡ map quoted (map text xs)
+map_twice text [] = refl
+map_twice text (x ∷ xs) = ap (λ zs. quoted (text x) ∷ zs) (map_twice text xs)
+
+-- what is printed of the first items
+abbrev pub fronts : {X : Type 0} → (X → List ℕ) → ℕ → List X → List ℕ
+fronts text i xs = codes "[" ++ joined_from 0 (map (λ x. quoted (text x)) (take i xs))
+
+-- one more string is printed
+pub one_more : {X : Type 0} (text : X → List ℕ) (xs : List X) (i : ℕ) (x : X) (a b c e : Option (List ℕ)) → slice_get xs i ≡ Some x
+    → Appends a b (fronts text i xs) → Appends b c (comma_before i) → Appends c e (quoted (text x)) → Appends a e (fronts text (i + 1) xs)
+one_more {X} text xs i x a b c e is before comma item =
+    let within : i < length xs = slice_get_within xs i x is in
+    let same : Some (get_or xs i x) ≡ Some x = sym (slice_get-get_or xs i x within) ∙ is in
+    let item_is : get_or xs i x ≡ x = cc in
+    let front : take (i + 1) xs ≡ take i xs ++ x ∷ [] = take_more xs i x within ∙ ap (λ (y : X). take i xs ++ y ∷ []) item_is in
+    let long : length (map (λ y. quoted (text y)) (take i xs)) ≡ i = length-map (take i xs) (λ y. quoted (text y)) ∙ length-take-le i xs (omega arith) in
+    let here : 0 + length (map (λ y. quoted (text y)) (take i xs)) ≡ i = omega (arith, long) in
+    let whole : joined_from 0 (map (λ y. quoted (text y)) (take (i + 1) xs)) ≡ joined_from 0 (map (λ y. quoted (text y)) (take i xs)) ++ (comma_before i ++ quoted (text x)) =
+    ap (λ ys. joined_from 0 (map (λ y. quoted (text y)) ys)) front ∙ ap (joined_from 0) (map-append (λ y. quoted (text y)) (take i xs) (x ∷ []))
+    ∙ joined_more 0 (map (λ y. quoted (text y)) (take i xs)) (quoted (text x)) ∙ ap (λ (n : ℕ). joined_from 0 (map (λ y. quoted (text y)) (take i xs)) ++ (comma_before n ++ quoted (text x))) here in
+    subst (Appends a e) (ap (λ zs. codes "[" ++ zs) (sym whole))
+    (appends_more a b e (fronts text i xs) (comma_before i ++ quoted (text x)) before (appends_more b c e (comma_before i) (quoted (text x)) comma item))
+
+-- all are printed, and the end
+pub all_printed : {X : Type 0} (text : X → List ℕ) (xs : List X) (i : ℕ) (a b c : Option (List ℕ)) → length xs ≤ i → Appends a b (fronts text i xs) → Appends b c (codes "]") → Appends a c (array (map quoted (map text xs)))
+all_printed {X} text xs i a b c past before end =
+    let whole : fronts text i xs ++ codes "]" ≡ array (map quoted (map text xs)) =
+    ap (λ (ys : List X). codes "[" ++ (joined_from 0 (map (λ y. quoted (text y)) ys) ++ codes "]")) (take_all i xs past)
+    ∙ ap (λ ys. codes "[" ++ (joined_from 0 ys ++ codes "]")) (map_twice text xs) ∙ ap (λ zs. codes "[" ++ zs) (sym (listed_joined (codes "]") (map quoted (map text xs)))) in
+    subst (Appends a c) whole (appends_more a b c (fronts text i xs) (codes "]") before end)

@@ -1,0 +1,19 @@
+-- What the contracts of private functions say. No public clause cites this file.
+use Rattle.std.specs.Prelude.{ℕ, zero, suc, List, [], ◌∷◌, ◌++◌, codes, map}
+use Rattle.leader1822.specs.Boxes.{Boxes}
+use Rattle.trace.specs.Parts.{Part}
+use Rattle.trace.specs.Texts.{member, part_name, part_text}
+
+-- a comma before every item but the first
+abbrev pub comma_before : ℕ → List ℕ
+comma_before zero = []
+comma_before (suc place) = codes ","
+
+-- items, each with a comma before it, where so many stand before them
+abbrev pub joined_from : ℕ → List (List ℕ) → List ℕ
+joined_from place [] = []
+joined_from place (x ∷ xs) = comma_before place ++ (x ++ joined_from (suc place) xs)
+
+-- an object of the parts so far
+abbrev pub begun : Boxes → List Part → List ℕ
+begun b parts = codes "{" ++ joined_from 0 (map (λ p. member (part_name p) (part_text b p)) parts)

@@ -1,0 +1,104 @@
+//! The parts of plain mailboxes that an event can change, looked at and printed.
+
+ghost use Rattle.std.specs.Prelude.{◌≡◌, ◌++◌, [], ◌∷◌, OnOk, false, if◌then◌else◌, codes};
+ghost use Rattle.std.specs.Io.KnownBytes.{Appends};
+ghost use Rattle.replay.specs.Failing.{TellsFailure};
+ghost use Rattle.replay.specs.Output.{shown_crossings};
+ghost use Rattle.trace.specs.Joined.{begun};
+ghost use Rattle.trace.specs.Parts.{Down, Waiting, is_source, moves_host, parts_of, reaches};
+ghost use Rattle.trace.specs.Texts.{member, part_name, part_text, parts_text};
+
+use crate::print::{print_comma, print_down, print_waiting};
+use leader1822::{Carrier, Crossing, HostAddr, NetEvent, PlainBoxes};
+use replay::{Output, WriteFailed};
+use script::RawEvent;
+
+/// Whether a host stops or starts.
+fn moves_host(event: &RawEvent) -> bool
+    ensures { result ≡ moves_host event.now }
+{
+    matches!(
+        event,
+        RawEvent::Net(NetEvent::HostDown(_)) | RawEvent::Net(NetEvent::HostUp(_))
+    )
+}
+
+/// Whether a message that came in is from this host.
+fn is_source(host: &HostAddr, crossings: &[Crossing]) -> bool
+    ensures { result ≡ is_source host.now (shown_crossings crossings.now) }
+{
+    for crossing in crossings {
+        if let Crossing::In(message) = crossing
+            && *host == message.flow.source
+        {
+            return true;
+        }
+    }
+    false
+}
+
+/// Whether other messages or answers may wait for this host after an event that let these cross.
+fn reaches(event: &RawEvent, crossings: &[Crossing], host: &HostAddr) -> bool
+    ensures { result ≡ reaches event.now (shown_crossings crossings.now) host.now }
+{
+    match event {
+        RawEvent::Out(message) => {
+            *host == message.flow.destination || *host == message.flow.source
+        }
+        RawEvent::Take(other) => *host == *other || is_source(host, crossings),
+        RawEvent::Net(NetEvent::GiveUp(flow)) => *host == flow.destination || *host == flow.source,
+        RawEvent::Net(NetEvent::HostDown(_)) => true,
+        RawEvent::Net(_) | RawEvent::Calm(_) => false,
+    }
+}
+
+/// Prints what waits for a host, with its name.
+fn print_host_part<W: Output>(
+    boxes: &PlainBoxes,
+    host: &HostAddr,
+    writer: &mut W,
+) -> Result<(), WriteFailed>
+    requires { W.failed writer.old ≡ false }
+    ensures written { OnOk result (Appends (W.contents writer.old) (W.contents writer.new) (member (part_name (Waiting host.now)) (part_text boxes.now (Waiting host.now)))) }
+    ensures failed { TellsFailure result (W.failed writer.new) }
+{
+    write!(writer, "\"host {host}\":")?;
+    print_waiting(boxes, host, writer)
+}
+
+/// Opens the object of parts, and prints the hosts that are down, where one stopped or started.
+fn open_parts<W: Output>(boxes: &PlainBoxes, moves: bool, writer: &mut W) -> Result<(), WriteFailed>
+    requires { W.failed writer.old ≡ false }
+    ensures written { OnOk result (Appends (W.contents writer.old) (W.contents writer.new) (begun boxes.now (if moves then Down ∷ [] else []))) }
+    ensures failed { TellsFailure result (W.failed writer.new) }
+{
+    if !moves {
+        return writer.write_all(b"{");
+    }
+    writer.write_all(b"{\"down\":")?;
+    print_down(boxes, writer)
+}
+
+/// Prints the parts that an event can change, which let these cross.
+pub fn print_parts<W: Output>(
+    boxes: &PlainBoxes,
+    event: &RawEvent,
+    crossings: &[Crossing],
+    writer: &mut W,
+) -> Result<(), WriteFailed>
+    requires { W.failed writer.old ≡ false }
+    ensures written { OnOk result (Appends (W.contents writer.old) (W.contents writer.new) (parts_text boxes.now (parts_of boxes.now.hosts event.now (shown_crossings crossings.now)))) }
+    ensures failed { TellsFailure result (W.failed writer.new) }
+{
+    let moves = moves_host(event);
+    open_parts(boxes, moves, writer)?;
+    let mut place: usize = if moves { 1 } else { 0 };
+    for host in boxes.hosts() {
+        if reaches(event, crossings, host) {
+            print_comma(place, writer)?;
+            print_host_part(boxes, host, writer)?;
+            place = 1;
+        }
+    }
+    writer.write_all(b"}")
+}
