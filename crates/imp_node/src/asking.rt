@@ -1,7 +1,6 @@
 //! Asking what became of a message, in place of giving it up.
 
 ghost use Rattle.std.specs.Prelude.{◌≡◌, ◌≤◌, true, false, None, IfOk, OnOk, OnErr};
-ghost use Rattle.leader1822.specs.Host.{most_imps};
 ghost use Rattle.packetiser.specs.declared.packet.PacketKind.TheVariants as kind;
 ghost use Rattle.imp_node.specs.Asking as asking;
 ghost use Rattle.imp_node.specs.Flows as flows;
@@ -69,7 +68,6 @@ impl Imp {
 
     /// A question about a message is stored for its route, or dropped where no live route is.
     fn question(&mut self, flow: Flow, number: Number) -> Result<(), AllocError>
-        requires { flow.source.imp ≤ most_imps }
         ensures ok { OnOk result (self.new ≡ stored (flows.answer_packet kind.Ask flow number) self.old) }
         ensures memory { OnErr result (has_route self.old flow.destination.imp ≡ true) }
     {

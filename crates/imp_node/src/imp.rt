@@ -59,13 +59,12 @@ impl Model for Imp {
 }
 
 impl Imp {
-    /// The IMP with this number, at most [`leader1822::MOST_IMPS`], with so many hosts, at most four, and so many ports. All hosts and
-    /// ends of lines are up, and nothing was heard, begun or taken.
+    /// The IMP with this number, with so many hosts, at most four, and so many ports. All hosts and ends of lines are up, and nothing was
+    /// heard, begun or taken.
     ///
     /// Errors: memory runs out, and nothing else.
     pub fn new(alloc: Global, own: ImpNumber, hosts: u8, ports: u8) -> Result<Imp, AllocError>
-        requires imp { own ≤ most_imps }
-        requires hosts { hosts ≤ 4 }
+        requires { hosts ≤ 4 }
         ensures { IfOk result (λ imp. imp ≡ states.opening_node own hosts ports) }
     {
         Ok(Imp {

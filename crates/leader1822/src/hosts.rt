@@ -10,9 +10,10 @@ use std::marker::Model;
 /// How many address octets there are.
 const OCTETS: usize = 256;
 
-/// The hosts of a network, in order, and for each address octet whether it names one of them.
+/// The hosts of a network, in order, and for each address octet whether it names one of them. So a look at
+/// whether a host is one of them takes the same time in every network.
 #[derive(Drop)]
-pub(crate) struct Hosts {
+pub struct Hosts {
     hosts: Vec<HostAddr>,
     named: [bool; OCTETS],
 }
@@ -30,8 +31,8 @@ impl Model for Hosts {
 }
 
 impl Hosts {
-    /// These hosts.
-    pub(crate) fn new(hosts: Vec<HostAddr>) -> Hosts
+    /// These hosts, in this order. This takes no memory.
+    pub fn new(hosts: Vec<HostAddr>) -> Hosts
         ensures { result ≡ hosts.items }
     {
         let named = table_of(&hosts);
@@ -39,14 +40,14 @@ impl Hosts {
     }
 
     /// All of them, in order.
-    pub(crate) fn all(&self) -> &[HostAddr]
+    pub fn all(&self) -> &[HostAddr]
         ensures { result.now ≡ self.now }
     {
         &self.hosts
     }
 
     /// Whether this is one of them.
-    pub(crate) fn contains(&self, host: &HostAddr) -> bool
+    pub fn contains(&self, host: &HostAddr) -> bool
         ensures { result ≡ is_host self.now host.now }
     {
         self.named[host.octet() as usize]

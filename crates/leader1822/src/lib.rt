@@ -26,6 +26,7 @@ pub use address::{Flow, HostAddr, ImpNumber, Link, MESSAGE_NUMBERS, MOST_IMPS, N
 pub use carrier::{Carrier, CarrierFault};
 pub use crossing::{Answer, Crossing, Inbound};
 pub use event::{Direction, NetEvent};
+pub use hosts::Hosts;
 pub use leader::{Leader, LeaderFault};
 pub use message::{HostMessage, Text};
 pub use plain_boxes::PlainBoxes;

@@ -2,7 +2,6 @@
 
 ghost use Rattle.std.specs.Prelude.{◌≡◌, ◌+◌, ◌*◌, ◌<◌, ◌≤◌, length, IfOk};
 ghost use Rattle.bit_messages.specs.Body.{body};
-ghost use Rattle.leader1822.specs.Host.{most_imps};
 ghost use Rattle.packetiser.specs.Faults.{GivesIfMemory};
 ghost use Rattle.packetiser.specs.Pieces.{piece_count, piece, piece_packet, packets_of, IsBodySize};
 
@@ -14,13 +13,11 @@ use leader1822::{Flow, HostMessage, Number};
 use std::alloc::Global;
 
 /// The packets of a message with this number: the pieces of its body in order, the last one marked
-/// (Heart et al., SJCC 1970). There are one to eight. The flow's IMPs are numbered from 1 to [`MOST_IMPS`](leader1822::MOST_IMPS).
+/// (Heart et al., SJCC 1970). There are one to eight.
 ///
 /// Errors: `OutOfMemory` alone.
 #[tactic(auto, using(crate::proofs::Pieces::packets_more))]
 pub fn cut(alloc: Global, message: &HostMessage, number: Number) -> Result<Vec<Packet>, PacketFault>
-    requires source { message.now.flow.source.imp ≤ most_imps }
-    requires destination { message.now.flow.destination.imp ≤ most_imps }
     ensures { GivesIfMemory (λ packets. packets.items ≡ packets_of message.now.flow number (body message.now.text)) result }
 {
     let body = body_of(alloc, message)?;
@@ -56,8 +53,6 @@ fn piece_packet(
     body: &Bits,
     place: usize,
 ) -> Result<Packet, PacketFault>
-    requires source { flow.source.imp ≤ most_imps }
-    requires destination { flow.destination.imp ≤ most_imps }
     requires size { IsBodySize (length body.now) }
     requires there { place < piece_count body.now }
     ensures { GivesIfMemory (λ packet. packet ≡ piece_packet flow number body.now place) result }

@@ -2,7 +2,6 @@
 
 ghost use Rattle.std.specs.Prelude.{◌≡◌, ℕ, ◌+◌, ◌<◌, ◌≤◌, Bool, List, [], length, Result, Ok, Err, IfOk, true};
 ghost use Rattle.std.specs.Bool.{OnFalse};
-ghost use Rattle.leader1822.specs.Host.{most_imps};
 ghost use Rattle.packetiser.specs.PacketFields.{PacketFields, flow_of, IsPacket, Carries};
 ghost use Rattle.packetiser.specs.Faults.{Gives, GivesIfMemory};
 ghost use Rattle.packetiser.specs.Format.{spelling, read_of, kind_octet, kind_of, host_of, is_address};
@@ -66,9 +65,9 @@ impl Model for Packet {
 }
 
 impl Packet {
-    /// The packet with these fields. The flow's IMPs are numbered from 1 to [`MOST_IMPS`](leader1822::MOST_IMPS), and the place is 0 to 7. A
-    /// piece has 16 to 1008 bits in units of sixteen, 1008 if it isn't the last, and the one at place 7 is
-    /// the last. An answer has place 0, the last flag and no bits.
+    /// The packet with these fields. The place is 0 to 7. A piece has 16 to 1008 bits in units of sixteen, 1008
+    /// if it isn't the last, and the one at place 7 is the last. An answer has place 0, the last flag and no
+    /// bits.
     pub fn new(
         kind: PacketKind,
         flow: Flow,
@@ -77,8 +76,6 @@ impl Packet {
         last: bool,
         bits: Bits,
     ) -> Packet
-        requires source { flow.source.imp ≤ most_imps }
-        requires destination { flow.destination.imp ≤ most_imps }
         requires place { place < 8 }
         requires body { Carries kind place last (length bits) }
         ensures { result ≡ record { kind = kind; source = flow.source; destination = flow.destination; link = flow.link.0; number = number; place = place; last = last; bits = bits } }

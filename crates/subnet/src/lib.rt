@@ -7,7 +7,6 @@
 
 mod events;
 mod flow_events;
-mod hosts;
 mod imp_call;
 pub mod law;
 mod line_events;

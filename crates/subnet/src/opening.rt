@@ -6,11 +6,10 @@ ghost use Rattle.subnet.specs.Net.{ends_at};
 ghost use Rattle.subnet.specs.Opening as start;
 ghost use Rattle.subnet.specs.Inside.Calling.{AreLive};
 
-use crate::hosts::Hosts;
 use crate::parts::Parts;
 use crate::wire::{Ends, Wire, port_of};
 use imp_node::Imp;
-use leader1822::{HostAddr, ImpNumber};
+use leader1822::{HostAddr, Hosts, ImpNumber};
 use std::alloc::{AllocError, Global};
 
 impl Parts {

@@ -11,12 +11,11 @@ ghost use Rattle.subnet.specs.Events.{is_imp, has_end, logging};
 ghost use Rattle.subnet.specs.Inside.Calling.{call_turn, call_grows, AreLive, Makes, Ignores, SameLog, runs_out, copied_grows};
 ghost use Rattle.subnet.specs.Inside.Taking.{frame_taken};
 
-use crate::hosts::Hosts;
 use crate::imp_call::{ImpCall, call_imp, reuse};
 use crate::wire::{Wire, port_of, put_all};
 use imp_channel::Frame;
 use imp_node::{Imp, Outgoing};
-use leader1822::{CarrierFault, Crossing, Direction, HostAddr};
+use leader1822::{CarrierFault, Crossing, Direction, HostAddr, Hosts};
 use std::alloc::{AllocError, Global};
 use std::marker::Model;
 

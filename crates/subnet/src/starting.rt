@@ -2,7 +2,6 @@
 
 ghost use Rattle.std.specs.Prelude.{◌≡◌, ◌≤◌, ◌<◌, ◌==◌, ◌&&◌, not, true, false, length, slice_set, count_by, Some, IfOk, OnOk};
 ghost use Rattle.std.specs.List.{list_any};
-ghost use Rattle.leader1822.specs.Host.{most_imps};
 ghost use Rattle.leader1822.specs.declared.event.NetEvent.TheVariants as event;
 ghost use Rattle.imp_node.specs.State.{number};
 ghost use Rattle.imp_node.specs.Queries as queries;
@@ -98,8 +97,7 @@ impl Parts {
 
 /// An IMP with so many hosts, all of which are down, and so many ports.
 fn start(alloc: Global, imp: ImpNumber, hosts: u8, ports: u8) -> Result<Imp, AllocError>
-    requires imp { imp ≤ most_imps }
-    requires hosts { hosts ≤ 4 }
+    requires { hosts ≤ 4 }
     ensures { IfOk result (λ s. s ≡ events.started_imp imp hosts ports) }
 {
     let mut started = Imp::new(alloc, imp, hosts, ports)?;
