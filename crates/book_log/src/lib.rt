@@ -1,4 +1,4 @@
-//! Logs of whole books: lines that this program writes, and that any program can write.
+//! Logs of books: lines that this program writes, and that any program can write.
 //!
 //! A log has the crossings of a book with the texts of their messages, its lives with what each of them sent or took,
 //! what was handed over in each life, and a last line `end`. [`print_log`] writes it, and [`read_log`] reads it.

@@ -27,7 +27,7 @@ use world_script::WorldEvent;
 /// show, the lives of connections where the book is asked for, and a last line `end`. Of a message it writes as
 /// much as `detail` says.
 ///
-/// Errors: `CannotWrite`; `OutOfMemory`, after which what the first of the events show is written.
+/// Errors: `CannotWrite`; `OutOfMemory`, after which a prefix of that is written.
 pub(crate) fn replay_on<W: Output>(
     alloc: Global,
     network: &Topology,
@@ -64,7 +64,7 @@ pub(crate) fn replay_on<W: Output>(
 
 /// Replays events over a carrier at its opening, without host programs or with them.
 ///
-/// Errors: `CannotWrite`; `OutOfMemory`, after which what the first of the events show is written.
+/// Errors: `CannotWrite`; `OutOfMemory`, after which a prefix of that is written.
 fn replay_over<C: Carrier, W: Output>(
     alloc: Global,
     carrier: C,
@@ -90,7 +90,7 @@ fn replay_over<C: Carrier, W: Output>(
 
 /// Replays events without host programs, and writes what they show and a last line `end`.
 ///
-/// Errors: `CannotWrite`; `OutOfMemory`, after which what the first of the events show is written.
+/// Errors: `CannotWrite`; `OutOfMemory`, after which a prefix of that is written.
 fn replay_raw<C: Carrier, W: Output>(
     mut carrier: C,
     events: &[RawEvent],
@@ -114,7 +114,7 @@ fn replay_raw<C: Carrier, W: Output>(
 /// Replays events of hosts with programs, and writes what they show, the lives of connections where the book is asked
 /// for, and a last line `end`. The world's book keeps its promise, and what is written is what this book has.
 ///
-/// Errors: `CannotWrite`; `OutOfMemory`, after which what the first of the events show is written.
+/// Errors: `CannotWrite`; `OutOfMemory`, after which a prefix of that is written.
 fn replay_world<C: Carrier, W: Output>(
     alloc: Global,
     carrier: C,

@@ -28,7 +28,7 @@ pub enum ScriptFault {
     /// This line of the script, counted from 1, is no event. Nothing was replayed.
     #[error("arpasim: bad script line {0}")]
     BadLine(usize),
-    /// No memory was left. The output is the first part of what the replay would have written.
+    /// No memory was left. The output is a prefix of what the replay would have written.
     #[error("arpasim: stopped")]
     OutOfMemory,
     /// The output could not be written.

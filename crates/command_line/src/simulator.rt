@@ -88,7 +88,7 @@ pub fn run<R: Source, W: Output>(
 /// - `CannotWrite`: a write or a flush failed. Nothing more is asked of the writer, which alone knows how much was
 ///   written.
 ///
-/// `OutOfMemory` may come at any of these steps. What was written by then is the first part of what the
+/// `OutOfMemory` may come at any of these steps. What was written by then is a prefix of what the
 /// replay would have written.
 pub fn run_script<R: Source, W: Output>(
     alloc: Global,

@@ -8,8 +8,8 @@ use Rattle.net_sim.specs.World.{WorldState}
 use Rattle.world_keeps_connections.specs.Connections.{JoinedBook}
 
 -- each life is made of messages that crossed: those of its two requests, and those of its data; and each notice of data tells of a message that has just
--- crossed. A message answered by RFNM was taken exactly once and none is taken twice; no two ends hold one opening with different partners; what was taken
--- is a prefix of what its one partner sent; and what was taken, and what was sent, is granted. A finished initial connection pairs the right four sockets.
+-- crossed. A message answered by RFNM was taken exactly once and none is taken twice; no two ends hold one opening with different partners; what was taken,
+-- if anything was, is a prefix of what its one partner sent, and what was sent of what was handed over; and what was taken, and what was sent, is granted. A finished initial connection pairs the right four sockets.
 -- And crossings, notices and lives are what the programs of all hosts make of one list of moments, over a carrier whose log is a run of the mailboxes
 pub record KeepsPromise {C : Type 0} (seen : C → Seen) (w : WorldState C) : Type 0 where
   pub formed : FormedBook w.kept.book.crossings w.kept.book.lives

@@ -29,14 +29,14 @@ pub(crate) fn part(alloc: Global, bits: &Bits, from: usize, to: usize) -> Result
     }
 }
 
-/// The first so many of these bits.
+/// The first `count` of these bits, or all of them.
 pub(crate) fn front(alloc: Global, bits: &Bits, count: usize) -> Result<Bits, AllocError>
     ensures { IfOk result (λ front. front ≡ take count bits.now) }
 {
     part(alloc, bits, 0, count.min(bits.len()))
 }
 
-/// The bits behind so many.
+/// The bits after the first `count`.
 fn behind(alloc: Global, bits: &Bits, count: usize) -> Result<Bits, AllocError>
     ensures { IfOk result (λ rest. rest ≡ drop count bits.now) }
 {

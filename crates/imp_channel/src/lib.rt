@@ -1,9 +1,9 @@
 //! Frames between two neighbouring IMPs, and the two ends of the line that carries them.
 //!
 //! A line loses frames and may bring one again. So a packet stays in its channel, and its frame is sent
-//! again, until the neighbour has acknowledged it, by one bit for each channel (Heart et al., "The interface
-//! message processor for the ARPA computer network", SJCC 1970). This crate has the frame with its one
-//! spelling in octets, and a line's end with its eight channels.
+//! again, until the neighbour has acknowledged it (Heart et al., "The interface message processor for the ARPA
+//! computer network", SJCC 1970), by one bit for each channel (as the ARPANET did by 1972). This crate has
+//! the frame with its one spelling in octets, and a line's end with its eight channels.
 //!
 //! The layer above may rely on each call being exact, and on two laws. [`law::in_order`]: what comes out of
 //! a channel was put in, in order, once, whatever frames are lost or come again. [`law::holding`]: an end

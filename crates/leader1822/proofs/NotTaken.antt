@@ -1,4 +1,4 @@
--- From a run of the mailboxes alone: a message of which its source was told NotTaken is taken neither before nor after.
+-- From a run of the mailboxes alone: a message of which its source was told Dead or NotTaken is taken neither before nor after.
 use Rattle.std.proofs.Common.{◌≡◌, Bool, true, false, ◌&&◌, ◌||◌, List, [], ◌∷◌, ◌++◌, length, refl, sym, subst, if◌then◌else◌}
 use Rattle.leader1822.specs.Host.{Host, same_host}
 use Rattle.leader1822.specs.Mailboxes.{Box, Empty, Waiting, Taken, Fits, box_of, same_flow, IsRun}
@@ -12,25 +12,35 @@ use Rattle.leader1822.specs.declared.message.HostMessage.{HostMessage}
 use Rattle.leader1822.proofs.Lists.{or_false, same_flow-true}
 use Rattle.leader1822.proofs.MessageLaw.{Quiet, quiet_in, quiet_if, quiet_out, Tells, tells_run, run_below}
 
--- NotTaken finds a message that waits, so nothing was taken since it went out
-none_taken : (box : Box) (text : List Bool) (taken : List (List Bool)) → Fits answer.NotTaken box → Tells box text taken → taken ≡ []
-none_taken Empty text taken fit h = absurd fit
-none_taken (Waiting place kept) text taken fit h = h.1
-none_taken (Taken place kept) text taken fit h = absurd fit
+-- Dead and NotTaken find a message that waits, so nothing was taken since it went out
+none_taken : (kind : Answer) → is_not_taken kind ≡ true → (box : Box) (text : List Bool) (taken : List (List Bool)) → Fits kind box → Tells box text taken → taken ≡ []
+none_taken answer.Rfnm says box text taken fit h = cc
+none_taken answer.Incomplete says box text taken fit h = cc
+none_taken answer.Dead says Empty text taken fit h = absurd fit
+none_taken answer.Dead says (Waiting place kept) text taken fit h = h.1
+none_taken answer.Dead says (Taken place kept) text taken fit h = absurd fit
+none_taken answer.NotTaken says Empty text taken fit h = absurd fit
+none_taken answer.NotTaken says (Waiting place kept) text taken fit h = h.1
+none_taken answer.NotTaken says (Taken place kept) text taken fit h = absurd fit
 
--- the box, and what was taken since the message went out, after one answer more: it is NotTaken, or that was told before
+-- the same after the answer about this flow
+quiet_not_taken : (f g : Flow) (kind : Answer) → is_not_taken kind ≡ true → (log since : List Crossing) (text : List Bool) → Fits kind (box_of g log) → Tells (box_of f log) text (taken_in f since)
+    → same_flow f g ≡ true → Quiet Empty (taken_in f since)
+quiet_not_taken f g kind says log since text fit tells e =
+    let P : Flow → Type 0 = λ x. Fits kind (box_of x log) in
+    record { empty = refl; none = none_taken kind says (box_of f log) text (taken_in f since) (subst P (sym (same_flow-true f g e)) fit) tells }
+
+-- the box, and what was taken since the message went out, after one answer more: it is Dead or NotTaken, or that was told before
 quiet_answer : (f g : Flow) (kind : Answer) (log since : List Crossing) (text : List Bool) → Fits kind (box_of g log) → Tells (box_of f log) text (taken_in f since)
     → (told_not_taken f since ≡ true → Quiet (box_of f log) (taken_in f since)) → (b : Bool) → same_flow f g ≡ b → ((b && is_not_taken kind) || told_not_taken f since) ≡ true
     → Quiet (if b then Empty else box_of f log) (taken_in f since)
 quiet_answer f g kind log since text fit tells below false e told = below told
 quiet_answer f g answer.Rfnm log since text fit tells below true e told = record { empty = refl; none = (below told).none }
 quiet_answer f g answer.Incomplete log since text fit tells below true e told = record { empty = refl; none = (below told).none }
-quiet_answer f g answer.Dead log since text fit tells below true e told = record { empty = refl; none = (below told).none }
-quiet_answer f g answer.NotTaken log since text fit tells below true e told =
-    let P : Flow → Type 0 = λ x. Fits answer.NotTaken (box_of x log) in
-    record { empty = refl; none = none_taken (box_of f log) text (taken_in f since) (subst P (sym (same_flow-true f g e)) fit) tells }
+quiet_answer f g answer.Dead log since text fit tells below true e told = quiet_not_taken f g answer.Dead refl log since text fit tells e
+quiet_answer f g answer.NotTaken log since text fit tells below true e told = quiet_not_taken f g answer.NotTaken refl log since text fit tells e
 
--- once its source is told NotTaken, the box is empty and nothing was taken
+-- once its source is told Dead or NotTaken, the box is empty and nothing was taken
 quiet_told : (hosts : List Host) (since : List Crossing) (m : HostMessage) (before : List Crossing) → IsRun hosts (since ++ crossing.Out m ∷ before) → went_out m.flow since ≡ false
     → told_not_taken m.flow since ≡ true → Quiet (box_of m.flow (since ++ crossing.Out m ∷ before)) (taken_in m.flow since)
 quiet_told hosts [] m before r n told = absurd (cc)

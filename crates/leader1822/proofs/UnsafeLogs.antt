@@ -50,9 +50,9 @@ early m safe =
     let no : m.text ∷ [] ≡ [] = sym given ∙ safe.none_before [] (crossing.In m ∷ []) m.flow refl refl in
     cc
 
--- ---- messages of which the source was told NotTaken
+-- ---- messages of which the source was told Dead or NotTaken
 
--- one text was taken since the message went out, though its source was told NotTaken
+-- one text was taken since the message went out, though its source was told that it was not
 not_never : (m : HostMessage) (newer since : List Crossing) → went_out m.flow since ≡ false → told_not_taken m.flow since ≡ true → taken_in m.flow since ≡ m.text ∷ []
     → NeverTaken (newer ++ (since ++ crossing.Out m ∷ [])) → ⊥
 not_never m newer since last told taken safe = let no : m.text ∷ [] ≡ [] = sym taken ∙ safe.never newer since [] m refl last told in cc
@@ -65,3 +65,9 @@ told_and_taken m = not_never m [] (crossing.In m ∷ crossing.Answer answer.NotT
 
 pub taken_below : (m : HostMessage) → NeverTaken (crossing.Out m ∷ crossing.Answer answer.NotTaken m.flow ∷ crossing.In m ∷ crossing.Out m ∷ []) → ⊥
 taken_below m = not_never m (crossing.Out m ∷ []) (crossing.Answer answer.NotTaken m.flow ∷ crossing.In m ∷ []) refl (rw (same_flow-refl m.flow) refl) (rw (same_flow-refl m.flow) refl)
+
+pub taken_and_dead : (m : HostMessage) → NeverTaken (crossing.Answer answer.Dead m.flow ∷ crossing.In m ∷ crossing.Out m ∷ []) → ⊥
+taken_and_dead m = not_never m [] (crossing.Answer answer.Dead m.flow ∷ crossing.In m ∷ []) refl (rw (same_flow-refl m.flow) refl) (rw (same_flow-refl m.flow) refl)
+
+pub dead_and_taken : (m : HostMessage) → NeverTaken (crossing.In m ∷ crossing.Answer answer.Dead m.flow ∷ crossing.Out m ∷ []) → ⊥
+dead_and_taken m = not_never m [] (crossing.In m ∷ crossing.Answer answer.Dead m.flow ∷ []) refl (rw (same_flow-refl m.flow) refl) (rw (same_flow-refl m.flow) refl)

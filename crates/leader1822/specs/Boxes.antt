@@ -1,5 +1,5 @@
 -- The plainest carrier: each host has a queue of the messages that wait for it, and a queue of the answers that wait for it.
--- Nothing is ever lost.
+-- Only what is given up, and what waits for a host that stops, is lost.
 use Rattle.std.specs.Prelude.{◌≡◌, Bool, true, false, not, List, [], ◌∷◌, ◌++◌, Option, Some, None, Result, Ok, Err, if◌then◌else◌, ◌&&◌, ◌||◌, filter, is_some, unwrap_or}
 use Rattle.std.specs.List.{list_any}
 use Rattle.std.specs.FinMap as map

@@ -56,10 +56,10 @@ pub record SafeMessages (log : List Crossing) : Type 0 where
 abbrev pub is_not_taken : Answer → Bool
 is_not_taken answer.Rfnm = false
 is_not_taken answer.Incomplete = false
-is_not_taken answer.Dead = false
+is_not_taken answer.Dead = true
 is_not_taken answer.NotTaken = true
 
--- whether the flow's source was told NotTaken in this part of a log
+-- whether the flow's source was told in this part of a log that its message was not taken: by Dead or by NotTaken
 abbrev pub told_not_taken : Flow → List Crossing → Bool
 told_not_taken f [] = false
 told_not_taken f (crossing.Out m ∷ log) = told_not_taken f log
@@ -68,7 +68,7 @@ told_not_taken f (crossing.Answer kind g ∷ log) = (same_flow f g && is_not_tak
 told_not_taken f (crossing.Down h ∷ log) = told_not_taken f log
 told_not_taken f (crossing.Up h ∷ log) = told_not_taken f log
 
--- between one message out and the flow's next: once its source is told NotTaken, the message is taken neither before nor after.
+-- between one message out and the flow's next: once its source is told Dead or NotTaken, the message is taken neither before nor after.
 -- `newer` is any later part of the log
 pub record NeverTaken (log : List Crossing) : Type 0 where
   pub never : (newer since before : List Crossing) (m : HostMessage) → log ≡ newer ++ (since ++ crossing.Out m ∷ before) → went_out m.flow since ≡ false

@@ -12,7 +12,7 @@ pub enum Answer {
     Rfnm,
     /// The network gave the message up; it may have been taken all the same.
     Incomplete,
-    /// The destination is down or not there, and did not get the message.
+    /// The destination is down, not there or out of reach. It did not take the message, and never will.
     Dead,
     /// The destination did not take the message, and never will. Hosts are told `Incomplete` for it.
     NotTaken,

@@ -116,6 +116,10 @@ pub fn unsafe_logs()
 
     // the same with a later message of the flow on top
     ensures taken_below { (m : HostMessage) → NeverTaken (crossing.Out m ∷ crossing.Answer answer.NotTaken m.flow ∷ crossing.In m ∷ crossing.Out m ∷ []) → ⊥ }
+
+    // a message taken before its source is told Dead, and one taken after that
+    ensures taken_and_dead { (m : HostMessage) → NeverTaken (crossing.Answer answer.Dead m.flow ∷ crossing.In m ∷ crossing.Out m ∷ []) → ⊥ }
+    ensures dead_and_taken { (m : HostMessage) → NeverTaken (crossing.In m ∷ crossing.Answer answer.Dead m.flow ∷ crossing.Out m ∷ []) → ⊥ }
 {}
 
 /// What every host may rely on, from the mailboxes alone.
@@ -123,7 +127,7 @@ pub fn messages()
     ensures { (hosts : List Host) (log : List Crossing) → IsRun hosts log → SafeMessages log }
 {}
 
-/// What a source that is told NotTaken may rely on, from the mailboxes alone: its message was not taken,
+/// What a source that is told Dead or NotTaken may rely on, from the mailboxes alone: its message was not taken,
 /// and never will be.
 pub fn messages_not_taken()
     ensures { (hosts : List Host) (log : List Crossing) → IsRun hosts log → NeverTaken log }

@@ -12,8 +12,8 @@ use crate::{
 use std::alloc::Global;
 use std::marker::Model;
 
-/// A network that loses nothing and delays nothing: what a host offers waits for its destination, and
-/// what became of it waits for its source. The queues have no limit.
+/// A network without lines: what a host offers waits for its destination at once, and what became of it waits
+/// for its source. Only what is given up, and what waits for a host that stops, is lost. The queues have no limit.
 #[derive(Drop)]
 pub struct PlainBoxes {
     contents: Contents,

@@ -11,12 +11,12 @@ use leader1822::{Flow, ImpNumber, Number};
 use std::alloc::{AllocError, Global};
 use std::marker::Model;
 
-/// Whether a message was taken before, judged by its number.
+/// Whether a message is new to its destination, judged by its number.
 #[derive(Clone, Copy, Debug, PartialEq, Eq)]
 pub enum Age {
-    /// It was not taken yet.
+    /// No number is kept, or this one lies within the window ahead of the kept one.
     New,
-    /// It was taken, or given up by its source.
+    /// Any other number: that of a message that was noted, given up, or sent before the kept one.
     Old,
 }
 

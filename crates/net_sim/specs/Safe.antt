@@ -114,7 +114,8 @@ pub record SafeGrants (log : List Crossing) (lives : List Life) : Type 0 where
 -- ---- the safe book
 
 -- a message answered by RFNM was taken exactly once and none is taken twice; no two ends hold one opening with different partners;
--- what was taken is a prefix of what its one partner sent; and what was taken, and what was sent, is granted
+-- what was taken, if anything was, is a prefix of what its one partner sent, and what was sent of what was handed over; and what was taken, and what was
+-- sent, is granted
 pub record SafeBook (log : List Crossing) (lives : List Life) (handed : List (List Bool)) : Type 0 where
   pub messages : SafeMessages log
   pub partners : SafePartners log lives

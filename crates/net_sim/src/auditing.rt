@@ -1,6 +1,6 @@
-//! Whether a book is safe, told of anybody's log.
+//! Whether a book is safe, whoever wrote its log.
 //!
-//! It takes no memory: what it has to know again it searches again.
+//! It takes no memory: what it has to know again it searches for again.
 
 ghost use Rattle.std.specs.Prelude.{◌≡◌, ◌↔◌, reverse};
 ghost use Rattle.net_sim.specs.Audit.{Says};
@@ -30,7 +30,7 @@ pub use said::{Audit, Part};
 /// before. Else `Kept` where the book is safe, and else `Broken` with the first part that fails.
 ///
 /// It takes no memory. It searches: for a taking or an RFNM it goes back to the flow's last message out, and it looks at each
-/// two lives.
+/// pair of lives.
 pub fn audit(log: &[Crossing], lives: &[Life], handed: &[BitLog]) -> Audit
     ensures { (said : Answer) → (result ≡ said) ↔ Says said (reverse log.now) lives.now handed.now }
 {

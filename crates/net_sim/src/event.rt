@@ -22,7 +22,7 @@ pub enum Event {
     /// The server of an initial connection begins on a host. Users ask it on the odd socket `listen`, and it serves the first on the
     /// even socket `base` and the one above it; the echo service follows it.
     Server {
-        /// The host where it begins or is typed.
+        /// The host where it begins.
         host: HostAddr,
         /// The socket on which users ask.
         listen: u32,
@@ -32,7 +32,7 @@ pub enum Event {
     /// The user of an initial connection begins on a host. It asks the socket `listen` of a peer from its own even socket; a line
     /// terminal follows it.
     User {
-        /// The host where it begins or is typed.
+        /// The host where it begins.
         host: HostAddr,
         /// The server's host.
         peer: HostAddr,
@@ -43,7 +43,7 @@ pub enum Event {
     },
     /// A line is typed at a host, at the terminal that came last.
     Typed {
-        /// The host where it begins or is typed.
+        /// The host where it is typed.
         host: HostAddr,
         /// The line that is typed.
         line: TypedLine,

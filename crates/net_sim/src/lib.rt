@@ -3,7 +3,7 @@
 //! A world runs the program of each host (crate `sockets`) over any carrier (crate `leader1822`). Here it is defined, with
 //! its book and what that book promises of all connections. Proved for every carrier are the promise's part about
 //! messages, and clean resets: the book is a run of the law of resets (crate `reset_law`), so a host that is through a reset
-//! with a peer takes of it only what went out after its last clean point.
+//! with a peer takes of it, RST and RRP aside, only what went out after its last clean point.
 //!
 //! A [`World`] takes events one by one and keeps a [`Book`]; each call does what the definition of its event says, and
 //! its book is, at any time, one of which the laws here speak. The laws and the rows are the contracts of functions that

@@ -8,7 +8,7 @@ use std::marker::Model;
 /// How often something happened.
 ///
 /// Each time its 32 bits wrap around, a list in memory grows by an octet. So only a refused octet can keep it from counting on, and
-/// whatever is bounded by it needs no look of its own.
+/// no count that it bounds has to be checked.
 #[derive(Drop)]
 pub(crate) struct Tally {
     rounds: Vec<u8>,

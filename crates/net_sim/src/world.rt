@@ -70,7 +70,7 @@ impl<C: Carrier> World<C> {
     }
 
     /// What happened so far. It is that of a lawful world, of which `law::clean_resets` speaks: a host that is through a
-    /// reset with a peer takes of it only what went out after its last clean point. And by `law::books` a message that was
+    /// reset with a peer takes of it, RST and RRP aside, only what went out after its last clean point. And by `law::books` a message that was
     /// answered by RFNM was taken exactly once, and none was taken twice.
     pub fn book(&self) -> &Book
         ensures value { result.now ≡ self.now.kept }
@@ -179,7 +179,7 @@ fn runs_out(done: &Result<(), WorldFault>) -> bool
     )
 }
 
-/// Whether nothing is done after this any more.
+/// Whether a list of events ends after this answer.
 pub(crate) fn stops(done: &Result<(), WorldFault>) -> bool
     ensures { result ≡ world.stops done.now }
 {

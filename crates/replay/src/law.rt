@@ -15,7 +15,7 @@ ghost use Rattle.script.specs.declared.event.RawEvent.TheVariants as script_even
 use leader1822::Carrier;
 
 /// A carrier whose calls leave no choice leaves none to a replay: events have one outcome and show one list of
-/// lines. What is shown where memory runs out is the first part of that list.
+/// lines. What is shown where memory runs out is a prefix of that list.
 pub fn one_replay<C: Carrier>()
     ensures same { AreSettled (record { seen = C.seen; offers = C.offers; takes = C.takes; steps = C.steps; rounds = C.rounds }) → (old new other : C) (events : List RawEvent) (shown more : List Shown) → Replays (record { seen = C.seen; offers = C.offers; takes = C.takes; steps = C.steps; rounds = C.rounds }) old events new shown → Replays (record { seen = C.seen; offers = C.offers; takes = C.takes; steps = C.steps; rounds = C.rounds }) old events other more → (new ≡ other) × (shown ≡ more) }
     ensures first_part { AreSettled (record { seen = C.seen; offers = C.offers; takes = C.takes; steps = C.steps; rounds = C.rounds }) → (old new other : C) (events : List RawEvent) (part whole : List Shown) → EndsIn (record { seen = C.seen; offers = C.offers; takes = C.takes; steps = C.steps; rounds = C.rounds }) StopsIn old events new part → Replays (record { seen = C.seen; offers = C.offers; takes = C.takes; steps = C.steps; rounds = C.rounds }) old events other whole → (rest : List Shown) × (whole ≡ part ++ rest) }

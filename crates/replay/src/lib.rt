@@ -4,7 +4,7 @@
 //! interface between a host and its IMP, and one line for each refusal.
 //!
 //! A caller may rely on three things. Each event goes as the carrier says that its calls may go. What is
-//! written is what the events showed. Where memory runs out, the output is the first part of that: it ends
+//! written is what the events showed. Where memory runs out, the output is a prefix of that: it ends
 //! after the last event that was replayed whole, or within a calm after what crossed in it.
 //!
 //! What is printed goes to an [`Output`], which tells whether a write failed. `CannotWrite` is answered where one

@@ -1,6 +1,6 @@
 //! One host's network control program.
 //!
-//! A host talks to each other host over a pair of reset states, over control commands on link 0, and over
+//! A host and each of its peers reset what is between them, send each other control commands on link 0, and open
 //! connections, each from an odd send socket to an even receive socket and on a link of its own (NIC 8246,
 //! Host/Host Protocol for the ARPA Network). Here lives that program as a machine: what its user asks for,
 //! what comes in from the IMP, and what goes out next.

@@ -156,9 +156,10 @@ impl Carrier for Subnet {
     /// The message is cut into packets, which go out to the IMP of its destination; where no route leads
     /// there, Dead waits for the source at once.
     ///
-    /// Errors: `NoSuch` where the source isn't a host of the network, `StillAlive` while the number that lies
-    /// [`link_table::numbers::WINDOW`] before the flow's last one is alive, `IsDown` where the source or its IMP is down, `Blocked` while a message of
-    /// the flow is outstanding or an answer about it waits, `NoRoom` where its IMP has no place for it.
+    /// Errors: `NoSuch` where the source isn't a host of the network. `StillAlive` where a number would be begun, and
+    /// either the number that lies [`link_table::numbers::WINDOW`] before the flow's last one is alive or the
+    /// destination's IMP keeps the very number. `IsDown` where the source or its IMP is down, `Blocked` while a message
+    /// of the flow is outstanding or an answer about it waits, `NoRoom` where its IMP has no place for it.
     #[tactic(auto, using(crate::proofs::Calls::Working::offer_shown))]
     fn offer_out(&mut self, message: HostMessage) -> Result<(), CarrierFault> {
         self.offer(message)

@@ -14,8 +14,8 @@ use net_sim::{World, WorldFault};
 use replay::{Detail, Output, ReplayFault};
 use world_script::WorldEvent;
 
-/// Lets each event happen in order, and prints what it shows: each crossing, each notice behind the crossings that
-/// were before it, each report behind its notice, and then the refusal, if there is one. Of a message it prints as much
+/// Lets each event happen in order, and prints what it shows: each crossing, each notice after the crossings that
+/// were before it, each report after its notice, and then the refusal, if there is one. Of a message it prints as much
 /// as `detail` says.
 ///
 /// A refused event changes nothing, and the replay continues with the next one. A calm shows what each of its events

@@ -12,7 +12,7 @@ ghost use Rattle.world_script.specs.declared.event.WorldEvent.{WorldEvent};
 use leader1822::Carrier;
 
 /// A carrier whose calls leave no choice leaves none to the replay of a world over it: events have one outcome and show one
-/// list of lines. What is shown where memory runs out is the first part of that list.
+/// list of lines. What is shown where memory runs out is a prefix of that list.
 pub fn one_replay<C: Carrier>()
     ensures same { AreSettled (record { seen = C.seen; offers = C.offers; takes = C.takes; steps = C.steps; rounds = C.rounds }) → (old new other : WorldState C) (events : List WorldEvent) (lines more : List Shown) → Replays (shown (record { seen = C.seen; offers = C.offers; takes = C.takes; steps = C.steps; rounds = C.rounds })) old events new lines → Replays (shown (record { seen = C.seen; offers = C.offers; takes = C.takes; steps = C.steps; rounds = C.rounds })) old events other more → (new ≡ other) × (lines ≡ more) }
     ensures first_part { AreSettled (record { seen = C.seen; offers = C.offers; takes = C.takes; steps = C.steps; rounds = C.rounds }) → (old new other : WorldState C) (events : List WorldEvent) (part whole : List Shown) → EndsIn (shown (record { seen = C.seen; offers = C.offers; takes = C.takes; steps = C.steps; rounds = C.rounds })) (StopsIn (shown (record { seen = C.seen; offers = C.offers; takes = C.takes; steps = C.steps; rounds = C.rounds }))) old events new part → Replays (shown (record { seen = C.seen; offers = C.offers; takes = C.takes; steps = C.steps; rounds = C.rounds })) old events other whole → (rest : List Shown) × (whole ≡ part ++ rest) }

@@ -12,7 +12,7 @@ pub enum Part {
     Messages,
     /// No two ends hold one opening with different partners.
     Partners,
-    /// What was taken is a prefix of what its one partner sent.
+    /// What was taken is a prefix of what its one partner sent, and what was sent is a prefix of what was handed over.
     Streams,
     /// What was taken and sent is granted.
     Grants,
@@ -21,9 +21,9 @@ pub enum Part {
 /// What an audit says of a book.
 #[derive(Clone, Copy, Debug, PartialEq, Eq)]
 pub enum Audit {
-    /// It is a safe book.
+    /// It is well-formed, and a safe book.
     Kept,
-    /// A stamp of a life names no request.
+    /// There isn't one list of bits for each life, or a stamp of a life names no request.
     Malformed,
     /// This part of a safe book is the first that fails.
     Broken(Part),

@@ -1,4 +1,4 @@
-use Rattle.leader1822.proofs.UnsafeLogs.{untaken, twice, other_text, early, taken_and_told, told_and_taken, taken_below}
+use Rattle.leader1822.proofs.UnsafeLogs.{untaken, twice, other_text, early, taken_and_told, told_and_taken, taken_below, taken_and_dead, dead_and_taken}
 use Rattle.leader1822.proofs.law.unsafe_logs.Goals as goal
 
 pub returns-clause-untaken : goal.returns-clause-untaken
@@ -21,3 +21,9 @@ returns-clause-told_and_taken c = told_and_taken
 
 pub returns-clause-taken_below : goal.returns-clause-taken_below
 returns-clause-taken_below c = taken_below
+
+pub returns-clause-taken_and_dead : goal.returns-clause-taken_and_dead
+returns-clause-taken_and_dead c = taken_and_dead
+
+pub returns-clause-dead_and_taken : goal.returns-clause-dead_and_taken
+returns-clause-dead_and_taken c = dead_and_taken
