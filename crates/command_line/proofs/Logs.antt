@@ -3,6 +3,7 @@ use Rattle.std.proofs.Common.{◌≡◌, ℕ, Bool, List, [], Option, Some, None
 use Rattle.std.specs.Io.KnownBytes.{Appends}
 use Rattle.book_log.specs.Log.{Book, IsBook, log_text}
 use Rattle.headline.specs.Promise.{KeepsPromise}
+use Rattle.leader1822.specs.Mailboxes.{IsRun}
 use Rattle.leader1822.specs.Messages.{SafeMessages}
 use Rattle.leader1822.specs.declared.crossing.Crossing.{Crossing}
 use Rattle.net_sim.specs.Carriers.{shown}
@@ -24,12 +25,13 @@ use Rattle.command_line.specs.declared.fault.ScriptFault.{ScriptFault}
 use Rattle.command_line.specs.declared.fault.ScriptFault.TheVariants as fault
 
 pub logs_raw : {C : Type 0} (calls : Calls C) (opening last : C) (events : List RawEvent) (detail : Detail) (log : List Crossing) (x y before after : Option (List ℕ)) → Writes detail (Replays calls opening events last) x y
-    → SafeMessages (calls.seen last).log → log ≡ reverse (calls.seen last).log → Appends before after (log_text (record { crossings = log; lives = []; handed = [] })) → IsBook (record { crossings = log; lives = []; handed = [] }) → LogsRaw calls opening events before after
-logs_raw calls opening last events detail log x y before after w safe is written valid = record {
+    → SafeMessages (calls.seen last).log → IsRun (calls.seen last).hosts (calls.seen last).log → log ≡ reverse (calls.seen last).log → Appends before after (log_text (record { crossings = log; lives = []; handed = [] })) → IsBook (record { crossings = log; lives = []; handed = [] }) → LogsRaw calls opening events before after
+logs_raw calls opening last events detail log x y before after w safe run is written valid = record {
   last = last;
   shown = w.shown;
   replayed = w.is_shown;
   messages = safe;
+  run = run;
   written = subst (λ (cs : List Crossing). Appends before after (log_text (record { crossings = cs; lives = []; handed = [] }))) is written;
   valid = subst (λ (cs : List Crossing). IsBook (record { crossings = cs; lives = []; handed = [] })) is valid;
 }

@@ -3,6 +3,7 @@ use Rattle.std.proofs.Common.{◌≡◌, ◌⊎◌, inl, inr, ℕ, Bool, List, [
 use Rattle.std.proofs.lemmas.List.{append-nil}
 use Rattle.std.specs.Io.KnownBytes.{Appends, Keeps}
 use Rattle.headline.specs.Promise.{KeepsPromise}
+use Rattle.leader1822.specs.Mailboxes.{IsRun}
 use Rattle.leader1822.specs.Messages.{SafeMessages}
 use Rattle.net_sim.specs.Book.{opening_kept}
 use Rattle.net_sim.specs.Carriers.{shown}
@@ -30,28 +31,30 @@ use Rattle.command_line.specs.declared.fault.ScriptFault.{ScriptFault}
 
 -- from an opening, at which nothing has crossed: a whole replay, and the last line
 pub writes_all : {C : Type 0} (calls : Calls C) (opening last : C) (events : List RawEvent) (detail : Detail) (a b c : Option (List ℕ)) → (calls.seen opening).log ≡ [] → Writes detail (Replays calls opening events last) a b
-    → SafeMessages (calls.seen last).log → Appends b c (codes "end\n") → WritesAll detail (ShowsFrom calls opening events) a c
-writes_all calls opening last events detail a b c empty h safe end = record {
+    → SafeMessages (calls.seen last).log → IsRun (calls.seen last).hosts (calls.seen last).log → Appends b c (codes "end\n") → WritesAll detail (ShowsFrom calls opening events) a c
+writes_all calls opening last events detail a b c empty h safe run end = record {
   shown = h.shown;
   shows = record {
     last = last;
     replayed = h.is_shown;
     crossed = replays_show calls opening last events h.shown h.is_shown ∙ ap (λ log. reverse (crossings_of h.shown) ++ log) empty ∙ append-nil (reverse (crossings_of h.shown));
     messages = safe;
+    run = run;
   };
   written = appends_more a b c (output detail h.shown) (codes "end\n") h.written end;
 }
 
 -- a replay that runs out of memory
 pub writes_part : {C : Type 0} (calls : Calls C) (opening last : C) (events : List RawEvent) (detail : Detail) (a b : Option (List ℕ)) → (calls.seen opening).log ≡ [] → Writes detail (EndsIn calls StopsIn opening events last) a b
-    → SafeMessages (calls.seen last).log → Writes detail (StopsFrom calls opening events) a b
-writes_part calls opening last events detail a b empty h safe = record {
+    → SafeMessages (calls.seen last).log → IsRun (calls.seen last).hosts (calls.seen last).log → Writes detail (StopsFrom calls opening events) a b
+writes_part calls opening last events detail a b empty h safe run = record {
   shown = h.shown;
   is_shown = record {
     last = last;
     stopped = h.is_shown;
     crossed = stops_show calls opening last events h.shown h.is_shown ∙ ap (λ log. reverse (crossings_of h.shown) ++ log) empty ∙ append-nil (reverse (crossings_of h.shown));
     messages = safe;
+    run = run;
   };
   written = h.written;
 }

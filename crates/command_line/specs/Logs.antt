@@ -3,6 +3,7 @@ use Rattle.std.specs.Prelude.{ℕ, List, [], reverse, Option}
 use Rattle.std.specs.Io.KnownBytes.{Appends}
 use Rattle.book_log.specs.Log.{Book, IsBook, log_text}
 use Rattle.headline.specs.Promise.{KeepsPromise}
+use Rattle.leader1822.specs.Mailboxes.{IsRun}
 use Rattle.leader1822.specs.Messages.{SafeMessages}
 use Rattle.net_sim.specs.Book.{Kept}
 use Rattle.net_sim.specs.Carriers.{shown}
@@ -38,6 +39,7 @@ pub record LogsRaw {C : Type 0} (calls : Calls C) (opening : C) (events : List R
   pub shown : List Shown
   pub replayed : Replays calls opening events last shown
   pub messages : SafeMessages (calls.seen last).log
+  pub run : IsRun (calls.seen last).hosts (calls.seen last).log
   pub written : Appends before after (log_text (raw_book (calls.seen last).log))
   pub valid : IsBook (raw_book (calls.seen last).log)
 

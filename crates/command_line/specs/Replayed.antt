@@ -2,6 +2,7 @@
 use Rattle.std.specs.Prelude.{◌≡◌, ℕ, Bool, true, false, List, [], ◌++◌, reverse, Option, codes}
 use Rattle.std.specs.Io.KnownBytes.{Appends}
 use Rattle.headline.specs.Promise.{KeepsPromise}
+use Rattle.leader1822.specs.Mailboxes.{IsRun}
 use Rattle.leader1822.specs.Messages.{SafeMessages}
 use Rattle.net_sim.specs.Book.{Book}
 use Rattle.net_sim.specs.Carriers.{shown}
@@ -26,12 +27,13 @@ use Rattle.command_line.specs.Input.{IsInput}
 -- ---- a network without host programs
 
 -- events are replayed over a carrier with such calls, which shows these lines; the lines have all that crossed since its
--- opening, and that is a log that every host may rely on
+-- opening, and that is a run of the mailboxes, on which every host may rely
 pub record ShowsFrom {C : Type 0} (calls : Calls C) (opening : C) (events : List RawEvent) (shown : List Shown) : Type 0 where
   pub last : C
   pub replayed : Replays calls opening events last shown
   pub crossed : (calls.seen last).log ≡ reverse (crossings_of shown)
   pub messages : SafeMessages (calls.seen last).log
+  pub run : IsRun (calls.seen last).hosts (calls.seen last).log
 
 -- memory ran out in one of the events: what was shown by then, and all that crossed
 pub record StopsFrom {C : Type 0} (calls : Calls C) (opening : C) (events : List RawEvent) (shown : List Shown) : Type 0 where
@@ -39,6 +41,7 @@ pub record StopsFrom {C : Type 0} (calls : Calls C) (opening : C) (events : List
   pub stopped : EndsIn calls StopsIn opening events last shown
   pub crossed : (calls.seen last).log ≡ reverse (crossings_of shown)
   pub messages : SafeMessages (calls.seen last).log
+  pub run : IsRun (calls.seen last).hosts (calls.seen last).log
 
 -- what all events show is written, and a last line `end`
 pub record WritesAll (detail : Detail) (AreShown : List Shown → Type 0) (before after : Option (List ℕ)) : Type 0 where

@@ -1,6 +1,7 @@
 //! Replaying a script's events over a carrier.
 
 ghost use Rattle.std.specs.Prelude.{◌≡◌, Err, OnOk, List, false};
+ghost use Rattle.leader1822.specs.Mailboxes.{IsRun};
 ghost use Rattle.leader1822.specs.Messages.{SafeMessages};
 ghost use Rattle.replay.specs.Failing.{TellsCannotWrite};
 ghost use Rattle.replay.specs.Replay.{EndsIn, MayDo, Replays, StopsIn, outcome_of};
@@ -71,8 +72,9 @@ pub fn replay_events<C: Carrier, W: Output>(
 ) -> Result<(), ReplayFault>
     requires { W.failed writer.old ≡ false }
 
-    // each RFNM belongs to one message, which was taken exactly once
+    // each RFNM belongs to one message, which was taken exactly once; and what crossed is a run of the mailboxes
     ensures messages { SafeMessages (C.seen carrier.new).log }
+    ensures run { IsRun (C.seen carrier.new).hosts (C.seen carrier.new).log }
 
     // each event in turn went as the carrier says that its calls may go, and what it showed was printed: what
     // crossed, and then its refusal
