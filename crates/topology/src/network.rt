@@ -19,7 +19,7 @@ use toml::Value;
 /// The most hosts that an IMP has (Heart et al. 1970: an IMP has up to four hosts).
 pub const MOST_HOSTS: u8 = 4;
 
-/// The most lines that an IMP has (Heart et al. 1970: an IMP has up to five lines).
+/// The most lines that an IMP has: a limit of the networks here.
 pub const MOST_LINES: usize = 5;
 
 /// What carries the messages between the hosts.
