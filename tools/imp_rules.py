@@ -113,6 +113,7 @@ class Imp:
         self.store = []
         self.slots = {}  # of a flow: its message's number, and its pieces by place
         self.outstanding = {}
+        self.answered = set()  # flows whose message begun last has its answer waiting for the host
         self.last = {}
         self.kept = {}
         self.fates = {}  # of a flow whose number is kept: what became of its message, "waits", "taken", "dead" or "never"
@@ -173,6 +174,8 @@ class Imp:
         """An answer about a number comes to its flow."""
         if self.outstanding.get(flow) == number:
             del self.outstanding[flow]
+            if self.runs(flow[0]):
+                self.answered.add(flow)
             self.tell(kind, flow)
 
     def begin(self, flow):
@@ -334,6 +337,7 @@ class Imp:
         if not host.is_up:
             raise Refused("IsDown")
         if host.answers:
+            self.answered.discard(host.answers[0][1])
             return host.answers.pop(0)
         if not host.messages:
             return None
@@ -410,6 +414,7 @@ class Imp:
         if not host.is_up:
             raise Refused("IsDown")
         host.is_up = False
+        self.answered -= {flow for _, flow in host.answers}
         host.answers.clear()
         waiting, host.messages = host.messages, []
         for flow, message, _ in waiting:
