@@ -135,11 +135,9 @@ class Imp:
         return best[1] if best[0] < INFINITE else None
 
     def vector(self):
-        ports = range(len(self.ports))
-        return [
-            0 if imp == self.number else min((self.distance(port, imp) for port in ports), default=INFINITE)
-            for imp in range(1, MOST_IMPS + 1)
-        ]
+        heard = [port.heard for port in self.ports if port.heard is not None]
+        least = [min(distances) for distances in zip(*heard)] or [INFINITE] * MOST_IMPS
+        return [0 if imp == self.number else min(INFINITE, distance + 1) for imp, distance in enumerate(least, 1)]
 
     def packets(self):
         """The packets in store and channels."""
@@ -362,9 +360,10 @@ class Imp:
                         self.send(port, end.line.frame(channel))
 
     def tell_routes(self):
+        distances = self.vector()
         for port, end in enumerate(self.ports):
             if end.is_up:
-                self.send(port, ("routes", self.vector()))
+                self.send(port, ("routes", distances))
 
     def end_down(self, port):
         if port >= len(self.ports):

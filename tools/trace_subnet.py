@@ -3,6 +3,8 @@
 It was written from docs/trace.md over the independent model of the subnet. `trace_rules` stands on it.
 """
 
+from functools import cache
+
 from imp_rules import ASK, CHANNELS, DATA, DEAD, INFINITE, MOST_IMPS, NEVER, RFNM, spell_flow
 from script_rules import read_bits, read_flow, spelled_text
 from subnet_rules import Subnet
@@ -30,11 +32,16 @@ def packet_text(packet):
 
 def distances_of(vector):
     """The distances to the IMPs that can be reached."""
+    return finite(tuple(vector))
+
+
+@cache
+def finite(vector):
     return {str(imp): distance for imp, distance in enumerate(vector, 1) if distance < INFINITE}
 
 
 def frame_of(acknowledged, content):
-    frame = {"acks": bits_text(acknowledged >> channel & 1 for channel in range(CHANNELS))}
+    frame = {"acks": f"{acknowledged:0{CHANNELS}b}"[::-1]}
     if content is None:
         return frame
     if content[0] == "routes":

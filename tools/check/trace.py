@@ -57,7 +57,7 @@ def held_up(network, lines):
     """Looks at the trace of a script, and gives what it tells and what the script prints."""
     trace = traced(network, lines)
     owed = printed_by(opened(network), lines)
-    records = [json.loads(text(record)) for record in trace.records]
+    records = trace.records
     column = [record["event"] for record in records]
     if printed_by(opened(network), column) != owed:
         raise Wrong("the column of events prints other lines")
@@ -77,7 +77,7 @@ def follows(network, records, last):
     for place, record in enumerate(records):
         parts.update(record["parts"])
         if place in places:
-            kept.append((place, dict(parts)))
+            kept.append((place, json.loads(json.dumps(parts))))
     if parts != last:
         raise Wrong("a part changed that isn't named")
     for place, told in kept:
@@ -86,7 +86,7 @@ def follows(network, records, last):
 
 def begins_anew(network, parts, rest, last):
     """Whether a network made from parts goes on as the trace does, and has the same parts in the end."""
-    other = made_of(network, json.loads(json.dumps(parts)))
+    other = made_of(network, parts)
     if all_parts(other) != parts:
         raise Wrong("a network made from parts has other parts")
     if printed_by(other, [record["event"] for record in rest]) != [line for record in rest for line in record["printed"]]:
