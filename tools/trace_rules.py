@@ -78,8 +78,9 @@ class OfBoxes:
         return named + [f"host {spell_host(host)}" for host in in_order(boxes) if host in touched]
 
     @staticmethod
-    def in_quiet_round(boxes, tell):
+    def in_quiet_round(boxes):
         """The elementary events of a quiet round: there are none."""
+        return ()
 
     @staticmethod
     def is_given(boxes, host):
@@ -106,55 +107,53 @@ def all_parts(place):
 
 
 class Traced:
-    """The trace of a script, a record for each elementary event."""
+    """The trace of a script over a raw network: a record for each elementary event, told as it happens."""
 
     def __init__(self, place):
         self.place, self.of = place, of(place)
-        self.records = []
 
     def happen(self, number, event):
-        """An event of the script."""
+        """The records of an event of the script."""
         if event[0] == "calm":
-            self.calm(number, event[1])
+            yield from self.calm(number, event[1])
         else:
-            self.tell(number, 0, event)
+            yield self.tell(number, 0, event)
 
     def tell(self, number, number_of_round, event):
-        """An elementary event."""
+        """Lets an elementary event happen, and gives its record."""
         shown, crossed = len(self.place.printed), len(self.place.log)
         self.place.happen(*event)
         named = self.of.names(self.place, event, self.place.log[crossed:])
-        self.records.append({
+        return {
             "number": number,
             "round": number_of_round,
             "event": spelled(event),
             "printed": self.place.printed[shown:],
             "parts": {name: self.of.part(self.place, name) for name in named},
-        })
+        }
 
     def calm(self, number, rounds):
         """A calm: what its quiet rounds do, and the takings that give something."""
         for number_of_round in range(1, rounds + 1):
             before = len(self.place.log)
-            self.quiet_round(lambda event: self.tell(number, number_of_round, event))
+            for event in self.quiet_round():
+                yield self.tell(number, number_of_round, event)
             for host in in_order(self.place):
                 for _ in range(TAKES):
                     if self.of.is_given(self.place, host):
-                        self.tell(number, number_of_round, ("take", host))
+                        yield self.tell(number, number_of_round, ("take", host))
             if self.of.is_settled(self.place, self.place.log[before:]):
                 return
 
-    def quiet_round(self, tell):
-        self.of.in_quiet_round(self.place, tell)
+    def quiet_round(self):
+        return self.of.in_quiet_round(self.place)
 
 
-def traced(network, lines):
-    """The trace of a script over a raw network: records, and the network's state after it."""
-    trace = Traced(opened(network))
-    events = filter(None, (read_line(line) for line in lines))
-    for number, event in enumerate(events, 1):
-        trace.happen(number, event)
-    return trace
+def traced(place, lines):
+    """The trace of a script, record by record, over a raw network that is at its opening: each happens when it is asked for."""
+    trace = Traced(place)
+    for number, event in enumerate(filter(None, map(read_line, lines)), 1):
+        yield from trace.happen(number, event)
 
 
 def text(record):
@@ -206,7 +205,7 @@ def main():
     network = network_of("\n".join(lines[:marker]))
     if not network[1]:
         sys.exit("trace: only raw networks can be traced")
-    for record in traced(network, lines[marker + 1 :]).records:
+    for record in traced(opened(network), lines[marker + 1 :]):
         print(text(record))
 
 

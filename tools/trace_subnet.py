@@ -124,19 +124,19 @@ def names(subnet, event, _):
     return [f"imp {number}", *(f"line {line}" for line in lines)]
 
 
-def in_quiet_round(subnet, tell):
-    """The elementary events of a quiet round, each told before the next is looked for."""
+def in_quiet_round(subnet):
+    """The elementary events of a quiet round. Each has to happen before the next is asked for."""
     for number in subnet.sites:
         if subnet.imps[number] is not None:
-            tell(("route", number))
+            yield "route", number
             if subnet.imps[number].packets():
-                tell(("resend", number))
+                yield "resend", number
     for line, (a, b) in enumerate(subnet.ends):
         for way, far in ("+", b), ("-", a):
             for _ in range(len(subnet.live[line][way])):
                 if subnet.imps[far] is not None:
-                    tell(("deliver", line, way, 0))
-                tell(("drop", line, way, 0))
+                    yield "deliver", line, way, 0
+                yield "drop", line, way, 0
 
 
 def is_given(subnet, host):

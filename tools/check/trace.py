@@ -55,9 +55,9 @@ def printed_by(place, lines):
 
 def held_up(network, lines):
     """Looks at the trace of a script, and gives what it tells and what the script prints."""
-    trace = traced(network, lines)
+    place = opened(network)
+    records = [*traced(place, lines)]
     owed = printed_by(opened(network), lines)
-    records = trace.records
     column = [record["event"] for record in records]
     if printed_by(opened(network), column) != owed:
         raise Wrong("the column of events prints other lines")
@@ -65,7 +65,7 @@ def held_up(network, lines):
         raise Wrong("other lines are told as printed")
     if any(line.startswith("calm") for line in column):
         raise Wrong("a calm is told as one event")
-    follows(network, records, all_parts(trace.place))
+    follows(network, records, all_parts(place))
     return records, owed
 
 
@@ -134,16 +134,13 @@ def over_subnet(seed):
         questions = Questions(f"trace {seed}", EVENTS)
         return questions.network, questions.lines
     chance = loaded_once("subnet").Chance(f"trace {seed}", False)
-    events = [("calm", 2), *filter(lambda it: it[0] != "alive", (happened(chance) for _ in range(EVENTS)))]
-    return ("subnet", True, chance.imps, chance.ends), [spelled(event) for event in events]
-
-
-def happened(chance):
-    """An event of a subnet, which has happened."""
-    event = chance.event() if chance.subnet.printed or any(chance.subnet.live) else ("calm", 2)
-    if event[0] != "alive":
-        chance.subnet.happen(*event)
-    return event
+    lines = ["calm 2"]
+    chance.subnet.happen("calm", 2)
+    for event in (chance.event() for _ in range(EVENTS)):
+        if event[0] != "alive":
+            chance.subnet.happen(*event)
+            lines.append(spelled(event))
+    return ("subnet", True, chance.imps, chance.ends), lines
 
 
 LOADED = {}
@@ -217,15 +214,19 @@ class CalmAtOnce(Traced):
     """A calm is one event."""
 
     def calm(self, number, rounds):
-        self.tell(number, 0, ("calm", rounds))
+        yield self.tell(number, 0, ("calm", rounds))
 
 
 def not_told(kind):
     """An event is left out of the quiet rounds, and happens nevertheless."""
 
     class Without(Traced):
-        def quiet_round(self, tell):
-            super().quiet_round(lambda event: self.place.happen(*event) if event[0] == kind else tell(event))
+        def quiet_round(self):
+            for event in super().quiet_round():
+                if event[0] == kind:
+                    self.place.happen(*event)
+                else:
+                    yield event
 
     return with_class(Without)
 
@@ -235,10 +236,10 @@ def named_less(kind, leave):
 
     class Less(Traced):
         def tell(self, *words):
-            super().tell(*words)
-            record = self.records[-1]
+            record = super().tell(*words)
             if record["event"].split(" ")[0] == kind:
                 record["parts"] = {name: part for at, (name, part) in enumerate(record["parts"].items()) if not leave(at, name)}
+            return record
 
     return with_class(Less)
 
@@ -357,7 +358,7 @@ def document_is_right():
     examples = [*of_document()]
     for given, told in examples:
         marker = given.index("%")
-        records = [text(record) for record in traced(network_of("\n".join(given[:marker])), given[marker + 1 :]).records]
+        records = [text(record) for record in traced(opened(network_of("\n".join(given[:marker]))), given[marker + 1 :])]
         if not told or records[-len(told) :] != told or told[0].startswith('{"number":1,') and records != told:
             return False
     return len(examples) >= 2
