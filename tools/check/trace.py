@@ -21,6 +21,7 @@ import sys
 from collections import Counter
 from contextlib import contextmanager
 from glob import glob
+from itertools import count
 
 import trace_rules
 import trace_subnet
@@ -153,15 +154,26 @@ def loaded_once(name):
     return LOADED[name]
 
 
-def by_chance(kind, runs):
-    """Raw networks of a kind and scripts for them."""
-    found, seed = 0, 0
-    while found < runs:
+def by_chance(kind):
+    """Raw networks of a kind, and scripts for them."""
+    for seed in count():
         network, lines = kind(seed)
-        seed += 1
         if network_is_good(network) and is_script(lines):
-            found += 1
             yield network, loaded_once("model").spelled(network), lines
+
+
+class Made:
+    """Scripts by chance, each made once."""
+
+    def __init__(self, kind):
+        self.more, self.made = by_chance(kind), []
+
+    def first(self, runs):
+        """So many of them, the first ones."""
+        for place in range(runs):
+            if place == len(self.made):
+                self.made.append(next(self.more))
+            yield self.made[place]
 
 
 def is_script(lines):
@@ -314,23 +326,15 @@ SUBNET_BROKEN = {
 }  # fmt: skip
 
 
-def is_found(broken, kind):
-    """After how many scripts it is found that a rule is broken; None where it isn't."""
+def is_found(broken, scripts):
+    """Whether some script finds that a rule is broken."""
     with broken():
-        for tried, (network, _, lines) in enumerate(by_chance(kind, MOST_TRIED), 1):
+        for network, _, lines in scripts.first(MOST_TRIED):
             try:
                 held_up(network, lines)
             except Wrong:
-                return tried
-    return None
-
-
-def not_found():
-    """The broken rules that no script finds."""
-    for kind, rules in (over_boxes, BOXES_BROKEN), (over_subnet, SUBNET_BROKEN):
-        for name, broken in rules.items():
-            if is_found(broken, kind) is None:
-                yield name
+                return True
+    return False
 
 
 # ---- the document
@@ -367,7 +371,8 @@ def document_is_right():
 def main():
     runs = int(sys.argv[1]) if sys.argv[1:] else RUNS
     program, failed, counted = kept_program(), 0, Counter()
-    every = [("a script by chance", *it) for kind in (over_boxes, over_subnet) for it in by_chance(kind, runs)]
+    boxes, subnets = Made(over_boxes), Made(over_subnet)
+    every = [("a script by chance", *it) for kind in (boxes, subnets) for it in kind.first(runs)]
     every += [(path, network_of(document), document, lines) for path, document, lines in stored()]
     for name, network, document, lines in every:
         try:
@@ -382,9 +387,10 @@ def main():
         counted["events"] += len(records)
         counted["in calms"] += sum(record["round"] > 0 for record in records)
         counted["refused"] += sum(line.startswith("refused") for line in owed)
-    for name in not_found():
-        failed += 1
-        print(f"check trace: no script finds this: {name}")
+    for name, broken, scripts in [*((*it, boxes) for it in BOXES_BROKEN.items()), *((*it, subnets) for it in SUBNET_BROKEN.items())]:
+        if not is_found(broken, scripts):
+            failed += 1
+            print(f"check trace: no script finds this: {name}")
     if not document_is_right():
         failed += 1
         print("check trace: docs/trace.md has another trace than the model")
