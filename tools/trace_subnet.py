@@ -233,15 +233,65 @@ def fill_imp(imp, told):
     fill_flows(imp, told)
 
 
+def put(subnet, name, told):
+    """Puts a part in the place of the one that a subnet has."""
+    kind, number = name.split(" ")[0], int(name.split(" ")[1])
+    if kind == "line":
+        subnet.live[number] = {way: [frame_in(frame) for frame in told[way]] for way in "+-"}
+        return
+    subnet.imps[number] = None
+    if told is not None:
+        subnet.imps[number] = subnet.imp_of(number)
+        fill_imp(subnet.imps[number], told)
+
+
 def subnet_of(imps, lines, parts):
     """A subnet that has these parts, with an empty log."""
     subnet = Subnet(imps, lines)
     for name, told in parts.items():
-        kind, number = name.split(" ")[0], int(name.split(" ")[1])
-        if kind == "line":
-            subnet.live[number] = {way: [frame_in(frame) for frame in told[way]] for way in "+-"}
-        elif told is None:
-            subnet.imps[number] = None
-        else:
-            fill_imp(subnet.imps[number], told)
+        put(subnet, name, told)
     return subnet
+
+
+class Told(Subnet):
+    """A subnet that is what the records of a trace tell, one after another, wherever they are from."""
+
+    def __init__(self, imps, lines, records):
+        super().__init__(imps, lines)
+        self.parts = {name: part(self, name) for name in every_name(self)}
+        self.records = iter(records)
+        self.next = next(self.records, None)
+
+    def happen(self, *event):
+        """An elementary event, which the next record is of."""
+        record, self.next = self.next, next(self.records, None)
+        self.log += self.crossings(event, record["printed"])
+        self.printed += record["printed"]
+        number = imp_named(self, event) if event[0] != "drop" else None
+        ways = [(line, "+-"[self.ends[line].index(number)]) for line in self.at.get(number, [])]
+        were = [len(self.live[line][way]) for line, way in ways]
+        for name, told in record["parts"].items():
+            if told != self.parts[name]:
+                self.parts[name] = told
+                put(self, name, told)
+        if self.imps.get(number) is not None:
+            sent = [(port, self.live[line][way][count:]) for port, ((line, way), count) in enumerate(zip(ways, were))]
+            self.imps[number].frames = [(port, *frame) for port, frames in sent for frame in frames]
+
+    def crossings(self, event, printed):
+        """What crosses where these lines are printed, before the event has happened."""
+        for line in printed:
+            word, *words = line.split(" ")
+            match word:
+                case "out":
+                    yield event
+                case "in":
+                    flow, _, text = self.waiting(event[1]).messages[0]
+                    yield "in", flow, text
+                case "answer":
+                    yield "answer", *self.waiting(event[1]).answers[0]
+                case "down" | "up":
+                    yield word, tuple(map(int, words[0].split("/")))
+
+    def waiting(self, host):
+        return self.imps[host[1]].hosts[host[0]]

@@ -20,7 +20,7 @@ def data_of(explain, given, program, name="", with_inside=False):
     network = topology.read(given.topology())
     with_inside = with_inside and not network.is_plain()
     along = texts.along(network, events)
-    told = steps.steps_within(events, within.Within(network)) if with_inside else steps.steps_of(events, along)
+    told = steps.steps_within(events, within.Within(network, events)) if with_inside else steps.steps_of(events, along)
     is_long = is_long or len(told) > steps.MOST_STEPS
     told = told[: steps.MOST_STEPS]
     printed = [step.printed for step in told if step.printed is not None]
