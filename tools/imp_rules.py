@@ -457,6 +457,11 @@ class Imp:
         return is_idle and (self.runs(destination) if here else self.route(destination[1]) is not None)
 
 
+def in_order(flows):
+    """Flows in order of source, destination and link, and hosts of IMP and host."""
+    return sorted(flows, key=lambda flow: (flow[0][::-1], flow[1][::-1], flow[2]))
+
+
 def spell_host(host):
     return f"{host[0]}/{host[1]}"
 

@@ -5,17 +5,12 @@ It was written from docs/trace.md over the independent model of the subnet. `tra
 
 from functools import cache
 
-from imp_rules import ASK, CHANNELS, DATA, DEAD, INFINITE, MOST_IMPS, NEVER, RFNM, spell_flow
+from imp_rules import ASK, CHANNELS, DATA, DEAD, INFINITE, MOST_IMPS, NEVER, RFNM, in_order, spell_flow
 from script_rules import read_bits, read_flow, spelled_text
 from subnet_rules import Subnet
 
 KINDS = {DATA: "data", RFNM: "rfnm", DEAD: "dead", ASK: "ask", NEVER: "never"}
 OF_WORDS = {word: kind for kind, word in KINDS.items()}
-
-
-def in_order(flows):
-    """Flows in order of source, destination and link, and hosts of IMP and host."""
-    return sorted(flows, key=lambda flow: (flow[0][::-1], flow[1][::-1], flow[2]))
 
 
 # ---- texts

@@ -1,8 +1,9 @@
-"""Traces of raw networks: what they leave out (a minute for 300 scripts of each kind): ./check trace [RUNS]
+"""Traces of raw networks: what they leave out (a minute for 300 scripts over mailboxes and 300 over subnets): ./check trace [RUNS]
 
 The traces of all examples over raw networks, and of scripts made by chance, as tools/trace_rules.py tells them from docs/trace.md:
 
-- The column of events is itself a script, and prints the same again: in the model, and by the program, where one is kept.
+- The column of events is itself a script: it prints the same again, in the model, and by the program, where one is kept; and it
+  comes to the same parts.
 - The lines that are told as printed are, one after the other, what the script prints.
 - What an event's parts do not name is as before: who puts the named parts in the place of the old ones has all of them.
 - The parts leave nothing out: networks made anew from their parts, in the middle of a script, go on alike: they print the same
@@ -47,42 +48,46 @@ def parted(octets):
     return "\n".join(lines[:marker]), lines[marker + 1 :]
 
 
-def printed_by(place, lines):
-    """What lines of a script print."""
+def after(place, lines):
+    """What is there after lines of a script."""
     for event in filter(None, map(read_line, lines)):
         place.happen(*event)
-    return place.printed
+    return place
 
 
 def held_up(network, lines):
     """Looks at the trace of a script, and gives what it tells and what the script prints."""
-    place = opened(network)
-    records = [*traced(place, lines)]
-    owed = printed_by(opened(network), lines)
-    column = [record["event"] for record in records]
-    if printed_by(opened(network), column) != owed:
-        raise Wrong("the column of events prints other lines")
+    records = [*traced(opened(network), lines)]
+    whole = after(opened(network), lines)
+    owed, last = whole.printed, all_parts(whole)
+    if any(record["event"].startswith("calm") for record in records):
+        raise Wrong("a calm is told as one event")
     if [line for record in records for line in record["printed"]] != owed:
         raise Wrong("other lines are told as printed")
-    if any(line.startswith("calm") for line in column):
-        raise Wrong("a calm is told as one event")
-    follows(network, records, all_parts(place))
+    replayed, kept = followed(network, records)
+    if replayed.printed != owed:
+        raise Wrong("the column of events prints other lines")
+    if all_parts(replayed) != last:
+        raise Wrong("the column of events comes to other parts")
+    for place, parts in kept:
+        begins_anew(network, parts, records[place:], last)
     return records, owed
 
 
-def follows(network, records, last):
-    """Keeps the parts, and begins anew from them in some places."""
+def followed(network, records):
+    """What is there after the column of events, and the parts as the records tell them: in some places, and in the end."""
     chance = random.Random(len(records))
-    places = {*chance.sample(range(len(records)), min(ANEW, len(records)))}
-    parts, kept = all_parts(opened(network)), []
+    places = {*chance.sample(range(len(records)), min(ANEW, len(records))), len(records) - 1}
+    replayed, kept = opened(network), []
+    parts = all_parts(replayed)
     for place, record in enumerate(records):
+        after(replayed, [record["event"]])
         parts.update(record["parts"])
         if place in places:
-            kept.append((place, json.loads(json.dumps(parts))))
-    if parts != last:
-        raise Wrong("a part changed that isn't named")
-    for place, told in kept:
-        begins_anew(network, told, records[place + 1 :], last)
+            if parts != all_parts(replayed):
+                raise Wrong("a part changed that isn't named")
+            kept.append((place + 1, json.loads(json.dumps(parts))))
+    return replayed, kept
 
 
 def begins_anew(network, parts, rest, last):
@@ -90,7 +95,7 @@ def begins_anew(network, parts, rest, last):
     other = made_of(network, parts)
     if all_parts(other) != parts:
         raise Wrong("a network made from parts has other parts")
-    if printed_by(other, [record["event"] for record in rest]) != [line for record in rest for line in record["printed"]]:
+    if after(other, [record["event"] for record in rest]).printed != [line for record in rest for line in record["printed"]]:
         raise Wrong("a network with these parts goes on in another way")
     if all_parts(other) != last:
         raise Wrong("a network with these parts comes to other parts")
