@@ -2,6 +2,7 @@
 
 The traces of all examples over raw networks, and of scripts made by chance, as tools/trace_rules.py tells them from docs/trace.md:
 
+- The program prints the same trace with `--trace`, where one is kept that traces this carrier; what it doesn't trace it refuses.
 - The column of events is itself a script: it prints the same again, in the model, and by the program, where one is kept; and it
   comes to the same parts.
 - The lines that are told as printed are, one after the other, what the script prints.
@@ -36,6 +37,7 @@ RUNS = 300
 MOST_TRIED = 600  # so many scripts are run to find that a rule is broken
 ANEW = 2  # so often a network is made anew in a script
 EVENTS = 80  # of a script about the frames of a subnet
+UNTRACED = {"plain": "first-message", "subnet": "three-imps-in-a-row"}  # an example of each carrier
 
 
 class Wrong(Exception):
@@ -110,14 +112,43 @@ def kept_program():
     return next(filter(os.path.isfile, (path, f"{path}-unproved")), None)
 
 
-def program_prints(program, document, lines):
-    ran = subprocess.run([program], input="\n".join([document, "%", *lines, ""]).encode("latin-1"), stdout=subprocess.PIPE, check=True)
+def program_prints(program, document, lines, *options):
+    ran = subprocess.run([program, *options], input="\n".join([document, "%", *lines, ""]).encode("latin-1"), stdout=subprocess.PIPE, check=True)
     return ran.stdout.decode().splitlines()
 
 
-def same_by_program(program, document, lines, owed, what):
-    if program and program_prints(program, document, lines) != [*owed, "end"]:
-        raise Wrong(f"the program prints other lines for {what}")
+def same_by_program(program, document, lines, records, owed):
+    """Whether the program prints the same for a script and for its column of events."""
+    if program is None:
+        return
+    for what, column in ("the script", lines), ("the column of events", [record["event"] for record in records]):
+        if program_prints(program, document, column) != [*owed, "end"]:
+            raise Wrong(f"the program prints other lines for {what}")
+
+
+def same_trace(program, document, lines, records):
+    if program_prints(program, document, lines, "--trace") != [text(record) for record in records]:
+        raise Wrong("the program prints another trace")
+
+
+def answer_to(program, octets):
+    """How the program ends when it is asked for a trace, whether it prints one, and what it says."""
+    ran = subprocess.run([program, "--trace"], input=octets, capture_output=True, check=False)
+    return ran.returncode, ran.stdout != b"", ran.stderr.decode()
+
+
+def what_it_traces(program):
+    """The carriers whose traces the program prints: it is asked for each with a small network."""
+    asked = {carrier: f'carrier = "{carrier}"\nraw = true\n[[imp]]\nid = 1\nhosts = 1\n%\nhostdown 0/1\n' for carrier in UNTRACED}
+    return [carrier for carrier, it in asked.items() if program and answer_to(program, it.encode())[0] == 0]
+
+
+def refusals(program, traces):
+    """What the program should refuse to trace and doesn't: other carriers and hosts with programs, if it has the option at all."""
+    for carrier, name in (*UNTRACED.items(), (None, "a-connection-and-its-book")) if traces else ():
+        with open(f"{ROOT}/examples/{name}", "rb") as file:
+            if carrier not in traces and answer_to(program, file.read()) != (1, False, "arpasim: no trace of such a network\n"):
+                yield f"the program does not refuse to trace examples/{name}"
 
 
 # ---- scripts
@@ -376,14 +407,16 @@ def document_is_right():
 def main():
     runs = int(sys.argv[1]) if sys.argv[1:] else RUNS
     program, failed, counted = kept_program(), 0, Counter()
+    traces = what_it_traces(program)
     boxes, subnets = Made(over_boxes), Made(over_subnet)
     every = [("a script by chance", *it) for kind in (boxes, subnets) for it in kind.first(runs)]
     every += [(path, network_of(document), document, lines) for path, document, lines in stored()]
     for name, network, document, lines in every:
         try:
             records, owed = held_up(network, lines)
-            same_by_program(program, document, lines, owed, "the script")
-            same_by_program(program, document, [record["event"] for record in records], owed, "the column of events")
+            same_by_program(program, document, lines, records, owed)
+            if network[0] in traces:
+                same_trace(program, document, lines, records)
         except Wrong as wrong:
             failed += 1
             print(f"check trace: {name}: {wrong}\n" + "\n".join([document, "%", *lines]))
@@ -399,8 +432,12 @@ def main():
     if not document_is_right():
         failed += 1
         print("check trace: docs/trace.md has another trace than the model")
+    for words in refusals(program, traces):
+        failed += 1
+        print(f"check trace: {words}")
     scripts = f"{counted['plain scripts']} scripts over mailboxes and {counted['subnet scripts']} over subnets"
-    print(f"check trace: {scripts}, {counted['events']} elementary events, {counted['in calms']} of them in calms, {counted['refused']} refused; {len(BOXES_BROKEN) + len(SUBNET_BROKEN)} broken rules; {failed} failed{'' if program else '; no program is kept, so none was asked'}")
+    by_program = f"the program traces {' and '.join(traces) or 'nothing yet'}" if program else "no program is kept, so none was asked"
+    print(f"check trace: {scripts}, {counted['events']} elementary events, {counted['in calms']} of them in calms, {counted['refused']} refused; {len(BOXES_BROKEN) + len(SUBNET_BROKEN)} broken rules; {by_program}; {failed} failed")
     return 1 if failed else 0
 
 
