@@ -6,7 +6,7 @@ It was written from docs/trace.md over the independent model of the subnet. `tra
 from functools import cache
 
 from imp_rules import ASK, CHANNELS, DATA, DEAD, INFINITE, MOST_IMPS, NEVER, RFNM, in_order, spell_flow
-from script_rules import read_bits, read_flow, spelled_text
+from script_rules import read_bits, read_flow, read_line, spelled_text
 from subnet_rules import Subnet
 
 KINDS = {DATA: "data", RFNM: "rfnm", DEAD: "dead", ASK: "ask", NEVER: "never"}
@@ -248,6 +248,10 @@ def subnet_of(imps, lines, parts):
     return subnet
 
 
+class OtherTrace(Exception):
+    """A trace that is not of the events that happen."""
+
+
 class Told(Subnet):
     """A subnet that is what the records of a trace tell, one after another, wherever they are from."""
 
@@ -260,6 +264,8 @@ class Told(Subnet):
     def happen(self, *event):
         """An elementary event, which the next record is of."""
         record, self.next = self.next, next(self.records, None)
+        if record is None or read_line(record["event"]) != event:
+            raise OtherTrace(f"the trace goes on with {record and record['event']} in the place of {event}")
         self.log += self.crossings(event, record["printed"])
         self.printed += record["printed"]
         number = imp_named(self, event) if event[0] != "drop" else None

@@ -306,10 +306,10 @@ def check_stops(program):
     given = example("rerouted-over-a-triangle")
     _, _, events, _ = steps.replayed(explain, given, program)
     network = topology.read(given.topology())
-    steps.steps_within(events, within.Within(network, events))
+    steps.steps_within(events, within.Within(program, given, network, events))
     number, place, words, printed = next(it for it in events if it[3])
     wrong = [(number, place, words, [*printed, "in 0/1 0/2 5 8"]) if it[3] is printed else it for it in events]
-    expect_differs(lambda: steps.steps_within(wrong, within.Within(network, wrong)), "a line that the model does not print")
+    expect_differs(lambda: steps.steps_within(wrong, within.Within(program, given, network, wrong)), "a line that the model does not print")
     print("check page: a book and a model that differ stop the page")
 
 

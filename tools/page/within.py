@@ -1,11 +1,14 @@
 """What is inside the network at each step: the frames on each line, and what each IMP holds.
 
-Of a raw subnet this is read from the records of its trace (docs/trace.md), which are from the independent model in Python. A
-network with host programs has no trace, so the model itself goes along. Every line that is printed for an event by either has
+Of a raw subnet this is read from the records of its trace (docs/trace.md), which are from the program where it has such traces,
+and otherwise from the independent model in Python. A network with host programs has no trace, so the model itself goes along. Every line that is printed for an event by either has
 to be the line that the program printed for it, on this very input; a difference stops the page. A round of a calm is followed
 event by event: each IMP tells its distances and sends again, each frame arrives and is gone, and each host takes and offers.
 """
 
+import json
+import subprocess
+import tempfile
 from dataclasses import dataclass
 
 import script_rules
@@ -13,8 +16,8 @@ from alive import frame_in_words, of_imp
 from imp_rules import Refused
 from inside import STAYS, Inside, Told, beside_lines
 from trace_rules import traced
+from trace_subnet import OtherTrace, in_quiet_round
 from trace_subnet import Told as ToldSubnet
-from trace_subnet import in_quiet_round
 
 from page.steps import Differs
 
@@ -35,9 +38,31 @@ class Deed:
     answer: str = None
 
 
-def records_of(network, events):
-    """The records of the trace of a raw subnet."""
-    return traced(script_rules.opened(network), [" ".join(words) for _, _, words, _ in events])
+def followed(rounds):
+    """So many rounds have to be few enough."""
+    if rounds > MOST_ROUNDS:
+        raise Differs(f"the script has more than {MOST_ROUNDS} rounds, and no more are followed")
+
+
+def records_of(program, given, network, events):
+    """The records of the trace of a raw subnet, and whether they are the program's own."""
+    followed(sum(int(words[1]) for _, _, words, _ in events if words[0] == "calm"))
+    lines = [" ".join(words) for _, _, words, _ in events]
+    head = given.topology() + b"\n%\n"
+    if program and subprocess.run([program, "--trace"], input=head, capture_output=True).returncode == 0:
+        return by_program(program, head + "".join(f"{line}\n" for line in lines).encode()), True
+    return traced(script_rules.opened(network.as_model()), lines), False
+
+
+def by_program(program, octets):
+    """The records that the program prints, as they come: a trace may be long."""
+    with tempfile.TemporaryFile() as given:
+        given.write(octets)
+        given.seek(0)
+        with subprocess.Popen([program, "--trace"], stdin=given, stdout=subprocess.PIPE) as run:
+            yield from map(json.loads, run.stdout)
+    if run.returncode != 0:
+        raise Differs(f"the program ends its trace with status {run.returncode}")
 
 
 class Arrival:
@@ -61,9 +86,14 @@ class Arrival:
 class Within:
     """A replay, deed by deed."""
 
-    def __init__(self, network, events):
+    def __init__(self, program, given, network, events):
         self.network, model = network, network.as_model()
-        self.place = ToldSubnet(*model[2:], records_of(model, events)) if network.raw else script_rules.opened(model)
+        self.is_programs = False  # whether what is inside is from the program itself
+        if network.raw:
+            records, self.is_programs = records_of(program, given, network, events)
+            self.place = ToldSubnet(*model[2:], records)
+        else:
+            self.place = script_rules.opened(model)
         self.model = Inside(model, self.place)
         self.subnet = self.model.subnet
         self.events = self.rounds = 0
@@ -74,24 +104,28 @@ class Within:
         self.events += 1
         before = len(self.place.printed)
         asked = script_rules.read_line(" ".join(words), self.network.raw)
-        if words[0] == "calm":
-            deeds = self.calm(int(words[1]), words)
-        else:
-            told = self.model.happen(asked)
-            state = self.state()
-            answers = told.answers() or [None]
-            deeds = [Deed(words, line, told.sentences if at == 0 else [], state, answers[at]) for at, line in enumerate(told.printed or [None])]
+        try:
+            deeds = self.calm(int(words[1]), words) if words[0] == "calm" else self.alone(asked, words)
+        except OtherTrace as why:
+            raise Differs(f"at line {number} {why}") from why
         if self.place.printed[before:] != printed:
-            raise Differs(f"at line {number} the independent model prints {self.place.printed[before:]}, and the program {printed}")
+            who = "the program's trace" if self.is_programs else "the independent model"
+            raise Differs(f"at line {number} {who} prints {self.place.printed[before:]}, and the program {printed}")
         return deeds
+
+    def alone(self, asked, words):
+        """The deeds of an event that is no calm."""
+        told = self.model.happen(asked)
+        state = self.state()
+        answers = told.answers() or [None]
+        return [Deed(words, line, told.sentences if at == 0 else [], state, answers[at]) for at, line in enumerate(told.printed or [None])]
 
     # ---- a calm
 
     def calm(self, rounds, words):
         """The deeds of a calm: of one that is not cut into its rounds the printed lines alone. Where there is none, the calm itself."""
         self.rounds += rounds
-        if self.rounds > MOST_ROUNDS:
-            raise Differs(f"the script has more than {MOST_ROUNDS} rounds, and no more are followed")
+        followed(self.rounds)
         deeds = [deed for deed in self.deeds_of(self.in_calm(rounds)) if rounds == 1 or deed.printed]
         return deeds or [Deed(words, None, [], self.state())]
 
