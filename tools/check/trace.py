@@ -117,13 +117,10 @@ def program_prints(program, document, lines, *options):
     return ran.stdout.decode().splitlines()
 
 
-def same_by_program(program, document, lines, records, owed):
-    """Whether the program prints the same for a script and for its column of events."""
-    if program is None:
-        return
-    for what, column in ("the script", lines), ("the column of events", [record["event"] for record in records]):
-        if program_prints(program, document, column) != [*owed, "end"]:
-            raise Wrong(f"the program prints other lines for {what}")
+def same_by_program(program, document, records, owed):
+    """Whether the program prints for the column of events what the model prints for the script."""
+    if program and program_prints(program, document, [record["event"] for record in records]) != [*owed, "end"]:
+        raise Wrong("the program prints other lines for the column of events")
 
 
 def same_trace(program, document, lines, records):
@@ -414,7 +411,7 @@ def main():
     for name, network, document, lines in every:
         try:
             records, owed = held_up(network, lines)
-            same_by_program(program, document, lines, records, owed)
+            same_by_program(program, document, records, owed)
             if network[0] in traces:
                 same_trace(program, document, lines, records)
         except Wrong as wrong:
