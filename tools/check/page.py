@@ -291,7 +291,7 @@ def large():
 
 
 def check_stops(program):
-    """A book or a model that differs stops the page."""
+    """A book or a model that differs stops the page, and a trace that is cut off."""
     given = example("a-connection-and-its-book")
     _, _, events, _ = steps.replayed(explain, given, program)
     told = steps.steps_of(events)
@@ -310,7 +310,10 @@ def check_stops(program):
     number, place, words, printed = next(it for it in events if it[3])
     wrong = [(number, place, words, [*printed, "in 0/1 0/2 5 8"]) if it[3] is printed else it for it in events]
     expect_differs(lambda: steps.steps_within(wrong, within.Within(program, given, network, wrong)), "a line that the model does not print")
-    print("check page: a book and a model that differ stop the page")
+    inside = within.Within(program, given, network, events)
+    inside.place.records = iter(())
+    expect_differs(lambda: steps.steps_within(events, inside), "a trace that is cut off")
+    print("check page: a book and a model that differ stop the page, and so does a trace that is cut off")
 
 
 def expect_differs(call, what):
