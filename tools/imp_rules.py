@@ -113,6 +113,7 @@ class Imp:
         self.store = []
         self.slots = {}  # of a flow: its message's number, and its pieces by place
         self.outstanding = {}
+        self.answered = set()  # flows whose message begun last has its answer waiting for the host
         self.last = {}
         self.kept = {}
         self.fates = {}  # of a flow whose number is kept: what became of its message, "waits", "taken", "dead" or "never"
@@ -134,11 +135,9 @@ class Imp:
         return best[1] if best[0] < INFINITE else None
 
     def vector(self):
-        ports = range(len(self.ports))
-        return [
-            0 if imp == self.number else min((self.distance(port, imp) for port in ports), default=INFINITE)
-            for imp in range(1, MOST_IMPS + 1)
-        ]
+        heard = [port.heard for port in self.ports if port.heard is not None]
+        least = [min(distances) for distances in zip(*heard)] or [INFINITE] * MOST_IMPS
+        return [0 if imp == self.number else min(INFINITE, distance + 1) for imp, distance in enumerate(least, 1)]
 
     def packets(self):
         """The packets in store and channels."""
@@ -173,6 +172,8 @@ class Imp:
         """An answer about a number comes to its flow."""
         if self.outstanding.get(flow) == number:
             del self.outstanding[flow]
+            if self.runs(flow[0]):
+                self.answered.add(flow)
             self.tell(kind, flow)
 
     def begin(self, flow):
@@ -334,6 +335,7 @@ class Imp:
         if not host.is_up:
             raise Refused("IsDown")
         if host.answers:
+            self.answered.discard(host.answers[0][1])
             return host.answers.pop(0)
         if not host.messages:
             return None
@@ -358,9 +360,10 @@ class Imp:
                         self.send(port, end.line.frame(channel))
 
     def tell_routes(self):
+        distances = self.vector()
         for port, end in enumerate(self.ports):
             if end.is_up:
-                self.send(port, ("routes", self.vector()))
+                self.send(port, ("routes", distances))
 
     def end_down(self, port):
         if port >= len(self.ports):
@@ -410,6 +413,7 @@ class Imp:
         if not host.is_up:
             raise Refused("IsDown")
         host.is_up = False
+        self.answered -= {flow for _, flow in host.answers}
         host.answers.clear()
         waiting, host.messages = host.messages, []
         for flow, message, _ in waiting:
@@ -451,6 +455,11 @@ class Imp:
         is_idle = self.runs(source) and flow not in self.outstanding and not self.answer_waits(flow)
         here = destination[1] == self.number
         return is_idle and (self.runs(destination) if here else self.route(destination[1]) is not None)
+
+
+def in_order(flows):
+    """Flows in order of source, destination and link, and hosts of IMP and host."""
+    return sorted(flows, key=lambda flow: (flow[0][::-1], flow[1][::-1], flow[2]))
 
 
 def spell_host(host):

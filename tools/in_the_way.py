@@ -5,7 +5,7 @@ It reads the state of the independent model, which a refused event left as it wa
 
 from alive import clearing, everything, listed, room_clearing, where
 from crossings import ANSWERS
-from imp_rules import QUEUE, STORE, body, spell_flow, spell_host
+from imp_rules import QUEUE, STORE, body, in_order, spell_flow, spell_host
 
 TOLD = 3  # so many packets that stand in the way are told of
 
@@ -69,7 +69,7 @@ class InTheWay:
     def awaited(self, at, other):
         """The flows from hosts at one IMP to hosts at another of which a message is outstanding."""
         imp = self.subnet.imps[at]
-        return [flow for flow in imp.outstanding if flow[1][1] == other] if imp is not None else []
+        return [flow for flow in in_order(imp.outstanding) if flow[1][1] == other] if imp is not None else []
 
     def why_StillAlive(self, kind, parts, message):  # noqa: N802 (the name of the refusal)
         alive, kept, awaited = self.obstacles(kind, parts, message)
@@ -106,7 +106,7 @@ class InTheWay:
 
     def why_Unsettled(self, kind, parts, message):  # noqa: N802
         host = parts[0]
-        flows = [flow for flow in self.subnet.imps[host[1]].outstanding if flow[0] == host]
+        flows = [flow for flow in in_order(self.subnet.imps[host[1]].outstanding) if flow[0] == host]
         numbers = self.subnet.imps[host[1]].outstanding
         told = [f"Host {spell_host(host)} stopped while message {numbers[flow]} of flow {spell_flow(flow)} was outstanding." for flow in flows[:TOLD]]
         return [*told, self.settling(flows[0])]

@@ -14,6 +14,7 @@ from script_rules import opened
 from subnet_rules import Subnet
 
 MOST_ROUNDS = 20_000  # so many rounds of calm are followed at most: the model is slow
+STAYS = "The frame stays on the line until it is dropped."
 
 
 class TooLong(Exception):
@@ -39,10 +40,11 @@ class Told:
 
 
 class Inside:
-    """A replay by the independent model, which tells after each event what it did inside the subnet."""
+    """A replay by the independent model, which tells after each event what it did inside the subnet; or by another place in
+    its stead, which has the same parts."""
 
-    def __init__(self, network):
-        self.place = opened(network)
+    def __init__(self, network, place=None):
+        self.place = place or opened(network)
         self.carrier = getattr(self.place, "carrier", self.place)
         self.subnet = self.carrier if isinstance(self.carrier, Subnet) else None
         self.rounds = 0
@@ -202,7 +204,7 @@ class Inside:
         if not imp.ports[port].is_up:
             return lambda: [start, f"The end of line {line} at IMP {far} is down, so it is ignored."]
         was = Before(imp, port, content, self.ways(far))
-        return lambda: [start, self.arrived(was, far), self.freed(was, line), "The frame stays on the line until it is dropped."]
+        return lambda: [start, self.arrived(was, far), self.freed(was, line), STAYS]
 
     def arrived(self, was, number):
         """What an IMP made of what arrived."""
@@ -213,8 +215,8 @@ class Inside:
             return self.new_ways(number, was.ways) or "The routes that it knows stay the same."
         if was.is_repeat:
             return "It came before, so it is only acknowledged again."
-        if imp.lost > was.lost:
-            return "IMP {} has no room for it and does not acknowledge it, so it will be sent again.".format(number)
+        if imp.ports[was.port].line.expected[content[1]] == content[2]:
+            return f"IMP {number} has no room for it and does not acknowledge it, so it will be sent again."
         packet = content[3]
         if target(packet) != number:
             return self.passed_on(number, packet, was.ways)
@@ -294,11 +296,11 @@ class Inside:
 
     def told_routes(self, number):
         imp, lines = self.subnet.imps[number], self.subnet.lines_of(number)
-        if not imp.frames:
+        over = listed([f"line {line}" for line, port in zip(lines, imp.ports) if port.is_up])
+        if not over:
             return f"No end of a line is up at IMP {number}, so it tells nobody its distances."
         vector = imp.vector()
         told = listed([f"IMP {it} at {vector[it - 1]}" for it in self.subnet.sites if vector[it - 1] < INFINITE], 16)
-        over = listed([f"line {lines[port]}" for port, _, _ in imp.frames])
         return f"IMP {number} puts its distances on {over}: {told}."
 
     def see_enddown(self, number, line):
@@ -434,7 +436,6 @@ class Before:
         line = imp.ports[port].line
         self.busy, self.bits = list(line.busy), list(line.next_bit)
         self.is_repeat = content is not None and content[0] == "packet" and content[2] != line.expected[content[1]]
-        self.lost = imp.lost
         self.outstanding, self.kept, self.fates = dict(imp.outstanding), dict(imp.kept), dict(imp.fates)
         self.slots = {flow: (number, dict(pieces)) for flow, (number, pieces) in imp.slots.items()}
         self.messages = [len(host.messages) for host in imp.hosts]

@@ -18,6 +18,7 @@ class Subnet(Crossed):
         super().__init__()
         self.sites = dict(sorted(imps))
         self.ends = lines
+        self.at = {number: [line for line, ends in enumerate(lines) if number in ends] for number in self.sites}
         self.imps = {number: self.imp_of(number) for number in self.sites}
         self.live = [{"+": [], "-": []} for _ in lines]
 
@@ -26,16 +27,16 @@ class Subnet(Crossed):
         return [(host, number) for number, count in self.sites.items() for host in range(count)]
 
     def imp_of(self, number):
-        return Imp(number, self.sites[number], sum(number in ends for ends in self.ends))
+        return Imp(number, self.sites[number], len(self.at[number]))
 
     # ---- lines
 
     def port_of(self, number, line):
         """An IMP's ports are its lines in their order."""
-        return sum(number in ends for ends in self.ends[:line])
+        return sum(it < line for it in self.at[number])
 
     def lines_of(self, number):
-        return [line for line, ends in enumerate(self.ends) if number in ends]
+        return self.at[number]
 
     def call(self, number, call):
         """Lets an IMP make a call and pump, and puts its frames on its lines."""

@@ -1,17 +1,20 @@
 #!/usr/bin/env python3
-"""Traces of plain mailboxes, read a second time: tools/trace_rules.py < FILE prints the trace of an input.
+"""Traces of raw networks, read a second time: tools/trace_rules.py < FILE prints the trace of an input.
 
-It was written from docs/trace.md, in another language and another form than the definitions: the mailboxes are those of
-tools/box_rules.py, and a trace is told from what they are before and after each event. `check trace` stands on it.
+It was written from docs/trace.md, in another language and another form than the definitions: mailboxes and subnets are those
+of tools/box_rules.py and tools/subnet_rules.py, and a trace is told from what they are after each event. The parts of a subnet
+are in tools/trace_subnet.py. `check trace` stands on it.
 """
 
 import json
 import sys
 
+import trace_subnet
 from box_rules import TAKES, Boxes
 from imp_rules import spell_flow, spell_host
 from model import network_of
-from script_rules import read_line, spelled_text
+from script_rules import opened, read_line, spelled_text
+from trace_subnet import subnet_of
 
 
 def spelled(event):
@@ -27,7 +30,7 @@ def spelled(event):
     return " ".join(str(part) for part in event)
 
 
-# ---- parts
+# ---- the parts of mailboxes
 
 
 def queues(boxes, host):
@@ -43,79 +46,114 @@ def down(boxes):
     return [spell_host(host) for host in sorted(newest, key=newest.get) if not boxes.is_up[host]]
 
 
-def all_parts(boxes):
+def in_order(place):
+    return sorted(place.hosts(), key=lambda host: (host[1], host[0]))
+
+
+class OfBoxes:
+    """What plain mailboxes have of a trace."""
+
+    @staticmethod
+    def part(boxes, name):
+        """A part, by its name."""
+        return down(boxes) if name == "down" else queues(boxes, host_of(name.split(" ")[1]))
+
+    @staticmethod
+    def every_name(boxes):
+        return ["down", *(f"host {spell_host(host)}" for host in in_order(boxes))]
+
+    @staticmethod
+    def names(boxes, event, crossed):
+        """The parts that an event can change, which crossed these."""
+        kind, *parts = event
+        touched = set()
+        match kind:
+            case "out" | "giveup":
+                touched = {*parts[0][:2]}
+            case "take":
+                touched = {parts[0], *(it[1][0] for it in crossed if it[0] == "in")}
+            case "hostdown":
+                touched = {*boxes.hosts()}
+        named = ["down"] if kind in ("hostdown", "hostup") else []
+        return named + [f"host {spell_host(host)}" for host in in_order(boxes) if host in touched]
+
+    @staticmethod
+    def in_quiet_round(boxes):
+        """The elementary events of a quiet round: there are none."""
+        return ()
+
+    @staticmethod
+    def is_given(boxes, host):
+        """Whether a host that takes gets something."""
+        return boxes.is_up[host] and any(queues(boxes, host).values())
+
+    @staticmethod
+    def is_settled(boxes, crossed):
+        """Whether a round in which so much crossed leaves nothing for later ones."""
+        return not crossed
+
+
+def of(place):
+    """What a carrier of this kind has of a trace."""
+    return OfBoxes if isinstance(place, Boxes) else trace_subnet
+
+
+def all_parts(place):
     """Every part of a network, by name."""
-    return {"down": down(boxes), **{f"host {spell_host(host)}": queues(boxes, host) for host in in_order(boxes)}}
-
-
-def in_order(boxes):
-    return sorted(boxes.hosts(), key=lambda host: (host[1], host[0]))
-
-
-def names(boxes, event, crossed):
-    """The parts that an event can change, which crossed these."""
-    kind, *parts = event
-    touched = set()
-    match kind:
-        case "out" | "giveup":
-            touched = {*parts[0][:2]}
-        case "take":
-            touched = {parts[0], *(it[1][0] for it in crossed if it[0] == "in")}
-        case "hostdown":
-            touched = {*boxes.hosts()}
-    named = ["down"] if kind in ("hostdown", "hostup") else []
-    return named + [f"host {spell_host(host)}" for host in in_order(boxes) if host in touched]
+    return {name: of(place).part(place, name) for name in of(place).every_name(place)}
 
 
 # ---- lines
 
 
 class Traced:
-    """The trace of a script, a record for each elementary event."""
+    """The trace of a script over a raw network: a record for each elementary event, told as it happens."""
 
-    def __init__(self, boxes):
-        self.boxes = boxes
-        self.records = []
+    def __init__(self, place):
+        self.place, self.of = place, of(place)
 
     def happen(self, number, event):
-        """An event of the script."""
+        """The records of an event of the script."""
         if event[0] == "calm":
-            self.calm(number, event[1])
+            yield from self.calm(number, event[1])
         else:
-            self.tell(number, 0, event)
+            yield self.tell(number, 0, event)
 
     def tell(self, number, number_of_round, event):
-        """An elementary event."""
-        shown, crossed = len(self.boxes.printed), len(self.boxes.log)
-        self.boxes.happen(*event)
-        every = all_parts(self.boxes)
-        self.records.append({
+        """Lets an elementary event happen, and gives its record."""
+        shown, crossed = len(self.place.printed), len(self.place.log)
+        self.place.happen(*event)
+        named = self.of.names(self.place, event, self.place.log[crossed:])
+        return {
             "number": number,
             "round": number_of_round,
             "event": spelled(event),
-            "printed": self.boxes.printed[shown:],
-            "parts": {name: every[name] for name in names(self.boxes, event, self.boxes.log[crossed:])},
-        })
+            "printed": self.place.printed[shown:],
+            "parts": {name: self.of.part(self.place, name) for name in named},
+        }
 
     def calm(self, number, rounds):
-        """A calm: the takings that give something."""
+        """A calm: what its quiet rounds do, and the takings that give something."""
         for number_of_round in range(1, rounds + 1):
-            before = len(self.boxes.log)
-            for host in in_order(self.boxes):
+            before = len(self.place.log)
+            for event in self.quiet_round():
+                yield self.tell(number, number_of_round, event)
+            for host in in_order(self.place):
                 for _ in range(TAKES):
-                    if self.boxes.is_up[host] and any(queues(self.boxes, host).values()):
-                        self.tell(number, number_of_round, ("take", host))
-            if len(self.boxes.log) == before:
-                return  # nothing is left for a later round
+                    if self.of.is_given(self.place, host):
+                        yield self.tell(number, number_of_round, ("take", host))
+            if self.of.is_settled(self.place, self.place.log[before:]):
+                return
+
+    def quiet_round(self):
+        return self.of.in_quiet_round(self.place)
 
 
-def traced(network, lines):
-    """The trace of a script over the plain mailboxes of a network: records, and the mailboxes after it."""
-    trace = Traced(Boxes(network[2]))
-    events = filter(None, (read_line(line) for line in lines))
-    for number, event in enumerate(events, 1):
-        trace.happen(number, event)
-    return trace
+def traced(place, lines):
+    """The trace of a script, record by record, over a raw network that is at its opening: each happens when it is asked for."""
+    trace = Traced(place)
+    for number, event in enumerate(filter(None, map(read_line, lines)), 1):
+        yield from trace.happen(number, event)
 
 
 def text(record):
@@ -123,7 +161,12 @@ def text(record):
     return json.dumps(record, separators=(",", ":"))
 
 
-# ---- mailboxes from their parts
+# ---- a network from its parts
+
+
+def made_of(network, parts):
+    """A network's state that has these parts, with an empty log."""
+    return boxes_of(network[2], parts) if network[0] == "plain" else subnet_of(*network[2:], parts)
 
 
 def flow_of(words):
@@ -160,9 +203,9 @@ def main():
     lines = sys.stdin.buffer.read().decode("latin-1").split("\n")
     marker = lines.index("%")
     network = network_of("\n".join(lines[:marker]))
-    if network[0] != "plain" or not network[1]:
-        sys.exit("trace: only raw networks of plain mailboxes can be traced")
-    for record in traced(network, lines[marker + 1 :]).records:
+    if not network[1]:
+        sys.exit("trace: only raw networks can be traced")
+    for record in traced(opened(network), lines[marker + 1 :]):
         print(text(record))
 
 

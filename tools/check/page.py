@@ -5,7 +5,7 @@ Without a browser, for each example and for inputs made by chance:
 - each printed line stands in one row, in order, and the calm cut into rounds prints the same;
 - the bars and the book agree, and a difference between them stops the page;
 - no two signs of a map overlap, the page names no address of another file, and it has at most 300 KB;
-- with --inside too, and a model that differs from the program stops the page;
+- with --inside too, and a model that differs from the program stops the page; traces tell of subnets by chance what the model does;
 - two scripts beside each other keep the order of both.
 
 With --browser the pages of some examples are tried in Chromium, and five planted faults have to be found. Where there is
@@ -27,7 +27,10 @@ explain, model = loaded("explain"), loaded("tools/check/model.py")
 
 import script_rules  # noqa: E402
 from imp_rules import MOST_IMPS  # noqa: E402
+from inside import Inside  # noqa: E402
 from page import book, document, fold, layout, make, pairs, steps, topology, within  # noqa: E402
+from trace_rules import traced  # noqa: E402
+from trace_subnet import Told  # noqa: E402
 
 MOST_OCTETS = 300_000
 MOST_LINES = 5 * MOST_IMPS // 2
@@ -209,6 +212,38 @@ def check_questions(program):
     print("check page: a question, its answer and what the source is told are shown by their names")
 
 
+def check_ways(program):
+    """Each arrival of a message whose line goes down under it is told of: the first takes it, the others come to nothing."""
+    name = "rerouted-over-a-triangle"
+    data = make.data_of(explain, example(name), program, name, True)
+    words = data["words"]
+    start = "Message 0 of flow 0/1 0/2 5 arrives at IMP 2 from IMP "
+    told = [words[step[1]].removeprefix(start) for step in data["steps"] if words[step[1]].startswith(start)]
+    wanted = [
+        "1, over line 0. The message is whole and now waits for host 0/2. The frame stays on the line until it is dropped.",
+        "1, over line 0. The end of line 0 at IMP 2 is down, so it is ignored.",
+        "3, over line 2. Message 0 came to its end here before (the last one noted is 0), so this copy is dropped.",
+        "3, over line 2. It came before, so it is only acknowledged again.",
+    ]
+    same(told, wanted, f"{name}: what arrives at IMP 2")
+    rows = [words[row[2]].strip() for row in data["rows"]]
+    same([it for it in rows if it.endswith("→2 packet")], ["calm 4, line 0, 1→2 packet", *["line 2, 3→2 packet"] * 2], f"{name}: rows of what arrives at IMP 2")
+    print(f"check page: a message that is sent over another line arrives {len(told)} times at its IMP, and each is told of")
+
+
+def check_traces(runs):
+    """What is told of the inside of raw subnets is the same by their traces and by the model."""
+    trace, count = loaded("tools/check/trace.py"), 0
+    for network, _, lines in trace.Made(trace.over_subnet).first(runs):
+        column = [record["event"] for record in traced(script_rules.opened(network), lines)]
+        by_model, by_trace = Inside(network), Inside(network, Told(*network[2:], traced(script_rules.opened(network), column)))
+        for line in column:
+            event = script_rules.read_line(line)
+            same(by_trace.happen(event), by_model.happen(event), f"{network}: {line}")
+        count += len(column)
+    print(f"check page: {count} events of {runs} subnets are told of alike by traces and by the model")
+
+
 # ---- made networks
 
 
@@ -256,7 +291,7 @@ def large():
 
 
 def check_stops(program):
-    """A book or a model that differs stops the page."""
+    """A book or a model that differs stops the page, and a trace that is cut off."""
     given = example("a-connection-and-its-book")
     _, _, events, _ = steps.replayed(explain, given, program)
     told = steps.steps_of(events)
@@ -271,11 +306,14 @@ def check_stops(program):
     given = example("rerouted-over-a-triangle")
     _, _, events, _ = steps.replayed(explain, given, program)
     network = topology.read(given.topology())
-    steps.steps_within(events, within.Within(network))
+    steps.steps_within(events, within.Within(program, given, network, events))
     number, place, words, printed = next(it for it in events if it[3])
     wrong = [(number, place, words, [*printed, "in 0/1 0/2 5 8"]) if it[3] is printed else it for it in events]
-    expect_differs(lambda: steps.steps_within(wrong, within.Within(network)), "a line that the model does not print")
-    print("check page: a book and a model that differ stop the page")
+    expect_differs(lambda: steps.steps_within(wrong, within.Within(program, given, network, wrong)), "a line that the model does not print")
+    inside = within.Within(program, given, network, events)
+    inside.place.records = iter(())
+    expect_differs(lambda: steps.steps_within(events, inside), "a trace that is cut off")
+    print("check page: a book and a model that differ stop the page, and so does a trace that is cut off")
 
 
 def expect_differs(call, what):
@@ -379,6 +417,8 @@ def main():
             check_stops(program)
             check_pairs(program)
             check_questions(program)
+            check_ways(program)
+            check_traces(30)
     except (Wrong, steps.Differs) as what:
         print(f"check page: {what}")
         return 1

@@ -20,14 +20,15 @@ def data_of(explain, given, program, name="", with_inside=False):
     network = topology.read(given.topology())
     with_inside = with_inside and not network.is_plain()
     along = texts.along(network, events)
-    told = steps.steps_within(events, within.Within(network)) if with_inside else steps.steps_of(events, along)
+    inside = within.Within(program, given, network, events) if with_inside else None
+    told = steps.steps_within(events, inside) if inside else steps.steps_of(events, along)
     is_long = is_long or len(told) > steps.MOST_STEPS
     told = told[: steps.MOST_STEPS]
     printed = [step.printed for step in told if step.printed is not None]
     found, source = texts.texts_of(explain, given, program, printed, along)
     rows = steps.rows_of(explain, given, told, is_long)
     lives = lives_of(explain, given, network, program, told, is_long)
-    return Data(explain, given, network, told, rows, found, lives).whole(name, notes(network, source, is_long, len(told), with_inside))
+    return Data(explain, given, network, told, rows, found, lives).whole(name, notes(network, source, is_long, len(told), inside))
 
 
 def lives_of(explain, given, network, program, told, is_long):
@@ -156,7 +157,7 @@ def facts(network, events):
     return f"{carrier}, {hosts} · {', '.join(parts)} · {counted(events, 'event')}"
 
 
-def notes(network, source, is_long, count, with_inside):
+def notes(network, source, is_long, count, inside):
     """What the page rests on and what it leaves out, as sentences."""
     told = []
     if is_long:
@@ -165,7 +166,9 @@ def notes(network, source, is_long, count, with_inside):
         told.append("What messages say is from the independent model in Python, all of whose lines were the same as the program's.")
     if not network.raw and source == texts.UNKNOWN:
         told.append("What messages say is not known here.")
-    if with_inside:
+    if inside and inside.is_programs:
+        told.append("Frames on lines and what IMPs hold are from the program's own trace of this input.")
+    elif inside:
         told.append(
             "Frames on lines and what IMPs hold are from the independent model in Python, not from the proved program. "
             "Each line that the model printed was compared with the program's on this input, and all were the same."

@@ -187,7 +187,7 @@ def rows_of(explain, given, steps, is_long):
         for step in of_line[number]:
             step.row = len(rows)
             if step.is_first:
-                rows.append(Row("event", number, explain.shown(line), step.printed or ""))
+                rows.append(Row("event", number, ", ".join(filter(None, [explain.shown(line), part_in_words(step)])), step.printed or ""))
             elif step.rounds != place and step.rounds[0]:
                 rows.append(Row("round", 0, ", ".join(filter(None, [round_in_words(step.rounds), part_in_words(step)])), step.printed or ""))
             else:
