@@ -8,3 +8,4 @@ pub mod Keeping
 pub mod TwoRounds
 pub mod Joined
 pub mod Members
+pub mod lemmas

@@ -1,0 +1,128 @@
+-- The texts of all parts tell a subnet, but for its log.
+use Rattle.std.proofs.Common.{◌≡◌, ℕ, suc, true, nat_lt, List, [], ◌∷◌, codes, length, map, Option, Some, None, is_some, slice_index_or, refl, sym, ap, ap₂, ◌∙◌, arith}
+use Rattle.std.proofs.lemmas.List.{get_or_default, same_lists}
+use Rattle.std.proofs.lemmas.List.Elements.{All-head, All-tail}
+use Rattle.std.proofs.lemmas.Bool.Decides.{nat_tests}
+use Rattle.std.specs.FinMap as fin
+use Rattle.std.specs.List.{All}
+use Rattle.packetiser.specs.Slots.{IsSlot}
+use Rattle.imp_node.specs.State.{State}
+use Rattle.subnet.specs.Events.{is_imp, site_at}
+use Rattle.subnet.specs.Net.{Net, Wire, imp_at, wire_at}
+use Rattle.trace.specs.Texts.{array, member, object, strings}
+use Rattle.subnet_trace.specs.Parts.{Part, Imp, Line, is_part, part_text}
+use Rattle.subnet_trace.specs.Texts.{frame_text, heard_text, host_object, imp_members, imp_text, kept_text, line_text, port_object, slot_text, source_text}
+use Rattle.subnet_trace.specs.Told.{IsFrame, IsHeard, IsHostTold, IsImpTold, IsKept, IsLineTold, IsOneNetwork, IsPort, IsSource, IsTold, IsToldAt, ends_of}
+use Rattle.subnet_trace.proofs.Json.{Spelled, first_same, lists_spelled, member_once, object_once, rest_same}
+use Rattle.subnet_trace.proofs.Objects.{AreClosed, also_closed, frame_spelled, heard_spelled, host_spelled, lists_of_strings, none_closed, not_null, packets_spelled, port_spelled, slot_spelled}
+use Rattle.subnet_trace.proofs.Spelling.{kept_words, source_words}
+
+-- ---- an IMP
+
+hosts_spelled : Spelled (λ xs. array (map host_object xs)) (All IsHostTold)
+hosts_spelled = lists_spelled host_object IsHostTold host_spelled
+
+ports_spelled : Spelled (λ xs. array (map port_object xs)) (All IsPort)
+ports_spelled = lists_spelled port_object IsPort port_spelled
+
+routes_spelled : Spelled (λ xs. array (map heard_text xs)) (All IsHeard)
+routes_spelled = lists_spelled heard_text IsHeard heard_spelled
+
+slots_spelled : Spelled (λ xs. array (map slot_text xs)) (All IsSlot)
+slots_spelled = lists_spelled slot_text IsSlot slot_spelled
+
+sources_spelled : Spelled (λ xs. strings (map source_text xs)) (All IsSource)
+sources_spelled = lists_of_strings source_text IsSource source_words
+
+kept_spelled : Spelled (λ xs. strings (map kept_text xs)) (All IsKept)
+kept_spelled = lists_of_strings kept_text IsKept kept_words
+
+members_closed : (i : ℕ) (s : State) → IsImpTold i s → AreClosed (imp_members s)
+members_closed i s is =
+    also_closed (codes "hosts") refl (hosts_spelled.closed s.hosts is.hosts)
+    (also_closed (codes "ports") refl (ports_spelled.closed s.ports is.ports)
+    (also_closed (codes "routes") refl (routes_spelled.closed s.routes.heard is.routes)
+    (also_closed (codes "store") refl (packets_spelled.closed s.store is.store)
+    (also_closed (codes "slots") refl (slots_spelled.closed s.slots is.slots)
+    (also_closed (codes "sources") refl (sources_spelled.closed (fin.entries s.sources) is.sources)
+    (also_closed (codes "kept") refl (kept_spelled.closed (fin.entries s.kept) is.kept) none_closed))))))
+
+state_once : (i : ℕ) (s t : State) → IsImpTold i s → IsImpTold i t → object (imp_members s) ≡ object (imp_members t) → s ≡ t
+state_once i s t p q e =
+    let one = object_once (imp_members s) (imp_members t) (members_closed i s p).all (members_closed i t q).all e in
+    let two = rest_same one in
+    let three = rest_same two in
+    let four = rest_same three in
+    let five = rest_same four in
+    let six = rest_same five in
+    let seven = rest_same six in
+    let hosts : s.hosts ≡ t.hosts = hosts_spelled.once s.hosts t.hosts p.hosts q.hosts (member_once (codes "hosts") _ _ (first_same one)) in
+    let ports : s.ports ≡ t.ports = ports_spelled.once s.ports t.ports p.ports q.ports (member_once (codes "ports") _ _ (first_same two)) in
+    let heard : s.routes.heard ≡ t.routes.heard = routes_spelled.once s.routes.heard t.routes.heard p.routes q.routes (member_once (codes "routes") _ _ (first_same three)) in
+    let store : s.store ≡ t.store = packets_spelled.once s.store t.store p.store q.store (member_once (codes "store") _ _ (first_same four)) in
+    let slots : s.slots ≡ t.slots = slots_spelled.once s.slots t.slots p.slots q.slots (member_once (codes "slots") _ _ (first_same five)) in
+    let sources : s.sources ≡ t.sources = fin.same_entries_map s.sources t.sources (sources_spelled.once (fin.entries s.sources) (fin.entries t.sources) p.sources q.sources (member_once (codes "sources") _ _ (first_same six))) in
+    let kept : s.kept ≡ t.kept = fin.same_entries_map s.kept t.kept (kept_spelled.once (fin.entries s.kept) (fin.entries t.kept) p.kept q.kept (member_once (codes "kept") _ _ (first_same seven))) in
+    let own : s.routes.own ≡ t.routes.own = p.own ∙ sym q.own in
+    let spent : s.spent ≡ t.spent = p.live ∙ sym q.live in
+    λ j. record { spent = spent j; hosts = hosts j; ports = ports j; routes = record { own = own j; heard = heard j }; store = store j; slots = slots j; sources = sources j; kept = kept j }
+
+imp_once : (i : ℕ) (o r : Option State) → IsToldAt i o → IsToldAt i r → imp_text o ≡ imp_text r → o ≡ r
+imp_once i None None p q e = refl
+imp_once i None (Some t) p q e = absurd (not_null _ e)
+imp_once i (Some s) None p q e = absurd (not_null _ (sym e))
+imp_once i (Some s) (Some t) p q e = ap (λ (x : State). Some x) (state_once i s t p q e)
+
+-- ---- a line
+
+frames_spelled : Spelled (λ xs. array (map frame_text xs)) (All IsFrame)
+frames_spelled = lists_spelled frame_text IsFrame frame_spelled
+
+abbrev line_members : Wire → List (List ℕ)
+line_members w = member (codes "+") (array (map frame_text w.forward)) ∷ member (codes "-") (array (map frame_text w.back)) ∷ []
+
+line_closed : (w : Wire) → IsLineTold w → AreClosed (line_members w)
+line_closed w is =
+    also_closed (codes "+") refl (frames_spelled.closed w.forward is.forward)
+    (also_closed (codes "-") refl (frames_spelled.closed w.back is.back) none_closed)
+
+line_once : (v w : Wire) → IsLineTold v → IsLineTold w → ends_of v ≡ ends_of w → line_text v ≡ line_text w → v ≡ w
+line_once v w p q ends e =
+    let all = object_once (line_members v) (line_members w) (line_closed v p).all (line_closed w q).all e in
+    let forward : v.forward ≡ w.forward = frames_spelled.once v.forward w.forward p.forward q.forward (member_once (codes "+") _ _ (first_same all)) in
+    let back : v.back ≡ w.back = frames_spelled.once v.back w.back p.back q.back (member_once (codes "-") _ _ (first_same (rest_same all))) in
+    λ i. record { a = (ends i).0; b = (ends i).1; forward = forward i; back = back i }
+
+first_place : (n : ℕ) → nat_lt 0 (suc n) ≡ true
+first_place n = grind (arith, nat_tests)
+
+next_place : (l n : ℕ) → nat_lt l n ≡ true → nat_lt (suc l) (suc n) ≡ true
+next_place l n less = grind (arith, nat_tests)
+
+lines_once : (vs ws : List Wire) → All IsLineTold vs → All IsLineTold ws → map ends_of vs ≡ map ends_of ws → ((l : ℕ) → nat_lt l (length vs) ≡ true → line_text (wire_at vs l) ≡ line_text (wire_at ws l)) → vs ≡ ws
+lines_once [] [] p q ends texts = refl
+lines_once [] (w ∷ ws) p q ends texts = absurd (cc)
+lines_once (v ∷ vs) [] p q ends texts = absurd (cc)
+lines_once (v ∷ vs) (w ∷ ws) p q ends texts =
+    ap₂ (λ (x : Wire) (xs : List Wire). x ∷ xs) (line_once v w (All-head IsLineTold v vs p) (All-head IsLineTold w ws q) (first_same ends) (texts 0 (first_place (length vs))))
+    (lines_once vs ws (All-tail IsLineTold v vs p) (All-tail IsLineTold w ws q) (rest_same ends) (λ l there. texts (suc l) (next_place l (length vs) there)))
+
+-- ---- a subnet
+
+-- the IMPs of two subnets, place by place
+imp_same : (n m : Net) → IsTold n → IsTold m → n.sites ≡ m.sites → ((i : ℕ) → is_imp n i ≡ true → imp_text (imp_at n.imps i) ≡ imp_text (imp_at m.imps i)) → (i : ℕ) → imp_at n.imps i ≡ imp_at m.imps i
+imp_same n m p q sites texts i = by (site_at n i) refl where
+  by : (o : Option ℕ) → site_at n i ≡ o → imp_at n.imps i ≡ imp_at m.imps i
+  by None none = p.there i none ∙ sym (q.there i (sym (ap (λ (ss : List (Option ℕ)). slice_index_or ss i None) sites) ∙ none))
+  by (Some count) some = imp_once i (imp_at n.imps i) (imp_at m.imps i) (p.imps i) (q.imps i) (texts i (ap is_some some))
+
+same_imps : (n m : Net) → IsTold n → IsTold m → n.sites ≡ m.sites → ((i : ℕ) → is_imp n i ≡ true → imp_text (imp_at n.imps i) ≡ imp_text (imp_at m.imps i)) → n.imps ≡ m.imps
+same_imps n m p q sites texts =
+    let long : length n.imps ≡ length m.imps = p.places ∙ ap length sites ∙ sym q.places in
+    same_lists n.imps m.imps long (λ i d less. get_or_default n.imps i d None less ∙ imp_same n m p q sites texts i ∙ sym (get_or_default m.imps i d None (omega (arith, less, long))))
+
+pub whole : (n m : Net) → IsTold n → IsTold m → IsOneNetwork n m → ((p : Part) → is_part n p ≡ true → part_text n p ≡ part_text m p) → m ≡ record n { log = m.log }
+whole n m p q same texts =
+    let imps : n.imps ≡ m.imps = same_imps n m p q same.sites (λ i there. texts (Imp i) there) in
+    let lines : n.lines ≡ m.lines = lines_once n.lines m.lines p.lines q.lines same.lines (λ l there. texts (Line l) there) in
+    λ j. record { hosts = sym same.hosts j; sites = sym same.sites j; imps = sym imps j; lines = sym lines j; log = m.log }

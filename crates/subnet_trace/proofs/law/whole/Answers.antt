@@ -1,0 +1,5 @@
+use Rattle.subnet_trace.proofs.Whole.{whole}
+use Rattle.subnet_trace.proofs.law.whole.Goals as goal
+
+pub returns : goal.returns
+returns c = record { texts = whole }

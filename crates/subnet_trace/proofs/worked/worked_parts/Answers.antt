@@ -1,0 +1,52 @@
+use Rattle.std.proofs.Common.{◌≡◌, List, [], ◌∷◌, length, refl, sym, ◌∙◌, arith}
+use Rattle.std.specs.FinMap as fin
+use Rattle.link_table.specs.Keys.{flow_cmp}
+use Rattle.link_table.specs.declared.destination.Noted.{Noted}
+use Rattle.link_table.specs.declared.source.Standing.{Standing}
+use Rattle.std.specs.Fmt.{digits}
+use Rattle.hex.specs.Hex.{encode_with}
+use Rattle.bit_messages.specs.Octets.{octets_of}
+use Rattle.subnet_trace.proofs.worked.worked_parts.Goals as goal
+
+none_long : {X : Type 0} (xs : List X) → length xs ≡ 0 → xs ≡ []
+none_long [] e = refl
+none_long (x ∷ xs) e = absurd (omega (arith, e))
+
+no_entries : (X : Type 0) → fin.entries (fin.empty {X = X} {R = flow_cmp}) ≡ []
+no_entries X = none_long (fin.entries (fin.empty {X = X} {R = flow_cmp})) (sym (fin.len-entries (fin.empty {X = X} {R = flow_cmp})) ∙ fin.len-empty flow_cmp X)
+
+pub returns-clause-source : goal.returns-clause-source
+unfolding digits encode_with octets_of
+returns-clause-source c = refl
+
+pub returns-clause-kept : goal.returns-clause-kept
+unfolding digits encode_with octets_of
+returns-clause-kept c = refl
+
+pub returns-clause-host : goal.returns-clause-host
+unfolding digits encode_with octets_of
+returns-clause-host c = refl
+
+pub returns-clause-port : goal.returns-clause-port
+unfolding digits encode_with octets_of
+returns-clause-port c = refl
+
+pub returns-clause-heard : goal.returns-clause-heard
+unfolding digits encode_with octets_of
+returns-clause-heard c = refl
+
+pub returns-clause-nothing_heard : goal.returns-clause-nothing_heard
+unfolding digits encode_with octets_of
+returns-clause-nothing_heard c = refl
+
+pub returns-clause-imp : goal.returns-clause-imp
+unfolding digits encode_with octets_of
+returns-clause-imp c = rw (no_entries Standing, no_entries Noted) refl
+
+pub returns-clause-imp_down : goal.returns-clause-imp_down
+unfolding digits encode_with octets_of
+returns-clause-imp_down c = refl
+
+pub returns-clause-line : goal.returns-clause-line
+unfolding digits encode_with octets_of
+returns-clause-line c = refl

@@ -1,0 +1,99 @@
+-- The parts of a subnet, and which of them an event can change.
+use Rattle.std.specs.Prelude.{◌≡◌, ℕ, Bool, false, ◌==◌, ◌||◌, List, [], ◌∷◌, ◌++◌, codes, filter, if◌then◌else◌, length, map, nat_lt}
+use Rattle.std.specs.Fmt.{decimal}
+use Rattle.std.specs.List.{range_with_len}
+use Rattle.leader1822.specs.declared.event.Direction.{Direction}
+use Rattle.leader1822.specs.declared.event.NetEvent.TheVariants as net
+use Rattle.replay.specs.Replay.{Calls}
+use Rattle.script.specs.declared.event.RawEvent.{RawEvent}
+use Rattle.script.specs.declared.event.RawEvent.TheVariants as event
+use Rattle.subnet.specs.Calls.{Kept}
+use Rattle.subnet.specs.Events.{is_imp}
+use Rattle.subnet.specs.Net.{Net, ends_at, far_end, imp_at, wire_at}
+use Rattle.subnet.specs.Working.{SubnetOffer, SubnetRound, SubnetStep, SubnetTake, seen_of}
+use Rattle.subnet_trace.specs.Texts.{imp_text, line_text}
+use Rattle.trace.specs.Texts.{member, object}
+
+-- an IMP and a line, by their numbers
+pub data Part : Type 0 where
+  Imp : (number : ℕ) → Part
+  Line : (number : ℕ) → Part
+
+-- a part of this network
+abbrev pub is_part : Net → Part → Bool
+is_part n (Imp i) = is_imp n i
+is_part n (Line l) = nat_lt l (length n.lines)
+
+abbrev pub part_name : Part → List ℕ
+part_name (Imp i) = codes "imp " ++ decimal i
+part_name (Line l) = codes "line " ++ decimal l
+
+abbrev pub part_text : Net → Part → List ℕ
+part_text n (Imp i) = imp_text (imp_at n.imps i)
+part_text n (Line l) = line_text (wire_at n.lines l)
+
+abbrev pub parts_text : Net → List Part → List ℕ
+parts_text n parts = object (map (λ p. member (part_name p) (part_text n p)) parts)
+
+-- ---- the parts that an event can change
+
+-- the lines that end at an IMP, in order
+abbrev pub lines_at : Net → ℕ → List ℕ
+lines_at n i = filter (λ l. ends_at i (wire_at n.lines l)) (range_with_len 0 (length n.lines))
+
+-- an IMP that is in the network
+abbrev pub imp_alone : Net → ℕ → List Part
+imp_alone n i = if is_imp n i then Imp i ∷ [] else []
+
+-- and its lines
+abbrev pub imp_and_lines : Net → ℕ → List Part
+imp_and_lines n i = if is_imp n i then Imp i ∷ map (λ l. Line l) (lines_at n i) else []
+
+-- a line that is in the network
+abbrev pub line_alone : Net → ℕ → List Part
+line_alone n l = if nat_lt l (length n.lines) then Line l ∷ [] else []
+
+-- the IMP at the far end of a line, with its lines
+abbrev pub far_end_of : Net → ℕ → Direction → List Part
+far_end_of n l d = if nat_lt l (length n.lines) then imp_and_lines n (far_end d (wire_at n.lines l)) else []
+
+-- the parts that an elementary event can change: an IMP that makes a call, with the lines that it may put frames on
+abbrev pub parts_of : Net → RawEvent → List Part
+parts_of n (event.Out m) = imp_and_lines n m.flow.source.imp
+parts_of n (event.Take h) = imp_and_lines n h.imp
+parts_of n (event.Net (net.Deliver l d k)) = far_end_of n l d
+parts_of n (event.Net (net.Drop l d k)) = line_alone n l
+parts_of n (event.Net (net.Resend i)) = imp_and_lines n i
+parts_of n (event.Net (net.Route i)) = imp_and_lines n i
+parts_of n (event.Net (net.EndDown i l)) = imp_and_lines n i
+parts_of n (event.Net (net.EndUp i l)) = imp_and_lines n i
+parts_of n (event.Net (net.ImpDown i)) = imp_alone n i
+parts_of n (event.Net (net.ImpUp i)) = imp_alone n i
+parts_of n (event.Net (net.HostDown h)) = imp_and_lines n h.imp
+parts_of n (event.Net (net.HostUp h)) = imp_and_lines n h.imp
+parts_of n (event.Net (net.GiveUp f)) = imp_and_lines n f.source.imp
+parts_of n (event.Net (net.Forget at from)) = imp_and_lines n at
+parts_of n (event.Net (net.Abandon f)) = imp_and_lines n f.destination.imp
+parts_of n (event.Net (net.Ask f)) = imp_and_lines n f.source.imp
+parts_of n (event.Calm rounds) = []
+
+-- ---- what a part is, and is named
+
+abbrev pub same_part : Part → Part → Bool
+same_part (Imp i) (Imp j) = i == j
+same_part (Imp i) (Line k) = false
+same_part (Line l) (Imp j) = false
+same_part (Line l) (Line k) = l == k
+
+abbrev pub is_named : Part → List Part → Bool
+is_named p [] = false
+is_named p (q ∷ parts) = same_part p q || is_named p parts
+
+-- a part is the same in two states
+abbrev pub SamePart : Part → Net → Net → Type 0
+SamePart (Imp i) old new = imp_at new.imps i ≡ imp_at old.imps i
+SamePart (Line l) old new = wire_at new.lines l ≡ wire_at old.lines l
+
+-- the calls of a subnet
+abbrev pub of_subnet : Calls Kept
+of_subnet = record { seen = seen_of; offers = SubnetOffer; takes = SubnetTake; steps = SubnetStep; rounds = SubnetRound }
