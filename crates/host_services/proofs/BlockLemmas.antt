@@ -4,7 +4,7 @@ use Rattle.std.proofs.lemmas.List.{append-nil}
 use Rattle.host_pairs.specs.declared.notice.Notice.{Notice}
 use Rattle.host_services.specs.Ears.{all_in}
 use Rattle.host_services.specs.Services.{Service, ServiceDeskState}
-use Rattle.host_services.specs.Turns.{Turned, heard_by, notice_heard}
+use Rattle.host_services.specs.Turns.{heard_by, notice_heard}
 use Rattle.host_services.proofs.TurnLemmas.{behind}
 
 -- ---- one list of services after another

@@ -1,5 +1,5 @@
 -- What a service may hear of, as it stands beside the service, and what several services may hear of at most.
-use Rattle.std.specs.Prelude.{◌≡◌, ◌≤◌, ℕ, Bool, true, if◌then◌else◌, min, max, List, [], ◌∷◌, ◌++◌}
+use Rattle.std.specs.Prelude.{◌≡◌, ◌≤◌, Bool, true, if◌then◌else◌, min, max, List, [], ◌∷◌, ◌++◌}
 use Rattle.host_services.specs.Services.{Service}
 use Rattle.host_services.specs.declared.hearing.Ear.{Ear}
 use Rattle.host_services.specs.declared.hearing.Ear.TheVariants as ear
