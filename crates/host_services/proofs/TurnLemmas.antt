@@ -11,7 +11,7 @@ use Rattle.host_services.specs.declared.hearing.Ear.{Ear}
 abbrev pub behind : List Service → List Service × ServiceDeskState → List Service × ServiceDeskState
 behind front t = (front ++ t.0, t.1)
 
-next_heard : (n : Notice) (x : Service) (xs : List Service) (d : ServiceDeskState) (t : Turned) → heard_by n x d ≡ t → notice_heard n (x ∷ xs) d ≡ behind (t.0 ∷ []) (notice_heard n xs t.1)
+pub next_heard : (n : Notice) (x : Service) (xs : List Service) (d : ServiceDeskState) (t : Turned) → heard_by n x d ≡ t → notice_heard n (x ∷ xs) d ≡ behind (t.0 ∷ []) (notice_heard n xs t.1)
 next_heard n x xs d t is = ap (λ (u : Turned). behind (u.0 ∷ []) (notice_heard n xs u.1)) is
 
 -- one service more has had its turn

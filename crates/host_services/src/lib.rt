@@ -10,6 +10,7 @@
 //! was reported. Nothing here knows of the carrier or of the book.
 #![tactic(auto)]
 
+mod block;
 mod desk;
 mod hearing;
 pub mod law;

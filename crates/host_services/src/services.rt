@@ -1,14 +1,14 @@
 //! The services of a host.
 
-ghost use Rattle.std.specs.Prelude.{◌≡◌, ◌<◌, ◌++◌, ◌∷◌, [], IfOk, OnErr, OnOk, length, map};
-ghost use Rattle.host_services.specs.Ears.{ear_of};
+ghost use Rattle.std.specs.Prelude.{◌≡◌, ◌<◌, ◌++◌, ◌∷◌, [], IfOk, OnErr, OnOk, length};
+ghost use Rattle.host_services.specs.Ears.{all_in};
 ghost use Rattle.host_services.specs.Services.{no_services};
 ghost use Rattle.host_services.specs.Turns as turns;
 ghost use Rattle.icp.specs.declared.outcome.Failure.TheVariants as failure;
 ghost use Rattle.icp.specs.declared.outcome.Outcome.TheVariants as outcome;
 
+use crate::block::Block;
 use crate::desk::ServiceDesk;
-use crate::hearing::Ear;
 use crate::{Report, Service};
 use icp::{Failure, Outcome, Said, Server, StartFault, User};
 use leader1822::HostAddr;
@@ -16,85 +16,74 @@ use ncp_control::SendSocket;
 use sockets::Notice;
 use std::alloc::{AllocError, Global};
 use std::marker::Model;
+use std::mem;
 
 /// The services of a host, in the order in which they began.
 ///
-/// Beside each stands what it may hear of, so that a notice passes by the others quickly.
+/// They stand in blocks, so that a notice passes by all services of a block at once where none of them hears it.
 #[derive(Drop)]
 pub struct Services {
-    running: Vec<Service>,
-    ears: Vec<Ear>,
+    full: Vec<Block>,
+    last: Block,
     typing: Option<SendSocket>,
     alloc: Global,
 }
 
 impl Model for Services {
-    ghost use Rattle.std.specs.Prelude.{◌≡◌, map};
-    ghost use Rattle.host_services.specs.Ears.{ear_of};
+    ghost use Rattle.std.specs.Prelude.{◌++◌};
+    ghost use Rattle.host_services.specs.Ears.{all_in};
     ghost use Rattle.host_services.specs.Services.{ServicesState};
 
     ghost Value = { ServicesState };
 
-    ghost view = { λ s. record { running = s.running.items; typing = s.typing } };
-
-    ghost invariant = { λ s. s.ears.items ≡ map ear_of s.running.items };
+    ghost view = { λ s. record { running = all_in s.full.items ++ s.last; typing = s.typing } };
 }
 
-/// A service is told of a notice, unless it can't hear it.
-fn tell_one(
+/// The services of these blocks are told of a notice, one after another.
+#[tactic(auto, using(crate::proofs::BlockLemmas::more_blocks))]
+fn tell_blocks(
     alloc: Global,
-    service: &mut Service,
-    ear: &mut Ear,
+    blocks: &mut [Block],
     desk: &mut ServiceDesk,
     notice: &Notice,
 ) -> Result<(), AllocError>
-    requires { ear.old ≡ ear_of service.old }
-    ensures heard { IfOk result (λ _. turns.heard_by notice.now service.old desk.old ≡ (service.new, desk.new)) }
-    ensures ear { ear.new ≡ ear_of service.new }
+    ensures { IfOk result (λ _. turns.notice_heard notice.now (all_in blocks.old) desk.old ≡ (all_in blocks.new, desk.new)) }
 {
-    if !ear.hears(notice) {
-        return Ok(());
-    }
-    let told = desk.tell(alloc, service, notice);
-    *ear = service.ear();
-    told
-}
-
-/// Each of these services is told of a notice, one after another.
-#[tactic(auto, using(crate::proofs::TurnLemmas::more_heard, crate::proofs::TurnLemmas::ear_at, crate::proofs::TurnLemmas::ears_long, crate::proofs::TurnLemmas::ears_set))]
-fn tell_each(
-    alloc: Global,
-    services: &mut [Service],
-    ears: &mut [Ear],
-    desk: &mut ServiceDesk,
-    notice: &Notice,
-) -> Result<(), AllocError>
-    requires { ears.old ≡ map ear_of services.old }
-    ensures heard { IfOk result (λ _. turns.notice_heard notice.now services.old desk.old ≡ (services.new, desk.new)) }
-    ensures ears { ears.new ≡ map ear_of services.new }
-{
-    for at in 0..services.len() {
-        tell_one(alloc, &mut services[at], &mut ears[at], desk, notice)?;
+    for at in 0..blocks.len() {
+        blocks[at].tell(alloc, desk, notice)?;
     }
     Ok(())
 }
 
-/// These services are told of several notices, one after another.
+/// The services of these blocks, and then those of the last one, are told of a notice.
+fn tell_each(
+    alloc: Global,
+    full: &mut [Block],
+    last: &mut Block,
+    desk: &mut ServiceDesk,
+    notice: &Notice,
+) -> Result<(), AllocError>
+    ensures { IfOk result (λ _. turns.notice_heard notice.now (all_in full.old ++ last.old) desk.old ≡ (all_in full.new ++ last.new, desk.new)) }
+{
+    tell_blocks(alloc, full, desk, notice)?;
+    last.tell(alloc, desk, notice)?;
+    Ok(())
+}
+
+/// They are told of several notices, one after another.
 fn tell_all(
     alloc: Global,
-    services: &mut [Service],
-    ears: &mut [Ear],
+    full: &mut [Block],
+    last: &mut Block,
     desk: &mut ServiceDesk,
     notices: &[Notice],
 ) -> Result<(), AllocError>
-    requires { ears.old ≡ map ear_of services.old }
-    ensures heard { IfOk result (λ _. turns.all_heard notices.now services.old desk.old ≡ (services.new, desk.new)) }
-    ensures ears { ears.new ≡ map ear_of services.new }
+    ensures heard { IfOk result (λ _. turns.all_heard notices.now (all_in full.old ++ last.old) desk.old ≡ (all_in full.new ++ last.new, desk.new)) }
     ensures memory { OnErr result (0 < length notices.now) }
 {
     for notice in notices {
         desk.count()?;
-        tell_each(alloc, services, ears, desk, notice)?;
+        tell_each(alloc, full, last, desk, notice)?;
     }
     Ok(())
 }
@@ -112,8 +101,8 @@ impl Services {
         ensures { result ≡ no_services }
     {
         Services {
-            running: Vec::new(alloc),
-            ears: Vec::new(alloc),
+            full: Vec::new(alloc),
+            last: Block::new(alloc),
             typing: None,
             alloc,
         }
@@ -126,16 +115,27 @@ impl Services {
         self.typing
     }
 
+    /// Begins a new block where the last one is full.
+    #[tactic(auto, using(crate::proofs::BlockLemmas::one_block_more))]
+    fn make_room(&mut self) -> Result<(), AllocError>
+        ensures { OnOk result (self.new ≡ self.old) }
+    {
+        if !self.last.is_full() {
+            return Ok(());
+        }
+        self.full.reserve(1)?;
+        let last = mem::replace(&mut self.last, Block::new(self.alloc));
+        self.full.push_reserved(last);
+        Ok(())
+    }
+
     /// A service is the last now.
-    #[tactic(auto, using(crate::proofs::TurnLemmas::ears_joined))]
+    #[tactic(auto, using(crate::proofs::BlockLemmas::joined))]
     fn join(&mut self, service: Service) -> Result<(), AllocError>
         ensures { OnOk result (self.new ≡ record self.old { running = self.old.running ++ service ∷ [] }) }
     {
-        self.running.reserve(1)?;
-        self.ears.reserve(1)?;
-        self.ears.push_reserved(service.ear());
-        self.running.push_reserved(service);
-        Ok(())
+        self.make_room()?;
+        self.last.push(service)
     }
 
     /// They are told of these notices of their host, one after another. What they ask for is asked at once.
@@ -147,7 +147,7 @@ impl Services {
         ensures told { IfOk result (λ _. turns.services_told notices.now self.old desk.old ≡ (self.new, desk.new)) }
     {
         desk.typing = self.typing;
-        tell_all(self.alloc, &mut self.running, &mut self.ears, desk, notices)?;
+        tell_all(self.alloc, &mut self.full, &mut self.last, desk, notices)?;
         self.typing = desk.typing;
         Ok(())
     }

@@ -4,4 +4,5 @@ pub mod News
 pub mod Replays
 pub mod Reports
 pub mod Steady
+pub mod ToldLines
 pub mod lemmas

@@ -16,6 +16,7 @@ mod events;
 pub mod law;
 mod lines;
 mod print;
+mod told;
 pub mod worked;
 
 pub use events::replay_events;

@@ -1,60 +1,12 @@
-//! The lines for what users are told, for what becomes of initial connections and for lives, without their ends.
+//! The lines for what becomes of initial connections and for lives, without their ends.
 
 ghost use Rattle.std.specs.Prelude.{◌≡◌, Some};
 ghost use Rattle.world_replay.specs.Printed.{reason_name};
 
 use icp::{Failure, Outcome};
 use leader1822::HostAddr;
-use net_sim::{Life, Told};
-use sockets::Notice;
+use net_sim::Life;
 use std::fmt;
-
-/// The line for something that the user of a host was told.
-#[derive(Drop)]
-pub(crate) struct ToldLine<'a>(pub &'a Told);
-
-/// Prints a word for what it is, the host, and what it is about. Of bits it prints their number.
-impl fmt::Display for ToldLine<'_> {
-    ghost use Rattle.world_replay.specs.Printed.{told_text};
-
-    ghost output = { λ line. Some (told_text line.0.now) };
-
-    fn fmt<W: fmt::Write>(&self, f: &mut fmt::Formatter<W>) -> fmt::Result {
-        let host = &self.0.host;
-        match &self.0.notice {
-            Notice::Ready { peer } => write!(f, "ready {host} {peer}"),
-            Notice::ContactFailed { peer } => write!(f, "contactfailed {host} {peer}"),
-            Notice::PairReset { peer } => write!(f, "pairreset {host} {peer}"),
-            Notice::Opened {
-                socket,
-                peer,
-                foreign,
-                ..
-            } => write!(f, "opened {host} {socket} {peer} {foreign}"),
-            Notice::Ended {
-                socket,
-                peer,
-                foreign,
-            } => write!(f, "ended {host} {socket} {peer} {foreign}"),
-            Notice::Sent { socket, bits } => {
-                let bits = bits.len();
-                write!(f, "sent {host} {socket} {bits}")
-            }
-            Notice::Arrived { socket, bits } => {
-                let bits = bits.len();
-                write!(f, "arrived {host} {socket} {bits}")
-            }
-            Notice::Returned {
-                socket,
-                messages,
-                bits,
-            } => write!(f, "returned {host} {socket} {messages} {bits}"),
-            Notice::Interrupt { socket } => write!(f, "interrupt {host} {socket}"),
-            Notice::Echoed { peer, octet } => write!(f, "echoed {host} {peer} {octet}"),
-            Notice::RemoteError { peer, code, .. } => write!(f, "error {host} {peer} {code}"),
-        }
-    }
-}
 
 /// The line for what became of a server or of a user of an initial connection.
 #[derive(Drop)]

@@ -8,10 +8,11 @@ ghost use Rattle.replay.specs.Failing.{TellsCannotWrite, TellsFailure};
 ghost use Rattle.replay.specs.declared.print.Detail.{Detail};
 ghost use Rattle.script.specs.Input.{ended_line};
 ghost use Rattle.world_replay.specs.Output.{lives_output, output, shown_crossings, shown_in_turn, shown_notices, shown_refusal, told_in_turn};
-ghost use Rattle.world_replay.specs.Printed.{problem_name, refusal_name, report_text, reported_text, shown_octet};
+ghost use Rattle.world_replay.specs.Printed.{problem_name, refusal_name, report_text, reported_text, shown_octet, told_text};
 ghost use Rattle.world_replay.specs.Steps.{Fronts};
 
-use crate::lines::{LifeLine, OutcomeLine, ToldLine};
+use crate::lines::{LifeLine, OutcomeLine};
+use crate::told::told_line;
 use leader1822::{Crossing, HostAddr};
 use net_sim::{Book, Life, Report, Reported, Told, WorldFault};
 use replay::{Detail, Output, ReplayFault, WriteFailed, carrier_refusal, print_crossing};
@@ -118,9 +119,18 @@ fn print_notices<W: Output>(
 {
     for told in notices {
         crossings.print_before(told.place, detail, writer)?;
-        writeln!(writer, "{}", ToldLine(told))?;
+        print_told_line(told, writer)?;
     }
     Ok(())
+}
+
+/// Prints the line of something that a user was told.
+fn print_told_line<W: Output>(told: &Told, writer: &mut W) -> Result<(), WriteFailed>
+    requires { W.failed writer.old ≡ false }
+    ensures written { OnOk result (Appends (W.contents writer.old) (W.contents writer.new) (ended_line (told_text told.now))) }
+    ensures failed { TellsFailure result (W.failed writer.new) }
+{
+    writer.write_all(told_line(told).as_octets())
 }
 
 /// Prints what a service reports.

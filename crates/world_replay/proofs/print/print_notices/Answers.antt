@@ -11,10 +11,10 @@ loop-told-init g c = (fronts_none c.args.detail c.args.crossings.now.before c.ar
 pub loop-told-preserved : goal.loop-told-preserved
 loop-told-preserved g c = (
   notice_front c.args.detail c.args.crossings.now.before c.loop-told.crossings.before c.print_before.new.self.before c.args.crossings.now.left.now c.loop-told.crossings.left.now c.print_before.new.self.left.now c.args.notices.now c.loop-told.told-index c.told-item.result
-      (g.W.Output.contents c.args.writer.now) (g.W.Output.contents c.loop-told.writer) (g.W.Output.contents c.print_before.new.writer) (g.W.Output.contents c.writeln.new.self)
+      (g.W.Output.contents c.args.writer.now) (g.W.Output.contents c.loop-told.writer) (g.W.Output.contents c.print_before.new.writer) (g.W.Output.contents c.print_told_line.new.writer)
       c.loop-told-test.true c.told-item.is c.in_ok-print_before.ensures.before c.in_ok-print_before.ensures.left c.loop-told.invariant.0 c.in_ok-print_before.ensures.written
-      c.in_ok-writeln.ensures.written,
-  c.in_ok-writeln.ensures.failed,
+      c.in_ok-print_told_line.ensures.written,
+  c.in_ok-print_told_line.ensures.failed,
 )
 
 pub returns-clause-written : goal.returns-clause-written

@@ -2,7 +2,7 @@ use Rattle.std.proofs.Common.{◌≡◌, map, take, drop}
 use Rattle.host_services.specs.Ears.{ear_of}
 use Rattle.host_services.specs.Turns.{notice_heard}
 use Rattle.host_services.proofs.TurnLemmas.{behind}
-use Rattle.host_services.proofs.services.tell_each.Given as goal
+use Rattle.host_services.proofs.block.tell_each.Given as goal
 
 -- those before this place have had their turns, and each ear is that of its service
 abbrev pub invariant-loop-at : goal.invariant-loop-at
