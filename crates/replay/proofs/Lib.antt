@@ -5,5 +5,5 @@ pub mod Passing
 pub mod Replays
 pub mod Settled
 pub mod Shown
-pub mod Spelled
+mod Spelled
 pub mod lemmas

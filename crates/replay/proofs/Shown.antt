@@ -109,6 +109,12 @@ no_crossing : (r : Result (Unit {0}) CarrierFault) → crossings_of (shown_refus
 no_crossing (Ok done) = refl
 no_crossing (Err f) = refl
 
+-- what crossed is shown, and then a refusal
+pub crossings_shown : (cs : List Crossing) (r : Result (Unit {0}) CarrierFault) → crossings_of (shown_crossings cs ++ shown_refusal r) ≡ cs
+crossings_shown cs r =
+    crossings_of-append (shown_crossings cs) (shown_refusal r) ∙ ap (λ xs. crossings_of (shown_crossings cs) ++ xs) (no_crossing r)
+    ∙ append-nil (crossings_of (shown_crossings cs)) ∙ crossings_again cs
+
 -- crossings were printed, and then a refusal
 pub print_ends : {W : Type 0} (contents : W → Option (List ℕ)) (detail : Detail) (crossings : List Crossing) (outcome : Result (Unit {0}) CarrierFault) (printed : Result (Unit {0}) ReplayFault) (a : Option (List ℕ)) (mid new : W)
     → Appends a (contents mid) (output detail (shown_crossings crossings)) → OnOk printed (Appends (contents mid) (contents new) (output detail (shown_refusal outcome))) → OnOk printed (GoesOn outcome)
@@ -171,9 +177,7 @@ call_ends calls detail old new e r (Err fault.CannotWrite) before after a b whol
 pub happens_shows : {C : Type 0} (calls : Calls C) (old new : C) (e : RawEvent) (shown : List Shown) → Happens calls old e new shown
     → (calls.seen new).log ≡ reverse (crossings_of shown) ++ (calls.seen old).log
 happens_shows calls old new e shown h =
-    let all : crossings_of shown ≡ h.crossings =
-    ap crossings_of h.lines ∙ crossings_of-append (shown_crossings h.crossings) (shown_refusal h.outcome) ∙ ap (λ cs. crossings_of (shown_crossings h.crossings) ++ cs) (no_crossing h.outcome)
-    ∙ append-nil (crossings_of (shown_crossings h.crossings)) ∙ crossings_again h.crossings in
+    let all : crossings_of shown ≡ h.crossings = ap crossings_of h.lines ∙ crossings_shown h.crossings h.outcome in
     h.grown ∙ ap (λ cs. reverse cs ++ (calls.seen old).log) (sym all)
 
 pub on_ok : {T E P Q : Type 0} (r : Result T E) → (P → Q) → OnOk r P → OnOk r Q

@@ -101,7 +101,9 @@ fn print_spelled<W: Output>(crossing: &Crossing, writer: &mut W) -> Result<(), W
 }
 
 /// Prints the octets of a text, as a script spells them: a hyphen for no bits.
-fn print_text<W: Output>(text: &Text, writer: &mut W) -> Result<(), WriteFailed>
+///
+/// Errors: `WriteFailed`.
+pub fn print_text<W: Output>(text: &Text, writer: &mut W) -> Result<(), WriteFailed>
     requires { W.failed writer.old ≡ false }
     ensures written { OnOk result (Appends (W.contents writer.old) (W.contents writer.new) (octets_text text.now)) }
     ensures failed { TellsFailure result (W.failed writer.new) }

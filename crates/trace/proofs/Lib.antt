@@ -9,3 +9,6 @@ pub mod TwoRounds
 pub mod Joined
 pub mod Members
 pub mod lemmas
+pub mod Calling
+pub mod Telling
+pub mod Turns
