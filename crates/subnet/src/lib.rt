@@ -11,6 +11,7 @@ mod hosts;
 mod imp_call;
 pub mod law;
 mod line_events;
+mod lines;
 mod offering;
 mod opening;
 mod parts;
