@@ -7,10 +7,12 @@ pub mod Carries
 pub mod Carrying
 pub mod Delivering
 pub mod Ending
+pub mod Joining
 pub mod Living
 pub mod Opens
 pub mod Owning
 pub mod Putting
+pub mod Resting
 pub mod RoundMemory
 pub mod Rounds
 pub mod Showing

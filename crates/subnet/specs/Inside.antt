@@ -1,3 +1,4 @@
 pub mod Calling
+pub mod Joined
 pub mod Seeking
 pub mod Taking

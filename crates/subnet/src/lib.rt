@@ -10,6 +10,7 @@ mod flow_events;
 mod imp_call;
 pub mod law;
 mod line_events;
+mod lines;
 mod offering;
 mod opening;
 mod parts;

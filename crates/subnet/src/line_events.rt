@@ -149,7 +149,7 @@ impl Parts {
         if !self.is_up(imp) {
             return Ok(());
         }
-        let port = self.port(imp, line);
+        let port = self.far_port(line, direction);
         match self.copied_frame(line, direction, place)? {
             Some(frame) => self.attempt(imp, ImpCall::Arrive(port, frame)),
             None => Ok(()),

@@ -6,8 +6,9 @@ ghost use Rattle.subnet.specs.Net.{ends_at};
 ghost use Rattle.subnet.specs.Opening as start;
 ghost use Rattle.subnet.specs.Inside.Calling.{AreLive};
 
+use crate::lines::{Lines, port_of};
 use crate::parts::Parts;
-use crate::wire::{Ends, Wire, port_of};
+use crate::wire::{Ends, Wire};
 use imp_node::Imp;
 use leader1822::{HostAddr, Hosts, ImpNumber};
 use std::alloc::{AllocError, Global};
@@ -31,8 +32,8 @@ impl Parts {
         ensures opened { IfOk result (λ parts. parts ≡ start.opening_subnet hosts.items sites.items ends.now) }
         ensures live { IfOk result (λ parts. AreLive parts.imps) }
     {
-        let lines = empty_lines(alloc, ends)?;
-        let imps = opened_imps(alloc, &sites, &lines)?;
+        let lines = Lines::new(alloc, ends)?;
+        let imps = opened_imps(alloc, &sites, lines.all())?;
         Ok(Parts {
             hosts: Hosts::new(hosts),
             sites,
@@ -42,18 +43,6 @@ impl Parts {
             alloc,
         })
     }
-}
-
-/// Lines without frames, with these ends.
-fn empty_lines(alloc: Global, ends: &[Ends]) -> Result<Vec<Wire>, AllocError>
-    ensures lines { IfOk result (λ lines. lines.items ≡ map start.empty_wire ends.now) }
-    ensures count { IfOk result (λ lines. length lines.items ≡ length ends.now) }
-{
-    let mut lines = Vec::new(alloc);
-    for end in ends {
-        lines.push(Wire::new(alloc, *end))?;
-    }
-    Ok(lines)
 }
 
 /// The IMPs of these sites, with the ports that the lines give them.

@@ -12,7 +12,7 @@ ghost use Rattle.subnet.specs.Inside.Calling.{call_turn, call_grows, AreLive, Ma
 ghost use Rattle.subnet.specs.Inside.Taking.{frame_taken};
 
 use crate::imp_call::{ImpCall, call_imp, reuse};
-use crate::wire::{Wire, port_of, put_all};
+use crate::lines::{Lines, port_of};
 use imp_channel::Frame;
 use imp_node::{Imp, Outgoing};
 use leader1822::{CarrierFault, Crossing, Direction, HostAddr, Hosts};
@@ -27,7 +27,7 @@ pub(crate) struct Parts {
     pub(crate) hosts: Hosts,
     pub(crate) sites: Vec<Option<u8>>,
     pub(crate) imps: Vec<Option<Imp>>,
-    pub(crate) lines: Vec<Wire>,
+    pub(crate) lines: Lines,
     pub(crate) log: Vec<Crossing>,
     pub(crate) alloc: Global,
 }
@@ -43,9 +43,9 @@ impl Model for Parts {
 
     ghost coded = { Prim.hlevel (codes, coded_sources, coded_destinations) };
 
-    ghost view = { λ p. record { hosts = p.hosts; sites = p.sites.items; imps = p.imps.items; lines = p.lines.items; log = reverse p.log.items } };
+    ghost view = { λ p. record { hosts = p.hosts; sites = p.sites.items; imps = p.imps.items; lines = p.lines; log = reverse p.log.items } };
 
-    ghost invariant = { λ p. AreParts p.imps.items p.sites.items p.lines.items };
+    ghost invariant = { λ p. AreParts p.imps.items p.sites.items p.lines };
 }
 
 impl Parts {
@@ -90,14 +90,14 @@ impl Parts {
         ensures end { result ≡ has_end self.now imp line }
         ensures line { result ≡ true → line < length self.now.lines }
     {
-        self.is_imp(imp) && line < self.lines.len() && self.lines[line].ends_at(imp)
+        self.is_imp(imp) && line < self.lines.len() && self.lines.all()[line].ends_at(imp)
     }
 
     /// The port of an IMP that is its end of a line.
     pub(crate) fn port(&self, imp: u8, line: usize) -> u8
         ensures { result ≡ port_of self.now.lines imp line }
     {
-        port_of(&self.lines, imp, line)
+        port_of(self.lines.all(), imp, line)
     }
 
     /// Whether a directed line has a frame at this place.
@@ -106,7 +106,7 @@ impl Parts {
         ensures line { result ≡ true → line < length self.now.lines }
         ensures place { result ≡ true → place < length (frames_on direction (wire_at self.now.lines line)) }
     {
-        line < self.lines.len() && place < self.lines[line].live(direction)
+        line < self.lines.len() && place < self.lines.all()[line].live(direction)
     }
 
     /// The IMP that the frames of a directed line go to.
@@ -114,8 +114,16 @@ impl Parts {
         requires { line < length self.now.lines }
         ensures { result ≡ far_end direction (wire_at self.now.lines line) }
     {
-        let wire = &self.lines[line];
+        let wire = &self.lines.all()[line];
         wire.far_end(direction)
+    }
+
+    /// The port of that IMP that is its end of the line.
+    pub(crate) fn far_port(&self, line: usize, direction: Direction) -> u8
+        requires { line < length self.now.lines }
+        ensures { result ≡ port_of self.now.lines (far_end direction (wire_at self.now.lines line)) line }
+    {
+        self.lines.far_port(line, direction)
     }
 
     /// A copy of the frame at a place of a directed line, if there is one.
@@ -131,7 +139,7 @@ impl Parts {
         ensures ok { IfOk result (λ frame. frame ≡ slice_get (frames_on direction (wire_at self.now.lines line)) place) }
         ensures memory { OnErr result (copied_grows (slice_get (frames_on direction (wire_at self.now.lines line)) place) ≡ true) }
     {
-        let wire = &self.lines[line];
+        let wire = &self.lines.all()[line];
         wire.copy(direction, place)
     }
 
@@ -142,8 +150,7 @@ impl Parts {
         ensures frame { slice_get (frames_on direction (wire_at self.old.lines line)) 0 ≡ Some result }
         ensures state { self.new ≡ frame_taken self.old line direction }
     {
-        let wire = &mut self.lines[line];
-        wire.take_first(direction)
+        self.lines.take_first(line, direction)
     }
 
     /// The frame at a place of a directed line is lost.
@@ -152,8 +159,7 @@ impl Parts {
         requires place { place < length (frames_on direction (wire_at self.old.lines line)) }
         ensures { self.new ≡ events.drop_frame self.old line direction place }
     {
-        let wire = &mut self.lines[line];
-        wire.lose(direction, place);
+        self.lines.lose(line, direction, place);
     }
 
     // ---- calls of one IMP
@@ -183,7 +189,11 @@ impl Parts {
         ensures memory { OnErr result (0 < length frames.items) }
         ensures keeps { SameLog self.old self.new }
     {
-        let spare = put_all(&mut self.lines, imp, frames)?;
+        if frames.is_empty() {
+            reuse(&mut self.imps, imp, frames);
+            return Ok(());
+        }
+        let spare = self.lines.put_all(imp, frames)?;
         reuse(&mut self.imps, imp, spare);
         Ok(())
     }

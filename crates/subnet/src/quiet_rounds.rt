@@ -1,11 +1,12 @@
 //! Quiet rounds: every IMP tells and sends again, and every frame arrives once.
 
-ghost use Rattle.std.specs.Prelude.{◌≡◌, ◌<◌, length, slice_get, true, OnOk, OnErr};
+ghost use Rattle.std.specs.Prelude.{◌≡◌, ◌<◌, length, slice_get, true, false, OnOk, OnErr};
 ghost use Rattle.std.specs.List.{range_with_len};
-ghost use Rattle.subnet.specs.Net.{wire_at, frames_on};
+ghost use Rattle.subnet.specs.Net.{imp_at, wire_at, frames_on};
 ghost use Rattle.subnet.specs.Events as events;
 ghost use Rattle.subnet.specs.Calls.{round_grows, delivered_grows};
-ghost use Rattle.subnet.specs.Inside.Calling.{AreLive, SameLog, carried_first};
+ghost use Rattle.subnet.specs.Inside.Calling.{AreLive, SameLog, carried_first, call_turn};
+ghost use Rattle.subnet.specs.declared.imp_call.ImpCall.TheVariants as call;
 
 use crate::imp_call::ImpCall;
 use crate::parts::Parts;
@@ -61,8 +62,23 @@ impl Parts {
     }
 
     /// An IMP tells its distances and sends again, if it is up.
-    #[tactic(auto, using(crate::proofs::Calls::Attempting::resend_ignores, crate::proofs::Calls::Attempting::route_ignores, crate::proofs::Calls::RoundMemory::telling_wants, crate::proofs::Calls::RoundMemory::sending_wants))]
+    #[tactic(auto, using(crate::proofs::Calls::Resting::not_refreshed))]
     fn refresh(&mut self, imp: u8) -> Result<(), AllocError>
+        requires { AreLive self.old.imps }
+        ensures ok { OnOk result (self.new ≡ events.refreshed self.old imp) }
+        ensures live { OnOk result (AreLive self.new.imps) }
+        ensures memory { OnErr result (round_grows self.old ≡ true) }
+        ensures keeps { SameLog self.old self.new }
+    {
+        if !self.is_up(imp) {
+            return Ok(());
+        }
+        self.tell_and_resend(imp)
+    }
+
+    /// The same, by the calls of the IMP.
+    #[tactic(auto, using(crate::proofs::Calls::Attempting::resend_ignores, crate::proofs::Calls::Attempting::route_ignores, crate::proofs::Calls::RoundMemory::telling_wants, crate::proofs::Calls::RoundMemory::sending_wants))]
+    fn tell_and_resend(&mut self, imp: u8) -> Result<(), AllocError>
         requires { AreLive self.old.imps }
         ensures ok { OnOk result (self.new ≡ events.refreshed self.old imp) }
         ensures live { OnOk result (AreLive self.new.imps) }
@@ -108,7 +124,7 @@ impl Parts {
         ensures { result ≡ length (frames_on direction (wire_at self.now.lines line)) }
     {
         if line < self.lines.len() {
-            self.lines[line].live(direction)
+            self.lines.all()[line].live(direction)
         } else {
             0
         }
@@ -165,7 +181,7 @@ impl Parts {
         if !self.is_up(imp) {
             return Ok(());
         }
-        let port = self.port(imp, line);
+        let port = self.far_port(line, direction);
         let frame = self.take_first(line, direction);
         self.attempt(imp, ImpCall::Arrive(port, frame))
     }

@@ -120,7 +120,7 @@ impl Parts {
     pub(crate) fn finds(&self, sought: &Sought) -> bool
         ensures { result ≡ found sought.now self.now }
     {
-        sought.is_among(&self.imps) || sought.is_on_lines(&self.lines)
+        sought.is_among(&self.imps) || sought.is_on_lines(self.lines.all())
     }
 
     /// Whether a packet or message of this flow and number is alive.

@@ -1,14 +1,13 @@
 //! A line between two IMPs, and the frames that are live on it.
 
-ghost use Rattle.std.specs.Prelude.{◌≡◌, ◌<◌, [], length, slice_get, slice_set, IfOk, IfSome, OnOk, OnErr, Some, true, option_copied};
+ghost use Rattle.std.specs.Prelude.{◌≡◌, ◌<◌, length, slice_get, slice_set, IfOk, OnOk, OnErr, Some, true, option_copied};
 ghost use Rattle.subnet.specs.Net as net;
-ghost use Rattle.subnet.specs.Net.{ends_at, far_end, frames_on, followed_by, with_frame, dropping, port_of, line_from, put_one, put_all};
+ghost use Rattle.subnet.specs.Net.{ends_at, far_end, frames_on, followed_by, with_frame, dropping};
 ghost use Rattle.subnet.specs.Inside.Calling.{copied_grows};
 ghost use Rattle.subnet.specs.Inside.Taking.{hollow, hollowed};
 ghost use Rattle.subnet.specs.Opening as start;
 
 use imp_channel::{ACKS, Content, Frame};
-use imp_node::Outgoing;
 use leader1822::Direction;
 use std::alloc::{AllocError, Global};
 use std::collections::VecDeque;
@@ -53,6 +52,13 @@ impl Wire {
             forward: VecDeque::new(alloc),
             back: VecDeque::new(alloc),
         }
+    }
+
+    /// The numbers of the two IMPs that it joins.
+    pub(crate) fn ends(&self) -> Ends
+        ensures { result ≡ record { a = self.now.a; b = self.now.b } }
+    {
+        self.ends
     }
 
     /// Whether it has an end at this IMP.
@@ -137,7 +143,9 @@ impl Wire {
     ///
     /// Errors: memory runs out, and nothing else.
     pub(crate) fn put(&mut self, imp: u8, frame: Frame) -> Result<(), AllocError>
-        ensures { OnOk result (self.new ≡ with_frame imp frame self.old) }
+        ensures ok { OnOk result (self.new ≡ with_frame imp frame self.old) }
+        ensures a { self.new.a ≡ self.old.a }
+        ensures b { self.new.b ≡ self.old.b }
     {
         if self.ends.a == imp {
             follow(&mut self.forward, frame)
@@ -199,65 +207,4 @@ fn follow(frames: &mut VecDeque<Frame>, frame: Frame) -> Result<(), AllocError>
         frames.push_back(frame)?;
     }
     Ok(())
-}
-
-/// The port of an IMP that is its end of a line: its lines are its ports, in their order.
-pub(crate) fn port_of(lines: &[Wire], imp: u8, line: usize) -> u8
-    requires { length lines.now < 256 }
-    ensures { result ≡ port_of lines.now imp line }
-{
-    lines
-        .iter()
-        .take(line)
-        .filter(|wire| wire.ends_at(imp))
-        .count() as u8
-}
-
-/// The line at a port of an IMP.
-fn line_at(lines: &[Wire], imp: u8, port: u8) -> Option<usize>
-    ensures line { result ≡ line_from 0 lines.now imp port }
-    ensures there { IfSome result (λ line. line < length lines.now) }
-{
-    let mut left = port;
-    for (line, wire) in lines.iter().enumerate() {
-        if wire.ends_at(imp) {
-            if left == 0 {
-                return Some(line);
-            }
-            left -= 1;
-        }
-    }
-    None
-}
-
-/// An IMP puts a frame on the line at one of its ports.
-fn put_one(lines: &mut [Wire], imp: u8, outgoing: Outgoing) -> Result<(), AllocError>
-    ensures { OnOk result (lines.new ≡ put_one lines.old imp outgoing) }
-{
-    let Outgoing { port, frame } = outgoing;
-    match line_at(lines, imp, port) {
-        Some(line) => {
-            let wire = &mut lines[line];
-            wire.put(imp, frame)
-        }
-        None => Ok(()),
-    }
-}
-
-/// An IMP puts one frame after another on the lines at its ports. The list comes back empty.
-#[tactic(auto, using(crate::proofs::Calls::Putting::none_left))]
-pub(crate) fn put_all(
-    lines: &mut [Wire],
-    imp: u8,
-    frames: Vec<Outgoing>,
-) -> Result<Vec<Outgoing>, AllocError>
-    ensures ok { OnOk result (lines.new ≡ put_all lines.old imp frames.items) }
-    ensures none { IfOk result (λ spare. spare.items ≡ []) }
-    ensures memory { OnErr result (0 < length frames.items) }
-{
-    let mut queue = VecDeque::from_vec(frames);
-    'frames: while let Some(outgoing) = queue.pop_front() {
-        put_one(lines, imp, outgoing)?;
-    }
-    Ok(queue.into_vec())
 }

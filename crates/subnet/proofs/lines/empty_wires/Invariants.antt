@@ -1,6 +1,6 @@
 use Rattle.std.proofs.Common.{◌≡◌, map, take, length}
 use Rattle.subnet.specs.Opening.{empty_wire}
-use Rattle.subnet.proofs.opening.empty_lines.Given as goal
+use Rattle.subnet.proofs.lines.empty_wires.Given as goal
 
 -- the lines so far
 abbrev pub invariant-loop-end : goal.invariant-loop-end

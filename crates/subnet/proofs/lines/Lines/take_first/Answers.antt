@@ -1,0 +1,7 @@
+use Rattle.std.proofs.Common.{rules}
+use Rattle.subnet.proofs.Calls.Joining.{hollowed_joined}
+use Rattle.subnet.proofs.lines.Lines.take_first.Goals as goal
+
+pub invariant_of-self : goal.invariant_of-self
+invariant_of-self c =
+    hollowed_joined c.self.inside.wires.items c.self.inside.by_imp.items c.self.inside.ports.items c.args.line c.args.direction c.take_first.new.self c.index_mut-wire.result.now c.self.invariant (search rules) (search rules) c.take_first.ensures.line
