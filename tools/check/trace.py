@@ -2,7 +2,8 @@
 
 The traces of all examples over plain mailboxes, and of scripts made by chance, as tools/trace_rules.py tells them from docs/trace.md:
 
-- The column of events is itself a script, and prints the same again: in the model, and by the program, where one is kept.
+- The program prints the same trace with `--trace`, where one is kept, and refuses to trace subnets and hosts with programs.
+- The column of events is itself a script, and prints the same again: in the model, and by the program.
 - The lines that are told as printed are, one after the other, what the script prints.
 - What an event's parts do not name is as before: who puts the named parts in the place of the old ones has all of them.
 - The parts leave nothing out: mailboxes made anew from their parts, in the middle of a script, print the same from there on.
@@ -29,6 +30,7 @@ from trace_rules import Traced, all_parts, boxes_of, text, traced
 
 RUNS = 300
 MOST_TRIED = 3000  # so many scripts are run to find that a rule is broken
+UNTRACED = ("three-imps-in-a-row", "a-connection-and-its-book")  # a subnet, and hosts with programs
 
 
 class Wrong(Exception):
@@ -96,14 +98,25 @@ def kept_program():
     return next(filter(os.path.isfile, (path, f"{path}-unproved")), None)
 
 
-def program_prints(program, document, lines):
-    ran = subprocess.run([program], input="\n".join([document, "%", *lines, ""]).encode("latin-1"), stdout=subprocess.PIPE, check=True)
+def program_prints(program, document, lines, *options):
+    ran = subprocess.run([program, *options], input="\n".join([document, "%", *lines, ""]).encode("latin-1"), stdout=subprocess.PIPE, check=True)
     return ran.stdout.decode().splitlines()
 
 
-def same_by_program(program, document, records, owed):
-    if program and program_prints(program, document, [record["event"] for record in records]) != [*owed, "end"]:
+def same_by_program(program, document, lines, records, owed):
+    if not program:
+        return
+    if program_prints(program, document, [record["event"] for record in records]) != [*owed, "end"]:
         raise Wrong("the program prints other lines for the column of events")
+    if program_prints(program, document, lines, "--trace") != [text(record) for record in records]:
+        raise Wrong("the program prints another trace")
+
+
+def is_refused(program, path):
+    """Whether the program refuses to trace an input, and prints nothing of it."""
+    with open(path, "rb") as octets:
+        ran = subprocess.run([program, "--trace"], stdin=octets, capture_output=True, check=False)
+    return (ran.returncode, ran.stdout, ran.stderr) == (1, b"", b"arpasim: no trace of such a network\n")
 
 
 # ---- scripts
@@ -254,7 +267,7 @@ def main():
     for name, network, document, lines in every:
         try:
             records, owed = held_up(network, lines)
-            same_by_program(program, document, records, owed)
+            same_by_program(program, document, lines, records, owed)
         except Wrong as wrong:
             failed += 1
             print(f"check trace: {name}: {wrong}\n" + "\n".join([document, "%", *lines]))
@@ -269,6 +282,10 @@ def main():
     if not document_is_right():
         failed += 1
         print("check trace: docs/trace.md has another trace than the model")
+    for name in UNTRACED if program else ():
+        if not is_refused(program, f"{ROOT}/examples/{name}"):
+            failed += 1
+            print(f"check trace: the program does not refuse to trace examples/{name}")
     print(f"check trace: {counted['scripts']} scripts, {counted['events']} elementary events, {counted['in calms']} of them in calms, {counted['refused']} refused; {len(BROKEN)} broken rules; {failed} failed{'' if program else '; no program is kept, so none was asked'}")
     return 1 if failed else 0
 

@@ -85,7 +85,7 @@ free_is b h none = by b.stopped (is_host b.hosts h) (is_host b.down h) none wher
   by false true false h = (refl, refl)
 
 -- and is refused otherwise, in a calm that goes on since it is down or not there
-refused_is : (b : Boxes) (h : Host) (f : CarrierFault) → host_refusal b h ≡ Some f → is_halt f ≡ false → is_running b.hosts b.down h ≡ false
+pub refused_is : (b : Boxes) (h : Host) (f : CarrierFault) → host_refusal b h ≡ Some f → is_halt f ≡ false → is_running b.hosts b.down h ≡ false
 refused_is b h f some apart = by b.stopped (is_host b.hosts h) (is_host b.down h) some where
   by : (s there down : Bool) → (if s then Some fault.Stopped else (if not there then Some fault.NoSuch else (if down then Some fault.IsDown else None))) ≡ Some f → (there && not down) ≡ false
   by true there down e = let is : fault.Stopped ≡ f = cc in absurd (false≢true (sym apart ∙ ap is_halt (sym is)))
@@ -117,7 +117,7 @@ goes_calmly f goes = by (is_halt f || is_memory f) refl goes where
   by true e g = g
   by false e g = e
 
-or_first : (a b : Bool) → (a || b) ≡ false → a ≡ false
+pub or_first : (a b : Bool) → (a || b) ≡ false → a ≡ false
 or_first true b h = absurd (cc)
 or_first false b h = refl
 

@@ -1,11 +1,17 @@
 -- Items are printed one after the other, with commas between.
-use Rattle.std.proofs.Common.{◌≡◌, ℕ, suc, ◌<◌, ◌≤◌, ◌+◌, List, [], ◌∷◌, ◌++◌, codes, get_or, length, map, take, Option, Some, slice_get, refl, sym, ap, subst, ◌∙◌, arith}
+use Rattle.std.proofs.Common.{◌≡◌, ℕ, zero, suc, ◌<◌, ◌≤◌, ◌+◌, List, [], ◌∷◌, ◌++◌, codes, get_or, length, map, take, Option, Some, option_map, Result, Ok, Err, slice_get, refl, sym, ap, subst, ◌∙◌, arith}
 use Rattle.std.proofs.lemmas.List.{append_assoc, append-nil, length-map, length-take-le, map-append, take_all, take_more}
 use Rattle.std.proofs.lemmas.Option.{slice_get-get_or, slice_get_within}
+use Rattle.std.specs.Fmt.{decimal}
 use Rattle.std.specs.Io.KnownBytes.{Appends}
+use Rattle.script.specs.Input.{ended_line}
+use Rattle.leader1822.specs.declared.carrier.CarrierFault.{CarrierFault}
+use Rattle.leader1822.specs.declared.crossing.Crossing.{Crossing}
+use Rattle.replay.specs.Output.{Crossed, Refused, Shown, shown_crossings, shown_refusal, shown_text}
+use Rattle.replay.specs.declared.print.Detail.TheVariants.{Sizes}
 use Rattle.replay.proofs.lemmas.{appends_more}
-use Rattle.trace.specs.Joined.{comma_before, joined_from}
-use Rattle.trace.specs.Texts.{array, further, listed, quoted}
+use Rattle.trace.specs.Joined.{comma_before, joined_from, refused_text}
+use Rattle.trace.specs.Texts.{array, further, listed, quoted, strings}
 
 -- one more item
 pub joined_more : (place : ℕ) (xs : List (List ℕ)) (x : List ℕ) → joined_from place (xs ++ x ∷ []) ≡ joined_from place xs ++ (comma_before (place + length xs) ++ x)
@@ -34,9 +40,9 @@ abbrev pub fronts : {X : Type 0} → (X → List ℕ) → ℕ → List X → Lis
 fronts text i xs = codes "[" ++ joined_from 0 (map (λ x. quoted (text x)) (take i xs))
 
 -- one more string is printed
-pub one_more : {X : Type 0} (text : X → List ℕ) (xs : List X) (i : ℕ) (x : X) (a b c e : Option (List ℕ)) → slice_get xs i ≡ Some x
-    → Appends a b (fronts text i xs) → Appends b c (comma_before i) → Appends c e (quoted (text x)) → Appends a e (fronts text (i + 1) xs)
-one_more {X} text xs i x a b c e is before comma item =
+one_behind : {X : Type 0} (text : X → List ℕ) (xs : List X) (i : ℕ) (x : X) (a b e : Option (List ℕ)) → slice_get xs i ≡ Some x
+    → Appends a b (fronts text i xs) → Appends b e (comma_before i ++ quoted (text x)) → Appends a e (fronts text (i + 1) xs)
+one_behind {X} text xs i x a b e is before behind =
     let within : i < length xs = slice_get_within xs i x is in
     let same : Some (get_or xs i x) ≡ Some x = sym (slice_get-get_or xs i x within) ∙ is in
     let item_is : get_or xs i x ≡ x = cc in
@@ -47,7 +53,11 @@ one_more {X} text xs i x a b c e is before comma item =
     ap (λ ys. joined_from 0 (map (λ y. quoted (text y)) ys)) front ∙ ap (joined_from 0) (map-append (λ y. quoted (text y)) (take i xs) (x ∷ []))
     ∙ joined_more 0 (map (λ y. quoted (text y)) (take i xs)) (quoted (text x)) ∙ ap (λ (n : ℕ). joined_from 0 (map (λ y. quoted (text y)) (take i xs)) ++ (comma_before n ++ quoted (text x))) here in
     subst (Appends a e) (ap (λ zs. codes "[" ++ zs) (sym whole))
-    (appends_more a b e (fronts text i xs) (comma_before i ++ quoted (text x)) before (appends_more b c e (comma_before i) (quoted (text x)) comma item))
+    (appends_more a b e (fronts text i xs) (comma_before i ++ quoted (text x)) before behind)
+
+pub one_more : {X : Type 0} (text : X → List ℕ) (xs : List X) (i : ℕ) (x : X) (a b c e : Option (List ℕ)) → slice_get xs i ≡ Some x
+    → Appends a b (fronts text i xs) → Appends b c (comma_before i) → Appends c e (quoted (text x)) → Appends a e (fronts text (i + 1) xs)
+one_more text xs i x a b c e is before comma item = one_behind text xs i x a b e is before (appends_more b c e (comma_before i) (quoted (text x)) comma item)
 
 -- all are printed, and the end
 pub all_printed : {X : Type 0} (text : X → List ℕ) (xs : List X) (i : ℕ) (a b c : Option (List ℕ)) → length xs ≤ i → Appends a b (fronts text i xs) → Appends b c (codes "]") → Appends a c (array (map quoted (map text xs)))
@@ -56,3 +66,45 @@ all_printed {X} text xs i a b c past before end =
     ap (λ (ys : List X). codes "[" ++ (joined_from 0 (map (λ y. quoted (text y)) ys) ++ codes "]")) (take_all i xs past)
     ∙ ap (λ ys. codes "[" ++ (joined_from 0 ys ++ codes "]")) (map_twice text xs) ∙ ap (λ zs. codes "[" ++ zs) (sym (listed_joined (codes "]") (map quoted (map text xs)))) in
     subst (Appends a c) whole (appends_more a b c (fronts text i xs) (codes "]") before end)
+
+-- ---- what an event printed
+
+pub crossed_at : (cs : List Crossing) (more : List Shown) (i : ℕ) (c : Crossing) → slice_get cs i ≡ Some c → slice_get (shown_crossings cs ++ more) i ≡ Some (Crossed c)
+crossed_at [] more i c e = let past : i < 0 = slice_get_within [] i c e in absurd (omega (arith, past))
+crossed_at (x ∷ cs) more zero c e = ap (λ (o : Option Crossing). option_map (λ d. Crossed d) o) e
+crossed_at (x ∷ cs) more (suc i) c e = crossed_at cs more i c e
+
+refused_at : (cs : List Crossing) (s : Shown) → slice_get (shown_crossings cs ++ s ∷ []) (length cs) ≡ Some s
+refused_at [] s = refl
+refused_at (c ∷ cs) s = refused_at cs s
+
+how_many : (cs : List Crossing) (more : List Shown) → length (shown_crossings cs ++ more) ≡ length cs + length more
+how_many [] more = omega arith
+how_many (c ∷ cs) more = let rest : length (shown_crossings cs ++ more) ≡ length cs + length more = how_many cs more in omega (arith, rest)
+
+-- what crossed is printed, then a refusal, where there is one, and the end
+pub shown_printed : (cs : List Crossing) (r : Result (Unit {0}) CarrierFault) (i : ℕ) (a b c d : Option (List ℕ)) → i ≡ length cs → Appends a b (fronts (shown_text Sizes) i (shown_crossings cs ++ shown_refusal r))
+    → Appends b c (refused_text (length cs) r) → Appends c d (codes "]") → Appends a d (strings (map (shown_text Sizes) (shown_crossings cs ++ shown_refusal r)))
+shown_printed cs (Ok done) i a b c d is before none end =
+    let past : length (shown_crossings cs ++ []) ≤ i = omega (arith, how_many cs [], is) in
+    all_printed (shown_text Sizes) (shown_crossings cs ++ []) i a b d past before (appends_more b c d [] (codes "]") none end)
+shown_printed cs (Err f) i a b c d is before refused end =
+    let past : length (shown_crossings cs ++ Refused f ∷ []) ≤ length cs + 1 = omega (arith, how_many cs (Refused f ∷ [])) in
+    let here : Appends a b (fronts (shown_text Sizes) (length cs) (shown_crossings cs ++ Refused f ∷ [])) = subst (λ (n : ℕ). Appends a b (fronts (shown_text Sizes) n (shown_crossings cs ++ Refused f ∷ []))) is before in
+    all_printed (shown_text Sizes) (shown_crossings cs ++ Refused f ∷ []) (length cs + 1) a c d past (one_behind (shown_text Sizes) (shown_crossings cs ++ Refused f ∷ []) (length cs) (Refused f) a b c (refused_at cs (Refused f)) here refused) end
+
+-- ---- a line
+
+pub one_line : (number round : ℕ) (event shown parts : List ℕ)
+    → (codes "{\"number\":" ++ (decimal number ++ (codes ",\"round\":" ++ (decimal round ++ (codes ",\"event\":" ++ quoted event))))) ++ (codes ",\"printed\":" ++ (shown ++ (codes ",\"parts\":" ++ (parts ++ codes "}\n"))))
+    ≡ ended_line (codes "{\"number\":" ++ (decimal number ++ (codes ",\"round\":" ++ (decimal round ++ (codes ",\"event\":" ++ (quoted event ++ (codes ",\"printed\":" ++ (shown ++ (codes ",\"parts\":" ++ (parts ++ codes "}"))))))))))
+one_line number round event shown parts = simp append_assoc
+
+pub line_printed : (head shown parts : List ℕ) (a b c d e f g : Option (List ℕ)) → Appends a b head → Appends b c (codes ",\"printed\":") → Appends c d shown → Appends d e (codes ",\"parts\":") → Appends e f parts → Appends f g (codes "}\n")
+    → Appends a g (head ++ (codes ",\"printed\":" ++ (shown ++ (codes ",\"parts\":" ++ (parts ++ codes "}\n")))))
+line_printed head shown parts a b c d e f g h0 h1 h2 h3 h4 h5 =
+    appends_more a b g head (codes ",\"printed\":" ++ (shown ++ (codes ",\"parts\":" ++ (parts ++ codes "}\n")))) h0
+    (appends_more b c g (codes ",\"printed\":") (shown ++ (codes ",\"parts\":" ++ (parts ++ codes "}\n"))) h1
+    (appends_more c d g shown (codes ",\"parts\":" ++ (parts ++ codes "}\n")) h2
+    (appends_more d e g (codes ",\"parts\":") (parts ++ codes "}\n") h3
+    (appends_more e f g parts (codes "}\n") h4 h5))))

@@ -8,3 +8,6 @@ pub mod Keeping
 pub mod TwoRounds
 pub mod Joined
 pub mod Members
+pub mod Calling
+pub mod Telling
+pub mod Turns

@@ -4,8 +4,8 @@ use Rattle.std.proofs.lemmas.List.{append_assoc, append-nil, length-append, leng
 use Rattle.std.specs.Io.KnownBytes.{Appends}
 use Rattle.leader1822.specs.Boxes.{Boxes}
 use Rattle.leader1822.specs.Host.{Host}
+use Rattle.leader1822.specs.declared.crossing.Crossing.{Crossing}
 use Rattle.leader1822.specs.Printed.{host_text}
-use Rattle.replay.specs.Output.{Shown}
 use Rattle.replay.proofs.lemmas.{appends_more}
 use Rattle.script.specs.declared.event.RawEvent.{RawEvent}
 use Rattle.trace.specs.Joined.{begun, comma_before, joined_from}
@@ -36,7 +36,7 @@ queued_is true h = refl
 queued_is false h = refl
 
 -- one host more
-pub parts_more : (hs : List Host) (i : ℕ) (h : Host) (e : RawEvent) (s : List Shown) → i < length hs → h ≡ get_or hs i h → parts_of (take (i + 1) hs) e s ≡ parts_of (take i hs) e s ++ queued (reaches e s h) h
+pub parts_more : (hs : List Host) (i : ℕ) (h : Host) (e : RawEvent) (s : List Crossing) → i < length hs → h ≡ get_or hs i h → parts_of (take (i + 1) hs) e s ≡ parts_of (take i hs) e s ++ queued (reaches e s h) h
 parts_more hs i h e s lt is =
     let front : take (i + 1) hs ≡ take i hs ++ h ∷ [] = take_more hs i h lt ∙ ap (λ (g : Host). take i hs ++ g ∷ []) (sym is) in
     ap (λ (gs : List Host). started e ++ map (λ g. Waiting g) (filter (reaches e s) gs)) front
@@ -84,7 +84,7 @@ step_one {W} failed contents a b ps qs h test place next w m u v places writers 
     )
 
 -- all are printed, and the end
-pub parts_printed : (b : Boxes) (hs : List Host) (i : ℕ) (e : RawEvent) (s : List Shown) (a m n : Option (List ℕ)) → length hs ≤ i → hs ≡ b.hosts → Appends a m (begun b (parts_of (take i hs) e s)) → Appends m n (codes "}") → Appends a n (parts_text b (parts_of b.hosts e s))
+pub parts_printed : (b : Boxes) (hs : List Host) (i : ℕ) (e : RawEvent) (s : List Crossing) (a m n : Option (List ℕ)) → length hs ≤ i → hs ≡ b.hosts → Appends a m (begun b (parts_of (take i hs) e s)) → Appends m n (codes "}") → Appends a n (parts_text b (parts_of b.hosts e s))
 parts_printed b hs i e s a m n past same before end =
     let whole : begun b (parts_of (take i hs) e s) ++ codes "}" ≡ parts_text b (parts_of b.hosts e s) =
     ap (λ (gs : List Host). begun b (parts_of gs e s) ++ codes "}") (take_all i hs past ∙ same) ∙ ap (λ zs. codes "{" ++ zs) (sym (listed_joined (codes "}") (map (text_of b) (parts_of b.hosts e s)))) in

@@ -12,12 +12,13 @@ use Rattle.leader1822.specs.declared.HostMessage.{HostMessage}
 use Rattle.leader1822.specs.declared.crossing.Answer.TheVariants as answer
 use Rattle.leader1822.specs.declared.crossing.Crossing.{Crossing}
 use Rattle.leader1822.specs.declared.crossing.Crossing.TheVariants as crossing
-use Rattle.replay.specs.Output.{Shown, shown_crossings, shown_refusal}
+use Rattle.replay.specs.Output.{Shown, crossings_of}
 use Rattle.replay.specs.Replay.{Happens, IsOneCall}
 use Rattle.script.specs.declared.event.RawEvent.{RawEvent}
 use Rattle.script.specs.declared.event.RawEvent.TheVariants as event
 use Rattle.trace.specs.Elements.{plain}
 use Rattle.trace.specs.Parts.{Part, Down, Waiting, IsPart, SamePart, is_named, is_source, moves_host, parts_of, reaches}
+use Rattle.replay.proofs.lemmas.{happens_shows}
 use Rattle.trace.proofs.Each.{Left, crossings_are, left_of}
 use Rattle.trace.proofs.Queues.{for_other, host_is, queued_other}
 
@@ -48,12 +49,12 @@ host_named test h (g ∷ hosts) there passes = by (λ t. host_named test h hosts
     by more false e true t = rw t (rw e (more (rest_there e)))
     by more false e false t = rw t (more (rest_there e))
 
-not_reached : (hosts : List Host) (e : RawEvent) (shown : List Shown) (h : Host) → is_host hosts h ≡ true → is_named (Waiting h) (parts_of hosts e shown) ≡ false → reaches e shown h ≡ false
-not_reached hosts e shown h there none = by (reaches e shown h) refl
+not_reached : (hosts : List Host) (e : RawEvent) (crossings : List Crossing) (h : Host) → is_host hosts h ≡ true → is_named (Waiting h) (parts_of hosts e crossings) ≡ false → reaches e crossings h ≡ false
+not_reached hosts e crossings h there none = by (reaches e crossings h) refl
   where
-    by : (b : Bool) → reaches e shown h ≡ b → reaches e shown h ≡ false
+    by : (b : Bool) → reaches e crossings h ≡ b → reaches e crossings h ≡ false
     by false is = is
-    by true is = absurd (false≢true (sym none ∙ past_down (moves_host e) h (map (λ g. Waiting g) (filter (reaches e shown) hosts)) ∙ host_named (reaches e shown) h hosts there is))
+    by true is = absurd (false≢true (sym none ∙ past_down (moves_host e) h (map (λ g. Waiting g) (filter (reaches e crossings) hosts)) ∙ host_named (reaches e crossings) h hosts there is))
 
 -- ---- each event
 
@@ -74,47 +75,47 @@ given_up_same : (old : Boxes) (f : Flow) (h : Host) → same_host h f.destinatio
 given_up_same old f h d s = (for_other old.messages f.destination _ h d, for_other old.answers f.source _ h s)
 
 -- after what crossed, its source is told
-source_told : (h : Host) (cs log new : List Crossing) (refused : List Shown) (m : HostMessage) → new ≡ reverse cs ++ log → new ≡ crossing.In m ∷ log → is_source h (shown_crossings cs ++ refused) ≡ false → same_host h m.flow.source ≡ false
-source_told h cs log new refused m grown is none =
+source_told : (h : Host) (cs log new : List Crossing) (m : HostMessage) → new ≡ reverse cs ++ log → new ≡ crossing.In m ∷ log → is_source h cs ≡ false → same_host h m.flow.source ≡ false
+source_told h cs log new m grown is none =
     let one : cs ≡ crossing.In m ∷ [] = crossings_are cs (crossing.In m ∷ []) log new grown is in
-    (or_false (same_host h m.flow.source) (is_source h refused) (ap (λ xs. is_source h (shown_crossings xs ++ refused)) (sym one) ∙ none)).0
+    (or_false (same_host h m.flow.source) false (ap (is_source h) (sym one) ∙ none)).0
 
-taken_same : (old new : Boxes) (g h : Host) (o : Option Inbound) (cs : List Crossing) (refused : List Shown) → new ≡ inbound_taken old g o → new.log ≡ reverse cs ++ old.log → same_host h g ≡ false → is_source h (shown_crossings cs ++ refused) ≡ false → Same old h new
-taken_same old new g h None cs refused e grown other none = all_same old new h e
-taken_same old new g h (Some (inbound.Answer kind f)) cs refused e grown other none =
+taken_same : (old new : Boxes) (g h : Host) (o : Option Inbound) (cs : List Crossing) → new ≡ inbound_taken old g o → new.log ≡ reverse cs ++ old.log → same_host h g ≡ false → is_source h cs ≡ false → Same old h new
+taken_same old new g h None cs e grown other none = all_same old new h e
+taken_same old new g h (Some (inbound.Answer kind f)) cs e grown other none =
     as_left old (inbound_taken old g (Some (inbound.Answer kind f))) new h (refl, for_other old.answers g (rest (for_host old.answers g)) h other) e
-taken_same old new g h (Some (inbound.Message m)) cs refused e grown other none =
-    let apart : same_host h m.flow.source ≡ false = source_told h cs old.log new.log refused m grown (ap (λ b. b.log) e) none in
+taken_same old new g h (Some (inbound.Message m)) cs e grown other none =
+    let apart : same_host h m.flow.source ≡ false = source_told h cs old.log new.log m grown (ap (λ b. b.log) e) none in
     as_left old (inbound_taken old g (Some (inbound.Message m))) new h
     (for_other old.messages g (rest (for_host old.messages g)) h other, queued_other _ old.answers m.flow.source (answer.Rfnm, m.flow) h apart) e
 
-stepped_same : (old : Boxes) (e : NetEvent) (shown : List Shown) (h : Host) → reaches (event.Net e) shown h ≡ false → Same old h (stepped old e)
-stepped_same old (net.GiveUp f) shown h none = let apart = or_false (same_host h f.destination) (same_host h f.source) none in given_up_same old f h apart.0 apart.1
-stepped_same old (net.HostDown g) shown h none = absurd (cc)
-stepped_same old (net.HostUp g) shown h none = (refl, refl)
-stepped_same old (net.Deliver line way frame) shown h none = (refl, refl)
-stepped_same old (net.Drop line way frame) shown h none = (refl, refl)
-stepped_same old (net.Resend imp) shown h none = (refl, refl)
-stepped_same old (net.Route imp) shown h none = (refl, refl)
-stepped_same old (net.EndDown imp line) shown h none = (refl, refl)
-stepped_same old (net.EndUp imp line) shown h none = (refl, refl)
-stepped_same old (net.ImpDown imp) shown h none = (refl, refl)
-stepped_same old (net.ImpUp imp) shown h none = (refl, refl)
-stepped_same old (net.Forget at from) shown h none = (refl, refl)
-stepped_same old (net.Abandon f) shown h none = (refl, refl)
-stepped_same old (net.Ask f) shown h none = (refl, refl)
+stepped_same : (old : Boxes) (e : NetEvent) (crossings : List Crossing) (h : Host) → reaches (event.Net e) crossings h ≡ false → Same old h (stepped old e)
+stepped_same old (net.GiveUp f) crossings h none = let apart = or_false (same_host h f.destination) (same_host h f.source) none in given_up_same old f h apart.0 apart.1
+stepped_same old (net.HostDown g) crossings h none = absurd (cc)
+stepped_same old (net.HostUp g) crossings h none = (refl, refl)
+stepped_same old (net.Deliver line way frame) crossings h none = (refl, refl)
+stepped_same old (net.Drop line way frame) crossings h none = (refl, refl)
+stepped_same old (net.Resend imp) crossings h none = (refl, refl)
+stepped_same old (net.Route imp) crossings h none = (refl, refl)
+stepped_same old (net.EndDown imp line) crossings h none = (refl, refl)
+stepped_same old (net.EndUp imp line) crossings h none = (refl, refl)
+stepped_same old (net.ImpDown imp) crossings h none = (refl, refl)
+stepped_same old (net.ImpUp imp) crossings h none = (refl, refl)
+stepped_same old (net.Forget at from) crossings h none = (refl, refl)
+stepped_same old (net.Abandon f) crossings h none = (refl, refl)
+stepped_same old (net.Ask f) crossings h none = (refl, refl)
 
-queues_left : (old new : Boxes) (e : RawEvent) (shown : List Shown) (h : Host) → Left old new e → Happens plain old e new shown → reaches e shown h ≡ false → Same old h new
+queues_left : (old new : Boxes) (e : RawEvent) (shown : List Shown) (h : Host) → Left old new e → Happens plain old e new shown → reaches e (crossings_of shown) h ≡ false → Same old h new
 queues_left old new (event.Out m) shown h (inl same) k none = all_same old new h same
 queues_left old new (event.Out m) shown h (inr left) k none =
     let apart = or_false (same_host h m.flow.destination) (same_host h m.flow.source) none in
     as_left old (offered old m) new h (offered_same old m h apart.0 apart.1) left.1
 queues_left old new (event.Take g) shown h (inl same) k none = all_same old new h same
 queues_left old new (event.Take g) shown h (inr left) k none =
-    let apart = or_false (same_host h g) (is_source h shown) none in
-    taken_same old new g h (next_for old g) k.crossings (shown_refusal k.outcome) left.1 k.grown apart.0 (ap (λ (xs : List Shown). is_source h xs) (sym k.lines) ∙ apart.1)
+    let apart = or_false (same_host h g) (is_source h (crossings_of shown)) none in
+    taken_same old new g h (next_for old g) (crossings_of shown) left.1 (happens_shows plain old new (event.Take g) shown k) apart.0 apart.1
 queues_left old new (event.Net e) shown h (inl same) k none = all_same old new h same
-queues_left old new (event.Net e) shown h (inr left) k none = as_left old (stepped old e) new h (stepped_same old e shown h none) left.1
+queues_left old new (event.Net e) shown h (inr left) k none = as_left old (stepped old e) new h (stepped_same old e (crossings_of shown) h none) left.1
 queues_left old new (event.Calm rounds) shown h left k none = absurd left
 
 -- ---- hosts, and those that are down
@@ -130,7 +131,7 @@ same_frame old new e = record { hosts = ap (λ b. b.hosts) e; stopped = ap (λ b
 frame_left : (old left new : Boxes) → Frame old left → new ≡ left → Frame old new
 frame_left old left new f e = record { hosts = ap (λ b. b.hosts) e ∙ f.hosts; stopped = ap (λ b. b.stopped) e ∙ f.stopped }
 
-taken_frame : (old : Boxes) (g : Host) (o : Option Inbound) → Frame old (inbound_taken old g o)
+pub taken_frame : (old : Boxes) (g : Host) (o : Option Inbound) → Frame old (inbound_taken old g o)
 taken_frame old g None = record { hosts = refl; stopped = refl }
 taken_frame old g (Some (inbound.Answer kind f)) = record { hosts = refl; stopped = refl }
 taken_frame old g (Some (inbound.Message m)) = record { hosts = refl; stopped = refl }
@@ -193,8 +194,8 @@ down_left old new (event.Calm rounds) left none = absurd left
 pub frame : (old new : Boxes) (e : RawEvent) (shown : List Shown) → IsOneCall e → Happens plain old e new shown → Frame old new
 frame old new e shown one k = frame_of old new e (left_of old new e shown one k)
 
-pub rest_same : (old new : Boxes) (e : RawEvent) (shown : List Shown) (p : Part) → IsOneCall e → Happens plain old e new shown → IsPart old.hosts p → is_named p (parts_of old.hosts e shown) ≡ false → SamePart p old new
+pub rest_same : (old new : Boxes) (e : RawEvent) (shown : List Shown) (p : Part) → IsOneCall e → Happens plain old e new shown → IsPart old.hosts p → is_named p (parts_of old.hosts e (crossings_of shown)) ≡ false → SamePart p old new
 rest_same old new e shown Down one k there none =
-    down_left old new e (left_of old new e shown one k) (down_named (moves_host e) (map (λ h. Waiting h) (filter (reaches e shown) old.hosts)) none)
+    down_left old new e (left_of old new e shown one k) (down_named (moves_host e) (map (λ h. Waiting h) (filter (reaches e (crossings_of shown)) old.hosts)) none)
 rest_same old new e shown (Waiting h) one k there none =
-    queues_left old new e shown h (left_of old new e shown one k) k (not_reached old.hosts e shown h there none)
+    queues_left old new e shown h (left_of old new e shown one k) k (not_reached old.hosts e (crossings_of shown) h there none)

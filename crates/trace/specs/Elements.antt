@@ -1,19 +1,16 @@
 -- Elementary events: an event of a script, or within a calm each of its takings.
-use Rattle.std.specs.Prelude.{ℕ, zero, suc, Bool, ◌&&◌, if◌then◌else◌, is_some, List, [], ◌∷◌, ◌++◌, map}
+use Rattle.std.specs.Prelude.{ℕ, zero, suc, ◌-◌, Bool, ◌&&◌, drop, if◌then◌else◌, is_some, List, [], ◌∷◌, ◌++◌, map}
 use Rattle.leader1822.specs.Boxes.{Boxes, BoxesOffer, BoxesRound, BoxesStep, BoxesTake, inbound_taken, is_running, next_for, seen_of}
 use Rattle.leader1822.specs.Host.{Host}
 use Rattle.replay.specs.Replay.{Calls}
 use Rattle.script.specs.declared.event.RawEvent.{RawEvent}
 use Rattle.script.specs.declared.event.RawEvent.TheVariants as event
+use Rattle.trace.specs.declared.element.Element.{Element}
+use Rattle.trace.specs.declared.turn.Turn.{Turn}
 
 -- the calls of plain mailboxes
 abbrev pub plain : Calls Boxes
 plain = record { seen = seen_of; offers = BoxesOffer; takes = BoxesTake; steps = BoxesStep; rounds = BoxesRound }
-
--- an elementary event, and the round of the calm in which it happens, counted from 1; in no calm it is 0
-pub record Element : Type 0 where
-  pub round : ℕ
-  pub event : RawEvent
 
 -- elementary events one after another, and the mailboxes after them
 pub record Course : Type 0 where
@@ -50,13 +47,31 @@ abbrev pub rounds_from : ℕ → ℕ → Boxes → Course
 rounds_from round zero b = no_course b
 rounds_from round (suc times) b = then_course (all_takings round b.hosts b) (rounds_from (suc round) times)
 
--- an event as its elementary events
+-- the elementary events of a calm of so many rounds
+abbrev pub calm_of : Boxes → ℕ → List Element
+calm_of b rounds = (rounds_from 1 rounds b).elements
+
+-- an event as its elementary events: a calm is what the carrier says, and any other event is one itself
+abbrev pub elements_in : (ℕ → List Element) → RawEvent → List Element
+elements_in calm (event.Calm rounds) = calm rounds
+elements_in calm (event.Out m) = record { round = 0; event = event.Out m } ∷ []
+elements_in calm (event.Take h) = record { round = 0; event = event.Take h } ∷ []
+elements_in calm (event.Net e) = record { round = 0; event = event.Net e } ∷ []
+
 abbrev pub elements_of : Boxes → RawEvent → List Element
-elements_of b (event.Calm rounds) = (rounds_from 1 rounds b).elements
-elements_of b (event.Out m) = record { round = 0; event = event.Out m } ∷ []
-elements_of b (event.Take h) = record { round = 0; event = event.Take h } ∷ []
-elements_of b (event.Net e) = record { round = 0; event = event.Net e } ∷ []
+elements_of b e = elements_in (calm_of b) e
 
 -- what they ask for
 abbrev pub events_of : List Element → List RawEvent
 events_of elements = map (λ x. x.event) elements
+
+-- ---- in the middle of a calm
+
+-- what is left of a round, where the first of these hosts takes so many times at most, and the others 16 times
+abbrev pub round_from : ℕ → List Host → ℕ → Boxes → Course
+round_from round [] times b = no_course b
+round_from round (h ∷ hosts) times b = then_course (takings round h times b) (all_takings round hosts)
+
+-- and of the calm
+abbrev pub calm_left : Boxes → Turn → List Element
+calm_left b t = (then_course (round_from t.round (drop t.host b.hosts) t.times b) (rounds_from (suc t.round) (t.rounds - t.round))).elements

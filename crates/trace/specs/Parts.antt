@@ -2,9 +2,9 @@
 use Rattle.std.specs.Prelude.{◌≡◌, Bool, true, false, ◌||◌, List, [], ◌∷◌, ◌++◌, if◌then◌else◌, filter, map}
 use Rattle.leader1822.specs.Boxes.{Boxes, for_host}
 use Rattle.leader1822.specs.Host.{Host, is_host, same_host}
+use Rattle.leader1822.specs.declared.crossing.Crossing.{Crossing}
 use Rattle.leader1822.specs.declared.crossing.Crossing.TheVariants as crossing
 use Rattle.leader1822.specs.declared.event.NetEvent.TheVariants as net
-use Rattle.replay.specs.Output.{Shown, Crossed}
 use Rattle.script.specs.declared.event.RawEvent.{RawEvent}
 use Rattle.script.specs.declared.event.RawEvent.TheVariants as event
 
@@ -29,24 +29,24 @@ moves_host (event.Net e) = false
 moves_host (event.Calm rounds) = false
 
 -- the source of a message that came in, which waits for an RFNM now
-abbrev pub is_source : Host → List Shown → Bool
+abbrev pub is_source : Host → List Crossing → Bool
 is_source h [] = false
-is_source h (Crossed (crossing.In m) ∷ shown) = same_host h m.flow.source || is_source h shown
-is_source h (s ∷ shown) = is_source h shown
+is_source h (crossing.In m ∷ crossings) = same_host h m.flow.source || is_source h crossings
+is_source h (c ∷ crossings) = is_source h crossings
 
--- An event and what it shows tell the hosts for which other messages or answers may wait now: the two hosts of a message that
+-- An event and what crossed in it tell the hosts for which other messages or answers may wait now: the two hosts of a message that
 -- goes out or is given up, the host that takes and the source of what came in, and all hosts when one stops
-abbrev pub reaches : RawEvent → List Shown → Host → Bool
-reaches (event.Out m) shown h = same_host h m.flow.destination || same_host h m.flow.source
-reaches (event.Take g) shown h = same_host h g || is_source h shown
-reaches (event.Net (net.GiveUp f)) shown h = same_host h f.destination || same_host h f.source
-reaches (event.Net (net.HostDown g)) shown h = true
-reaches (event.Net e) shown h = false
-reaches (event.Calm rounds) shown h = false
+abbrev pub reaches : RawEvent → List Crossing → Host → Bool
+reaches (event.Out m) crossings h = same_host h m.flow.destination || same_host h m.flow.source
+reaches (event.Take g) crossings h = same_host h g || is_source h crossings
+reaches (event.Net (net.GiveUp f)) crossings h = same_host h f.destination || same_host h f.source
+reaches (event.Net (net.HostDown g)) crossings h = true
+reaches (event.Net e) crossings h = false
+reaches (event.Calm rounds) crossings h = false
 
 -- the parts that an elementary event can change, in the order of the hosts
-abbrev pub parts_of : List Host → RawEvent → List Shown → List Part
-parts_of hosts e shown = (if moves_host e then Down ∷ [] else []) ++ map (λ h. Waiting h) (filter (reaches e shown) hosts)
+abbrev pub parts_of : List Host → RawEvent → List Crossing → List Part
+parts_of hosts e crossings = (if moves_host e then Down ∷ [] else []) ++ map (λ h. Waiting h) (filter (reaches e crossings) hosts)
 
 -- ---- what a part is, and is named
 

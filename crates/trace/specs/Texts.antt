@@ -9,7 +9,9 @@ use Rattle.leader1822.specs.declared.message.HostMessage.{HostMessage}
 use Rattle.replay.specs.Output.{Shown, shown_text}
 use Rattle.replay.specs.declared.print.Detail.TheVariants.{Sizes}
 use Rattle.script.specs.Spelling.{message_text, spelling}
-use Rattle.trace.specs.Elements.{Element}
+use Rattle.leader1822.specs.declared.crossing.Crossing.{Crossing}
+use Rattle.script.specs.declared.event.RawEvent.{RawEvent}
+use Rattle.trace.specs.declared.element.Element.{Element}
 use Rattle.trace.specs.Parts.{Part, Down, Waiting, parts_of}
 
 -- ---- JSON
@@ -68,11 +70,15 @@ part_text b (Waiting h) = queues_text (for_host b.messages h) (for_host b.answer
 abbrev pub parts_text : Boxes → List Part → List ℕ
 parts_text b parts = object (map (λ p. member (part_name p) (part_text b p)) parts)
 
+-- those that an event can change in which this crossed
+abbrev pub changed_text : Boxes → RawEvent → List Crossing → List ℕ
+changed_text b e crossings = parts_text b (parts_of b.hosts e crossings)
+
 -- ---- lines
 
--- The line of an elementary event: the number of the script's event that it belongs to, counted from 1; the round of its calm;
--- the event, as a line of a script; what it printed; and the parts that it can change, as they are after it
-abbrev pub trace_line : ℕ → Element → List Shown → Boxes → List ℕ
-trace_line number x shown new =
+-- The line of an elementary event, without its end: the number of the script's event that it belongs to, counted from 1; the
+-- round of its calm; the event, as a line of a script; what it printed; and the object of the parts that it can change
+abbrev pub trace_line : ℕ → Element → List Shown → List ℕ → List ℕ
+trace_line number x shown parts =
     codes "{\"number\":" ++ (decimal number ++ (codes ",\"round\":" ++ (decimal x.round ++ (codes ",\"event\":" ++ (quoted (spelling x.event)
-    ++ (codes ",\"printed\":" ++ (strings (map (shown_text Sizes) shown) ++ (codes ",\"parts\":" ++ (parts_text new (parts_of new.hosts x.event shown) ++ codes "}")))))))))
+    ++ (codes ",\"printed\":" ++ (strings (map (shown_text Sizes) shown) ++ (codes ",\"parts\":" ++ (parts ++ codes "}")))))))))

@@ -4,7 +4,7 @@ ghost use Rattle.std.specs.Prelude.{◌≡◌, List, false};
 ghost use Rattle.std.specs.List.{All};
 ghost use Rattle.leader1822.specs.Boxes.{Boxes, opening_boxes};
 ghost use Rattle.leader1822.specs.Host.{Host};
-ghost use Rattle.replay.specs.Output.{Shown};
+ghost use Rattle.replay.specs.Output.{Shown, crossings_of};
 ghost use Rattle.replay.specs.Replay.{Happens, IsOneCall, Replays};
 ghost use Rattle.script.specs.Spelling.{IsEvent};
 ghost use Rattle.script.specs.declared.event.RawEvent.{RawEvent};
@@ -24,7 +24,7 @@ pub fn elementary()
 
 /// What an elementary event's parts do not name is as before.
 pub fn rest()
-    ensures parts { (old new : Boxes) (e : RawEvent) (shown : List Shown) (p : Part) → IsOneCall e → Happens plain old e new shown → IsPart old.hosts p → is_named p (parts_of old.hosts e shown) ≡ false → SamePart p old new }
+    ensures parts { (old new : Boxes) (e : RawEvent) (shown : List Shown) (p : Part) → IsOneCall e → Happens plain old e new shown → IsPart old.hosts p → is_named p (parts_of old.hosts e (crossings_of shown)) ≡ false → SamePart p old new }
     ensures hosts { (old new : Boxes) (e : RawEvent) (shown : List Shown) → IsOneCall e → Happens plain old e new shown → new.hosts ≡ old.hosts }
 {}
 

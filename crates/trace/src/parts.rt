@@ -3,10 +3,9 @@
 ghost use Rattle.std.specs.Prelude.{◌≡◌, ◌++◌, [], ◌∷◌, OnOk, false, if◌then◌else◌, codes};
 ghost use Rattle.std.specs.Io.KnownBytes.{Appends};
 ghost use Rattle.replay.specs.Failing.{TellsFailure};
-ghost use Rattle.replay.specs.Output.{shown_crossings};
 ghost use Rattle.trace.specs.Joined.{begun};
-ghost use Rattle.trace.specs.Parts.{Down, Waiting, is_source, moves_host, parts_of, reaches};
-ghost use Rattle.trace.specs.Texts.{member, part_name, part_text, parts_text};
+ghost use Rattle.trace.specs.Parts.{Down, Waiting, is_source, moves_host, reaches};
+ghost use Rattle.trace.specs.Texts.{changed_text, member, part_name, part_text};
 
 use crate::print::{print_comma, print_down, print_waiting};
 use leader1822::{Carrier, Crossing, HostAddr, NetEvent, PlainBoxes};
@@ -25,7 +24,7 @@ fn moves_host(event: &RawEvent) -> bool
 
 /// Whether a message that came in is from this host.
 fn is_source(host: &HostAddr, crossings: &[Crossing]) -> bool
-    ensures { result ≡ is_source host.now (shown_crossings crossings.now) }
+    ensures { result ≡ is_source host.now crossings.now }
 {
     for crossing in crossings {
         if let Crossing::In(message) = crossing
@@ -39,7 +38,7 @@ fn is_source(host: &HostAddr, crossings: &[Crossing]) -> bool
 
 /// Whether other messages or answers may wait for this host after an event that let these cross.
 fn reaches(event: &RawEvent, crossings: &[Crossing], host: &HostAddr) -> bool
-    ensures { result ≡ reaches event.now (shown_crossings crossings.now) host.now }
+    ensures { result ≡ reaches event.now crossings.now host.now }
 {
     match event {
         RawEvent::Out(message) => {
@@ -87,7 +86,7 @@ pub fn print_parts<W: Output>(
     writer: &mut W,
 ) -> Result<(), WriteFailed>
     requires { W.failed writer.old ≡ false }
-    ensures written { OnOk result (Appends (W.contents writer.old) (W.contents writer.new) (parts_text boxes.now (parts_of boxes.now.hosts event.now (shown_crossings crossings.now)))) }
+    ensures written { OnOk result (Appends (W.contents writer.old) (W.contents writer.new) (changed_text boxes.now event.now crossings.now)) }
     ensures failed { TellsFailure result (W.failed writer.new) }
 {
     let moves = moves_host(event);

@@ -2,52 +2,25 @@
 
 ghost use Rattle.std.specs.Prelude.{◌≡◌, OnOk, false, map};
 ghost use Rattle.std.specs.Io.KnownBytes.{Appends};
-ghost use Rattle.hex.specs.Hex.{encode_upper};
 ghost use Rattle.leader1822.specs.Boxes.{for_host};
 ghost use Rattle.leader1822.specs.Printed.{host_text};
 ghost use Rattle.replay.specs.Failing.{TellsFailure};
-ghost use Rattle.script.specs.Spelling.{message_text, octets_text};
+ghost use Rattle.script.specs.Spelling.{message_text};
 ghost use Rattle.trace.specs.Joined.{comma_before};
 ghost use Rattle.trace.specs.Texts.{answer_word, queues_text, quoted, strings, waiting_answer_text};
 
-use leader1822::{Answer, Flow, HostAddr, HostMessage, PlainBoxes, Text};
+use crate::spelling::print_message;
+use leader1822::{Answer, Flow, HostAddr, HostMessage, PlainBoxes};
 use replay::{Output, WriteFailed};
 
-/// Prints octets in upper case hexadecimal, two digits each.
-fn print_octets<W: Output>(octets: &[u8], writer: &mut W) -> Result<(), WriteFailed>
-    requires { W.failed writer.old ≡ false }
-    ensures written { OnOk result (Appends (W.contents writer.old) (W.contents writer.new) (encode_upper octets.now)) }
-    ensures failed { TellsFailure result (W.failed writer.new) }
-{
-    for octet in octets {
-        write!(writer, "{octet:02X}")?;
-    }
-    Ok(())
-}
-
-/// Prints the octets of a text, as a script spells them: a hyphen for no bits.
-fn print_text<W: Output>(text: &Text, writer: &mut W) -> Result<(), WriteFailed>
-    requires { W.failed writer.old ≡ false }
-    ensures written { OnOk result (Appends (W.contents writer.old) (W.contents writer.new) (octets_text text.now)) }
-    ensures failed { TellsFailure result (W.failed writer.new) }
-{
-    let bits = text.bits();
-    if bits.is_empty() {
-        return writer.write_all(b"-");
-    }
-    print_octets(bits.as_octets(), writer)
-}
-
 /// Prints a message that waits, as a string.
-fn print_message<W: Output>(message: &HostMessage, writer: &mut W) -> Result<(), WriteFailed>
+fn print_string<W: Output>(message: &HostMessage, writer: &mut W) -> Result<(), WriteFailed>
     requires { W.failed writer.old ≡ false }
     ensures written { OnOk result (Appends (W.contents writer.old) (W.contents writer.new) (quoted (message_text message.now))) }
     ensures failed { TellsFailure result (W.failed writer.new) }
 {
-    let flow = &message.flow;
-    let bits = message.text.bits().len();
-    write!(writer, "\"{flow} {bits} ")?;
-    print_text(&message.text, writer)?;
+    writer.write_all(b"\"")?;
+    print_message(message, writer)?;
     writer.write_all(b"\"")
 }
 
@@ -101,7 +74,7 @@ fn print_messages<W: Output>(
             unreachable!();
         };
         print_comma(place, writer)?;
-        print_message(message, writer)?;
+        print_string(message, writer)?;
     }
     writer.write_all(b"]")
 }

@@ -10,7 +10,7 @@ ghost use Rattle.replay.specs.Output.{Crossed, Refused};
 ghost use Rattle.script.specs.declared.event.RawEvent.TheVariants as event;
 ghost use Rattle.trace.specs.Elements.{elements_of};
 ghost use Rattle.trace.specs.Parts.{Down, Waiting, parts_of};
-ghost use Rattle.trace.specs.Texts.{part_name, part_text, queues_text, trace_line, waiting_answer_text};
+ghost use Rattle.trace.specs.Texts.{changed_text, part_name, part_text, queues_text, trace_line, waiting_answer_text};
 ghost use Rattle.trace.specs.Worked.{empty, first, flow, hosts, one_waits, second, short, third, with_down};
 
 /// The text of each part.
@@ -35,8 +35,8 @@ pub fn worked_texts()
 /// Which parts an event can change.
 pub fn worked_parts()
     // a message that goes out, or is given up: what waits for its two hosts, in the order of the hosts, whether it is refused or not
-    ensures out { parts_of hosts (event.Out short) (Crossed (crossing.Out short) ∷ []) ≡ Waiting first ∷ Waiting third ∷ [] }
-    ensures refused { parts_of hosts (event.Out short) (Refused fault.Blocked ∷ []) ≡ Waiting first ∷ Waiting third ∷ [] }
+    ensures out { parts_of hosts (event.Out short) (crossing.Out short ∷ []) ≡ Waiting first ∷ Waiting third ∷ [] }
+    ensures refused { parts_of hosts (event.Out short) [] ≡ Waiting first ∷ Waiting third ∷ [] }
     ensures given_up { parts_of hosts (event.Net (net.GiveUp flow)) [] ≡ Waiting first ∷ Waiting third ∷ [] }
 
     // hosts that are not there have no parts
@@ -44,20 +44,20 @@ pub fn worked_parts()
 
     // a taking: the host, and the source of a message that came in
     ensures nothing_taken { parts_of hosts (event.Take third) [] ≡ Waiting third ∷ [] }
-    ensures message_taken { parts_of hosts (event.Take third) (Crossed (crossing.In short) ∷ []) ≡ Waiting first ∷ Waiting third ∷ [] }
-    ensures answer_taken { parts_of hosts (event.Take first) (Crossed (crossing.Answer answer.Rfnm flow) ∷ []) ≡ Waiting first ∷ [] }
+    ensures message_taken { parts_of hosts (event.Take third) (crossing.In short ∷ []) ≡ Waiting first ∷ Waiting third ∷ [] }
+    ensures answer_taken { parts_of hosts (event.Take first) (crossing.Answer answer.Rfnm flow ∷ []) ≡ Waiting first ∷ [] }
 
     // a host that stops changes everything, one that starts only who is down, and any other event nothing
-    ensures stop { parts_of hosts (event.Net (net.HostDown second)) (Crossed (crossing.Down second) ∷ []) ≡ Down ∷ Waiting first ∷ Waiting second ∷ Waiting third ∷ [] }
-    ensures start { parts_of hosts (event.Net (net.HostUp second)) (Crossed (crossing.Up second) ∷ []) ≡ Down ∷ [] }
-    ensures other { parts_of hosts (event.Net (net.Resend 1)) (Refused fault.NoSuch ∷ []) ≡ [] }
+    ensures stop { parts_of hosts (event.Net (net.HostDown second)) (crossing.Down second ∷ []) ≡ Down ∷ Waiting first ∷ Waiting second ∷ Waiting third ∷ [] }
+    ensures start { parts_of hosts (event.Net (net.HostUp second)) (crossing.Up second ∷ []) ≡ Down ∷ [] }
+    ensures other { parts_of hosts (event.Net (net.Resend 1)) [] ≡ [] }
 {}
 
 /// A line of a trace.
 pub fn worked_lines()
-    ensures start { trace_line 7 (record { round = 0; event = event.Net (net.HostUp third) }) (Crossed (crossing.Up third) ∷ []) (with_down (first ∷ [])) ≡ codes "{\"number\":7,\"round\":0,\"event\":\"hostup 0/2\",\"printed\":[\"up 0/2\"],\"parts\":{\"down\":[\"0/1\"]}}" }
-    ensures refused { trace_line 12 (record { round = 0; event = event.Net (net.Resend 1) }) (Refused fault.NoSuch ∷ []) (with_down []) ≡ codes "{\"number\":12,\"round\":0,\"event\":\"resend 1\",\"printed\":[\"refused NoSuch\"],\"parts\":{}}" }
-    ensures taken { trace_line 3 (record { round = 2; event = event.Take third }) (Crossed (crossing.In short) ∷ []) (opening_boxes hosts) ≡ codes "{\"number\":3,\"round\":2,\"event\":\"take 0/2\",\"printed\":[\"in 0/1 0/2 5 3\"],\"parts\":{\"host 0/1\":{\"messages\":[],\"answers\":[]},\"host 0/2\":{\"messages\":[],\"answers\":[]}}}" }
+    ensures start { trace_line 7 (record { round = 0; event = event.Net (net.HostUp third) }) (Crossed (crossing.Up third) ∷ []) (changed_text (with_down (first ∷ [])) (event.Net (net.HostUp third)) (crossing.Up third ∷ [])) ≡ codes "{\"number\":7,\"round\":0,\"event\":\"hostup 0/2\",\"printed\":[\"up 0/2\"],\"parts\":{\"down\":[\"0/1\"]}}" }
+    ensures refused { trace_line 12 (record { round = 0; event = event.Net (net.Resend 1) }) (Refused fault.NoSuch ∷ []) (changed_text (with_down []) (event.Net (net.Resend 1)) []) ≡ codes "{\"number\":12,\"round\":0,\"event\":\"resend 1\",\"printed\":[\"refused NoSuch\"],\"parts\":{}}" }
+    ensures taken { trace_line 3 (record { round = 2; event = event.Take third }) (Crossed (crossing.In short) ∷ []) (changed_text (opening_boxes hosts) (event.Take third) (crossing.In short ∷ [])) ≡ codes "{\"number\":3,\"round\":2,\"event\":\"take 0/2\",\"printed\":[\"in 0/1 0/2 5 3\"],\"parts\":{\"host 0/1\":{\"messages\":[],\"answers\":[]},\"host 0/2\":{\"messages\":[],\"answers\":[]}}}" }
 {}
 
 /// The elementary events of a calm.

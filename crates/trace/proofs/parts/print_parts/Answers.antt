@@ -1,5 +1,4 @@
 use Rattle.std.proofs.Common.{◌+◌, take, sym, ◌∙◌}
-use Rattle.replay.specs.Output.{shown_crossings}
 use Rattle.replay.proofs.lemmas.{on_ok}
 use Rattle.trace.specs.Parts.{parts_of, reaches}
 use Rattle.trace.proofs.Members.{parts_more, parts_printed, step_none, step_one}
@@ -10,7 +9,7 @@ pub loop-host-preserved : goal.loop-host-preserved
 loop-host-preserved g c =
     let hs = c.hosts-host-items.result.now in
     let e = c.args.event.now in
-    let s = shown_crossings c.args.crossings.now in
+    let s = c.args.crossings.now in
     let h = c.host-item.result in
     let i = c.loop-host.host-index in
     let parts = parts_more hs i h e s c.loop-host-test.true c.host-item.is in
@@ -24,5 +23,5 @@ loop-host-preserved g c =
 pub returns-clause-written : goal.returns-clause-written
 returns-clause-written g c =
     on_ok c.write_all.result
-    (λ end. parts_printed c.args.boxes.now c.hosts-host-items.result.now c.loop-host.host-index c.args.event.now (shown_crossings c.args.crossings.now) (g.W.Output.contents c.args.writer.now) (g.W.Output.contents c.loop-host.writer) (g.W.Output.contents c.write_all.new.self) c.loop-host-test.false c.hosts-host-items.ensures.value c.loop-host.invariant.2 end)
+    (λ end. parts_printed c.args.boxes.now c.hosts-host-items.result.now c.loop-host.host-index c.args.event.now c.args.crossings.now (g.W.Output.contents c.args.writer.now) (g.W.Output.contents c.loop-host.writer) (g.W.Output.contents c.write_all.new.self) c.loop-host-test.false c.hosts-host-items.ensures.value c.loop-host.invariant.2 end)
     c.write_all.ensures.written

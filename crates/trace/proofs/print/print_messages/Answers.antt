@@ -10,9 +10,9 @@ loop-place-preserved g c =
     let waiting = for_host c.args.boxes.now.messages c.args.host.now in
     let item : slice_get waiting c.loop-place.place ≡ Some c.in-Some.message.now = sym c.message_at.ensures ∙ ap option_copied c.in-Some.is in (
       c.loop-place.invariant.0,
-      c.in_ok-print_message.ensures.failed,
-      one_more message_text waiting c.loop-place.place c.in-Some.message.now (g.W.Output.contents c.args.writer.now) (g.W.Output.contents c.loop-place.writer) (g.W.Output.contents c.print_comma.new.writer) (g.W.Output.contents c.print_message.new.writer)
-          item c.loop-place.invariant.2 c.in_ok-print_comma.ensures.written c.in_ok-print_message.ensures.written,
+      c.in_ok-print_string.ensures.failed,
+      one_more message_text waiting c.loop-place.place c.in-Some.message.now (g.W.Output.contents c.args.writer.now) (g.W.Output.contents c.loop-place.writer) (g.W.Output.contents c.print_comma.new.writer) (g.W.Output.contents c.print_string.new.writer)
+          item c.loop-place.invariant.2 c.in_ok-print_comma.ensures.written c.in_ok-print_string.ensures.written,
     )
 
 pub returns-clause-written : goal.returns-clause-written

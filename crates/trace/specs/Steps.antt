@@ -1,0 +1,49 @@
+-- What the contracts of private functions say. No public clause cites this file.
+use Rattle.std.specs.Prelude.{◌≡◌, ℕ, true, List, drop, Option, Some, None, Result, Ok, Err, IfErr}
+use Rattle.leader1822.specs.Boxes.{Boxes}
+use Rattle.leader1822.specs.declared.carrier.CarrierFault.{CarrierFault}
+use Rattle.replay.specs.InTurn.{Happening}
+use Rattle.replay.specs.Replay.{Calls, EventGives}
+use Rattle.replay.specs.Steps.{Grew}
+use Rattle.replay.specs.declared.events.ReplayFault.{ReplayFault}
+use Rattle.replay.specs.declared.events.ReplayFault.TheVariants as fault
+use Rattle.script.specs.declared.event.RawEvent.{RawEvent}
+use Rattle.trace.specs.Traces.{EndsEvent, Inside, MayTell, StopsElement, TellsElement, TellsEvent, WritesTrace}
+use Rattle.leader1822.specs.Host.{Host}
+use Rattle.script.specs.declared.event.RawEvent.TheVariants as event
+use Rattle.trace.specs.Elements.{Course, is_given, no_course, round_from, taking, then_course}
+use Rattle.trace.specs.declared.element.Element.{Element}
+use Rattle.trace.specs.declared.turn.Turn.{Turn}
+
+-- a call of the carrier went as the carrier says, and as it shows
+pub record Called {C : Type 0} (calls : Calls C) (old : C) (e : RawEvent) (r : Result (Unit {0}) CarrierFault) (new : C) : Type 0 where
+  pub gives : EventGives calls old e r new
+  pub grew : Grew (calls.seen old) (calls.seen new)
+  pub refused : IfErr r (λ f. (calls.seen new).log ≡ (calls.seen old).log)
+
+-- how something may end that happens, or in which memory runs out or a write fails
+abbrev pub EndsAs : {S E : Type 0} → Happening S E (List ℕ) → Happening S E (List ℕ) → Happening S E (List ℕ) → S → E → Result (Unit {0}) ReplayFault → S → Option (List ℕ) → Option (List ℕ) → Type 0
+EndsAs Happens Stops Fails old e (Ok done) new before after = WritesTrace (Happens old e new) before after
+EndsAs Happens Stops Fails old e (Err fault.OutOfMemory) new before after = WritesTrace (Stops old e new) before after
+EndsAs Happens Stops Fails old e (Err fault.CannotWrite) new before after = (lines : List (List ℕ)) × Fails old e new lines
+
+-- an elementary event, and an event with its number
+abbrev pub ElementEnds : {C : Type 0} → Calls C → Inside C → ℕ → C → Element → Result (Unit {0}) ReplayFault → C → Option (List ℕ) → Option (List ℕ) → Type 0
+ElementEnds calls inside number old x r new before after = EndsAs (TellsElement calls inside number) (StopsElement calls) (MayTell calls) old x r new before after
+
+abbrev pub EventEnds : {C : Type 0} → Calls C → Inside C → C → (ℕ × RawEvent) → Result (Unit {0}) ReplayFault → C → Option (List ℕ) → Option (List ℕ) → Type 0
+EventEnds calls inside old e r new before after =
+    EndsAs (TellsEvent calls inside) (EndsEvent calls inside (StopsElement calls)) (EndsEvent calls inside (MayTell calls)) old e r new before after
+
+-- ---- plain mailboxes
+
+-- what is left of the round of a turn
+abbrev pub round_left : Boxes → Turn → Course
+round_left b t = round_from t.round (drop t.host b.hosts) t.times b
+
+-- the next taking of a turn's round: none is left; or a host takes for which something waits, and then it is this turn of the same calm
+abbrev pub IsNext : Boxes → Turn → Option (Element × Turn) → Type 0
+IsNext b t None = round_left b t ≡ no_course b
+IsNext b t (Some next) =
+    (h : Host) × (next.0 ≡ record { round = t.round; event = event.Take h }) × (is_given b h ≡ true)
+    × (next.1.round ≡ t.round) × (next.1.rounds ≡ t.rounds) × (round_left b t ≡ then_course (taking t.round h b) (λ c. round_from t.round (drop next.1.host b.hosts) next.1.times c))

@@ -1,0 +1,144 @@
+//! Tracing a script's events over a carrier.
+
+ghost use Rattle.std.specs.Bool.{OnFalse, OnTrue};
+ghost use Rattle.std.specs.Prelude.{◌≡◌, Err, IfErr, IfOk, OnOk, List, ℕ, false};
+ghost use Rattle.replay.specs.Failing.{TellsCannotWrite};
+ghost use Rattle.replay.specs.Replay.{GoesOn, Halts, IsCopied, IsOneCall};
+ghost use Rattle.script.specs.declared.event.RawEvent.TheVariants as script_event;
+ghost use Rattle.trace.specs.Steps.{Called, ElementEnds, EventEnds};
+ghost use Rattle.trace.specs.Traces.{MayTell, StopsElement, TraceEnds, Traces, WritesTrace};
+
+use crate::inspect::Inspect;
+use crate::line::print_line;
+use leader1822::{Carrier, CarrierFault};
+use replay::{Output, ReplayFault};
+use script::RawEvent;
+use std::alloc::AllocError;
+
+/// Hands each elementary event of each event to the carrier in order, and prints one line for each: a JSON object with the
+/// number of the event, the round of its calm, the elementary event, what it printed, and the parts that it can change, as they
+/// are after it.
+///
+/// A refused event changes nothing, and has a line too.
+///
+/// Errors:
+/// - `OutOfMemory`: memory ran out at one elementary event. The lines of those before it were written, and none of its own.
+/// - `CannotWrite`: a write failed. The carrier had already processed the elementary event whose line it was. Nothing more was
+///   asked of the writer, which alone knows how much of its last lines it wrote.
+pub fn trace_events<C: Inspect, W: Output>(
+    carrier: &mut C,
+    events: &[RawEvent],
+    writer: &mut W,
+) -> Result<(), ReplayFault>
+    requires { W.failed writer.old ≡ false }
+
+    // each elementary event in turn went as the carrier says that its calls may go, and its line was written
+    ensures traced { OnOk result (WritesTrace (Traces (record { seen = C.seen; offers = C.offers; takes = C.takes; steps = C.steps; rounds = C.rounds }) (record { calm = C.calm; parts = C.parts }) carrier.old events.now carrier.new) (W.contents writer.old) (W.contents writer.new)) }
+
+    // memory ran out at one of them: the lines of those before it were written, and nothing else
+    ensures memory { result ≡ Err ReplayFault.OutOfMemory → WritesTrace (TraceEnds (record { seen = C.seen; offers = C.offers; takes = C.takes; steps = C.steps; rounds = C.rounds }) (record { calm = C.calm; parts = C.parts }) (StopsElement (record { seen = C.seen; offers = C.offers; takes = C.takes; steps = C.steps; rounds = C.rounds })) carrier.old events.now carrier.new) (W.contents writer.old) (W.contents writer.new) }
+
+    // `CannotWrite` is answered where a write failed, and nowhere else
+    ensures failed { TellsCannotWrite result (W.failed writer.new) }
+
+    // a write failed: the carrier had already processed that elementary event
+    ensures cannot_write { result ≡ Err ReplayFault.CannotWrite → (lines : List (List ℕ)) × TraceEnds (record { seen = C.seen; offers = C.offers; takes = C.takes; steps = C.steps; rounds = C.rounds }) (record { calm = C.calm; parts = C.parts }) (MayTell (record { seen = C.seen; offers = C.offers; takes = C.takes; steps = C.steps; rounds = C.rounds })) carrier.old events.now carrier.new lines }
+{
+    for place in 0..events.len() {
+        trace_event(carrier, place + 1, &events[place], writer)?;
+    }
+    Ok(())
+}
+
+/// Traces one event, with its number.
+fn trace_event<C: Inspect, W: Output>(
+    carrier: &mut C,
+    number: usize,
+    event: &RawEvent,
+    writer: &mut W,
+) -> Result<(), ReplayFault>
+    requires { W.failed writer.old ≡ false }
+    ensures ends { EventEnds (record { seen = C.seen; offers = C.offers; takes = C.takes; steps = C.steps; rounds = C.rounds }) (record { calm = C.calm; parts = C.parts }) carrier.old (number, event.now) result carrier.new (W.contents writer.old) (W.contents writer.new) }
+    ensures failed { TellsCannotWrite result (W.failed writer.new) }
+{
+    match event {
+        RawEvent::Out(_) | RawEvent::Take(_) | RawEvent::Net(_) => {
+            trace_element(carrier, number, 0, event, writer)
+        }
+        RawEvent::Calm(rounds) => trace_calm(carrier, number, *rounds, writer),
+    }
+}
+
+/// Traces a calm: one of its elementary events after another.
+fn trace_calm<C: Inspect, W: Output>(
+    carrier: &mut C,
+    number: usize,
+    rounds: u32,
+    writer: &mut W,
+) -> Result<(), ReplayFault>
+    requires { W.failed writer.old ≡ false }
+    ensures ends { EventEnds (record { seen = C.seen; offers = C.offers; takes = C.takes; steps = C.steps; rounds = C.rounds }) (record { calm = C.calm; parts = C.parts }) carrier.old (number, script_event.Calm rounds) result carrier.new (W.contents writer.old) (W.contents writer.new) }
+    ensures failed { TellsCannotWrite result (W.failed writer.new) }
+{
+    let mut place = carrier.begin_calm(rounds);
+    'elements: while let Some((element, next)) = carrier.next_in_calm(place) {
+        trace_element(carrier, number, element.round, &element.event, writer)?;
+        place = next;
+    }
+    Ok(())
+}
+
+/// Hands an elementary event to the carrier, and prints its line.
+fn trace_element<C: Inspect, W: Output>(
+    carrier: &mut C,
+    number: usize,
+    round: u32,
+    event: &RawEvent,
+    writer: &mut W,
+) -> Result<(), ReplayFault>
+    requires one_call { IsOneCall event.now }
+    requires whole { W.failed writer.old ≡ false }
+    ensures ends { ElementEnds (record { seen = C.seen; offers = C.offers; takes = C.takes; steps = C.steps; rounds = C.rounds }) (record { calm = C.calm; parts = C.parts }) number carrier.old (record { round = round; event = event.now }) result carrier.new (W.contents writer.old) (W.contents writer.new) }
+    ensures failed { TellsCannotWrite result (W.failed writer.new) }
+{
+    let booked = carrier.log().len();
+    let outcome = call(carrier, event)?;
+    if has_halted(outcome) {
+        return Err(ReplayFault::OutOfMemory);
+    }
+    let (_, crossings) = carrier.log().split_at(booked);
+    Ok(print_line(carrier, number, round, event, crossings, outcome, writer)?)
+}
+
+/// Whether running out of memory has stopped the carrier.
+fn has_halted(outcome: Result<(), CarrierFault>) -> bool
+    ensures halts { OnTrue result (Halts outcome) }
+    ensures goes_on { OnFalse result (GoesOn outcome) }
+{
+    matches!(
+        outcome,
+        Err(CarrierFault::Stopped | CarrierFault::OutOfMemory)
+    )
+}
+
+/// Hands an event to the carrier.
+///
+/// Errors: `AllocError` where a message could not be copied.
+fn call<C: Carrier>(
+    carrier: &mut C,
+    event: &RawEvent,
+) -> Result<Result<(), CarrierFault>, AllocError>
+    requires { IsOneCall event.now }
+    ensures called { IfOk result (λ outcome. Called (record { seen = C.seen; offers = C.offers; takes = C.takes; steps = C.steps; rounds = C.rounds }) carrier.old event.now outcome carrier.new) }
+    ensures memory { IfErr result (λ e. IsCopied event.now × (carrier.new ≡ carrier.old)) }
+{
+    match event {
+        RawEvent::Out(message) => Ok(carrier.offer_out(message.clone()?)),
+        RawEvent::Take(host) => match carrier.take_in(*host) {
+            Ok(_) => Ok(Ok(())),
+            Err(fault) => Ok(Err(fault)),
+        },
+        RawEvent::Net(event) => Ok(carrier.step(*event)),
+        RawEvent::Calm(_) => unreachable!(),
+    }
+}

@@ -1,0 +1,51 @@
+//! Carriers whose inside can be traced.
+
+ghost use Rattle.std.specs.Prelude.{◌≡◌, List, OnOk, false, ℕ};
+ghost use Rattle.std.specs.Io.KnownBytes.{Appends};
+ghost use Rattle.leader1822.specs.declared.crossing.Crossing.{Crossing};
+ghost use Rattle.replay.specs.Failing.{TellsFailure};
+ghost use Rattle.script.specs.declared.event.RawEvent.{RawEvent};
+ghost use Rattle.trace.specs.Traces.{GoesOnWith};
+ghost use Rattle.trace.specs.declared.element.Element.{Element};
+
+use crate::element::Element;
+use leader1822::{Carrier, Crossing};
+use replay::{Output, WriteFailed};
+use script::RawEvent;
+
+/// A carrier whose inside can be traced: it tells the elementary events of a calm one after another, and prints the parts
+/// that an event can change.
+pub trait Inspect: Carrier {
+    /// A place in a calm, between two of its elementary events.
+    type Place: Copy;
+
+    /// The elementary events of a calm of so many rounds.
+    ghost calm: { Self → ℕ → List Element };
+
+    /// Those that are left of a calm at a place.
+    ghost left: { Self → Self.Place → List Element };
+
+    /// The JSON object of the parts that an event can change in which this crossed.
+    ghost parts: { Self → RawEvent → List Crossing → List ℕ };
+
+    /// The place at which a calm begins.
+    fn begin_calm(&self, rounds: u32) -> Self::Place
+        ensures { left self.now result ≡ calm self.now rounds };
+
+    /// The next elementary event of a calm, and the place after it; `None` where the calm is over.
+    fn next_in_calm(&self, place: Self::Place) -> Option<(Element, Self::Place)>
+        ensures { GoesOnWith (record { seen = Self.seen; offers = Self.offers; takes = Self.takes; steps = Self.steps; rounds = Self.rounds }) left self.now place result };
+
+    /// Prints the parts that an event can change in which this crossed, as a JSON object.
+    ///
+    /// Errors: `WriteFailed`.
+    fn print_parts<W: Output>(
+        &self,
+        event: &RawEvent,
+        crossings: &[Crossing],
+        writer: &mut W,
+    ) -> Result<(), WriteFailed>
+        requires { W.failed writer.old ≡ false }
+        ensures written { OnOk result (Appends (W.contents writer.old) (W.contents writer.new) (parts self.now event.now crossings.now)) }
+        ensures failed { TellsFailure result (W.failed writer.new) };
+}

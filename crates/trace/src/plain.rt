@@ -1,0 +1,96 @@
+//! The inside of plain mailboxes.
+
+ghost use Rattle.std.specs.Prelude.{◌≡◌, true};
+ghost use Rattle.leader1822.specs.Host.{is_host};
+ghost use Rattle.trace.specs.Elements.{calm_left, calm_of, is_given};
+ghost use Rattle.trace.specs.Texts.{changed_text};
+ghost use Rattle.trace.specs.Steps.{IsNext};
+
+use crate::element::Element;
+use crate::inspect::Inspect;
+use crate::parts::print_parts;
+use crate::turn::Turn;
+use leader1822::{Carrier, Crossing, HostAddr, PlainBoxes};
+use replay::{Output, WriteFailed};
+use script::RawEvent;
+
+/// How often a host takes in one round at most.
+const TAKINGS: u8 = 16;
+
+/// Whether a host of the network is up, and something waits for it.
+fn is_given(boxes: &PlainBoxes, host: &HostAddr) -> bool
+    requires { is_host boxes.now.hosts host.now ≡ true }
+    ensures { result ≡ is_given boxes.now host.now }
+{
+    !boxes.down().contains(host) && (boxes.answer_count(host) > 0 || boxes.message_count(host) > 0)
+}
+
+/// The next taking of a round that gives something, and whose turn it is after it; `None` where the round is over.
+fn next_taking(boxes: &PlainBoxes, turn: Turn) -> Option<(Element, Turn)>
+    ensures { IsNext boxes.now turn result }
+{
+    let hosts = boxes.hosts();
+    let mut times = turn.times;
+    for place in turn.host..hosts.len() {
+        let host = hosts[place];
+        if times > 0 && is_given(boxes, &host) {
+            let taking = Element {
+                round: turn.round,
+                event: RawEvent::Take(host),
+            };
+            let next = Turn {
+                host: place,
+                times: times - 1,
+                ..turn
+            };
+            return Some((taking, next));
+        }
+        times = TAKINGS;
+    }
+    None
+}
+
+impl Inspect for PlainBoxes {
+    type Place = Turn;
+
+    ghost calm = { calm_of };
+
+    ghost left = { calm_left };
+
+    ghost parts = { changed_text };
+
+    /// A round in which nothing is left to take is the last one that is looked at, since nothing is left in any later one.
+    fn begin_calm(&self, rounds: u32) -> Turn {
+        Turn {
+            round: 0,
+            rounds,
+            host: self.hosts().len(),
+            times: TAKINGS,
+        }
+    }
+
+    fn next_in_calm(&self, place: Turn) -> Option<(Element, Turn)> {
+        if let Some(next) = next_taking(self, place) {
+            return Some(next);
+        }
+        if place.round >= place.rounds {
+            return None;
+        }
+        let turn = Turn {
+            round: place.round + 1,
+            host: 0,
+            times: TAKINGS,
+            ..place
+        };
+        next_taking(self, turn)
+    }
+
+    fn print_parts<W: Output>(
+        &self,
+        event: &RawEvent,
+        crossings: &[Crossing],
+        writer: &mut W,
+    ) -> Result<(), WriteFailed> {
+        print_parts(self, event, crossings, writer)
+    }
+}
