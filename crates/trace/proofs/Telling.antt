@@ -6,7 +6,7 @@ use Rattle.replay.specs.InTurn.{EndsInTurn, Happening, InTurn}
 use Rattle.replay.specs.declared.events.ReplayFault.{ReplayFault}
 use Rattle.replay.specs.declared.events.ReplayFault.TheVariants as fault
 use Rattle.replay.proofs.lemmas.{appends_none, last_shown, last_written, one_written}
-use Rattle.replay.specs.Replay.{Calls}
+use Rattle.replay.specs.Replay.{Calls, IsOneCall}
 use Rattle.script.specs.declared.event.RawEvent.{RawEvent}
 use Rattle.script.specs.declared.event.RawEvent.TheVariants as event
 use Rattle.trace.specs.declared.element.Element.{Element}
@@ -75,23 +75,27 @@ event_ends calls inside old new e (Ok done) a c h = h
 event_ends calls inside old new e (Err fault.OutOfMemory) a c h = h
 event_ends calls inside old new e (Err fault.CannotWrite) a c h = h
 
--- an event that is one elementary event ends as that does
+-- an event of one call is one elementary event
+pub one_element : (calm : ℕ → List Element) (e : RawEvent) → IsOneCall e → elements_in calm e ≡ record { round = 0; event = e } ∷ []
+one_element calm (event.Out m) one = refl
+one_element calm (event.Take h) one = refl
+one_element calm (event.Net e) one = refl
+one_element calm (event.Calm rounds) one = absurd one
+
+-- and ends as that does
+whole_ends : {C : Type 0} (calls : Calls C) (inside : Inside C) (number : ℕ) (old new : C) (all : List Element) (x : Element) (r : Result (Unit {0}) ReplayFault) (a c : Option (List ℕ)) → all ≡ x ∷ [] → ElementEnds calls inside number old x r new a c
+    → EndsAs (Whole (TellsElement calls inside number)) (Early (TellsElement calls inside number) (StopsElement calls)) (Early (TellsElement calls inside number) (MayTell calls)) old all r new a c
+whole_ends calls inside number old new all x (Ok done) a c is h =
+    all_told (TellsElement calls inside number) old new all [] a c refl (one_more (TellsElement calls inside number) old old new all all [] x a a c is (none_yet (TellsElement calls inside number) old all a) h)
+whole_ends calls inside number old new all x (Err fault.OutOfMemory) a c is h =
+    ends_told (TellsElement calls inside number) (StopsElement calls) old old new all all [] x a a c is (none_yet (TellsElement calls inside number) old all a) h
+whole_ends calls inside number old new all x (Err fault.CannotWrite) a c is h =
+    fails_told (TellsElement calls inside number) (MayTell calls) old old new all all [] x a a is (none_yet (TellsElement calls inside number) old all a) h
+
 pub one_ends : {C : Type 0} (calls : Calls C) (inside : Inside C) (old new : C) (number : ℕ) (e : RawEvent) (x : Element) (r : Result (Unit {0}) ReplayFault) (a c : Option (List ℕ))
     → elements_in (inside.calm old) e ≡ x ∷ [] → ElementEnds calls inside number old x r new a c → EventEnds calls inside old (number, e) r new a c
-one_ends calls inside old new number e x r a c is h = event_ends calls inside old new (number, e) r a c (by r h)
-  where
-    Tells : Happening _ Element (List ℕ)
-    Tells = TellsElement calls inside number
-
-    start : SoFar Tells old (elements_in (inside.calm old) e) (elements_in (inside.calm old) e) old a a
-    start = none_yet Tells old (elements_in (inside.calm old) e) a
-
-    by : (r : Result (Unit {0}) ReplayFault) → ElementEnds calls inside number old x r new a c
-        → EndsAs (Whole Tells) (Early Tells (StopsElement calls)) (Early Tells (MayTell calls)) old (elements_in (inside.calm old) e) r new a c
-    by (Ok done) h =
-        all_told Tells old new (elements_in (inside.calm old) e) [] a c refl (one_more Tells old old new (elements_in (inside.calm old) e) (elements_in (inside.calm old) e) [] x a a c is start h)
-    by (Err fault.OutOfMemory) h = ends_told Tells (StopsElement calls) old old new (elements_in (inside.calm old) e) (elements_in (inside.calm old) e) [] x a a c is start h
-    by (Err fault.CannotWrite) h = fails_told Tells (MayTell calls) old old new (elements_in (inside.calm old) e) (elements_in (inside.calm old) e) [] x a a is start h
+one_ends calls inside old new number e x r a c is h =
+    event_ends calls inside old new (number, e) r a c (whole_ends calls inside number old new (elements_in (inside.calm old) e) x r a c is h)
 
 -- ---- a calm
 

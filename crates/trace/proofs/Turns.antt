@@ -1,6 +1,6 @@
 -- In the middle of a calm of plain mailboxes.
-use Rattle.std.proofs.Common.{◌≡◌, ◌&&◌, ◌||◌, not, nat_lt, is_some, ◌-◌, ◌<◌, ◌≤◌, ◌+◌, ℕ, zero, suc, Bool, true, false, List, [], ◌∷◌, ◌++◌, drop, length, get_or, Option, Some, None, Result, Ok, Err, refl, sym, ap, ◌∙◌, subst, arith}
-use Rattle.std.proofs.lemmas.Bool.{false≢true}
+use Rattle.std.proofs.Common.{◌≡◌, ◌&&◌, ◌||◌, not, nat_lt, is_some, ◌-◌, ◌<◌, ◌+◌, ℕ, zero, suc, Bool, true, false, List, [], ◌∷◌, drop, length, get_or, Option, Some, None, Result, Ok, Err, refl, sym, ap, ◌∙◌, subst, arith}
+use Rattle.std.proofs.lemmas.Bool.{lt-ltb}
 use Rattle.std.proofs.lemmas.List.{append_assoc, drop_more}
 use Rattle.std.proofs.lemmas.List.Folds.{list_any_at}
 use Rattle.leader1822.specs.Boxes.{Boxes, WaitingAnswer, answer_first, first_of_list, for_host, host_refusal, inbound_taken, is_running, next_for, take_grows}
@@ -12,7 +12,6 @@ use Rattle.leader1822.specs.declared.Inbound.{Inbound}
 use Rattle.leader1822.proofs.lemmas.{same_host-refl}
 use Rattle.replay.specs.Output.{Shown}
 use Rattle.replay.specs.Replay.{GoesOn, Happens, outcome_of}
-use Rattle.script.specs.declared.event.RawEvent.{RawEvent}
 use Rattle.script.specs.declared.event.RawEvent.TheVariants as event
 use Rattle.trace.specs.declared.element.Element.{Element}
 use Rattle.trace.specs.declared.turn.Turn.{Turn}
@@ -20,7 +19,7 @@ use Rattle.trace.specs.Elements.{Course, all_takings, calm_left, is_given, no_co
 use Rattle.trace.specs.Steps.{IsNext, round_left}
 use Rattle.trace.specs.Traces.{GoesOnWith}
 use Rattle.trace.proofs.Calms.{none_given, one_given, or_first, refused_is}
-use Rattle.trace.proofs.Each.{Went, goes_after_take, went}
+use Rattle.trace.proofs.Each.{Went, went}
 use Rattle.trace.proofs.Rest.{taken_frame}
 
 -- ---- courses
@@ -126,24 +125,19 @@ goes_on_with b t next (h, is, given, same_round, same_rounds, left) = (
         ∙ ap (λ (n : ℕ). (then_course (round_from n (drop next.1.host b.hosts) next.1.times gone) (rounds_from (suc n) (next.1.rounds - n))).elements) same_round
         ∙ ap (λ (n : ℕ). (then_course (round_from t.round (drop next.1.host b.hosts) next.1.times gone) (rounds_from (suc t.round) (n - t.round))).elements) same_rounds
 
--- where a round is over, the calm goes on with the next one
-pub next_round : (b : Boxes) (t : Turn) → t.round < t.rounds → round_left b t ≡ no_course b
+-- where a round is over, what is left is the next one and those after it
+next_round : (b : Boxes) (t : Turn) → t.round < t.rounds → round_left b t ≡ no_course b
     → calm_left b t ≡ calm_left b (record { round = t.round + 1; rounds = t.rounds; host = 0; times = 16 })
 next_round b t lt over =
     let one : t.rounds - t.round ≡ suc (t.rounds - (t.round + 1)) = omega (arith, lt) in
+    let up : suc t.round ≡ t.round + 1 = omega arith in
     ap (λ (c : Course). (then_course c (rounds_from (suc t.round) (t.rounds - t.round))).elements) over
     ∙ ap (λ (n : ℕ). (rounds_from (suc t.round) n b).elements) one
     ∙ ap (λ (c : Course). (then_course c (rounds_from (suc (suc t.round)) (t.rounds - (t.round + 1)))).elements) (all_are_round (suc t.round) b.hosts b)
+    ∙ ap (λ (n : ℕ). (then_course (round_from n b.hosts 16 b) (rounds_from (suc n) (t.rounds - (t.round + 1)))).elements) up
 
--- and where it was the last one, it is over
-pub last_round : (b : Boxes) (t : Turn) → t.rounds ≤ t.round → round_left b t ≡ no_course b → calm_left b t ≡ []
-last_round b t past over =
-    let none : t.rounds - t.round ≡ 0 = omega (arith, past) in
-    ap (λ (c : Course). (then_course c (rounds_from (suc t.round) (t.rounds - t.round))).elements) over
-    ∙ ap (λ (n : ℕ). (rounds_from (suc t.round) n b).elements) none
-
--- where nothing is left in a whole round, it is over too
-pub idle_calm : (b : Boxes) (round rounds : ℕ) → round_left b (record { round = round; rounds = rounds; host = 0; times = 16 }) ≡ no_course b
+-- where nothing is left in a whole round, the calm is over
+idle_calm : (b : Boxes) (round rounds : ℕ) → round_left b (record { round = round; rounds = rounds; host = 0; times = 16 }) ≡ no_course b
     → calm_left b (record { round = round; rounds = rounds; host = 0; times = 16 }) ≡ []
 idle_calm b round rounds none =
     ap (λ (c : Course). (then_course c (rounds_from (suc round) (rounds - round))).elements) none
@@ -165,8 +159,8 @@ is_there hosts i h lt is = list_any_at (same_host h) hosts i h lt (ap (same_host
 
 waits : (answers : List WaitingAnswer) (messages : List HostMessage) → is_some (answer_first (first_of_list answers) (first_of_list messages)) ≡ (nat_lt 0 (length answers) || nat_lt 0 (length messages))
 waits [] [] = refl
-waits [] (m ∷ messages) = refl
-waits (a ∷ answers) messages = refl
+waits [] (m ∷ messages) = sym (lt-ltb 0 (suc (length messages)) (omega arith))
+waits (a ∷ answers) messages = ap (λ t. t || nat_lt 0 (length messages)) (sym (lt-ltb 0 (suc (length answers)) (omega arith)))
 
 pub given_is : (b : Boxes) (h : Host) → is_host b.hosts h ≡ true → is_given b h ≡ (not (is_host b.down h) && (nat_lt 0 (length (for_host b.answers h)) || nat_lt 0 (length (for_host b.messages h))))
 given_is b h there = ap (λ t. (t && not (is_host b.down h)) && is_some (next_for b h)) there ∙ ap (λ t. not (is_host b.down h) && t) (waits (for_host b.answers h) (for_host b.messages h))

@@ -1,5 +1,5 @@
 -- What is written as a trace, over any carrier whose inside can be traced.
-use Rattle.std.specs.Prelude.{◌≡◌, ℕ, suc, List, [], ◌∷◌, ◌++◌, Option, Some, None}
+use Rattle.std.specs.Prelude.{◌≡◌, ℕ, suc, List, [], ◌∷◌, Option, Some, None}
 use Rattle.leader1822.specs.declared.crossing.Crossing.{Crossing}
 use Rattle.replay.specs.InTurn.{EndsInTurn, Happening, InTurn, WritesLines}
 use Rattle.replay.specs.Output.{Shown, crossings_of}

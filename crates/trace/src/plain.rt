@@ -18,6 +18,7 @@ use script::RawEvent;
 const TAKINGS: u8 = 16;
 
 /// Whether a host of the network is up, and something waits for it.
+#[tactic(auto, using(crate::proofs::Turns::given_is))]
 fn is_given(boxes: &PlainBoxes, host: &HostAddr) -> bool
     requires { is_host boxes.now.hosts host.now ≡ true }
     ensures { result ≡ is_given boxes.now host.now }
@@ -59,7 +60,6 @@ impl Inspect for PlainBoxes {
 
     ghost parts = { changed_text };
 
-    /// A round in which nothing is left to take is the last one that is looked at, since nothing is left in any later one.
     fn begin_calm(&self, rounds: u32) -> Turn {
         Turn {
             round: 0,
@@ -69,6 +69,7 @@ impl Inspect for PlainBoxes {
         }
     }
 
+    /// Where nothing is left in a whole round the calm is over, since nothing is left in any later one.
     fn next_in_calm(&self, place: Turn) -> Option<(Element, Turn)> {
         if let Some(next) = next_taking(self, place) {
             return Some(next);

@@ -16,6 +16,7 @@ elements-init g c =
       c.requires,
     )
 
+-- an elementary event that holds a message is dropped in another way than any other: each of the two goals stands twice
 pub elements-preserved : goal.elements-preserved
 elements-preserved g c =
     let calls : Calls g.row.C.Denot = record { seen = g.C.Carrier.seen; offers = g.C.Carrier.offers; takes = g.C.Carrier.takes; steps = g.C.Carrier.steps; rounds = g.C.Carrier.rounds } in
@@ -25,8 +26,24 @@ elements-preserved g c =
       c.in_ok-trace_element.ensures.failed,
     )
 
+pub elements-preserved-in_ok-trace_element : goal.elements-preserved-in_ok-trace_element
+elements-preserved-in_ok-trace_element g c =
+    let calls : Calls g.row.C.Denot = record { seen = g.C.Carrier.seen; offers = g.C.Carrier.offers; takes = g.C.Carrier.takes; steps = g.C.Carrier.steps; rounds = g.C.Carrier.rounds } in
+    let inside : Inside g.row.C.Denot = record { calm = g.C.Inspect.calm; parts = g.C.Inspect.parts } in (
+      calm_more calls inside g.C.Inspect.left c.args.number c.args.carrier.now c.elements.carrier c.trace_element.new.carrier c.elements.place c.in-Some.next c.in-Some.element (inside.calm c.args.carrier.now c.args.rounds)
+          (g.W.Output.contents c.args.writer.now) (g.W.Output.contents c.elements.writer) (g.W.Output.contents c.trace_element.new.writer) c.in-Some.ensures c.elements.invariant.0 c.in_ok-trace_element.ensures.ends,
+      c.in_ok-trace_element.ensures.failed,
+    )
+
 pub elements-smaller : goal.elements-smaller
 elements-smaller g c =
+    let calls : Calls g.row.C.Denot = record { seen = g.C.Carrier.seen; offers = g.C.Carrier.offers; takes = g.C.Carrier.takes; steps = g.C.Carrier.steps; rounds = g.C.Carrier.rounds } in
+    let inside : Inside g.row.C.Denot = record { calm = g.C.Inspect.calm; parts = g.C.Inspect.parts } in
+    calm_shorter calls inside g.C.Inspect.left c.args.number c.elements.carrier c.trace_element.new.carrier c.elements.place c.in-Some.next c.in-Some.element
+    (g.W.Output.contents c.elements.writer) (g.W.Output.contents c.trace_element.new.writer) c.in-Some.ensures c.in_ok-trace_element.ensures.ends
+
+pub elements-smaller-in_ok-trace_element : goal.elements-smaller-in_ok-trace_element
+elements-smaller-in_ok-trace_element g c =
     let calls : Calls g.row.C.Denot = record { seen = g.C.Carrier.seen; offers = g.C.Carrier.offers; takes = g.C.Carrier.takes; steps = g.C.Carrier.steps; rounds = g.C.Carrier.rounds } in
     let inside : Inside g.row.C.Denot = record { calm = g.C.Inspect.calm; parts = g.C.Inspect.parts } in
     calm_shorter calls inside g.C.Inspect.left c.args.number c.elements.carrier c.trace_element.new.carrier c.elements.place c.in-Some.next c.in-Some.element

@@ -1,4 +1,4 @@
-use Rattle.std.proofs.Common.{◌≡◌, ◌≤◌, ◌+◌, drop, false, length}
+use Rattle.std.proofs.Common.{◌≡◌, ◌+◌, drop, false, length}
 use Rattle.replay.specs.Replay.{Calls}
 use Rattle.trace.specs.Traces.{Inside, TellsEvent, numbered_from}
 use Rattle.trace.proofs.Telling.{SoFar}

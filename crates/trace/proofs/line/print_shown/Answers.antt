@@ -1,4 +1,4 @@
-use Rattle.std.proofs.Common.{◌≡◌, ◌≤◌, ◌++◌, Some, arith, length, slice_get}
+use Rattle.std.proofs.Common.{◌≡◌, ◌++◌, Some, arith, length, slice_get}
 use Rattle.std.proofs.lemmas.Option.{slice_get_read}
 use Rattle.replay.specs.Output.{Crossed, shown_crossings, shown_refusal, shown_text}
 use Rattle.replay.specs.declared.print.Detail.TheVariants.{Sizes}
