@@ -152,7 +152,7 @@ event_writes calls detail old new e r crossings a b gives goes_on grown written 
   written = written;
 }
 
-pub halted_log : (r : Result (Unit {0}) CarrierFault) (old new : Seen) → Halts r → IfErr r (λ f. new.log ≡ old.log) → new.log ≡ old.log
+halted_log : (r : Result (Unit {0}) CarrierFault) (old new : Seen) → Halts r → IfErr r (λ f. new.log ≡ old.log) → new.log ≡ old.log
 halted_log (Ok done) old new halts same = absurd halts
 halted_log (Err f) old new halts same = same
 

@@ -1,25 +1,22 @@
 -- An elementary event is handed to the carrier, and its line is printed.
-use Rattle.std.proofs.Common.{◌≡◌, ◌≤◌, ◌+◌, ℕ, List, [], ◌∷◌, ◌++◌, drop, length, reverse, Option, Result, inl, inr, refl, sym, ap, ◌∙◌, subst, arith}
-use Rattle.std.proofs.lemmas.List.{append-nil, length-append, length-reverse}
+use Rattle.std.proofs.Common.{◌≡◌, ℕ, List, [], ◌∷◌, ◌++◌, drop, length, reverse, Option, Result, refl, sym, ap, ◌∙◌, subst}
+use Rattle.std.proofs.lemmas.List.{append-nil}
 use Rattle.std.specs.Io.KnownBytes.{Appends}
-use Rattle.leader1822.specs.Calls.{Seen, ShowsOffer, ShowsStep, ShowsTake}
+use Rattle.leader1822.specs.Calls.{ShowsOffer, ShowsTake}
 use Rattle.leader1822.specs.Host.{Host}
 use Rattle.leader1822.specs.declared.CarrierFault.{CarrierFault}
 use Rattle.leader1822.specs.declared.HostMessage.{HostMessage}
 use Rattle.leader1822.specs.declared.Inbound.{Inbound}
-use Rattle.leader1822.specs.declared.NetEvent.{NetEvent}
 use Rattle.leader1822.specs.declared.crossing.Crossing.{Crossing}
 use Rattle.replay.specs.Output.{Shown, crossings_of, shown_crossings, shown_refusal}
-use Rattle.replay.specs.Replay.{BeginsWith, Calls, GoesOn, Halts, Happens, IsCopied, IsOneCall, outcome_of}
-use Rattle.replay.specs.Steps.{Grew}
-use Rattle.replay.proofs.lemmas.{appends_none, crossings_shown, gained, grew_offer, grew_step, grew_take, halted_log, refused_offer, refused_step, refused_take}
+use Rattle.replay.specs.Replay.{Calls, GoesOn, Happens, outcome_of}
+use Rattle.replay.proofs.lemmas.{crossings_shown, gained, grew_offer, grew_take, refused_offer, refused_take}
 use Rattle.script.specs.Input.{ended_line}
-use Rattle.script.specs.declared.event.RawEvent.{RawEvent}
 use Rattle.script.specs.declared.event.RawEvent.TheVariants as event
 use Rattle.trace.specs.declared.element.Element.{Element}
 use Rattle.trace.specs.Steps.{Called}
 use Rattle.trace.specs.Texts.{trace_line}
-use Rattle.trace.specs.Traces.{Inside, MayTell, StopsElement, TellsElement, WritesTrace}
+use Rattle.trace.specs.Traces.{Inside, TellsElement, WritesTrace}
 
 -- ---- the call
 
@@ -28,17 +25,6 @@ called_offer calls old new m r gives shown = record { gives = gives; grew = grew
 
 pub called_take : {C : Type 0} (calls : Calls C) (old new : C) (h : Host) (answer : Result (Option Inbound) CarrierFault) → calls.takes old h answer new → ShowsTake (calls.seen old) h answer (calls.seen new) → Called calls old (event.Take h) (outcome_of answer) new
 called_take calls old new h answer gives shown = record { gives = (answer, gives, refl); grew = grew_take (calls.seen old) h answer (calls.seen new) shown; refused = refused_take (calls.seen old) h answer (calls.seen new) shown }
-
-pub called_step : {C : Type 0} (calls : Calls C) (old new : C) (e : NetEvent) (r : Result (Unit {0}) CarrierFault) → calls.steps old e r new → ShowsStep (calls.seen old) e r (calls.seen new) → Called calls old (event.Net e) r new
-called_step calls old new e r gives shown = record { gives = gives; grew = grew_step (calls.seen old) e r (calls.seen new) shown; refused = refused_step (calls.seen old) e r (calls.seen new) shown }
-
--- the log only grew
-pub behind : (old new : Seen) (before after : List Crossing) → Grew old new → before ≡ reverse old.log → after ≡ reverse new.log → length before ≤ length after
-behind old new before after grew was is =
-    let b : length before ≡ length old.log = ap length was ∙ length-reverse old.log in
-    let a : length after ≡ length (grew.crossings ++ old.log) = ap length is ∙ length-reverse new.log ∙ ap length grew.grown in
-    let both : length (grew.crossings ++ old.log) ≡ length grew.crossings + length old.log = length-append grew.crossings old.log in
-    omega (arith, b, a, both)
 
 -- ---- its line
 
@@ -55,28 +41,3 @@ tells calls inside number old new x r before after a b called goes was is writte
     let same : ended_line (trace_line number x shown (inside.parts new x.event cs)) ≡ ended_line line ++ [] =
     ap (λ (crossed : List Crossing). ended_line (trace_line number x shown (inside.parts new x.event crossed))) (sym (crossings_shown cs r)) ∙ sym (append-nil (ended_line line)) in
     record { shown = line ∷ []; is_shown = (shown, happens, refl); written = subst (Appends a b) same written }
-
--- ---- where it has none
-
-pub halts_stop : {C : Type 0} (calls : Calls C) (old new : C) (x : Element) (r : Result (Unit {0}) CarrierFault) (a : Option (List ℕ)) → Called calls old x.event r new → Halts r → WritesTrace (StopsElement calls old x new) a a
-halts_stop calls old new x r a called halts = record {
-  shown = [];
-  is_shown = (record { runs_out = inr (r, called.gives, halts); crossings = []; grown = halted_log r (calls.seen old) (calls.seen new) halts called.refused; lines = refl; no_lines = λ one. refl }, refl);
-  written = appends_none a;
-}
-
-pub uncopied_stops : {C : Type 0} (calls : Calls C) (old new : C) (x : Element) (a : Option (List ℕ)) → IsCopied x.event → new ≡ old → WritesTrace (StopsElement calls old x new) a a
-uncopied_stops calls old new x a copied same = record {
-  shown = [];
-  is_shown = (record { runs_out = inl (copied, same); crossings = []; grown = ap (λ c. (calls.seen c).log) same; lines = refl; no_lines = λ one. refl }, refl);
-  written = appends_none a;
-}
-
-itself : (e : RawEvent) → IsOneCall e → BeginsWith e e
-itself (event.Out m) one = refl
-itself (event.Take h) one = refl
-itself (event.Net e) one = refl
-itself (event.Calm rounds) one = absurd one
-
-pub may_tell : {C : Type 0} (calls : Calls C) (old new : C) (x : Element) (r : Result (Unit {0}) CarrierFault) → IsOneCall x.event → Called calls old x.event r new → (lines : List (List ℕ)) × MayTell calls old x new lines
-may_tell calls old new x r one called = ([], (record { processed = x.event; begins = itself x.event one; outcome = r; gives = called.gives; unknown = refl }, refl))

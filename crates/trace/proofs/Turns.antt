@@ -2,14 +2,12 @@
 use Rattle.std.proofs.Common.{◌≡◌, ◌&&◌, ◌||◌, not, nat_lt, is_some, ◌-◌, ◌<◌, ◌+◌, ℕ, zero, suc, Bool, true, false, List, [], ◌∷◌, drop, length, get_or, Option, Some, None, Result, Ok, Err, refl, sym, ap, ◌∙◌, subst, arith}
 use Rattle.std.proofs.lemmas.Bool.{lt-ltb}
 use Rattle.std.proofs.lemmas.List.{append_assoc, drop_more}
-use Rattle.std.proofs.lemmas.List.Folds.{list_any_at}
 use Rattle.leader1822.specs.Boxes.{Boxes, WaitingAnswer, answer_first, first_of_list, for_host, host_refusal, inbound_taken, is_running, next_for, take_grows}
 use Rattle.leader1822.specs.Calls.{is_halt, is_memory}
-use Rattle.leader1822.specs.Host.{Host, is_host, same_host}
+use Rattle.leader1822.specs.Host.{Host, is_host}
 use Rattle.leader1822.specs.declared.CarrierFault.{CarrierFault}
 use Rattle.leader1822.specs.declared.HostMessage.{HostMessage}
 use Rattle.leader1822.specs.declared.Inbound.{Inbound}
-use Rattle.leader1822.proofs.lemmas.{same_host-refl}
 use Rattle.replay.specs.Output.{Shown}
 use Rattle.replay.specs.Replay.{GoesOn, Happens, outcome_of}
 use Rattle.script.specs.declared.event.RawEvent.TheVariants as event
@@ -152,10 +150,6 @@ in_next_round b t (Some next) lt over h =
     (goes.0, goes.1, next_round b t lt over ∙ goes.2, goes.3)
 
 -- ---- the next taking
-
--- a host at a place of the network is one of its hosts
-pub is_there : (hosts : List Host) (i : ℕ) (h : Host) → i < length hosts → h ≡ get_or hosts i h → is_host hosts h ≡ true
-is_there hosts i h lt is = list_any_at (same_host h) hosts i h lt (ap (same_host h) (sym is) ∙ same_host-refl h)
 
 waits : (answers : List WaitingAnswer) (messages : List HostMessage) → is_some (answer_first (first_of_list answers) (first_of_list messages)) ≡ (nat_lt 0 (length answers) || nat_lt 0 (length messages))
 waits [] [] = refl
