@@ -1,13 +1,13 @@
 //! The program `arpasim`: it runs a network over a script and prints what its hosts see.
 //!
 //! Standard input is a topology, a line `%` and a script, or for `--audit` a log. The program itself is `command_line::run`,
-//! `run_log` or `run_audit`; here it is given the words of the command line, standard input and standard output, and its fault
+//! `run_log`, `run_trace` or `run_audit`; here it is given the words of the command line, standard input and standard output, and its fault
 //! becomes a line on standard error and the exit status.
 #![tactic(auto)]
 
 use command_line::{
     Audit, AuditFault, Output, Printer, Reader, ScriptFault, Task, audit_status, run, run_audit,
-    run_log,
+    run_log, run_trace,
 };
 use std::io::{BufWriter, ErrorKind};
 use std::process::ExitCode;
@@ -50,6 +50,7 @@ fn replay_input<R: Env + Input + Print + AllocGlobal>(
     let mut writer = Printer::new(buffered.map_err(|_| ScriptFault::OutOfMemory)?);
     let outcome = match Task::of(words) {
         Some(Task::Log) => run_log(rt.alloc(), &mut reader, &mut writer),
+        Some(Task::Trace) => run_trace(rt.alloc(), &mut reader, &mut writer),
         _ => run(rt.alloc(), words, &mut reader, &mut writer),
     };
     // what was written before memory ran out is still gathered

@@ -9,5 +9,6 @@ mod OneInput
 mod Printed
 mod Settled
 mod Sites
+mod Traced
 mod Words
 mod Written

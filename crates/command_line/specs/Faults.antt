@@ -11,6 +11,7 @@ status_of fault.BadOptions = 1
 status_of fault.CannotRead = 1
 status_of fault.BadTopology = 1
 status_of (fault.BadLine number) = 2
+status_of fault.NoTrace = 1
 status_of fault.OutOfMemory = 3
 status_of fault.CannotWrite = 3
 

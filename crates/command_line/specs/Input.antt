@@ -47,3 +47,4 @@ IsInputFault octets fault.CannotRead = ⊥
 IsInputFault octets fault.OutOfMemory = Unit {0}
 IsInputFault octets fault.CannotWrite = IsSomeInput octets
 IsInputFault octets fault.BadOptions = ⊥
+IsInputFault octets fault.NoTrace = ⊥

@@ -10,3 +10,4 @@ pub mod Parser
 pub mod Printed
 pub mod Replayed
 pub mod Steps
+pub mod Traced

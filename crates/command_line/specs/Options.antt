@@ -31,8 +31,9 @@ abbrev pub task_of : List (List ℕ) → Option Task
 task_of [] = None
 task_of (word ∷ []) =
     if bytes_eq word (codes "--log") then Some task.Log
+    else (if bytes_eq word (codes "--trace") then Some task.Trace
     else (if bytes_eq word (codes "--audit") then Some task.Audit
-    else None)
+    else None))
 task_of (word ∷ next ∷ words) = None
 
 -- how much is printed of a message, where its text is asked for and where it isn't

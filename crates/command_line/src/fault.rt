@@ -28,6 +28,9 @@ pub enum ScriptFault {
     /// This line of the script, counted from 1, is no event. Nothing was replayed.
     #[error("arpasim: bad script line {0}")]
     BadLine(usize),
+    /// The network has no traces: it has a subnet, or programs on its hosts. Nothing was replayed.
+    #[error("arpasim: no trace of such a network")]
+    NoTrace,
     /// No memory was left. The output is a prefix of what the replay would have written.
     #[error("arpasim: stopped")]
     OutOfMemory,
@@ -37,13 +40,16 @@ pub enum ScriptFault {
 }
 
 impl ScriptFault {
-    /// The exit status: 1 for options, reading and topology, 2 for a line of the script, 3 when memory runs out
+    /// The exit status: 1 for options, reading, topology and a network without traces, 2 for a line of the script, 3 when memory runs out
     /// or a write fails.
     pub fn status(&self) -> u8
         ensures { result ≡ status_of self.now }
     {
         match self {
-            ScriptFault::BadOptions | ScriptFault::CannotRead | ScriptFault::BadTopology => 1,
+            ScriptFault::BadOptions
+            | ScriptFault::CannotRead
+            | ScriptFault::BadTopology
+            | ScriptFault::NoTrace => 1,
             ScriptFault::BadLine(_) => 2,
             ScriptFault::OutOfMemory | ScriptFault::CannotWrite => 3,
         }

@@ -23,6 +23,7 @@ mod logging;
 mod options;
 mod simulator;
 mod source;
+mod tracing;
 mod verdict;
 
 pub use auditing::{AuditFault, audit_status, run_audit};
@@ -33,3 +34,4 @@ pub use options::{Options, OptionsFault, Task};
 pub use replay::{Detail, Output, Printer, WriteFailed};
 pub use simulator::{run, run_script};
 pub use source::{ReadFailed, Reader, Source};
+pub use tracing::run_trace;

@@ -29,12 +29,14 @@ pub struct Options {
 pub enum Task {
     /// The log of the replay's book.
     Log,
+    /// The trace of the replay.
+    Trace,
     /// The audit of a log.
     Audit,
 }
 
 impl Task {
-    /// What the words behind the program's name ask for, where they are one word: `--log` or `--audit`.
+    /// What the words behind the program's name ask for, where they are one word: `--log`, `--trace` or `--audit`.
     pub fn of(words: &[String]) -> Option<Task>
         ensures { result ≡ task_of (map string_bytes words.now) }
     {
@@ -43,6 +45,8 @@ impl Task {
         }
         if words[0].as_str() == "--log" {
             Some(Task::Log)
+        } else if words[0].as_str() == "--trace" {
+            Some(Task::Trace)
         } else if words[0].as_str() == "--audit" {
             Some(Task::Audit)
         } else {

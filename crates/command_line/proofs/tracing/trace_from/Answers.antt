@@ -1,0 +1,12 @@
+use Rattle.std.proofs.Common.{Err, ap}
+use Rattle.command_line.proofs.Faults.{told_memory, told_write}
+use Rattle.command_line.proofs.tracing.trace_from.Goals as goal
+
+pub returns-in-Ok-clause-traced : goal.returns-in-Ok-clause-traced
+returns-in-Ok-clause-traced g c = ?
+
+pub returns-clause-stopped : goal.returns-clause-stopped
+returns-clause-stopped g c = λ e. record { last = c.trace_events.new.carrier; traced = c.in-Err.ensures.memory (ap Err (told_memory c.in-Err.fault c.from.result c.from.ensures e)) }
+
+pub returns-clause-failed : goal.returns-clause-failed
+returns-clause-failed g c = told_write c.in-Err.fault c.from.result (g.W.Output.failed c.trace_events.new.writer) c.from.ensures c.in-Err.ensures.failed

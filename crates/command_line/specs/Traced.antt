@@ -1,0 +1,108 @@
+-- What is written of a replay as a trace.
+use Rattle.std.specs.Prelude.{ℕ, List, Option}
+use Rattle.leader1822.specs.Boxes.{Boxes}
+use Rattle.script.specs.declared.event.RawEvent.{RawEvent}
+use Rattle.topology.specs.Topology.{TopologyFields}
+use Rattle.topology.specs.declared.network.CarrierKind.{CarrierKind}
+use Rattle.topology.specs.declared.network.CarrierKind.TheVariants as kind
+use Rattle.trace.specs.Elements.{calm_of}
+use Rattle.trace.specs.Texts.{changed_text}
+use Rattle.trace.specs.Traces.{Inside, StopsElement, TraceEnds, Traces, WritesTrace}
+use Rattle.command_line.specs.Carriers.{plain_calls, plain_of}
+use Rattle.command_line.specs.Events.{Asked, Raw, World}
+use Rattle.command_line.specs.Input.{IsInput, IsInputFault}
+use Rattle.command_line.specs.declared.fault.ScriptFault.{ScriptFault}
+use Rattle.command_line.specs.declared.fault.ScriptFault.TheVariants as fault
+
+-- what plain mailboxes tell of their inside
+abbrev pub plain_inside : Inside Boxes
+plain_inside = record { calm = calm_of; parts = changed_text }
+
+-- events are replayed over plain mailboxes, and their trace is written, and nothing else
+pub record TracesFrom (opening : Boxes) (events : List RawEvent) (before after : Option (List ℕ)) : Type 0 where
+  pub last : Boxes
+  pub traced : WritesTrace (Traces plain_calls plain_inside opening events last) before after
+
+-- memory ran out in one of the elementary events: the lines of those before it are written, and nothing else
+pub record EndsFrom (opening : Boxes) (events : List RawEvent) (before after : Option (List ℕ)) : Type 0 where
+  pub last : Boxes
+  pub traced : WritesTrace (TraceEnds plain_calls plain_inside (StopsElement plain_calls) opening events last) before after
+
+-- ---- of a topology: only raw networks of plain mailboxes have traces
+
+abbrev pub TracesOver : CarrierKind → TopologyFields → Asked → Option (List ℕ) → Option (List ℕ) → Type 0
+TracesOver kind.Plain t (Raw events) before after = TracesFrom (plain_of t) events before after
+TracesOver kind.Plain t (World events) before after = ⊥
+TracesOver kind.Subnet t events before after = ⊥
+
+abbrev pub EndsOver : CarrierKind → TopologyFields → Asked → Option (List ℕ) → Option (List ℕ) → Type 0
+EndsOver kind.Plain t (Raw events) before after = EndsFrom (plain_of t) events before after
+EndsOver kind.Plain t (World events) before after = ⊥
+EndsOver kind.Subnet t events before after = ⊥
+
+abbrev pub HasTrace : CarrierKind → Asked → Type 0
+HasTrace kind.Plain (Raw events) = Unit {0}
+HasTrace kind.Plain (World events) = ⊥
+HasTrace kind.Subnet events = ⊥
+
+abbrev pub TracesOn : TopologyFields → Asked → Option (List ℕ) → Option (List ℕ) → Type 0
+TracesOn t events before after = TracesOver t.carrier t events before after
+
+abbrev pub EndsOn : TopologyFields → Asked → Option (List ℕ) → Option (List ℕ) → Type 0
+EndsOn t events before after = EndsOver t.carrier t events before after
+
+-- ---- of an input
+
+-- the trace of its script over the mailboxes of its topology is written
+pub record TracesInput (octets : List ℕ) (before after : Option (List ℕ)) : Type 0 where
+  pub network : TopologyFields
+  pub events : Asked
+  pub input : IsInput octets network events
+  pub traced : TracesOn network events before after
+
+-- memory ran out while it was replayed
+pub record TraceStops (octets : List ℕ) (before after : Option (List ℕ)) : Type 0 where
+  pub network : TopologyFields
+  pub events : Asked
+  pub input : IsInput octets network events
+  pub stopped : EndsOn network events before after
+
+-- the same of some script and some topology, for any reader
+pub record Traced (before after : Option (List ℕ)) : Type 0 where
+  pub network : TopologyFields
+  pub events : Asked
+  pub traced : TracesOn network events before after
+
+pub record TracedInPart (before after : Option (List ℕ)) : Type 0 where
+  pub network : TopologyFields
+  pub events : Asked
+  pub stopped : EndsOn network events before after
+
+-- ---- faults
+
+-- an input whose network has no traces
+pub record IsUntraced (octets : List ℕ) : Type 0 where
+  pub network : TopologyFields
+  pub events : Asked
+  pub input : IsInput octets network events
+  pub untraced : ¬ HasTrace network.carrier events
+
+-- when each fault may be given for these octets, where no read failed: those of an input, and where its network has no traces
+abbrev pub IsTraceFault : List ℕ → ScriptFault → Type 0
+IsTraceFault octets fault.NoTrace = IsUntraced octets
+IsTraceFault octets fault.BadTopology = IsInputFault octets fault.BadTopology
+IsTraceFault octets (fault.BadLine number) = IsInputFault octets (fault.BadLine number)
+IsTraceFault octets fault.OutOfMemory = IsInputFault octets fault.OutOfMemory
+IsTraceFault octets fault.CannotWrite = IsInputFault octets fault.CannotWrite
+IsTraceFault octets fault.CannotRead = IsInputFault octets fault.CannotRead
+IsTraceFault octets fault.BadOptions = IsInputFault octets fault.BadOptions
+
+-- the faults of tracing the script of a topology, as the contracts of private functions say them
+abbrev pub IsTracingFault : TopologyFields → Asked → ScriptFault → Type 0
+IsTracingFault t events fault.NoTrace = ¬ HasTrace t.carrier events
+IsTracingFault t events fault.OutOfMemory = Unit {0}
+IsTracingFault t events fault.CannotWrite = Unit {0}
+IsTracingFault t events fault.BadTopology = ⊥
+IsTracingFault t events fault.CannotRead = ⊥
+IsTracingFault t events fault.BadOptions = ⊥
+IsTracingFault t events (fault.BadLine number) = ⊥
