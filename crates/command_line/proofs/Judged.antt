@@ -1,5 +1,5 @@
 -- What is written of a log is what its audit says.
-use Rattle.std.proofs.Common.{◌≡◌, ◌<◌, ◌≤◌, ◌+◌, ℕ, Bool, true, false, List, ◌++◌, length, reverse, Option, Some, None, IfSome, codes, Result, Ok, Err, MatchResult, OnOk, refl, sym, ◌∙◌, subst}
+use Rattle.std.proofs.Common.{◌≡◌, ◌<◌, ◌≤◌, ℕ, Bool, true, false, List, ◌++◌, length, reverse, Option, Some, None, IfSome, codes, Result, Ok, Err, MatchResult, OnOk, refl, sym, ◌∙◌, subst}
 use Rattle.std.specs.Prelude.{◌↔◌}
 use Rattle.std.proofs.lemmas.Bool.{false≢true}
 use Rattle.std.specs.Io.KnownBytes.{Appends, Keeps}
@@ -39,7 +39,7 @@ whether_ok (Ok x) q = q
 whether_ok (Err e) q = tt
 
 -- what is written stays where it is handed on
-stays : (a b c : Option (List ℕ)) (text : List ℕ) → Appends a b text → Keeps b c → Appends a c text
+pub stays : (a b c : Option (List ℕ)) (text : List ℕ) → Appends a b text → Keeps b c → Appends a c text
 stays None b c text h k = tt
 stays (Some x) None c text h k = absurd h
 stays (Some x) (Some y) None text h k = absurd k

@@ -1,36 +1,24 @@
 -- What `--trace` writes is the trace of the input's script.
-use Rattle.std.proofs.Common.{◌≡◌, ◌⊎◌, inl, inr, ℕ, List, Option, Some, None, IfSome, Result, Ok, Err, IfErr, MatchResult, OnOk, sym, subst}
+use Rattle.std.proofs.Common.{◌≡◌, ◌⊎◌, inl, inr, ℕ, List, Option, Some, None, IfSome, Result, Ok, Err, IfErr, MatchResult, OnOk, subst}
 use Rattle.std.specs.Io.KnownBytes.{Keeps}
+use Rattle.leader1822.specs.Boxes.{Boxes}
+use Rattle.replay.specs.InTurn.{text_of}
+use Rattle.script.specs.declared.event.RawEvent.{RawEvent}
 use Rattle.topology.specs.Topology.{TopologyFields}
-use Rattle.topology.specs.declared.network.CarrierKind.{CarrierKind}
+use Rattle.trace.specs.Traces.{Traces, WritesTrace}
+use Rattle.command_line.specs.Carriers.{plain_calls}
 use Rattle.command_line.specs.Events.{Asked}
 use Rattle.command_line.specs.Input.{IsInput, IsInputFault, IsSomeInput}
-use Rattle.command_line.specs.Steps.{IsReplayFault}
-use Rattle.command_line.specs.Traced.{EndsOn, EndsOver, HasTrace, IsTraceFault, IsTracingFault, TraceStops, Traced, TracedInPart, TracesInput, TracesOn, TracesOver}
+use Rattle.command_line.specs.Traced.{EndsOn, IsTraceFault, IsTracingFault, TraceStops, Traced, TracedInPart, TracesFrom, TracesInput, TracesOn, plain_inside}
+use Rattle.command_line.proofs.Judged.{stays}
 use Rattle.command_line.specs.declared.fault.ScriptFault.{ScriptFault}
 use Rattle.command_line.specs.declared.fault.ScriptFault.TheVariants as fault
 
--- ---- over the mailboxes of a topology
+-- ---- over mailboxes
 
-pub traced_over : {A E : Type 0} (carrier : CarrierKind) (network : TopologyFields) (events : Asked) (a b : Option (List ℕ)) (r : Result A E) → network.carrier ≡ carrier → OnOk r (TracesOver carrier network events a b) → OnOk r (TracesOn network events a b)
-traced_over carrier network events a b r is h = subst (λ (k : CarrierKind). OnOk r (TracesOver k network events a b)) (sym is) h
-
-pub ends_over : (carrier : CarrierKind) (network : TopologyFields) (events : Asked) (a b : Option (List ℕ)) → network.carrier ≡ carrier → EndsOver carrier network events a b → Keeps a b ⊎ EndsOn network events a b
-ends_over carrier network events a b is h = inr (subst (λ (k : CarrierKind). EndsOver k network events a b) (sym is) h)
-
--- a network that has no trace
-pub untraced : (carrier : CarrierKind) (network : TopologyFields) (events : Asked) → network.carrier ≡ carrier → (HasTrace carrier events → ⊥) → IsTracingFault network events fault.NoTrace
-untraced carrier network events is none = λ has. none (subst (λ (k : CarrierKind). HasTrace k events) is has)
-
-pub tracing_fault : (network : TopologyFields) (events : Asked) (r : Result (Unit {0}) ScriptFault) → IfErr r IsReplayFault → IfErr r (IsTracingFault network events)
-tracing_fault network events (Ok done) h = tt
-tracing_fault network events (Err fault.OutOfMemory) h = tt
-tracing_fault network events (Err fault.CannotWrite) h = tt
-tracing_fault network events (Err fault.BadTopology) h = absurd h
-tracing_fault network events (Err fault.CannotRead) h = absurd h
-tracing_fault network events (Err fault.BadOptions) h = absurd h
-tracing_fault network events (Err fault.NoTrace) h = absurd h
-tracing_fault network events (Err (fault.BadLine number)) h = absurd h
+-- a trace that was written stays where it is handed on
+pub flushed_trace : (opening last : Boxes) (events : List RawEvent) (a b c : Option (List ℕ)) → WritesTrace (Traces plain_calls plain_inside opening events last) a b → Keeps b c → TracesFrom opening events a c
+flushed_trace opening last events a b c w k = record { last = last; traced = record { shown = w.shown; is_shown = w.is_shown; written = stays a b c (text_of (λ line. line) w.shown) w.written k } }
 
 -- ---- of known octets
 
