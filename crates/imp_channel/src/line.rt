@@ -170,6 +170,13 @@ impl Line {
         &self.channels
     }
 
+    /// The bit that it expects next on each channel of the other end, that of channel 0 first.
+    pub fn expected(&self) -> &[bool; ACKS]
+        ensures { result.now ≡ self.now.expected }
+    {
+        &self.expected
+    }
+
     /// How many channels are busy: at most eight.
     #[tactic(auto, using(crate::proofs::Calls::packets_counted))]
     pub fn busy_channels(&self) -> usize

@@ -9,6 +9,7 @@ use crate::flow_map::FlowMap;
 use crate::numbers::is_new;
 use leader1822::{Flow, ImpNumber, Number};
 use std::alloc::{AllocError, Global};
+use std::collections::btree_map;
 use std::marker::Model;
 
 /// Whether a message is new to its destination, judged by its number.
@@ -175,6 +176,13 @@ impl DestFlows {
         ensures { result ≡ has_from imp self.now }
     {
         self.flows.has_from(imp)
+    }
+
+    /// Each flow of which a number is kept, with that number and its message's fate, in the order of the flows.
+    pub fn iter(&self) -> btree_map::Iter<'_, Flow, Noted>
+        ensures { result ≡ map.entries self.now }
+    {
+        self.flows.iter()
     }
 
     /// The last number that it keeps of a flow.

@@ -9,6 +9,7 @@ use crate::flow_map::FlowMap;
 use crate::numbers::next;
 use leader1822::{Flow, HostAddr, ImpNumber, Number};
 use std::alloc::Global;
+use std::collections::btree_map;
 use std::marker::Model;
 
 /// A flow at its source, once a message of it was begun, with the number of the last message begun.
@@ -167,6 +168,13 @@ impl SourceFlows {
         if let Some(standing) = self.flows.get(flow) {
             self.flows.replace(*flow, standing.handed());
         }
+    }
+
+    /// Each flow of which a message was begun, with its standing, in the order of the flows.
+    pub fn iter(&self) -> btree_map::Iter<'_, Flow, Standing>
+        ensures { result ≡ map.entries self.now }
+    {
+        self.flows.iter()
     }
 
     /// Whether a message of the flow may begin: none is outstanding and no answer waits.

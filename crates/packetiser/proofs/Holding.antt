@@ -14,7 +14,7 @@ use Rattle.leader1822.specs.Flow.{same_flow, flow_before}
 use Rattle.leader1822.specs.declared.address.Flow.{Flow}
 use Rattle.packetiser.specs.PacketFields.{PacketFields, IsPacket, IsPiece, Carries, flow_of}
 use Rattle.packetiser.specs.Pieces.{IsBodySize}
-use Rattle.packetiser.specs.Slots.{SlotState, IsTable, IsPieceFor, slot_of, pieces_at, kept_for, gathered, with_piece, put, without, outcome_of, answer_of, answer_by, added, added_by, has_room, is_old, rules_out, is_whole_from, joined_pieces, packets_in, in_some_order}
+use Rattle.packetiser.specs.Slots.{SlotState, IsTable, IsPieceFor, slot_of, pieces_for, kept_for, gathered, with_piece, put, without, outcome_of, answer_of, answer_by, added, added_by, has_room, is_old, rules_out, is_whole_from, joined_pieces, packets_in, in_some_order}
 use Rattle.packetiser.specs.Rejoining.{AreAmong, IsGathered, IsRejoined, HasBodySize}
 use Rattle.packetiser.specs.declared.packet.PacketKind.{PacketKind}
 use Rattle.packetiser.specs.declared.packet.PacketKind.TheVariants as kind
@@ -51,7 +51,7 @@ All_without P test (t ∷ ts) all = elim (cases_Bool (test t)) [
   | inr e ↦ rw e (All_without P test ts (All_right P t.pieces (packets_in ts) all))
 ]
 
-All_kept_for : (P : PacketFields → Type 0) (slots : List SlotState) (f : Flow) (number : ℕ) → All P (packets_in slots) → All P (pieces_at (slot_of slots f) number)
+All_kept_for : (P : PacketFields → Type 0) (slots : List SlotState) (f : Flow) (number : ℕ) → All P (packets_in slots) → All P (pieces_for (slot_of slots f) number)
 All_kept_for P [] f number all = All-nil P
 All_kept_for P (t ∷ ts) f number all = elim (cases_Bool (same_flow f t.flow)) [
   | inl e ↦ elim (cases_Bool (t.number == number)) [

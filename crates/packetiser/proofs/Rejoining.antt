@@ -11,7 +11,7 @@ use Rattle.leader1822.proofs.lemmas.{same_flow-refl, same_flow-true}
 use Rattle.leader1822.specs.declared.address.Flow.{Flow}
 use Rattle.packetiser.specs.PacketFields.{PacketFields, flow_of}
 use Rattle.packetiser.specs.Pieces.{piece_count, piece, piece_packet, places, packets_of, CarriesPieceOf}
-use Rattle.packetiser.specs.Slots.{SlotState, IsPieceFor, slot_of, pieces_at, kept_for, gathered, with_piece, put, without, outcome_of, answer_of, answer_by, added, added_by, has_room, is_old, rules_out, is_whole_from, joined_pieces}
+use Rattle.packetiser.specs.Slots.{SlotState, IsPieceFor, slot_of, pieces_for, kept_for, gathered, with_piece, put, without, outcome_of, answer_of, answer_by, added, added_by, has_room, is_old, rules_out, is_whole_from, joined_pieces}
 use Rattle.packetiser.specs.Rejoining.{came, all_came, pieces_of, Holds, answer_to, slots_after, Event, Piece, Other, Emptied, IsAmongOthers, places_in, after_events}
 use Rattle.packetiser.specs.declared.reassembly.Outcome.{Outcome}
 use Rattle.packetiser.specs.declared.reassembly.Outcome.TheVariants as outcome
@@ -379,9 +379,9 @@ still_held flow number w slots ks k h lt missing =
       | inr e ↦ (
           let out : outcome_of slots p ≡ outcome.Kept = if_kept (is_old (kept_for slots p) p) (is_whole_from 0 (gathered slots p)) (has_room slots flow) (known.old ∙ e) (known.whole e ∙ missing) h.room in
           let own : (number == number) ≡ true = eq-eqb number number refl in
-          let kept_there : pieces_at (Some s) number ≡ gathered slots p = rw own refl in
+          let kept_there : pieces_for (Some s) number ≡ gathered slots p = rw own refl in
           subst P (sym out) (record {
-            pieces = ap (λ (o : Option SlotState). pieces_at o number) (slot_put_same s slots) ∙ kept_there ∙ known.together e;
+            pieces = ap (λ (o : Option SlotState). pieces_for o number) (slot_put_same s slots) ∙ kept_there ∙ known.together e;
             room = rw (has_put s slots) refl;
           }))
     ]
@@ -431,7 +431,7 @@ pub room_of : (slots : List SlotState) (f : Flow) (s : SlotState) → slot_of sl
 room_of slots f s h = room_there slots f (ap is_some h)
 
 -- where pieces are held there is a slot
-slot_there : (o : Option SlotState) (number : ℕ) → 0 < length (pieces_at o number) → is_some o ≡ true
+slot_there : (o : Option SlotState) (number : ℕ) → 0 < length (pieces_for o number) → is_some o ≡ true
 slot_there None number some = absurd (omega arith)
 slot_there (Some s) number some = refl
 
@@ -450,9 +450,9 @@ some_came flow number w ks j lt here =
 untouched : (flow : Flow) (number : ℕ) (w : List Bool) (old new : List SlotState) (ks : List ℕ) (j : ℕ) → Holds flow number w ks old → j < piece_count w → came ks j ≡ true
     → slot_of new flow ≡ slot_of old flow → Holds flow number w ks new
 untouched flow number w old new ks j h lt here same =
-    let some : 0 < length (pieces_at (slot_of old flow) number) = omega (arith, ap length h.pieces, some_came flow number w ks j lt here) in
+    let some : 0 < length (pieces_for (slot_of old flow) number) = omega (arith, ap length h.pieces, some_came flow number w ks j lt here) in
     record {
-      pieces = ap (λ (o : Option SlotState). pieces_at o number) same ∙ h.pieces;
+      pieces = ap (λ (o : Option SlotState). pieces_for o number) same ∙ h.pieces;
       room = room_there new flow (ap is_some same ∙ slot_there (slot_of old flow) number some);
     }
 

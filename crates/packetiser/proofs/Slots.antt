@@ -16,7 +16,7 @@ use Rattle.leader1822.specs.Flow.{same_flow, flow_before}
 use Rattle.leader1822.proofs.lemmas.{flow_before_else, flow_before_trans, same_flow-true}
 use Rattle.leader1822.specs.declared.address.Flow.{Flow}
 use Rattle.packetiser.specs.PacketFields.{PacketFields, IsPacket, flow_of}
-use Rattle.packetiser.specs.Slots.{SlotState, IsSlot, IsInOrder, IsTable, IsPieceFor, PlacesRise, slot_of, pieces_at, kept_for, gathered, with_piece, put, without, kept, outcome_of, has_room, is_old, rules_out, is_whole_from, joined_pieces}
+use Rattle.packetiser.specs.Slots.{SlotState, IsSlot, IsInOrder, IsTable, IsPieceFor, PlacesRise, slot_of, pieces_for, kept_for, gathered, with_piece, put, without, kept, outcome_of, has_room, is_old, rules_out, is_whole_from, joined_pieces}
 use Rattle.packetiser.specs.declared.packet.PacketKind.TheVariants as kind
 use Rattle.packetiser.specs.declared.reassembly.Outcome.TheVariants as outcome
 
@@ -213,7 +213,7 @@ length-put s (t ∷ ts) = elim (cases_Bool (same_flow s.flow t.flow)) [
   ]
 ]
 
-pub kept_sound : (slots : List SlotState) (f : Flow) (number : ℕ) → All IsSlot slots → All (IsPieceFor f number) (pieces_at (slot_of slots f) number)
+pub kept_sound : (slots : List SlotState) (f : Flow) (number : ℕ) → All IsSlot slots → All (IsPieceFor f number) (pieces_for (slot_of slots f) number)
 kept_sound [] f number all = All-nil (IsPieceFor f number)
 kept_sound (s ∷ slots) f number all = elim (cases_Bool (same_flow f s.flow)) [
   | inl e ↦ elim (cases_Bool (s.number == number)) [
@@ -228,7 +228,7 @@ kept_sound (s ∷ slots) f number all = elim (cases_Bool (same_flow f s.flow)) [
 ]
 
 -- what is held of a message has what each slot's pieces have
-held_of : (P : List PacketFields → Type 0) (slots : List SlotState) (f : Flow) (number : ℕ) → P [] → All (λ s. P s.pieces) slots → P (pieces_at (slot_of slots f) number)
+held_of : (P : List PacketFields → Type 0) (slots : List SlotState) (f : Flow) (number : ℕ) → P [] → All (λ s. P s.pieces) slots → P (pieces_for (slot_of slots f) number)
 held_of P [] f number none all = none
 held_of P (s ∷ slots) f number none all = elim (cases_Bool (same_flow f s.flow)) [
   | inl e ↦ elim (cases_Bool (s.number == number)) [
@@ -238,10 +238,10 @@ held_of P (s ∷ slots) f number none all = elim (cases_Bool (same_flow f s.flow
   | inr e ↦ rw e (held_of P slots f number none (All-tail (λ (t : SlotState). P t.pieces) s slots all))
 ]
 
-pub kept_packets : (slots : List SlotState) (f : Flow) (number : ℕ) → All IsSlot slots → All IsPacket (pieces_at (slot_of slots f) number)
+pub kept_packets : (slots : List SlotState) (f : Flow) (number : ℕ) → All IsSlot slots → All IsPacket (pieces_for (slot_of slots f) number)
 kept_packets slots f number all = held_of (All IsPacket) slots f number (All-nil IsPacket) (All-weaker IsSlot (λ s. All IsPacket s.pieces) (λ s h. h.packets) slots all)
 
-kept_places : (slots : List SlotState) (f : Flow) (number : ℕ) → All IsSlot slots → PlacesRise (pieces_at (slot_of slots f) number)
+kept_places : (slots : List SlotState) (f : Flow) (number : ℕ) → All IsSlot slots → PlacesRise (pieces_for (slot_of slots f) number)
 kept_places slots f number all = held_of PlacesRise slots f number tt (All-weaker IsSlot (λ s. PlacesRise s.pieces) (λ s h. h.places) slots all)
 
 -- a packet that is kept isn't old
@@ -312,7 +312,7 @@ unfolding slot_with
 same_slot f g n m ps qs ef en eq = same_slot_with ef en eq
 
 pub kept_at : (slots : List SlotState) (p : PacketFields) (at : ℕ) (old new : SlotState) → IsInOrder slots → position (λ s. same_flow (flow_of p) s.flow) slots ≡ Some at
-    → old ≡ get_or slots at old → new ≡ record { flow = old.flow; number = p.number; pieces = with_piece p (pieces_at (Some old) p.number) }
+    → old ≡ get_or slots at old → new ≡ record { flow = old.flow; number = p.number; pieces = with_piece p (pieces_for (Some old) p.number) }
     → set slots at new ≡ kept slots p
 kept_at slots p at old new order place read is =
     let test : SlotState → Bool = λ s. same_flow (flow_of p) s.flow in
@@ -321,8 +321,8 @@ kept_at slots p at old new order place read is =
     let flow : flow_of p ≡ old.flow = same_flow-true (flow_of p) old.flow passes in
     let found_is : slot_of slots (flow_of p) ≡ Some old = find_at test slots ∙ ap (λ (k : ℕ). slice_get slots k) i.first ∙ slice_get_read slots (length slots) at old refl i.within read in
     let s : SlotState = record { flow = flow_of p; number = p.number; pieces = gathered slots p } in
-    let same : new ≡ s = is ∙ same_slot old.flow (flow_of p) p.number p.number (with_piece p (pieces_at (Some old) p.number)) (gathered slots p) (sym flow) refl
-    (ap (λ (o : Option SlotState). with_piece p (pieces_at o p.number)) (sym found_is)) in
+    let same : new ≡ s = is ∙ same_slot old.flow (flow_of p) p.number p.number (with_piece p (pieces_for (Some old) p.number)) (gathered slots p) (sym flow) refl
+    (ap (λ (o : Option SlotState). with_piece p (pieces_for o p.number)) (sym found_is)) in
     ap (λ (t : SlotState). set slots at t) same ∙ ap (λ (k : ℕ). set slots k s) (sym i.first) ∙ sym (put_held s slots order i.any)
 
 pub kept_new : (slots : List SlotState) (p : PacketFields) (at number : ℕ) (f : Flow) (pieces : List PacketFields) → position (λ s. same_flow (flow_of p) s.flow) slots ≡ None
@@ -335,6 +335,6 @@ kept_new slots p at number f pieces none flow numbers one place =
     let s : SlotState = record { flow = flow_of p; number = p.number; pieces = gathered slots p } in
     let t : SlotState = record { flow = f; number = number; pieces = pieces } in
     let same : t ≡ s = same_slot f (flow_of p) number p.number pieces (gathered slots p) flow numbers
-    (one ∙ ap (λ (o : Option SlotState). with_piece p (pieces_at o p.number)) (sym no_slot)) in
+    (one ∙ ap (λ (o : Option SlotState). with_piece p (pieces_for o p.number)) (sym no_slot)) in
     let at_is : at ≡ position_or_len (λ (u : SlotState). not (flow_before u.flow s.flow)) slots = place ∙ ap (λ (g : Flow). position_or_len (λ (u : SlotState). not (flow_before u.flow g)) slots) flow in
     ap (λ (u : SlotState). insert slots at u) same ∙ ap (λ (k : ℕ). insert slots k s) at_is ∙ sym (put_new s slots unheld)

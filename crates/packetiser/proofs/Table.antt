@@ -14,7 +14,7 @@ use Rattle.slab.specs.Slab.{Slab, get, ContainsKey, slab_len, Updates, with_valu
 use Rattle.slab.proofs.SlabLemmas.{Updates-with_value}
 use Rattle.packetiser.specs.Inside.{slots_at, is_there_and, IsKept}
 use Rattle.packetiser.specs.PacketFields.{PacketFields, flow_of}
-use Rattle.packetiser.specs.Slots.{SlotState, IsInOrder, slot_of, pieces_at, with_piece, without, has_room, kept}
+use Rattle.packetiser.specs.Slots.{SlotState, IsInOrder, slot_of, pieces_for, with_piece, without, has_room, kept}
 use Rattle.packetiser.proofs.Keys.{length-there, get-there, first-there, insert-there, remove-there, same-there, set-there, All-insert, All-remove, apart-insert, apart-remove, removed-apart}
 use Rattle.packetiser.proofs.Slots.{any_within, position_none, position_some, find_none, IsAt, kept_at}
 
@@ -113,7 +113,7 @@ kept_remove old new keys room at key h within is updates shorter as_large =
 
 pub kept_fill : (slots : Slab SlotState) (keys : List ℕ) (room at key : ℕ) (p : PacketFields) (old new : SlotState) (now : List SlotState) → IsKept slots keys room → slots_at slots keys ≡ now → IsInOrder now
     → position (λ s. same_flow (flow_of p) s.flow) now ≡ Some at → at < length keys → key ≡ get_or keys at key → get slots key ≡ Some old
-    → new ≡ record { flow = old.flow; number = p.number; pieces = with_piece p (pieces_at (Some old) p.number) }
+    → new ≡ record { flow = old.flow; number = p.number; pieces = with_piece p (pieces_for (Some old) p.number) }
     → slots_at (with_value slots key new) keys ≡ kept now p
 kept_fill slots keys room at key p old new now h view order place within is found made =
     let updates : Updates slots (with_value slots key new) key (Some new) = Updates-with_value slots key new (ap is_some found) in

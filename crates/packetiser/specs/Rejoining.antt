@@ -5,7 +5,7 @@ use Rattle.leader1822.specs.Flow.{same_flow}
 use Rattle.leader1822.specs.declared.address.Flow.{Flow}
 use Rattle.packetiser.specs.PacketFields.{PacketFields, flow_of}
 use Rattle.packetiser.specs.Pieces.{IsBodySize, piece_count, piece_packet, places}
-use Rattle.packetiser.specs.Slots.{SlotState, IsPieceFor, slot_of, pieces_at, has_room, is_whole_from, gathered, joined_pieces, added, without, packets_in}
+use Rattle.packetiser.specs.Slots.{SlotState, IsPieceFor, slot_of, pieces_for, has_room, is_whole_from, gathered, joined_pieces, added, without, packets_in}
 use Rattle.packetiser.specs.declared.reassembly.Added.{Added}
 use Rattle.packetiser.specs.declared.reassembly.Added.TheVariants as answer
 
@@ -49,7 +49,7 @@ pieces_of flow number w ks = map (piece_packet flow number w) (filter (came ks) 
 
 -- of the message with this body the pieces at these places are held, and no others, and a slot is there for it
 pub record Holds (flow : Flow) (number : ℕ) (w : List Bool) (ks : List ℕ) (slots : List SlotState) : Type 0 where
-  pub pieces : pieces_at (slot_of slots flow) number ≡ pieces_of flow number w ks
+  pub pieces : pieces_for (slot_of slots flow) number ≡ pieces_of flow number w ks
   pub room : has_room slots flow ≡ true
 
 -- what the piece at a place is answered after the pieces at these places

@@ -1,6 +1,6 @@
 -- Messages in reassembly (Heart et al., SJCC 1970: the destination IMP collects a message's packets).
 --
--- The slots are a list in order of their flows. Callers can't rely on that order: nothing that they are told names a slot's place.
+-- The slots are a list in order of their flows. `pieces_at` goes by that order; `held` names messages in an order that isn't told.
 use Rattle.std.specs.Prelude.{◌≡◌, ℕ, ◌+◌, ◌≤◌, ◌<◌, Bool, true, false, not, List, [], ◌∷◌, length, Option, Some, None, nat_lt, ◌==◌, ◌||◌, ◌&&◌, if◌then◌else◌, filter, All}
 use Rattle.std.specs.List.{find, list_any, flat_map}
 use Rattle.leader1822.specs.Flow.{same_flow, flow_before}
@@ -57,13 +57,13 @@ abbrev pub slot_of : List SlotState → Flow → Option SlotState
 slot_of slots f = find (λ s. same_flow f s.flow) slots
 
 -- what a slot holds of the message with this number
-abbrev pub pieces_at : Option SlotState → ℕ → List PacketFields
-pieces_at None number = []
-pieces_at (Some s) number = if s.number == number then s.pieces else []
+abbrev pub pieces_for : Option SlotState → ℕ → List PacketFields
+pieces_for None number = []
+pieces_for (Some s) number = if s.number == number then s.pieces else []
 
 -- the pieces of a packet's message that are held
 abbrev pub kept_for : List SlotState → PacketFields → List PacketFields
-kept_for slots p = pieces_at (slot_of slots (flow_of p)) p.number
+kept_for slots p = pieces_for (slot_of slots (flow_of p)) p.number
 
 -- all packets in the slots
 abbrev pub packets_in : List SlotState → List PacketFields

@@ -11,7 +11,7 @@ ghost use Rattle.packetiser.specs.PacketFields.{PacketFields, IsPacket, flow_of}
 ghost use Rattle.packetiser.specs.Format.{spelling, read_of};
 ghost use Rattle.packetiser.specs.Pieces.{piece_count, piece_packet, places, packets_of, IsBodySize, CarriesPieceOf};
 ghost use Rattle.packetiser.specs.Slots.{SlotState, IsTable, IsPieceFor, slot_of, kept_for, gathered, joined_pieces, is_whole_from};
-ghost use Rattle.packetiser.specs.Slots.{outcome_of, answer_of, added, without, packets_in, in_some_order, pieces_at, has_room};
+ghost use Rattle.packetiser.specs.Slots.{outcome_of, answer_of, added, without, packets_in, in_some_order, pieces_for, has_room};
 ghost use Rattle.packetiser.specs.Rejoining.{AreAmong, IsGathered, IsRejoined, Holds, answer_to, all_came, slots_after};
 ghost use Rattle.packetiser.specs.Rejoining.{Event, IsAmongOthers, places_in, after_events};
 ghost use Rattle.packetiser.specs.declared.packet.PacketKind.TheVariants as kind;

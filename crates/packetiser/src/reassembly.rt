@@ -170,6 +170,25 @@ impl Reassembly {
         })
     }
 
+    /// How many messages are in reassembly: at most eight.
+    pub fn count(&self) -> usize
+        ensures { result ≡ length self.now }
+    {
+        self.slots.len()
+    }
+
+    /// The pieces that are held of the message at this place of those in reassembly, 0 being the first in the order
+    /// of their flows. The pieces stand in order of their own places.
+    pub fn pieces_at(&self, place: usize) -> &[Packet]
+        requires { place < length self.now }
+        ensures { option_map (λ s. s.pieces) (slice_get self.now place) ≡ Some result.now }
+    {
+        match self.slots.get(place) {
+            Some(slot) => slot.all_pieces(),
+            None => unreachable!(),
+        }
+    }
+
     /// Holds a piece for which there is a slot.
     fn keep(&mut self, alloc: Global, packet: Packet) -> Result<(), PacketFault>
         requires piece { packet.kind ≡ PacketKind.Data }

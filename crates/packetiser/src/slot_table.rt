@@ -7,7 +7,7 @@ ghost use Rattle.slab.specs.Slab.{get};
 ghost use Rattle.packetiser.specs.Faults.{GivesIfMemory};
 ghost use Rattle.packetiser.specs.Inside.{is_there_and};
 ghost use Rattle.packetiser.specs.PacketFields.{flow_of};
-ghost use Rattle.packetiser.specs.Slots.{SlotState, slot_of, pieces_at, kept_for, with_piece, without, has_room, kept, IsInOrder};
+ghost use Rattle.packetiser.specs.Slots.{SlotState, slot_of, pieces_for, kept_for, with_piece, without, has_room, kept, IsInOrder};
 
 use crate::format::SLOTS;
 use crate::{Packet, PacketFault};
@@ -47,9 +47,16 @@ impl Slot {
         self.flow < *flow
     }
 
+    /// The pieces that it holds, in order of their places.
+    pub(crate) fn all_pieces(&self) -> &[Packet]
+        ensures { result.now ≡ self.now.pieces }
+    {
+        self.pieces.as_slice()
+    }
+
     /// What it holds of the message with this number.
     fn pieces(&self, number: Number) -> &[Packet]
-        ensures { result.now ≡ pieces_at (Some self.now) number }
+        ensures { result.now ≡ pieces_for (Some self.now) number }
     {
         if self.number == number {
             self.pieces.as_slice()
@@ -60,7 +67,7 @@ impl Slot {
 
     /// Takes one more piece, and drops pieces of another number.
     fn take(&mut self, alloc: Global, packet: Packet) -> Result<(), PacketFault>
-        ensures taken { GivesIfMemory (λ _. self.new ≡ record { flow = self.old.flow; number = packet.number; pieces = with_piece packet (pieces_at (Some self.old) packet.number) }) result }
+        ensures taken { GivesIfMemory (λ _. self.new ≡ record { flow = self.old.flow; number = packet.number; pieces = with_piece packet (pieces_for (Some self.old) packet.number) }) result }
         ensures err { OnErr result (self.new ≡ self.old) }
     {
         let number = packet.number();
@@ -156,7 +163,7 @@ impl SlotTable {
     }
 
     /// How many slots are in use.
-    fn len(&self) -> usize
+    pub(crate) fn len(&self) -> usize
         ensures { result ≡ length self.now }
     {
         self.order.len()

@@ -79,6 +79,14 @@ impl RouteTable {
         self.own
     }
 
+    /// The distances last heard on each port, in the order of the ports; `None` where nothing was heard since the
+    /// line came up.
+    pub fn heard(&self) -> &[Option<Vector>]
+        ensures { result.now ≡ self.now.heard }
+    {
+        &self.heard
+    }
+
     /// The lowest port whose neighbour attains the IMP's distance to another IMP. `None` for the IMP
     /// itself, and for an IMP at the infinite distance, such as one that there can't be. This takes no
     /// memory.
