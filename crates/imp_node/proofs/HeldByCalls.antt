@@ -30,7 +30,7 @@ use Rattle.imp_node.specs.declared.waiting.Message.{Message}
 use Rattle.imp_node.specs.declared.waiting.Told.{Told}
 use Rattle.imp_node.specs.State.{State, ImpTurn, opening_node, up_port, host_at, port_at, with_host, number}
 use Rattle.imp_node.specs.Pump.{pump, stored}
-use Rattle.imp_node.specs.Flows.{freed, answered_by, answer_queued, answer_packet, next_number, fated}
+use Rattle.imp_node.specs.Flows.{freed, answered_by, answer_packet, next_number, fated}
 use Rattle.imp_node.specs.Offering.{Way, Nowhere, Here, Away, way_of, offered, from_host}
 use Rattle.imp_node.specs.Arrival.{Arrival, Passing, Old, Undeliverable, Replying, Piece, NoSlot, Whole, Unmarked, Answering, arrival, arrival_has_room, arrived, frame_taken, acknowledged, vector_heard, ignored, fresh, taken_frame, from_line}
 use Rattle.imp_node.specs.Taking.{is_from_here, reply_has_room, replied, taken_by, to_host}

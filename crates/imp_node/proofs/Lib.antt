@@ -12,5 +12,6 @@ pub mod Stops
 pub mod Arrivals
 pub mod Searching
 pub mod Spending
+pub mod RestingLemmas
 pub mod lemmas
 pub mod SentFlow

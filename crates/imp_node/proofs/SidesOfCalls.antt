@@ -8,7 +8,7 @@ use Rattle.leader1822.specs.declared.address.Flow.{Flow}
 use Rattle.leader1822.specs.declared.crossing.Answer.{Answer}
 use Rattle.leader1822.specs.declared.crossing.Answer.TheVariants as answer
 use Rattle.leader1822.specs.declared.message.HostMessage.{HostMessage}
-use Rattle.link_table.specs.Flows.{Sources, kept_in, told_by, told_in, asked_in, last_in, outstanding_in, release_in, given_up, handed}
+use Rattle.link_table.specs.Flows.{Sources, kept_in, told_by, told_in, last_in, outstanding_in, release_in, given_up, handed}
 use Rattle.link_table.specs.Keys.{is_from, drop_from}
 use Rattle.link_table.specs.Numbers.{is_new}
 use Rattle.link_table.specs.declared.destination.Asked.TheVariants as asked

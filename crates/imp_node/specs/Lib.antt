@@ -11,6 +11,7 @@ pub mod Contents
 pub mod Queries
 pub mod Asking
 pub mod Turns
+pub mod Resting
 pub mod Inside
 pub mod Examples
 pub mod Making

@@ -2,7 +2,7 @@
 --
 -- Holding is what counts as alive in an IMP: packets in its store, in channels and in slots, and messages in queues. An answer
 -- that waits for a host does not count.
-use Rattle.std.specs.Prelude.{ℕ, Bool, true, false, Option, ◌==◌, ◌&&◌, ◌||◌}
+use Rattle.std.specs.Prelude.{ℕ, Bool, true, false, nat_lt, Option, ◌==◌, ◌&&◌, ◌||◌}
 use Rattle.std.specs.FinMap as map
 use Rattle.std.specs.List.{list_any}
 use Rattle.leader1822.specs.Flow.{same_flow}
@@ -15,6 +15,7 @@ use Rattle.packetiser.specs.declared.packet.PacketKind.TheVariants as kind
 use Rattle.imp_node.specs.declared.waiting.Message.{Message}
 use Rattle.imp_node.specs.State.{State}
 use Rattle.imp_node.specs.Contents.{packets, messages}
+use Rattle.imp_node.specs.Room.{stored_count}
 
 -- ---- flows
 
@@ -49,6 +50,10 @@ message_has f n m = same_flow f m.flow && m.number == n
 
 abbrev pub holds : State → Flow → ℕ → Bool
 holds s f n = list_any (packet_has f n) (packets s) || list_any (message_has f n) (messages s)
+
+-- any packet in its store or in a channel: one that waits for a channel, or for its acknowledgement
+abbrev pub holds_packet : State → Bool
+holds_packet s = nat_lt 0 (stored_count s)
 
 -- what goes from a host at one IMP to a host at another
 abbrev pub goes_between : ℕ → ℕ → Flow → Bool

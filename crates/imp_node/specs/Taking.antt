@@ -1,5 +1,5 @@
 -- A host takes what waits for it.
-use Rattle.std.specs.Prelude.{ℕ, Bool, true, not, List, [], ◌∷◌, Option, Some, None, ◌==◌, if◌then◌else◌}
+use Rattle.std.specs.Prelude.{ℕ, Bool, true, not, List, [], ◌∷◌, Option, Some, None, is_none, is_some, ◌==◌, ◌&&◌, if◌then◌else◌}
 use Rattle.leader1822.specs.declared.carrier.CarrierFault.{CarrierFault}
 use Rattle.leader1822.specs.declared.carrier.CarrierFault.TheVariants as fault
 use Rattle.leader1822.specs.declared.crossing.Answer.{Answer}
@@ -56,6 +56,10 @@ taking_has_room [] [] s = true
 
 abbrev pub to_host_refusal : State → ℕ → Option CarrierFault
 to_host_refusal s h = host_refusal s h (if taking_has_room (host_at s h).answers (host_at s h).queue s then None else Some fault.NoRoom)
+
+-- whether a host gets something when it takes: nothing refuses it, and something waits
+abbrev pub gives : State → ℕ → Bool
+gives s h = is_none (to_host_refusal s h) && is_some (next_for s h)
 
 -- ---- the call
 

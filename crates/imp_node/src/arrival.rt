@@ -64,21 +64,20 @@ impl Imp {
         if !self.is_live(port) || self.is_lost(port, &frame) {
             return Ok(Vec::new(self.alloc));
         }
-        let frames = self.spare.take(self.alloc);
         match self.receive(port, frame) {
             Received::Fresh(packet) => {
-                let frames = self.acknowledge(port, frames)?;
+                let frames = self.acknowledge(port)?;
                 self.arrive(packet)?;
                 self.pump(frames)
             }
             Received::Repeat => {
-                let frames = self.acknowledge(port, frames)?;
+                let frames = self.acknowledge(port)?;
                 self.pump(frames)
             }
-            Received::AckOnly => self.pump(frames),
+            Received::AckOnly => self.pump_alone(),
             Received::Routes(vector) => {
                 self.routes.hear(port, vector);
-                self.pump(frames)
+                self.pump_alone()
             }
         }
     }
@@ -160,11 +159,12 @@ impl Imp {
     }
 
     /// The acknowledgement that goes back at once.
-    fn acknowledge(&self, port: u8, mut frames: Vec<Outgoing>) -> Result<Vec<Outgoing>, AllocError>
-        requires there { port < length self.now.ports }
-        requires none { frames.items ≡ [] }
-        ensures { IfOk result (λ frames. frames.items ≡ acknowledged port self.now) }
+    fn acknowledge(&mut self, port: u8) -> Result<Vec<Outgoing>, AllocError>
+        requires { port < length self.old.ports }
+        ensures frames { IfOk result (λ frames. frames.items ≡ acknowledged port self.old) }
+        ensures unchanged { self.new ≡ self.old }
     {
+        let mut frames = self.spare.take(self.alloc);
         let frame = self.ports[port as usize].line.ack_frame();
         frames.push(Outgoing { port, frame })?;
         Ok(frames)

@@ -1,10 +1,11 @@
 //! A host of an IMP, and what waits for it.
 
-ghost use Rattle.std.specs.Prelude.{◌≡◌, ℕ, ◌≤◌, ◌<◌, ◌∷◌, ◌++◌, [], length, drop, nat_lt, slice_get, option_map, All, IfOk, IfSome, OnOk, OnErr, true, false};
+ghost use Rattle.std.specs.Prelude.{◌≡◌, ℕ, ◌≤◌, ◌<◌, ◌∷◌, ◌++◌, [], length, drop, nat_lt, slice_get, option_copied, option_map, is_some, All, IfOk, IfSome, OnOk, OnErr, true, false};
 ghost use Rattle.std.specs.List.{list_any};
 ghost use Rattle.imp_node.specs.State.{no_host};
 ghost use Rattle.imp_node.specs.Flows.{is_about, given};
 ghost use Rattle.imp_node.specs.Room.{queue_places};
+ghost use Rattle.imp_node.specs.Taking.{first_of};
 ghost use Rattle.imp_node.specs.Inside.Parts.{IsPacketFlow, AreOfPackets};
 ghost use Rattle.imp_node.specs.Inside.Seeking.{message_is};
 
@@ -55,10 +56,38 @@ impl Host {
     }
 
     /// Whether it is up.
-    pub(crate) fn is_up(&self) -> bool
+    pub fn is_up(&self) -> bool
         ensures { result ≡ self.now.up }
     {
         self.up
+    }
+
+    /// How many messages wait for it.
+    pub fn message_count(&self) -> usize
+        ensures { result ≡ length self.now.queue }
+    {
+        self.queue.len()
+    }
+
+    /// The message at a place of those that wait for it, 0 being the oldest; `None` past the newest.
+    pub fn message_at(&self, place: usize) -> Option<&Message>
+        ensures { option_copied result ≡ slice_get self.now.queue place }
+    {
+        self.queue.get(place)
+    }
+
+    /// How many answers wait for it.
+    pub fn answer_count(&self) -> usize
+        ensures { result ≡ length self.now.answers }
+    {
+        self.answers.len()
+    }
+
+    /// The answer at a place of those that wait for it, 0 being the oldest; `None` past the newest.
+    pub fn answer_at(&self, place: usize) -> Option<&Told>
+        ensures { option_copied result ≡ slice_get self.now.answers place }
+    {
+        self.answers.get(place)
     }
 
     /// Whether an answer about this flow waits.
@@ -132,6 +161,13 @@ impl Host {
         ensures { result ≡ nat_lt 0 (length self.now.queue) }
     {
         !self.queue.is_empty()
+    }
+
+    /// Whether an answer or a message waits.
+    pub(crate) fn has_waiting(&self) -> bool
+        ensures { result ≡ is_some (first_of self.now.answers self.now.queue) }
+    {
+        self.has_answer() || self.has_message()
     }
 
     /// The flow of the oldest message.

@@ -194,7 +194,7 @@ fn up_ports(alloc: Global, count: u8) -> Result<Vec<Port>, AllocError>
 }
 
 /// How many channels of these ports are busy.
-fn busy_channels(ports: &[Port]) -> usize
+pub(crate) fn busy_channels(ports: &[Port]) -> usize
     requires { length ports.now < 256 }
     ensures count { result ≡ sum_by room.busy_channels ports.now }
     ensures most { result ≤ 8 * length ports.now }

@@ -25,7 +25,7 @@ ghost use Rattle.imp_node.specs.Contents.{packets, messages};
 ghost use Rattle.imp_node.specs.Making.{Leaves, from_host_makes, from_line_makes, to_host_makes, ask_makes, host_down_makes};
 ghost use Rattle.imp_node.specs.Offering.{begins, way_of, way_has_room, from_host, from_host_refusal};
 ghost use Rattle.imp_node.specs.Pump.{pump};
-ghost use Rattle.imp_node.specs.Queries.{outstanding, last, kept, packet_has, message_has, holds, is_request_between, is_message_between, holds_data, packet_touches, message_touches, touches};
+ghost use Rattle.imp_node.specs.Queries.{outstanding, last, kept, packet_has, message_has, holds, is_request_between, is_message_between, holds_data, holds_packet, packet_touches, message_touches, touches};
 ghost use Rattle.imp_node.specs.Room.{stored_count};
 ghost use Rattle.imp_node.specs.State.{State, host_at, is_up, opening_node};
 ghost use Rattle.imp_node.specs.Stopping.{give_up, give_up_refusal, forget_refusal, abandon_refusal, host_down_refusal, host_up_refusal, forget, abandon, stopped, message_returned, host_down, host_up};
@@ -38,7 +38,7 @@ ghost use Rattle.link_table.specs.Flows.{release_in};
 ghost use Rattle.link_table.specs.Keys.{is_from};
 ghost use Rattle.link_table.specs.declared.destination.Fate.TheVariants as fate;
 ghost use Rattle.packetiser.specs.PacketFields.{PacketFields, IsPacket};
-ghost use Rattle.imp_node.specs.Taking.{is_from_here, to_host, to_host_refusal, next_for};
+ghost use Rattle.imp_node.specs.Taking.{is_from_here, to_host, to_host_refusal, next_for, gives};
 ghost use Rattle.imp_node.specs.Turns.{from_line_grows, to_host_grows, resend_grows, route_grows, end_down_grows, end_up_grows, give_up_grows, ask_grows, forget_grows, abandon_grows, host_down_grows, host_up_grows};
 
 /// Which packets are in an IMP, and in the frames that it puts on lines, after each call: those that were in
@@ -366,6 +366,10 @@ pub fn worked_hosts()
     // only where there is room: beside 31 packets the first Dead is stored, and the second is not
     ensures dead_with_room { stored_count (host_down (record (serving (messages_between (host 0 2) (host 0 1) 2)) { store = packets_to 2 31 }) 0).state ≡ 32 }
 
+    // a host gets something where an answer or a message waits, and nothing refuses the taking
+    ensures gives { (gives (serving (messages_between (host 0 2) (host 0 1) 1)) 0 ≡ true) × (gives (from_host (imp 1 (None ∷ []) []) (empty_message (flow (host 0 1) (host 0 2) 7))).state 0 ≡ true) }
+    ensures gives_nothing { (gives (serving []) 0 ≡ false) × (gives (serving []) 2 ≡ false) × (gives (record (serving (messages_between (host 0 2) (host 0 1) 1)) { store = packets_to 2 32 }) 0 ≡ false) }
+
     // nothing waits: nothing is given
     ensures nothing { (to_host_refusal (serving []) 0 ≡ None) × (next_for (serving []) 0 ≡ None) × ((to_host (serving []) 0).frames ≡ []) }
 {}
@@ -443,6 +447,10 @@ pub fn worked_answers()
     ensures waiting { (holds (busy 9) (flow (host 0 1) (host 0 2) 8) 0 ≡ true) × (holds (busy 9) (flow (host 0 1) (host 0 2) 9) 0 ≡ false) }
     ensures in_slot { holds (record (serving []) { slots = slots_of 1 }) (flow (host 0 2) (host 0 1) 0) 0 ≡ true }
     ensures in_queue { (holds (serving (messages_between (host 0 2) (host 0 1) 1)) (flow (host 0 2) (host 0 1) 2) 0 ≡ true) × (holds_data (serving (messages_between (host 0 2) (host 0 1) 1)) 2 1 ≡ true) }
+
+    // a packet that waits and one in a channel are held in the store or a channel; a piece in a slot is not
+    ensures packet_held { (holds_packet (imp 1 (None ∷ []) (packets_to 2 1)) ≡ true) × (holds_packet (busy 1) ≡ true) }
+    ensures no_packet_held { (holds_packet (busy 0) ≡ false) × (holds_packet (record (serving []) { slots = slots_of 1 }) ≡ false) }
 
     // an answer that waits for a host does not count
     ensures answers_aside { touches (from_host (imp 1 (None ∷ []) []) (empty_message (flow (host 0 1) (host 0 2) 7))).state 2 ≡ false }

@@ -11,6 +11,7 @@
 
 mod arrival;
 mod asking;
+mod contents;
 mod flows;
 mod host;
 mod imp;
@@ -21,6 +22,7 @@ mod outgoing;
 mod port;
 mod pump;
 mod queries;
+mod resting;
 mod seeking;
 mod spare;
 mod steps;
@@ -28,5 +30,8 @@ mod stopping;
 mod taking;
 mod waiting;
 
+pub use host::Host;
 pub use imp::Imp;
 pub use outgoing::Outgoing;
+pub use port::Port;
+pub use waiting::{Message, Told};

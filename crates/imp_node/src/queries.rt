@@ -5,6 +5,7 @@ ghost use Rattle.imp_node.specs.Queries as queries;
 ghost use Rattle.imp_node.specs.Inside.Seeking.{found};
 
 use crate::Imp;
+use crate::imp::busy_channels;
 use crate::seeking::Sought;
 use leader1822::{Flow, ImpNumber, Number};
 
@@ -65,6 +66,13 @@ impl Imp {
         ensures { result ≡ queries.touches self.now imp }
     {
         self.finds(&Sought::Touching(imp))
+    }
+
+    /// Whether it holds any packet in its store or in a channel. Pieces in reassembly don't count.
+    pub fn holds_packet(&self) -> bool
+        ensures { result ≡ queries.holds_packet self.now }
+    {
+        !self.store.is_empty() || busy_channels(&self.ports) > 0
     }
 
     /// Whether it holds what is sought.

@@ -30,11 +30,15 @@ impl Imp {
         Ok(frames)
     }
 
-    /// A call that answers no frames of its own ends so.
+    /// A call that answers no frames of its own ends so. Where no packet waits, there is nothing to do.
+    #[tactic(auto, using(crate::proofs::RestingLemmas::pump_rests))]
     pub(crate) fn pump_alone(&mut self) -> Result<Vec<Outgoing>, AllocError>
         ensures ok { IfOk result (λ out. Takes (pumps.pump [] self.old) self.new out.items) }
         ensures memory { OnErr result (sends (pumps.pump [] self.old) ≡ true) }
     {
+        if self.store.is_empty() {
+            return Ok(Vec::new(self.alloc));
+        }
         let frames = self.spare.take(self.alloc);
         self.pump(frames)
     }

@@ -1,6 +1,6 @@
 //! A host takes what waits for it.
 
-ghost use Rattle.std.specs.Prelude.{◌≡◌, ◌<◌, ◌∷◌, true, false, length, drop, None, IfOk, OnOk, OnErr};
+ghost use Rattle.std.specs.Prelude.{◌≡◌, ◌<◌, ◌∷◌, true, false, length, drop, is_some, None, IfOk, OnOk, OnErr};
 ghost use Rattle.link_table.specs.Flows.{handed};
 ghost use Rattle.imp_node.specs.State.{host_at, with_host};
 ghost use Rattle.imp_node.specs.Taking as taking;
@@ -34,6 +34,21 @@ impl Imp {
             return Err(self.exhaust());
         };
         Ok(given)
+    }
+
+    /// Whether a host gets something when it takes: nothing refuses it, and an answer or a message waits. This
+    /// changes nothing, and takes no memory.
+    pub fn gives(&self, host: u8) -> bool
+        ensures { result ≡ taking.gives self.now host }
+    {
+        self.to_host_refusal(host).is_none() && self.has_waiting(host)
+    }
+
+    /// Whether an answer or a message waits for a host.
+    fn has_waiting(&self, host: u8) -> bool
+        ensures { result ≡ is_some (taking.next_for self.now host) }
+    {
+        self.is_there(host) && self.hosts[host as usize].has_waiting()
     }
 
     /// Why a host may not take.

@@ -62,6 +62,14 @@ pub returns-clause-in_queue : goal.returns-clause-in_queue
 unfolding next_of submitted distance_to vector_of
 returns-clause-in_queue c = (refl, refl)
 
+pub returns-clause-packet_held : goal.returns-clause-packet_held
+unfolding next_of submitted distance_to vector_of
+returns-clause-packet_held c = (refl, refl)
+
+pub returns-clause-no_packet_held : goal.returns-clause-no_packet_held
+unfolding next_of submitted distance_to vector_of
+returns-clause-no_packet_held c = (refl, refl)
+
 pub returns-clause-answers_aside : goal.returns-clause-answers_aside
 unfolding next_of submitted distance_to vector_of
 returns-clause-answers_aside c = refl

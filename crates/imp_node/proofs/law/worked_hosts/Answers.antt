@@ -71,6 +71,14 @@ pub returns-clause-cleared : goal.returns-clause-cleared
 unfolding next_of submitted distance_to vector_of begun flow_answered handed is_new
 returns-clause-cleared c = refl
 
+pub returns-clause-gives : goal.returns-clause-gives
+unfolding next_of submitted distance_to vector_of begun flow_answered handed is_new
+returns-clause-gives c = (refl, refl)
+
+pub returns-clause-gives_nothing : goal.returns-clause-gives_nothing
+unfolding next_of submitted distance_to vector_of begun flow_answered handed is_new
+returns-clause-gives_nothing c = (refl, refl, refl)
+
 pub returns-clause-nothing : goal.returns-clause-nothing
 unfolding next_of submitted distance_to vector_of begun flow_answered handed is_new
 returns-clause-nothing c = (refl, refl, refl)

@@ -1,4 +1,4 @@
-use Rattle.std.proofs.Common.{◌≡◌, ℕ, Some, refl, ap, ◌∙◌}
+use Rattle.std.proofs.Common.{◌≡◌, ℕ, Some, refl}
 use Rattle.std.specs.FinMap as finite
 use Rattle.leader1822.specs.Flow.{flow_cmp}
 use Rattle.imp_channel.specs.Line.{submitted}

@@ -1,0 +1,163 @@
+-- Calls that would give nothing and change nothing.
+use Rattle.std.specs.Prelude.{if◌then◌else◌, not, is_some}
+use Rattle.std.specs.List.{sum_by}
+use Rattle.std.proofs.Common.{◌≡◌, ℕ, ◌+◌, ◌<◌, Bool, true, false, zero, suc, List, [], ◌∷◌, ◌++◌, length, map, get_or, set, nat_lt, Option, Some, None, refl, ap, sym, ◌∙◌, arith}
+use Rattle.std.proofs.lemmas.Bool.Decides.{nat_tests}
+use Rattle.std.proofs.lemmas.List.{append-nil, length-append, set-get_or}
+use Rattle.std.proofs.lemmas.List.Sums.{sum_by-cons}
+use Rattle.leader1822.specs.declared.carrier.CarrierFault.TheVariants as fault
+use Rattle.packetiser.specs.PacketFields.{PacketFields}
+use Rattle.imp_channel.specs.declared.channel.Channel.{Channel}
+use Rattle.imp_channel.specs.declared.frame.Frame.{Frame}
+use Rattle.imp_channel.specs.Holding.{packet_of, packets_in}
+use Rattle.imp_channel.specs.declared.frame.Content.TheVariants as content
+use Rattle.imp_channel.specs.Line.{End, frames_of, frames_from, resent, differs, acknowledged, all_acknowledged, answer_to}
+use Rattle.routing.specs.RouteTable.{vector_of}
+use Rattle.leader1822.specs.declared.crossing.Inbound.{Inbound}
+use Rattle.imp_node.specs.declared.outgoing.Outgoing.{Outgoing}
+use Rattle.imp_node.specs.declared.port.Port.{Port}
+use Rattle.imp_node.specs.declared.waiting.Message.{Message}
+use Rattle.imp_node.specs.declared.waiting.Told.{Told}
+use Rattle.imp_node.specs.State.{State, ImpTurn, host_at, port_at, down_port}
+use Rattle.imp_node.specs.Arrival.{ignored, taken_frame, frame_taken, vector_heard, from_line}
+use Rattle.imp_node.specs.Lines.{on_port, resent_from, resend, told_from, route}
+use Rattle.imp_node.specs.Pump.{pump, pumped}
+use Rattle.imp_node.specs.Room.{busy_channels, stored_count}
+use Rattle.imp_node.specs.Queries.{holds_packet}
+use Rattle.imp_node.specs.Taking.{first_of, taking_has_room, taken_by, next_for, to_host, to_host_refusal}
+
+-- ---- the pump
+
+-- a turn that ends with the pump over these packets
+abbrev pumping : List Outgoing → State → List PacketFields → ImpTurn
+pumping frames s waiting = record {
+  state = record s { ports = (pumped s.routes s.ports waiting).ports; store = (pumped s.routes s.ports waiting).waits };
+  frames = frames ++ (pumped s.routes s.ports waiting).frames;
+}
+
+abbrev pub leaving : State → List Outgoing → ImpTurn
+leaving s frames = record { state = s; frames = frames }
+
+rests : (frames : List Outgoing) (s : State) (waiting : List PacketFields) → length waiting ≡ 0 → pumping frames s waiting ≡ leaving (record s { store = waiting }) frames
+rests frames s [] none = ap (leaving (record s { store = [] })) (append-nil frames)
+rests frames s (p ∷ ps) none = absurd (omega (arith, none))
+
+-- where no packet waits, the pump does nothing
+pump_with : (frames : List Outgoing) (s : State) → length s.store ≡ 0 → pump frames s ≡ leaving s frames
+pump_with frames s none = rests frames s s.store none
+
+pub pump_rests : (s : State) → length s.store ≡ 0 → pump [] s ≡ ignored s
+pump_rests s none = pump_with [] s none
+
+-- ---- what is sent again
+
+none_by : (e : End) (c : ℕ) (bit : Bool) (packet : Option PacketFields) (rest : List Channel)
+    → (length (packets_in rest) ≡ 0 → frames_from e (c + 1) rest ≡ [])
+    → length (packet_of packet ++ packets_in rest) ≡ 0 → frames_of e c bit packet ++ frames_from e (c + 1) rest ≡ []
+none_by e c bit None rest others none = others none
+none_by e c bit (Some p) rest others none = absurd (omega (arith, none))
+
+frames_none : (e : End) (c : ℕ) (channels : List Channel) → length (packets_in channels) ≡ 0 → frames_from e c channels ≡ []
+frames_none e c [] none = refl
+frames_none e c (channel ∷ rest) none = none_by e c channel.bit channel.packet rest (frames_none e (c + 1) rest) none
+
+port_none : (up : Bool) (k : ℕ) (frames : List Frame) → frames ≡ [] → (if up then map (on_port k) frames else []) ≡ []
+port_none true k frames none = ap (λ (frames : List Frame). map (on_port k) frames) none
+port_none false k frames none = refl
+
+-- ports without a busy channel send nothing again
+none_sent : (k : ℕ) (ports : List Port) → sum_by busy_channels ports ≡ 0 → resent_from k ports ≡ []
+none_sent k [] none = refl
+none_sent k (port ∷ ports) none =
+    let both : sum_by busy_channels (port ∷ ports) ≡ length (packets_in port.line.sending) + sum_by busy_channels ports = sum_by-cons busy_channels port ports in
+    ap (λ (frames : List Outgoing). frames ++ resent_from (k + 1) ports) (port_none port.up k (resent port.line) (frames_none port.line 0 port.line.sending (omega (arith, none, both))))
+    ∙ none_sent (k + 1) ports (omega (arith, none, both))
+
+record StoresNone (s : State) : Type 0 where
+  pub waits : length s.store ≡ 0
+  pub free : sum_by busy_channels s.ports ≡ 0
+
+stores_none : (s : State) → holds_packet s ≡ false → StoresNone s
+stores_none s none =
+    let all : stored_count s ≡ 0 = grind (arith, nat_tests, none) in
+    record { waits = omega (arith, all); free = omega (arith, all) }
+
+-- an IMP without packets sends nothing again
+pub resending_rests : (s : State) → holds_packet s ≡ false → resend s ≡ ignored s
+resending_rests s none =
+    let are : StoresNone s = stores_none s none in
+    ap (λ (frames : List Outgoing). pump frames s) (none_sent 0 s.ports are.free) ∙ pump_rests s are.waits
+
+-- and tells its distances, and nothing else
+pub telling_rests : (s : State) → holds_packet s ≡ false → route s ≡ leaving s (told_from (vector_of s.routes) 0 s.ports)
+telling_rests s none = pump_with (told_from (vector_of s.routes) 0 s.ports) s (stores_none s none).waits
+
+-- ---- distances that were heard last
+
+one_free : (ack : Bool) (channel : Channel) (packet : Option PacketFields) → channel.packet ≡ packet → length (packet_of packet) ≡ 0 → acknowledged ack channel ≡ channel
+one_free ack channel None is none =
+    ap (λ (p : Option PacketFields). if is_some p then (if differs ack channel.bit then record { bit = not channel.bit; packet = None } else channel) else channel) is
+one_free ack channel (Some p) is none = absurd (omega (arith, none))
+
+-- acknowledgements do nothing to free channels
+all_free : (acks : List Bool) (channels : List Channel) → length (packets_in channels) ≡ 0 → all_acknowledged acks channels ≡ channels
+all_free acks [] none = refl
+all_free [] (channel ∷ rest) none =
+    let both : length (packet_of channel.packet ++ packets_in rest) ≡ length (packet_of channel.packet) + length (packets_in rest) = length-append (packet_of channel.packet) (packets_in rest) in
+    ap (λ (x : Channel). x ∷ all_acknowledged [] rest) (one_free false channel channel.packet refl (omega (arith, none, both))) ∙ ap (λ (xs : List Channel). channel ∷ xs) (all_free [] rest (omega (arith, none, both)))
+all_free (ack ∷ acks) (channel ∷ rest) none =
+    let both : length (packet_of channel.packet ++ packets_in rest) ≡ length (packet_of channel.packet) + length (packets_in rest) = length-append (packet_of channel.packet) (packets_in rest) in
+    ap (λ (x : Channel). x ∷ all_acknowledged acks rest) (one_free ack channel channel.packet refl (omega (arith, none, both))) ∙ ap (λ (xs : List Channel). channel ∷ xs) (all_free acks rest (omega (arith, none, both)))
+
+port_free : (ports : List Port) (k : ℕ) → sum_by busy_channels ports ≡ 0 → length (packets_in (port_at ports k).line.sending) ≡ 0
+port_free [] k none = refl
+port_free (port ∷ ports) zero none = omega (arith, none, sum_by-cons busy_channels port ports)
+port_free (port ∷ ports) (suc k) none = port_free ports k (omega (arith, none, sum_by-cons busy_channels port ports))
+
+routes_again : (up : Bool) (s : State) (k : ℕ) (acks : List Bool) (distances : List ℕ) → StoresNone s → (up ≡ true → get_or s.routes.heard k None ≡ Some distances)
+    → (if up then taken_frame (answer_to (port_at s.ports k).line (record { acks = acks; content = content.Routes distances })) k (record { acks = acks; content = content.Routes distances }) s else ignored s) ≡ ignored s
+routes_again false s k acks distances none heard = refl
+routes_again true s k acks distances none heard =
+    let line : End = (port_at s.ports k).line in
+    let free : all_acknowledged acks line.sending ≡ line.sending = all_free acks line.sending (port_free s.ports k none.free) in
+    let port : set s.ports k (record (port_at s.ports k) { line = record line { sending = all_acknowledged acks line.sending } }) ≡ s.ports =
+    ap (λ (channels : List Channel). set s.ports k (record (port_at s.ports k) { line = record line { sending = channels } })) free ∙ set-get_or s.ports k down_port in
+    let routes : set s.routes.heard k (Some distances) ≡ s.routes.heard = ap (set s.routes.heard k) (sym (heard refl)) ∙ set-get_or s.routes.heard k None in
+    let same : vector_heard k distances (frame_taken k (record { acks = acks; content = content.Routes distances }) s) ≡ s =
+    ap (λ (ports : List Port). record s { ports = ports; routes = record { own = s.routes.own; heard = set s.routes.heard k (Some distances) } }) port
+    ∙ ap (λ (heard : List (Option (List ℕ))). record s { routes = record { own = s.routes.own; heard = heard } }) routes in
+    ap (λ (t : State). pump [] t) same ∙ pump_rests s none.waits
+
+-- an IMP without packets that hears again what it heard last does nothing
+pub hears_again : (s : State) (k : ℕ) (acks : List Bool) (distances : List ℕ) → holds_packet s ≡ false → ((port_at s.ports k).up ≡ true → get_or s.routes.heard k None ≡ Some distances)
+    → from_line s k (record { acks = acks; content = content.Routes distances }) ≡ ignored s
+hears_again s k acks distances none heard = routes_again (port_at s.ports k).up s k acks distances (stores_none s none) heard
+
+-- ---- a taking
+
+pub record Rests (s : State) (h : ℕ) : Type 0 where
+  pub accepted : to_host_refusal s h ≡ None
+  pub nothing : next_for s h ≡ None
+  pub unchanged : to_host s h ≡ ignored s
+
+takes_none : (answers : List Told) (queue : List Message) (s : State) (h : ℕ) → is_some (first_of answers queue) ≡ false
+    → (taking_has_room answers queue s ≡ true) × (first_of answers queue ≡ None) × (taken_by h answers queue s ≡ s)
+takes_none [] [] s h none = (refl, refl, refl)
+takes_none (told ∷ answers) queue s h none = absurd cc
+takes_none [] (m ∷ queue) s h none = absurd cc
+
+accepts : (there up room : Bool) → there ≡ true → up ≡ true → room ≡ true
+    → (if not there then Some fault.NoSuch else (if not up then Some fault.IsDown else (if room then None else Some fault.NoRoom))) ≡ None
+accepts true true true is_there is_up has = refl
+accepts true true false is_there is_up has = cc
+accepts true false room is_there is_up has = cc
+accepts false up room is_there is_up has = cc
+
+pub taking_rests : (s : State) (h : ℕ) → h < length s.hosts → (host_at s h).up ≡ true → is_some (next_for s h) ≡ false → length s.store ≡ 0 → Rests s h
+taking_rests s h there up none waits =
+    let nothing = takes_none (host_at s h).answers (host_at s h).queue s h none in
+    record {
+      accepted = accepts (nat_lt h (length s.hosts)) (host_at s h).up (taking_has_room (host_at s h).answers (host_at s h).queue s) (grind (arith, nat_tests, there)) up nothing.0;
+      nothing = nothing.1;
+      unchanged = ap (λ (t : State). pump [] t) nothing.2 ∙ pump_rests s waits;
+    }

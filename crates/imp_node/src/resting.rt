@@ -1,0 +1,46 @@
+//! Calls that would give nothing and change nothing, and so need not be made.
+
+ghost use Rattle.std.specs.Prelude.{◌≡◌, None, Some, true, slice_index_or};
+ghost use Rattle.routing.specs.RouteTable.{vector_of};
+ghost use Rattle.imp_node.specs.Arrival.{ignored};
+ghost use Rattle.imp_node.specs.Resting as resting;
+ghost use Rattle.imp_node.specs.State.{port_at};
+ghost use Rattle.imp_node.specs.Taking.{to_host, to_host_refusal, next_for};
+
+use crate::Imp;
+use routing::Vector;
+
+impl Imp {
+    /// Whether a host is up, nothing waits for it, and no packet waits in the store. A taking of this host then is not refused,
+    /// gives nothing and changes nothing. This takes no memory.
+    #[tactic(auto, using(crate::proofs::RestingLemmas::taking_rests))]
+    pub fn has_nothing_for(&self, host: u8) -> bool
+        ensures answer { result ≡ resting.has_nothing_for self.now host }
+        ensures accepted { result ≡ true → to_host_refusal self.now host ≡ None }
+        ensures nothing { result ≡ true → next_for self.now host ≡ None }
+        ensures unchanged { result ≡ true → to_host self.now host ≡ ignored self.now }
+    {
+        self.is_up(host) && !self.hosts[host as usize].has_waiting() && self.store.is_empty()
+    }
+
+    /// Whether one of the two ends of a line is down, this IMP's port or the other IMP's, or the distances that this IMP heard
+    /// last at its port are those that the other would tell. This takes no memory.
+    pub fn has_heard(&self, port: u8, other: &Imp, other_port: u8) -> bool
+        ensures { result ≡ true → (port_at other.now.ports other_port).up ≡ true → (port_at self.now.ports port).up ≡ true → slice_index_or self.now.routes.heard port None ≡ Some (vector_of other.now.routes) }
+    {
+        if !self.is_live(port) || !other.is_live(other_port) {
+            return true;
+        }
+        is_heard(&self.routes.heard()[port as usize], &other.routes.vector())
+    }
+}
+
+/// Whether these distances were heard.
+fn is_heard(heard: &Option<Vector>, distances: &Vector) -> bool
+    ensures { result ≡ true → heard.now ≡ Some distances.now }
+{
+    match heard {
+        Some(vector) => vector.distances() == distances.distances(),
+        None => false,
+    }
+}
