@@ -15,6 +15,7 @@ pub mod Putting
 pub mod Resting
 pub mod RoundMemory
 pub mod Rounds
+pub mod Settled
 pub mod Showing
 pub mod Silence
 pub mod SiteHosts

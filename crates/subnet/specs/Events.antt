@@ -2,7 +2,7 @@
 --
 -- Refusals stand in one order everywhere: what isn't there, then what is still alive, then IMPs, hosts and ends that are down or
 -- up, and then the IMP's own. So a step that waits for packets to die is refused for that also where its IMP is down.
-use Rattle.std.specs.Prelude.{ℕ, zero, suc, ◌+◌, Bool, false, not, List, [], ◌∷◌, ◌++◌, length, replicate, Option, Some, None, slice_get, slice_set, slice_index_or, is_some, nat_lt, ◌==◌, ◌&&◌, ◌||◌, if◌then◌else◌, count_by}
+use Rattle.std.specs.Prelude.{ℕ, zero, suc, ◌+◌, Bool, false, not, List, [], ◌∷◌, ◌++◌, length, replicate, Option, Some, None, slice_get, slice_set, slice_index_or, is_none, is_some, nat_lt, ◌==◌, ◌&&◌, ◌||◌, if◌then◌else◌, count_by}
 use Rattle.std.specs.List.{range_with_len}
 use Rattle.leader1822.specs.Calls.{crossing_of}
 use Rattle.leader1822.specs.Host.{Host, is_host}
@@ -100,6 +100,10 @@ given_at (Some s) h = next_for s h
 
 abbrev pub taken_by_host : Net → Host → Option Inbound
 taken_by_host n h = given_at (imp_at n.imps h.imp) h.host
+
+-- whether a host gets something when it takes: nothing refuses it, and something waits
+abbrev pub gives : Net → Host → Bool
+gives n h = is_none (take_refusal n h) && is_some (taken_by_host n h)
 
 abbrev pub crossings_of : Option Inbound → List Crossing
 crossings_of None = []

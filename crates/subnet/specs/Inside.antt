@@ -1,4 +1,5 @@
 pub mod Calling
 pub mod Joined
 pub mod Seeking
+pub mod Settled
 pub mod Taking

@@ -5,6 +5,7 @@ ghost use Rattle.imp_node.specs.Turns.{Turned, Takes};
 ghost use Rattle.subnet.specs.Events.{at_up};
 ghost use Rattle.subnet.specs.Calls.{grows_at};
 ghost use Rattle.subnet.specs.Net.{imp_at};
+ghost use Rattle.subnet.specs.declared.imp_call.ImpCall.TheVariants as call;
 ghost use Rattle.subnet.specs.Inside.Calling.{call_refusal, call_turn, call_grows, IsLive, AreLive, CallEnds, imp_by, imps_by, frames_by};
 
 use imp_channel::Frame;
@@ -94,6 +95,39 @@ pub(crate) fn call_imp(
         return Err(CarrierFault::IsDown);
     }
     call.make_at(&mut imps[at])
+}
+
+/// A frame comes in at a port of the IMP of this number, if it is up.
+///
+/// Errors: `IsDown` where it is down or not there, and then those of the call.
+pub(crate) fn arrive_at_imp(
+    imps: &mut [Option<Imp>],
+    imp: u8,
+    port: u8,
+    frame: Frame,
+) -> Result<Vec<Outgoing>, CarrierFault>
+    requires { AreLive imps.old }
+    ensures call { CallEnds (at_up (imp_at imps.old imp) (call_refusal (call.Arrive port frame))) (grows_at (imp_at imps.old imp) (call_grows (call.Arrive port frame))) (λ frames. (imps.new ≡ imps_by imps.old imp (imp_at imps.old imp) (call_turn (call.Arrive port frame))) × (frames.items ≡ frames_by (imp_at imps.old imp) (call_turn (call.Arrive port frame)))) imps.old imps.new result }
+    ensures live { OnOk result (AreLive imps.new) }
+{
+    let at = imp as usize;
+    if at >= imps.len() {
+        return Err(CarrierFault::IsDown);
+    }
+    arrive_at(&mut imps[at], port, frame)
+}
+
+/// The same at the IMP of a place, if one is up there.
+#[tactic(auto, using(crate::proofs::Calls::Ending::ends_of_turned))]
+fn arrive_at(place: &mut Option<Imp>, port: u8, frame: Frame) -> Result<Vec<Outgoing>, CarrierFault>
+    requires { IfSome place.old (λ s. s.spent ≡ false) }
+    ensures call { CallEnds (at_up place.old (call_refusal (call.Arrive port frame))) (grows_at place.old (call_grows (call.Arrive port frame))) (λ frames. (place.new ≡ imp_by place.old (call_turn (call.Arrive port frame))) × (frames.items ≡ frames_by place.old (call_turn (call.Arrive port frame)))) place.old place.new result }
+    ensures live { OnOk result (IfSome place.new (λ s. s.spent ≡ false)) }
+{
+    match place {
+        Some(imp) => imp.from_line(port, frame),
+        None => Err(CarrierFault::IsDown),
+    }
 }
 
 /// Hands an empty list of frames back to the IMP of this number, if it is up.

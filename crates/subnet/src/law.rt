@@ -25,7 +25,7 @@ ghost use Rattle.imp_node.specs.Lines.{on_port};
 ghost use Rattle.imp_node.specs.State.{State, opening_node, no_host, port_at};
 ghost use Rattle.subnet.specs.Calls.{Kept, running, step_grows, round_grows};
 ghost use Rattle.subnet.specs.Alive.{packets, messages, is_alive};
-ghost use Rattle.subnet.specs.Events.{offer_refusal, offer_out, take_refusal, taken_by_host, crossings_of, take_in, deliver, drop_frame, giving_up_refusal, forgetting_refusal, starting_refusal, imp_stopped, imp_started, refreshed, quiet_round, step_refusal, stepped};
+ghost use Rattle.subnet.specs.Events.{offer_refusal, offer_out, take_refusal, taken_by_host, gives, crossings_of, take_in, deliver, drop_frame, giving_up_refusal, forgetting_refusal, starting_refusal, imp_stopped, imp_started, refreshed, quiet_round, step_refusal, stepped};
 ghost use Rattle.subnet.specs.Examples.{ours, our_message, our_queued, data_frame, rfnm_frame, ask_frame, never_frame, passing_frame, imp_1, imp_2, wire, pair, opened_pair, begun_up_to, expecting, expecting_cut_off, expecting_full, one_host_down, hosts_down, cut_off, serving_ours, keeping_ours, keeping_own, sending_ours, past_one, full_of, triangle};
 ghost use Rattle.subnet.specs.Flows.{host_is_up};
 ghost use Rattle.subnet.specs.Making.{NothingNew, OnlyNew, offer_makes, take_makes, deliver_makes, asking_makes, stop_makes};
@@ -357,7 +357,7 @@ pub fn worked_stops()
     ensures silent { (imp_started (pair None (Some imp_2) [] []) 1).log ≡ [] }
 {}
 
-/// Which refusal comes first.
+/// Which refusal comes first, and when a taking gives something.
 pub fn worked_refusals()
     // what is still alive comes before an IMP that is down or up
     ensures forget_down { (step_refusal (pair (Some imp_1) None (data_frame 0 ∷ []) []) (event.Forget 2 1) ≡ Some fault.StillAlive) × (step_refusal (pair (Some imp_1) None [] []) (event.Forget 2 1) ≡ Some fault.IsDown) }
@@ -378,6 +378,11 @@ pub fn worked_refusals()
 
     // a line that has no end at this IMP
     ensures other_line { (step_refusal (record (pair (Some imp_1) (Some imp_2) [] []) { lines = triangle }) (event.EndDown 1 2) ≡ Some fault.NoSuch) × (step_refusal (record (pair (Some imp_1) (Some imp_2) [] []) { lines = triangle }) (event.EndUp 2 0) ≡ Some fault.IsUp) }
+
+    // a host gets something where a message waits for it, and nothing where none does, where its IMP is down, or where the network
+    // doesn't have it
+    ensures gives { gives (pair (Some imp_1) (Some serving_ours) [] []) (host 0 2) ≡ true }
+    ensures gives_nothing { (gives (pair (Some imp_1) (Some serving_ours) [] []) (host 1 2) ≡ false) × (gives (pair (Some imp_1) None [] []) (host 0 2) ≡ false) × (gives (record (pair (Some imp_1) (Some serving_ours) [] []) { hosts = [] }) (host 0 2) ≡ false) }
 {}
 
 /// What a quiet round does to IMPs and frames.

@@ -5,6 +5,7 @@
 //! The module `law` says so of its definitions, and has worked rows.
 #![tactic(auto)]
 
+mod contents;
 mod events;
 mod flow_events;
 mod imp_call;
@@ -16,6 +17,7 @@ mod opening;
 mod parts;
 mod quiet_rounds;
 mod seeking;
+mod settled;
 mod starting;
 mod stops;
 mod subnet;
@@ -23,4 +25,4 @@ mod taking;
 mod wire;
 
 pub use subnet::Subnet;
-pub use wire::Ends;
+pub use wire::{Ends, Wire};

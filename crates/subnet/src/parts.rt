@@ -1,17 +1,18 @@
 //! What a subnet is made of, and what its calls do to that.
 
-ghost use Rattle.std.specs.Prelude.{◌≡◌, ◌<◌, ◌∷◌, [], Some, None, true, false, length, OnOk, OnErr, IfOk, if◌then◌else◌, option_copied, slice_get};
-ghost use Rattle.leader1822.specs.Host.{is_host};
+ghost use Rattle.std.specs.Prelude.{◌≡◌, ◌<◌, ◌≤◌, ◌∷◌, [], Some, None, true, false, length, OnOk, OnErr, IfOk, if◌then◌else◌, option_copied, slice_get};
+ghost use Rattle.leader1822.specs.Host.{is_host, most_imps};
 ghost use Rattle.leader1822.specs.declared.carrier.CarrierFault.TheVariants as fault;
 ghost use Rattle.subnet.specs.Net.{imp_at, wire_at, far_end, frames_on, port_of, put_all};
 ghost use Rattle.subnet.specs.Calls.{grows_at};
 ghost use Rattle.subnet.specs.Flows.{imp_is_up};
 ghost use Rattle.subnet.specs.Events as events;
 ghost use Rattle.subnet.specs.Events.{is_imp, has_end, logging};
+ghost use Rattle.subnet.specs.declared.imp_call.ImpCall.TheVariants as call;
 ghost use Rattle.subnet.specs.Inside.Calling.{call_turn, call_grows, AreLive, Makes, Ignores, SameLog, runs_out, copied_grows};
 ghost use Rattle.subnet.specs.Inside.Taking.{frame_taken};
 
-use crate::imp_call::{ImpCall, call_imp, reuse};
+use crate::imp_call::{ImpCall, arrive_at_imp, call_imp, reuse};
 use crate::lines::{Lines, port_of};
 use imp_channel::Frame;
 use imp_node::{Imp, Outgoing};
@@ -60,7 +61,8 @@ impl Parts {
 
     /// Whether there is an IMP of this number.
     pub(crate) fn is_imp(&self, imp: u8) -> bool
-        ensures { result ≡ is_imp self.now imp }
+        ensures there { result ≡ is_imp self.now imp }
+        ensures numbered { result ≡ true → (1 ≤ imp) × (imp ≤ most_imps) }
     {
         let at = imp as usize;
         at < self.sites.len() && self.sites[at].is_some()
@@ -180,6 +182,23 @@ impl Parts {
         Ok(())
     }
 
+    /// A frame comes in at a port of the IMP of this number, and the IMP's frames go on lines. It is the call `ImpCall::Arrive`,
+    /// without that value in between.
+    ///
+    /// Errors: `IsDown` where it is down or not there, and then those of the call.
+    pub(crate) fn arrive(&mut self, imp: u8, port: u8, frame: Frame) -> Result<(), CarrierFault>
+        requires { AreLive self.old.imps }
+        ensures call { Makes imp (call.Arrive port frame) self.old self.new result }
+        ensures live { OnOk result (AreLive self.new.imps) }
+        ensures keeps { SameLog self.old self.new }
+    {
+        let frames = arrive_at_imp(&mut self.imps, imp, port, frame)?;
+        if self.put(imp, frames).is_err() {
+            return Err(CarrierFault::OutOfMemory);
+        }
+        Ok(())
+    }
+
     /// Puts the frames that an IMP's call answered on lines. Their list goes back to the IMP.
     ///
     /// Errors: memory runs out, and nothing else.
@@ -190,7 +209,9 @@ impl Parts {
         ensures keeps { SameLog self.old self.new }
     {
         if frames.is_empty() {
-            reuse(&mut self.imps, imp, frames);
+            if frames.capacity() > 0 {
+                reuse(&mut self.imps, imp, frames);
+            }
             return Ok(());
         }
         let spare = self.lines.put_all(imp, frames)?;

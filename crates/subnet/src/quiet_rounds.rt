@@ -4,12 +4,14 @@ ghost use Rattle.std.specs.Prelude.{◌≡◌, ◌<◌, length, slice_get, true,
 ghost use Rattle.std.specs.List.{range_with_len};
 ghost use Rattle.subnet.specs.Net.{imp_at, wire_at, frames_on};
 ghost use Rattle.subnet.specs.Events as events;
-ghost use Rattle.subnet.specs.Calls.{round_grows, delivered_grows};
-ghost use Rattle.subnet.specs.Inside.Calling.{AreLive, SameLog, carried_first, call_turn};
+ghost use Rattle.imp_node.specs.Lines.{resend};
+ghost use Rattle.subnet.specs.Calls.{grows_at, round_grows, delivered_grows};
+ghost use Rattle.subnet.specs.Inside.Calling.{AreLive, SameLog, carried_first, call_turn, call_grows};
 ghost use Rattle.subnet.specs.declared.imp_call.ImpCall.TheVariants as call;
 
 use crate::imp_call::ImpCall;
-use crate::parts::Parts;
+use crate::parts::{Parts, runs_out};
+use imp_channel::Frame;
 use leader1822::Direction;
 use std::alloc::AllocError;
 
@@ -25,24 +27,27 @@ impl Parts {
         ensures memory { OnErr result (round_grows self.old ≡ true) }
         ensures keeps { SameLog self.old self.new }
     {
+        if self.is_settled() {
+            return Ok(());
+        }
         let imps = self.imp_places();
-        let lines = self.line_count();
+        let lines = self.line_count() as usize;
         self.refresh_all(imps)?;
         self.turn_all(lines)
     }
 
     /// How many places there are for IMPs.
-    fn imp_places(&self) -> u8
+    pub(crate) fn imp_places(&self) -> u8
         ensures { result ≡ length self.now.imps }
     {
         self.imps.len() as u8
     }
 
     /// How many lines there are.
-    fn line_count(&self) -> usize
+    pub(crate) fn line_count(&self) -> u32
         ensures { result ≡ length self.now.lines }
     {
-        self.lines.len()
+        self.lines.len() as u32
     }
 
     /// Each IMP that is up tells its distances and sends again.
@@ -86,7 +91,21 @@ impl Parts {
         ensures keeps { SameLog self.old self.new }
     {
         self.attempt(imp, ImpCall::Route)?;
+        if self.has_nothing_to_resend(imp) {
+            return Ok(());
+        }
         self.attempt(imp, ImpCall::Resend)
+    }
+
+    /// Whether an IMP is up and stores no packet, so that sending again would change nothing.
+    #[tactic(auto, using(crate::proofs::Calls::Resting::nothing_resent))]
+    fn has_nothing_to_resend(&self, imp: u8) -> bool
+        ensures { result ≡ true → events.at_imp (imp_at self.now.imps imp) imp resend self.now ≡ self.now }
+    {
+        match self.imp(imp) {
+            Some(imp) => !imp.holds_packet(),
+            None => false,
+        }
     }
 
     /// The frames of each of so many lines are delivered and dropped, one direction after the other.
@@ -183,7 +202,25 @@ impl Parts {
         }
         let port = self.far_port(line, direction);
         let frame = self.take_first(line, direction);
-        self.attempt(imp, ImpCall::Arrive(port, frame))
+        self.attempt_arrival(imp, port, frame)
+    }
+
+    /// A frame comes in at a port of the IMP of this number, if it is up and has that port, and the IMP's frames go on lines.
+    ///
+    /// Errors: memory runs out, and nothing else.
+    #[tactic(auto, using(crate::proofs::Calls::Attempting::arrive_ignores, crate::proofs::Calls::Attempting::attempted, crate::proofs::Calls::Attempting::attempt_lives, crate::proofs::Calls::Attempting::attempt_grows))]
+    fn attempt_arrival(&mut self, imp: u8, port: u8, frame: Frame) -> Result<(), AllocError>
+        requires { AreLive self.old.imps }
+        ensures ok { OnOk result (self.new ≡ events.at_imp (imp_at self.old.imps imp) imp (call_turn (call.Arrive port frame)) self.old) }
+        ensures live { OnOk result (AreLive self.new.imps) }
+        ensures memory { OnErr result (grows_at (imp_at self.old.imps imp) (call_grows (call.Arrive port frame)) ≡ true) }
+        ensures keeps { SameLog self.old self.new }
+    {
+        let outcome = self.arrive(imp, port, frame);
+        if runs_out(&outcome) {
+            return Err(AllocError);
+        }
+        Ok(())
     }
 
     /// The oldest frame of a directed line, if there is one, is lost.

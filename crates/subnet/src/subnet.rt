@@ -25,7 +25,7 @@ use std::marker::Model;
 /// stands.
 #[derive(Drop)]
 pub struct Subnet {
-    parts: Parts,
+    pub(crate) parts: Parts,
     stopped: bool,
 }
 

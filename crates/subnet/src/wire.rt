@@ -55,21 +55,21 @@ impl Wire {
     }
 
     /// The numbers of the two IMPs that it joins.
-    pub(crate) fn ends(&self) -> Ends
+    pub fn ends(&self) -> Ends
         ensures { result ≡ record { a = self.now.a; b = self.now.b } }
     {
         self.ends
     }
 
     /// Whether it has an end at this IMP.
-    pub(crate) fn ends_at(&self, imp: u8) -> bool
+    pub fn ends_at(&self, imp: u8) -> bool
         ensures { result ≡ ends_at imp self.now }
     {
         self.ends.a == imp || self.ends.b == imp
     }
 
     /// The IMP that its frames of one direction go to.
-    pub(crate) fn far_end(&self, direction: Direction) -> u8
+    pub fn far_end(&self, direction: Direction) -> u8
         ensures { result ≡ far_end direction self.now }
     {
         match direction {
@@ -79,7 +79,7 @@ impl Wire {
     }
 
     /// The frames that are live one way, the oldest first.
-    pub(crate) fn frames(&self, direction: Direction) -> &VecDeque<Frame>
+    pub fn frames(&self, direction: Direction) -> &VecDeque<Frame>
         ensures { result.now.items ≡ frames_on direction self.now }
     {
         match direction {
@@ -89,7 +89,7 @@ impl Wire {
     }
 
     /// How many frames are live one way.
-    pub(crate) fn live(&self, direction: Direction) -> usize
+    pub fn live(&self, direction: Direction) -> usize
         ensures { result ≡ length (frames_on direction self.now) }
     {
         match direction {

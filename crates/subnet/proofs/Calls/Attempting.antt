@@ -1,12 +1,16 @@
 -- A call that is refused changes nothing, where the IMP's turn would change nothing.
 use Rattle.std.specs.Prelude.{if◌then◌else◌}
-use Rattle.std.proofs.Common.{◌≡◌, ℕ, ◌≤◌, Bool, true, false, List, set, length, nat_lt, Option, Some, None, Result, Ok, Err, OnOk, refl, ap, sym, subst, ◌∙◌, arith}
+use Rattle.std.proofs.Common.{◌≡◌, ℕ, ◌≤◌, zero, suc, Bool, true, false, List, [], ◌∷◌, set, length, nat_lt, Option, Some, None, Result, Ok, Err, OnOk, refl, ap, sym, subst, ◌∙◌, arith}
 use Rattle.std.proofs.lemmas.List.{set-get_or}
 use Rattle.std.proofs.lemmas.Bool.Decides.{nat_tests}
 use Rattle.leader1822.specs.Calls.{is_memory}
 use Rattle.leader1822.specs.declared.carrier.CarrierFault.{CarrierFault}
 use Rattle.leader1822.specs.declared.carrier.CarrierFault.TheVariants as fault
-use Rattle.imp_node.specs.State.{State, ImpTurn}
+use Rattle.imp_channel.specs.Line.{answer_to}
+use Rattle.imp_channel.specs.declared.frame.Frame.{Frame}
+use Rattle.imp_node.specs.State.{State, ImpTurn, port_at, down_port}
+use Rattle.imp_node.specs.Arrival.{taken_frame, ignored}
+use Rattle.imp_node.specs.declared.port.Port.{Port}
 use Rattle.subnet.specs.Net.{Net, imp_at, with_turn}
 use Rattle.subnet.specs.Events.{at_up, at_imp}
 use Rattle.subnet.specs.Calls.{grows_at}
@@ -55,3 +59,12 @@ route_ignores s e refused = cc
 past_end : (b : Bool) (s : State) (k : ℕ) (e : CarrierFault) → nat_lt k (length s.ports) ≡ b → (if b then None else Some fault.NoSuch) ≡ Some e → length s.ports ≤ k
 past_end true s k e test refused = cc
 past_end false s k e test refused = grind (arith, nat_tests)
+
+ended : (ports : List Port) (k : ℕ) → length ports ≤ k → port_at ports k ≡ down_port
+ended [] k far = refl
+ended (port ∷ ports) zero far = absurd (omega (arith, far))
+ended (port ∷ ports) (suc k) far = ended ports k (omega (arith, far))
+
+pub arrive_ignores : (k : ℕ) (f : Frame) → Ignores (call.Arrive k f)
+arrive_ignores k f s e refused =
+    ap (λ (port : Port). if port.up then taken_frame (answer_to port.line f) k f s else ignored s) (ended s.ports k (past_end (nat_lt k (length s.ports)) s k e refl refused))

@@ -56,7 +56,8 @@ use Rattle.subnet.specs.Flows as flows
 use Rattle.subnet.specs.Flows.{Alive, kind_of, packet_of, queued_of, imp_is_up, sender_at, receiver_at, view_of, view}
 use Rattle.subnet.specs.Making.{NothingNew, OnlyNew, told_made}
 use Rattle.subnet.specs.Sound.{IsAt, IsSound}
-use Rattle.subnet.proofs.Packets.Having.{FrameHas, ImpHas, GotHas, net_itself, content_has, frame_packets, imp_has, wire_has, way_has, got_has}
+use Rattle.subnet.proofs.Packets.Having.{FrameHas, ImpHas, GotHas, net_itself, content_has, frame_packets, imp_has, got_has}
+use Rattle.subnet.proofs.Packets.OnLines.{way_holds, wire_holds}
 use Rattle.subnet.proofs.Packets.HavingByEvents.{brings}
 use Rattle.subnet.proofs.Moves.Offers.{answer_format}
 use Rattle.subnet.proofs.Calls.Silence.{at_host_all}
@@ -475,7 +476,7 @@ line_sound n i s k f live =
 -- ---- the event
 
 pub deliver_sound : (n : Net) (l : ℕ) (d : Direction) (k : ℕ) → IsSound n → IsSound (deliver n l d k)
-deliver_sound n l d k is = by (slice_get (frames_on d (wire_at n.lines l)) k) (got_has Held (frames_on d (wire_at n.lines l)) k (way_has Held d (wire_at n.lines l) (wire_has Held n.lines l (net_itself n).lines))) where
+deliver_sound n l d k is = by (slice_get (frames_on d (wire_at n.lines l)) k) (got_has Held (frames_on d (wire_at n.lines l)) k (way_holds (FrameHas Held) d (wire_at n.lines l) (wire_holds (FrameHas Held) n.lines l (net_itself n).lines))) where
   Held : PacketFields → Type 0
   Held = Contains (packets n)
 

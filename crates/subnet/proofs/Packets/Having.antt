@@ -1,11 +1,10 @@
 -- A property of every packet of a subnet: what holds of all packets before an event, and of what the event makes, holds of all
 -- packets after it.
-use Rattle.std.proofs.Common.{ℕ, zero, suc, ◌+◌, ◌==◌, Bool, true, false, List, [], ◌∷◌, ◌++◌, Option, Some, None, cond, All, Contains, take, drop, length}
-use Rattle.std.specs.Prelude.{nat_lt, slice_get}
+use Rattle.std.proofs.Common.{ℕ, zero, suc, List, [], ◌∷◌, Option, Some, None, All, Contains}
+use Rattle.std.specs.Prelude.{slice_get}
 use Rattle.std.specs.List.{flat_map}
-use Rattle.std.proofs.lemmas.List.Elements.{All-nil, All-cons, All-head, All-tail, All-append, All-push, All-set, All-take, All-drop, All-contains, All-contains_itself}
+use Rattle.std.proofs.lemmas.List.Elements.{All-nil, All-cons, All-head, All-tail, All-append, All-set, All-contains, All-contains_itself}
 use Rattle.leader1822.specs.declared.event.Direction.{Direction}
-use Rattle.leader1822.specs.declared.event.Direction.TheVariants as way
 use Rattle.packetiser.specs.PacketFields.{PacketFields}
 use Rattle.packetiser.proofs.lemmas.{All_left, All_right}
 use Rattle.imp_channel.specs.Holding.{carried_by}
@@ -13,12 +12,12 @@ use Rattle.imp_channel.specs.declared.frame.Content.{Content}
 use Rattle.imp_channel.specs.declared.frame.Content.TheVariants as content
 use Rattle.imp_channel.specs.declared.frame.Frame.{Frame}
 use Rattle.imp_channel.proofs.lemmas.{ContentHas}
-use Rattle.imp_node.specs.declared.outgoing.Outgoing.{Outgoing}
 use Rattle.imp_node.specs.State.{State, ImpTurn}
-use Rattle.imp_node.proofs.lemmas.{Has, OutgoingHas, TurnHas, has_packets, packets_has}
-use Rattle.subnet.specs.Net.{Net, Wire, imp_at, wire_at, line_places, line_from, followed_by, with_frame, put_on, put_one, put_all, with_turn, frames_on, without_at, dropping}
+use Rattle.imp_node.proofs.lemmas.{Has, TurnHas, has_packets, packets_has}
+use Rattle.subnet.specs.Net.{Net, Wire, imp_at, with_turn}
 use Rattle.subnet.specs.Alive.{packets_on, packets_on_wire, packets_at_imp, packets}
 use Rattle.subnet.specs.Events.{drop_frame}
+use Rattle.subnet.proofs.Packets.OnLines.{WireHolds, dropped_holds, put_all_holds}
 
 -- ---- the property
 
@@ -28,9 +27,8 @@ FrameHas P f = ContentHas P f.content
 abbrev pub FramesHave : (PacketFields → Type 0) → List Frame → Type 0
 FramesHave P frames = All (FrameHas P) frames
 
-pub record WireHas (P : PacketFields → Type 0) (w : Wire) : Type 0 where
-  pub forward : FramesHave P w.forward
-  pub back : FramesHave P w.back
+abbrev pub WireHas : (PacketFields → Type 0) → Wire → Type 0
+WireHas P w = WireHolds (FrameHas P) w
 
 abbrev pub ImpHas : (PacketFields → Type 0) → Option State → Type 0
 ImpHas P None = Unit {0}
@@ -126,15 +124,6 @@ imp_has P [] i has = tt
 imp_has P (o ∷ imps) zero has = All-head (ImpHas P) o imps has
 imp_has P (o ∷ imps) (suc i) has = imp_has P imps i (All-tail (ImpHas P) o imps has)
 
-pub wire_has : (P : PacketFields → Type 0) (lines : List Wire) (l : ℕ) → All (WireHas P) lines → WireHas P (wire_at lines l)
-wire_has P [] l has = record { forward = All-nil (FrameHas P); back = All-nil (FrameHas P) }
-wire_has P (w ∷ ws) zero has = All-head (WireHas P) w ws has
-wire_has P (w ∷ ws) (suc l) has = wire_has P ws l (All-tail (WireHas P) w ws has)
-
-pub way_has : (P : PacketFields → Type 0) (d : Direction) (w : Wire) → WireHas P w → FramesHave P (frames_on d w)
-way_has P way.Forward w has = has.forward
-way_has P way.Back w has = has.back
-
 -- the frame at a place, if there is one
 abbrev pub GotHas : (PacketFields → Type 0) → Option Frame → Type 0
 GotHas P None = Unit {0}
@@ -145,48 +134,15 @@ got_has P [] k has = tt
 got_has P (f ∷ frames) zero has = All-head (FrameHas P) f frames has
 got_has P (f ∷ frames) (suc k) has = got_has P frames k (All-tail (FrameHas P) f frames has)
 
--- ---- frames are put on lines
-
-followed_has : (P : PacketFields → Type 0) (frames : List Frame) (f : Frame) → FramesHave P frames → FrameHas P f → FramesHave P (followed_by frames f)
-followed_has P frames f has here = at (nat_lt (length frames) line_places) where
-  at : (b : Bool) → FramesHave P (cond b (frames ++ f ∷ []) frames)
-  at true = All-push (FrameHas P) frames f has here
-  at false = has
-
-with_frame_has : (P : PacketFields → Type 0) (i : ℕ) (f : Frame) (w : Wire) → WireHas P w → FrameHas P f → WireHas P (with_frame i f w)
-with_frame_has P i f w has here = at (w.a == i) where
-  at : (b : Bool) → (let one : Wire = record w { forward = followed_by w.forward f } in let other : Wire = record w { back = followed_by w.back f } in WireHas P (cond b one other))
-  at true = record { forward = followed_has P w.forward f has.forward here; back = has.back }
-  at false = record { forward = has.forward; back = followed_has P w.back f has.back here }
-
-put_on_has : (P : PacketFields → Type 0) (lines : List Wire) (i : ℕ) (f : Frame) (l : Option ℕ) → All (WireHas P) lines → FrameHas P f → All (WireHas P) (put_on lines i f l)
-put_on_has P lines i f None has here = has
-put_on_has P lines i f (Some l) has here = All-set (WireHas P) lines l (with_frame i f (wire_at lines l)) (with_frame_has P i f (wire_at lines l) (wire_has P lines l has) here) has
-
-put_all_has : (P : PacketFields → Type 0) (lines : List Wire) (i : ℕ) (outs : List Outgoing) → All (WireHas P) lines → All (OutgoingHas P) outs → All (WireHas P) (put_all lines i outs)
-put_all_has P lines i [] has all = has
-put_all_has P lines i (out ∷ outs) has all =
-    put_all_has P (put_one lines i out) i outs (put_on_has P lines i out.frame (line_from 0 lines i out.port) has (All-head (OutgoingHas P) out outs all)) (All-tail (OutgoingHas P) out outs all)
-
 -- ---- calls of IMPs
 
 pub with_turn_has : (P : PacketFields → Type 0) (i : ℕ) (turn : ImpTurn) (n : Net) → NetHas P n → TurnHas P turn → NetHas P (with_turn i turn n)
 with_turn_has P i turn n h t = record {
   imps = All-set (ImpHas P) n.imps i (Some turn.state) t.state h.imps;
-  lines = put_all_has P n.lines i turn.frames h.lines t.frames;
+  lines = put_all_holds (FrameHas P) n.lines i turn.frames h.lines t.frames;
 }
 
--- ---- frames are dropped, and IMPs stop and start
-
-without_has : (P : PacketFields → Type 0) (k : ℕ) (frames : List Frame) → FramesHave P frames → FramesHave P (without_at k frames)
-without_has P k frames has = All-append (FrameHas P) (take k frames) (drop (k + 1) frames) (All-take (FrameHas P) k frames has) (All-drop (FrameHas P) (k + 1) frames has)
-
-dropping_has : (P : PacketFields → Type 0) (d : Direction) (k : ℕ) (w : Wire) → WireHas P w → WireHas P (dropping d k w)
-dropping_has P way.Forward k w has = record { forward = without_has P k w.forward has.forward; back = has.back }
-dropping_has P way.Back k w has = record { forward = has.forward; back = without_has P k w.back has.back }
+-- ---- a frame is dropped
 
 pub dropped_has : (P : PacketFields → Type 0) (n : Net) (l : ℕ) (d : Direction) (k : ℕ) → NetHas P n → NetHas P (drop_frame n l d k)
-dropped_has P n l d k h = record {
-  imps = h.imps;
-  lines = All-set (WireHas P) n.lines l (dropping d k (wire_at n.lines l)) (dropping_has P d k (wire_at n.lines l) (wire_has P n.lines l h.lines)) h.lines;
-}
+dropped_has P n l d k h = record { imps = h.imps; lines = dropped_holds (FrameHas P) n.lines l d k h.lines }

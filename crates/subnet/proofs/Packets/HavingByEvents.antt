@@ -29,7 +29,8 @@ use Rattle.subnet.specs.Net.{Net, imp_at, wire_at, ends_at, port_of, frames_on, 
 use Rattle.subnet.specs.Alive.{packets}
 use Rattle.subnet.specs.Events.{at_imp, logging, offer_out, taken_by_host, crossings_of, take_in, delivered, deliver, drop_frame, host_stopped, host_started, started_imp, hosts_at, site_at, imp_started, imp_stopped}
 use Rattle.subnet.specs.Making.{NothingNew, OnlyNew, made_at, offer_makes, take_makes, asking_makes, stop_makes, told_made, frame_makes, deliver_makes}
-use Rattle.subnet.proofs.Packets.Having.{FrameHas, ImpHas, NetHas, GotHas, net_packets, packets_net, net_itself, imp_has, wire_has, way_has, got_has, with_turn_has, dropped_has}
+use Rattle.subnet.proofs.Packets.Having.{FrameHas, ImpHas, NetHas, GotHas, net_packets, packets_net, net_itself, imp_has, got_has, with_turn_has, dropped_has}
+use Rattle.subnet.proofs.Packets.OnLines.{way_holds, wire_holds}
 
 -- ---- a call of one IMP
 
@@ -92,7 +93,7 @@ delivered_has P n l d (Some f) h got made =
 deliver_has : (P : PacketFields → Type 0) (n : Net) (l : ℕ) (d : Direction) (k : ℕ) → NetHas P n → All P (deliver_makes n l d k) → NetHas P (deliver n l d k)
 deliver_has P n l d k h made =
     delivered_has P n l d (slice_get (frames_on d (wire_at n.lines l)) k) h
-    (got_has P (frames_on d (wire_at n.lines l)) k (way_has P d (wire_at n.lines l) (wire_has P n.lines l h.lines))) made
+    (got_has P (frames_on d (wire_at n.lines l)) k (way_holds (FrameHas P) d (wire_at n.lines l) (wire_holds (FrameHas P) n.lines l h.lines))) made
 
 -- ---- hosts and IMPs that start, and IMPs that stop
 

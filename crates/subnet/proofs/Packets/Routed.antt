@@ -1,9 +1,9 @@
 -- Distances are told of the subnet's IMPs alone.
-use Rattle.std.proofs.Common.{◌≡◌, ℕ, zero, suc, ◌+◌, ◌-◌, ◌<◌, ◌≤◌, ◌==◌, Bool, true, false, List, [], ◌∷◌, ◌++◌, length, map, min, take, drop, Option, Some, None, Result, Ok, Err, refl, ap, sym, ◌∙◌, subst, inl, inr, eqb-true, eq-eqb, cond, arith, All, if◌then◌else◌}
-use Rattle.std.specs.Prelude.{nat_lt, is_some, slice_get, slice_set, count_by}
+use Rattle.std.proofs.Common.{◌≡◌, ℕ, zero, suc, ◌+◌, ◌-◌, ◌<◌, ◌≤◌, ◌==◌, Bool, true, false, List, [], ◌∷◌, length, map, min, Option, Some, None, Result, Ok, Err, refl, ap, sym, ◌∙◌, subst, inl, inr, eqb-true, eq-eqb, cond, arith, All, if◌then◌else◌}
+use Rattle.std.specs.Prelude.{is_some, slice_get, slice_set, count_by}
 use Rattle.std.proofs.lemmas.Bool.{cases_Bool, cases_lt}
 use Rattle.std.proofs.lemmas.List.{get_or_past, length-set}
-use Rattle.std.proofs.lemmas.List.Elements.{All-nil, All-cons, All-head, All-tail, All-append, All-push, All-set, All-take, All-drop, All-replicate, All-map}
+use Rattle.std.proofs.lemmas.List.Elements.{All-weaker, All-nil, All-cons, All-head, All-tail, All-append, All-set, All-replicate, All-map}
 use Rattle.leader1822.specs.Host.{Host, IsAddress, most_imps}
 use Rattle.leader1822.specs.declared.address.Flow.{Flow}
 use Rattle.leader1822.specs.declared.crossing.Answer.{Answer}
@@ -11,7 +11,6 @@ use Rattle.leader1822.specs.declared.crossing.Answer.TheVariants as answer
 use Rattle.leader1822.specs.declared.crossing.Crossing.{Crossing}
 use Rattle.leader1822.specs.declared.crossing.Crossing.TheVariants as crossing
 use Rattle.leader1822.specs.declared.event.Direction.{Direction}
-use Rattle.leader1822.specs.declared.event.Direction.TheVariants as way
 use Rattle.leader1822.specs.declared.event.NetEvent.{NetEvent}
 use Rattle.leader1822.specs.declared.event.NetEvent.TheVariants as event
 use Rattle.leader1822.specs.declared.message.HostMessage.{HostMessage}
@@ -49,7 +48,7 @@ use Rattle.imp_node.specs.Asking.{asked_by, ask}
 use Rattle.imp_node.specs.Queries.{outstanding}
 use Rattle.imp_node.specs.Stopping.{give_up, forget, abandon, message_returned, all_returned, stopped, host_down, host_up}
 use Rattle.imp_node.specs.Taking.{is_from_here, reply_has_room, replied, taken_by, to_host}
-use Rattle.subnet.specs.Net.{Net, Wire, imp_at, wire_at, ends_at, port_of, line_places, line_from, followed_by, with_frame, put_on, put_one, put_all, with_turn, frames_on, far_end, without_at, dropping}
+use Rattle.subnet.specs.Net.{Net, Wire, imp_at, wire_at, ends_at, port_of, put_all, with_turn, frames_on, far_end, dropping}
 use Rattle.subnet.specs.Events as events
 use Rattle.subnet.specs.Events.{at_imp, logging, offer_out, crossings_of, take_in, delivered, deliver, drop_frame, quiet_round, host_stopped, host_started, started_imp, hosts_at, site_at, imp_stopped, imp_started, downs_at, stepped}
 use Rattle.subnet.specs.Offers.{IsCarriable, CanGo, CanGoFrom}
@@ -57,6 +56,7 @@ use Rattle.subnet.specs.Opening.{Ends, empty_wire, opened_imp, opened_from, open
 use Rattle.subnet.specs.Routed.{TellsVector, FrameTells, WireTells, HeardVector, ImpHeard, IsRouted, IsHostMessage}
 use Rattle.subnet.specs.Sound.{IsAt, IsSound}
 use Rattle.subnet.proofs.Calls.Rounds.{round_keeps}
+use Rattle.subnet.proofs.Packets.OnLines.{WireHolds, dropped_holds, put_all_holds, way_holds, wire_holds}
 
 -- ---- frames of one IMP
 
@@ -222,31 +222,17 @@ from_line_tells k f s tells here = at (port_at s.ports k).up where
 
 -- ---- frames on lines
 
-followed_tells : (frames : List Frame) (f : Frame) → All FrameTells frames → FrameTells f → All FrameTells (followed_by frames f)
-followed_tells frames f told here = at (nat_lt (length frames) line_places) where
-  at : (b : Bool) → All FrameTells (cond b (frames ++ f ∷ []) frames)
-  at true = All-push FrameTells frames f told here
-  at false = told
+told_wire : (w : Wire) → WireTells w → WireHolds FrameTells w
+told_wire w told = record { forward = told.forward; back = told.back }
 
-with_frame_tells : (i : ℕ) (f : Frame) (w : Wire) → WireTells w → FrameTells f → WireTells (with_frame i f w)
-with_frame_tells i f w told here = at (w.a == i) where
-  at : (b : Bool) → (let one : Wire = record w { forward = followed_by w.forward f } in let other : Wire = record w { back = followed_by w.back f } in WireTells (cond b one other))
-  at true = record { forward = followed_tells w.forward f told.forward here; back = told.back }
-  at false = record { forward = told.forward; back = followed_tells w.back f told.back here }
+wire_told : (w : Wire) → WireHolds FrameTells w → WireTells w
+wire_told w told = record { forward = told.forward; back = told.back }
 
-wire_tells : (lines : List Wire) (l : ℕ) → All WireTells lines → WireTells (wire_at lines l)
-wire_tells [] l told = record { forward = All-nil FrameTells; back = All-nil FrameTells }
-wire_tells (w ∷ ws) zero told = All-head WireTells w ws told
-wire_tells (w ∷ ws) (suc l) told = wire_tells ws l (All-tail WireTells w ws told)
+told_wires : (lines : List Wire) → All WireTells lines → All (WireHolds FrameTells) lines
+told_wires lines all = All-weaker WireTells (WireHolds FrameTells) told_wire lines all
 
-put_on_tells : (lines : List Wire) (i : ℕ) (f : Frame) (l : Option ℕ) → All WireTells lines → FrameTells f → All WireTells (put_on lines i f l)
-put_on_tells lines i f None told here = told
-put_on_tells lines i f (Some l) told here = All-set WireTells lines l (with_frame i f (wire_at lines l)) (with_frame_tells i f (wire_at lines l) (wire_tells lines l told) here) told
-
-put_all_tells : (lines : List Wire) (i : ℕ) (outs : List Outgoing) → All WireTells lines → All OutTells outs → All WireTells (put_all lines i outs)
-put_all_tells lines i [] told all = told
-put_all_tells lines i (out ∷ outs) told all =
-    put_all_tells (put_one lines i out) i outs (put_on_tells lines i out.frame (line_from 0 lines i out.port) told (All-head OutTells out outs all)) (All-tail OutTells out outs all)
+wires_told : (lines : List Wire) → All (WireHolds FrameTells) lines → All WireTells lines
+wires_told lines all = All-weaker (WireHolds FrameTells) WireTells wire_told lines all
 
 -- ---- a call of one IMP
 
@@ -262,7 +248,7 @@ turn_routed : (i : ℕ) (turn : ImpTurn) (n : Net) → TurnTells turn → IsRout
 turn_routed i turn n t is = record {
   few = still_few n.imps i (Some turn.state) is.few;
   imps = All-set ImpHeard n.imps i (Some turn.state) t.heard is.imps;
-  lines = put_all_tells n.lines i turn.frames is.lines t.frames;
+  lines = wires_told (put_all n.lines i turn.frames) (put_all_holds FrameTells n.lines i turn.frames (told_wires n.lines is.lines) t.frames);
 }
 
 call_routed : (n : Net) (i : ℕ) (call : State → ImpTurn) → ((s : State) → All HeardVector s.routes.heard → TurnTells (call s)) → IsRouted n → IsRouted (at_imp (imp_at n.imps i) i call n)
@@ -291,30 +277,19 @@ got_tells [] k all = tt
 got_tells (f ∷ frames) zero all = All-head FrameTells f frames all
 got_tells (f ∷ frames) (suc k) all = got_tells frames k (All-tail FrameTells f frames all)
 
-way_tells : (d : Direction) (w : Wire) → WireTells w → All FrameTells (frames_on d w)
-way_tells way.Forward w told = told.forward
-way_tells way.Back w told = told.back
-
 deliver_routed : (n : Net) (l : ℕ) (d : Direction) (k : ℕ) → IsRouted n → IsRouted (deliver n l d k)
-deliver_routed n l d k is = by (slice_get (frames_on d (wire_at n.lines l)) k) (got_tells (frames_on d (wire_at n.lines l)) k (way_tells d (wire_at n.lines l) (wire_tells n.lines l is.lines))) where
+deliver_routed n l d k is = by (slice_get (frames_on d (wire_at n.lines l)) k) (got_tells (frames_on d (wire_at n.lines l)) k (way_holds FrameTells d (wire_at n.lines l) (wire_holds FrameTells n.lines l (told_wires n.lines is.lines)))) where
   by : (o : Option Frame) → GotTells o → IsRouted (delivered n l d o)
   by None here = is
   by (Some f) here =
       let i : ℕ = far_end d (wire_at n.lines l) in
       call_routed n i (λ s. from_line s (port_of n.lines i l) f) (λ s told. from_line_tells (port_of n.lines i l) f s here told) is
 
-without_tells : (k : ℕ) (frames : List Frame) → All FrameTells frames → All FrameTells (without_at k frames)
-without_tells k frames all = All-append FrameTells (take k frames) (drop (k + 1) frames) (All-take FrameTells k frames all) (All-drop FrameTells (k + 1) frames all)
-
-dropping_tells : (d : Direction) (k : ℕ) (w : Wire) → WireTells w → WireTells (dropping d k w)
-dropping_tells way.Forward k w told = record { forward = without_tells k w.forward told.forward; back = told.back }
-dropping_tells way.Back k w told = record { forward = told.forward; back = without_tells k w.back told.back }
-
 drop_routed : (n : Net) (l : ℕ) (d : Direction) (k : ℕ) → IsRouted n → IsRouted (drop_frame n l d k)
 drop_routed n l d k is = record {
   few = is.few;
   imps = is.imps;
-  lines = All-set WireTells n.lines l (dropping d k (wire_at n.lines l)) (dropping_tells d k (wire_at n.lines l) (wire_tells n.lines l is.lines)) is.lines;
+  lines = wires_told (slice_set n.lines l (dropping d k (wire_at n.lines l))) (dropped_holds FrameTells n.lines l d k (told_wires n.lines is.lines));
 }
 
 resend_routed : (n : Net) (i : ℕ) → IsRouted n → IsRouted (at_imp (imp_at n.imps i) i resend n)

@@ -1,5 +1,5 @@
 -- Calls of one IMP as data, and what they leave in the subnet.
-use Rattle.std.specs.Prelude.{◌≡◌, ℕ, ◌≤◌, ◌<◌, Bool, true, false, List, [], ◌∷◌, ◌++◌, ◌+◌, if◌then◌else◌, length, Option, Some, None, Result, Ok, Err, slice_set, All, IfSome}
+use Rattle.std.specs.Prelude.{◌≡◌, ℕ, ◌≤◌, ◌<◌, Bool, true, false, List, [], ◌∷◌, ◌++◌, ◌+◌, if◌then◌else◌, length, Option, Some, None, Result, Ok, Err, slice_index_or, slice_set, All, IfSome}
 use Rattle.leader1822.specs.Host.{most_imps}
 use Rattle.leader1822.specs.Calls.{is_memory}
 use Rattle.leader1822.specs.declared.carrier.CarrierFault.{CarrierFault}
@@ -148,6 +148,7 @@ downs_in_order i k (h ∷ hosts) = down_of i k h ++ downs_in_order i (k + 1) hos
 
 -- IMPs are numbered from 1 to the greatest and have at most four hosts, and there are fewer than 256 lines
 pub record AreParts (imps : List (Option State)) (sites : List (Option ℕ)) (lines : List Wire) : Type 0 where
+  pub none : slice_index_or sites 0 None ≡ None
   pub places : length imps ≡ length sites
   pub numbers : length sites ≤ most_imps + 1
   pub hosts : All (λ site. IfSome site (λ count. count ≤ 4)) sites

@@ -36,3 +36,11 @@ returns-clause-not_there c = (refl, refl, refl, refl, refl, refl)
 pub returns-clause-other_line : goal.returns-clause-other_line
 unfolding next_of submitted distance_to vector_of is_new oldest modulus window
 returns-clause-other_line c = (refl, refl)
+
+pub returns-clause-gives : goal.returns-clause-gives
+unfolding next_of submitted distance_to vector_of is_new oldest modulus window
+returns-clause-gives c = refl
+
+pub returns-clause-gives_nothing : goal.returns-clause-gives_nothing
+unfolding next_of submitted distance_to vector_of is_new oldest modulus window
+returns-clause-gives_nothing c = (refl, refl, refl)
