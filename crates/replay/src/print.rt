@@ -14,6 +14,7 @@ ghost use Rattle.script.specs.Spelling.{octets_text};
 use crate::events::ReplayFault;
 use crate::line::line_of;
 use crate::output::{Output, WriteFailed};
+use bit_messages::Bits;
 use leader1822::{CarrierFault, Crossing, Text};
 
 /// How much is printed of a message that crosses.
@@ -108,7 +109,17 @@ pub fn print_text<W: Output>(text: &Text, writer: &mut W) -> Result<(), WriteFai
     ensures written { OnOk result (Appends (W.contents writer.old) (W.contents writer.new) (octets_text text.now)) }
     ensures failed { TellsFailure result (W.failed writer.new) }
 {
-    let bits = text.bits();
+    print_bits(text.bits(), writer)
+}
+
+/// Prints the octets of these bits, as a script spells them: a hyphen for no bits.
+///
+/// Errors: `WriteFailed`.
+pub fn print_bits<W: Output>(bits: &Bits, writer: &mut W) -> Result<(), WriteFailed>
+    requires { W.failed writer.old ≡ false }
+    ensures written { OnOk result (Appends (W.contents writer.old) (W.contents writer.new) (octets_text bits.now)) }
+    ensures failed { TellsFailure result (W.failed writer.new) }
+{
     if bits.is_empty() {
         return writer.write_all(b"-");
     }
