@@ -1,14 +1,10 @@
 -- JSON texts are told apart: what stands in front of a comma or a closing bracket is one value in one way.
-use Rattle.std.proofs.Common.{◌≡◌, ◌≢◌, ℕ, zero, suc, ◌<◌, ◌^◌, ◌==◌, ◌||◌, Bool, true, false, not, List, [], ◌∷◌, ◌++◌, map, if◌then◌else◌, refl, sym, ap, ap₂, ◌∙◌, arith, length}
+use Rattle.std.proofs.Common.{◌≡◌, ◌≢◌, ℕ, zero, suc, ◌==◌, ◌||◌, Bool, true, false, not, List, [], ◌∷◌, ◌++◌, map, if◌then◌else◌, refl, sym, ap, ap₂, ◌∙◌, arith}
 use Rattle.std.proofs.lemmas.Bool.{false≢true}
 use Rattle.std.proofs.lemmas.Bool.Decides.{nat_tests}
 use Rattle.std.proofs.lemmas.List.{append_assoc, append-nil, append_cancel_left, append_cancel_right}
 use Rattle.std.proofs.lemmas.List.Elements.{All-cons, All-head, All-nil, All-tail}
-use Rattle.std.proofs.lemmas.Fmt.{decimal_injective, decimal_is_IsNumeral, decimal_nonempty}
-use Rattle.std.specs.Fmt.{decimal}
 use Rattle.std.specs.List.{All}
-use Rattle.std.specs.Str.Parse.{AllDigits}
-use Rattle.std.proofs.lemmas.Str.Parse.{digit_from_value}
 use Rattle.trace.proofs.lemmas.{Words}
 use Rattle.script.specs.Steps.{Lacks}
 use Rattle.script.proofs.lemmas.{SameCut}
@@ -78,18 +74,6 @@ all_plain : (t : List ℕ) → All (λ c. is_plain c ≡ true) t → (depth : �
 all_plain [] plain depth r = refl
 all_plain (c ∷ t) plain depth r =
     plain_passes depth c (t ++ r) (All-head (λ x. is_plain x ≡ true) c t plain) ∙ ap (λ xs. c ∷ xs) (all_plain t (All-tail (λ x. is_plain x ≡ true) c t plain) depth r)
-
-digits_plain : (ds : List ℕ) → AllDigits 10 ds → All (λ c. is_plain c ≡ true) ds
-digits_plain [] h = All-nil (λ c. is_plain c ≡ true)
-digits_plain (d ∷ ds) h =
-    let range = digit_from_value d h.0 in
-    let a : (d == 34) ≡ false = grind (arith, nat_tests) in
-    let b : (d == 91) ≡ false = grind (arith, nat_tests) in
-    let c : (d == 123) ≡ false = grind (arith, nat_tests) in
-    let e : (d == 93) ≡ false = grind (arith, nat_tests) in
-    let f : (d == 125) ≡ false = grind (arith, nat_tests) in
-    let g : (d == 44) ≡ false = grind (arith, nat_tests) in
-    All-cons (λ x. is_plain x ≡ true) d ds (rw (a, b, c, e, f, g) refl) (digits_plain ds h.1)
 
 -- two texts, one after the other
 pub both_closed : (t u : List ℕ) → IsClosed t → IsClosed u → IsClosed (t ++ u)
@@ -202,15 +186,6 @@ strings_spelled text IsValid words = record {
   closed = λ x valid. string_closed (text x) (words.plain x valid);
   once = λ x y p q e. words.once x y p q (append_cancel_right (text x) (text y) (34 ∷ []) (rest_same e));
 }
-
--- numbers
-abbrev pub IsSmall : ℕ → Type 0
-IsSmall n = n < 2 ^ 64
-
-pub numbers_spelled : Spelled decimal IsSmall
-numbers_spelled = record { closed = λ n small. plain_closed (decimal n) (λ e. none n small e) (digits_plain (decimal n) (decimal_is_IsNumeral n small).0.1); once = λ m n p q e. decimal_injective m n p q e } where
-  none : (n : ℕ) → n < 2 ^ 64 → decimal n ≢ []
-  none n small e = let some : 0 < length (decimal n) = decimal_nonempty n small in absurd (omega (arith, ap length e))
 
 -- lists
 each_closed : {X : Type 0} (text : X → List ℕ) (IsValid : X → Type 0) → Spelled text IsValid → (xs : List X) → All IsValid xs → All IsClosed (map text xs)

@@ -1,14 +1,12 @@
 -- Texts of frames, hosts, ports and IMPs are closed, and no two alike.
 use Rattle.std.proofs.Common.{◌≡◌, ℕ, suc, ◌+◌, ◌<◌, ◌≤◌, ◌==◌, nat_lt, Bool, true, false, List, [], ◌∷◌, ◌++◌, codes, if◌then◌else◌, length, map, Option, Some, None, refl, sym, ap, ap₂, ◌∙◌, arith, lit<, append_assoc, subst}
 use Rattle.std.proofs.lemmas.Bool.Decides.{nat_tests}
-use Rattle.std.proofs.lemmas.Fmt.{decimal_injective}
-use Rattle.std.proofs.lemmas.List.Elements.{All-cons, All-head, All-nil, All-tail}
+use Rattle.std.proofs.lemmas.List.Elements.{All-cons, All-head, All-nil, All-tail, All-weaker}
 use Rattle.std.specs.Fmt.{decimal}
 use Rattle.std.specs.List.{All, list_all, list_any}
 use Rattle.std.specs.Str.{bytes_eq}
-use Rattle.leader1822.specs.declared.address.Flow.{Flow}
-use Rattle.packetiser.specs.PacketFields.{IsPacket, PacketFields}
-use Rattle.packetiser.specs.Slots.{IsPieceFor, IsSlot, SlotState}
+use Rattle.packetiser.specs.PacketFields.{PacketFields}
+use Rattle.packetiser.specs.Slots.{SlotState}
 use Rattle.routing.specs.Vector.{IsVector, infinite}
 use Rattle.imp_channel.specs.Carriage.{Carriage}
 use Rattle.imp_channel.specs.declared.frame.Content.{Content}
@@ -16,13 +14,13 @@ use Rattle.imp_channel.specs.declared.frame.Content.TheVariants as content
 use Rattle.imp_channel.specs.declared.frame.Frame.{Frame}
 use Rattle.imp_node.specs.State.{HostState}
 use Rattle.imp_node.specs.declared.port.Port.{Port}
-use Rattle.script.proofs.lemmas.{All-unmarked_decimal, SameCut, same_cut, unmarked_where}
-use Rattle.script.specs.Steps.{Lacks}
+use Rattle.script.proofs.lemmas.{SameCut, same_cut, unmarked_where}
 use Rattle.trace.specs.Texts.{member, quoted, strings}
 use Rattle.trace.proofs.lemmas.{Words, strings_once}
 use Rattle.subnet_trace.specs.Texts.{bit_text, bits_text, bool_text, channel_text, content_members, distances_text, finite_from, frame_text, heard_text, host_object, packet_text, port_object, slot_text, told_text, whole_text}
-use Rattle.subnet_trace.specs.Told.{IsAnswer, IsChannel, IsContent, IsFrame, IsHeard, IsHostTold, IsPort, IsWhole}
-use Rattle.subnet_trace.proofs.Json.{IsClosed, IsSmall, Spelled, array_closed, first_same, is_plain, member_closed, member_once, numbers_spelled, object_closed, object_once, plain_closed, rest_same, string_closed, strings_spelled}
+use Rattle.subnet_trace.specs.Told.{IsAnswerTold, IsChannelTold, IsContentTold, IsFrameTold, IsHeardTold, IsHostTold, IsMessageTold, IsPacketTold, IsPieceTold, IsPortTold, IsShort, IsSlotTold}
+use Rattle.subnet_trace.proofs.Decimals.{decimal_closed, decimal_lacks, short_once}
+use Rattle.subnet_trace.proofs.Json.{IsClosed, Spelled, array_closed, first_same, is_plain, member_closed, member_once, object_closed, object_once, plain_closed, rest_same, string_closed, strings_spelled}
 use Rattle.subnet_trace.proofs.Spelling.{Any, bit_once, bits_once, bits_plain, channel_words, packet_words, told_words, whole_words}
 
 -- ---- plain words
@@ -87,31 +85,28 @@ none_left e = absurd (cc)
 named : (name value : List ℕ) → member name value ≡ 34 ∷ (name ++ 34 ∷ 58 ∷ value)
 named name value = ap (λ zs. 34 ∷ zs) (append_assoc name (34 ∷ []) (58 ∷ value))
 
-number_lacks : (n : ℕ) → IsSmall n → Lacks 34 (decimal n)
-number_lacks n small = All-unmarked_decimal 34 n (lit< tt) small
-
 -- members of two numbers have two names
-apart : (i k : ℕ) (v w : List ℕ) → i < k → IsSmall k → member (decimal k) w ≡ member (decimal i) v → ⊥
+apart : (i k : ℕ) (v w : List ℕ) → i < k → IsShort k → member (decimal k) w ≡ member (decimal i) v → ⊥
 apart i k v w less small e =
-    let low : IsSmall i = omega (arith, less, small) in
-    let cut : SameCut (decimal k) (58 ∷ w) (decimal i) (58 ∷ v) = same_cut 34 (decimal k) (58 ∷ w) (decimal i) (58 ∷ v) (number_lacks k small) (number_lacks i low) (rest_same (sym (named (decimal k) w) ∙ e ∙ named (decimal i) v)) in
-    let same : k ≡ i = decimal_injective k i small low cut.front in
+    let low : IsShort i = omega (arith, less, small) in
+    let cut : SameCut (decimal k) (58 ∷ w) (decimal i) (58 ∷ v) = same_cut 34 (decimal k) (58 ∷ w) (decimal i) (58 ∷ v) (decimal_lacks 34 k (lit< tt)) (decimal_lacks 34 i (lit< tt)) (rest_same (sym (named (decimal k) w) ∙ e ∙ named (decimal i) v)) in
+    let same : k ≡ i = short_once k i small low cut.front in
     absurd (omega (arith, less, same))
 
 abbrev one_from : Bool → ℕ → ℕ → List (List ℕ)
 one_from finite i d = if finite then member (decimal i) (decimal d) ∷ [] else []
 
-later : (i k : ℕ) (v : List ℕ) (ds : List ℕ) (others : List (List ℕ)) → i < k → IsSmall (k + length ds) → finite_from k ds ≡ member (decimal i) v ∷ others → ⊥
+later : (i k : ℕ) (v : List ℕ) (ds : List ℕ) (others : List (List ℕ)) → i < k → IsShort (k + length ds) → finite_from k ds ≡ member (decimal i) v ∷ others → ⊥
 later i k v [] others less small e = none_left e
 later i k v (d ∷ ds) others less small e = by (λ k. later i (suc k) v ds others) (nat_lt d infinite) e where
-  by : ((j : ℕ) → i < suc j → IsSmall (suc j + length ds) → finite_from (suc j) ds ≡ member (decimal i) v ∷ others → ⊥) → (finite : Bool) → one_from finite k d ++ finite_from (k + 1) ds ≡ member (decimal i) v ∷ others → ⊥
+  by : ((j : ℕ) → i < suc j → IsShort (suc j + length ds) → finite_from (suc j) ds ≡ member (decimal i) v ∷ others → ⊥) → (finite : Bool) → one_from finite k d ++ finite_from (k + 1) ds ≡ member (decimal i) v ∷ others → ⊥
   by more true h = apart i k v (decimal d) less (omega (arith, small)) (first_same h)
   by more false h = more k (omega (arith, less)) (omega (arith, small)) (ap (λ (j : ℕ). finite_from j ds) (omega arith) ∙ h)
 
 past : (d : ℕ) → nat_lt d infinite ≡ false → d ≤ infinite → d ≡ infinite
 past d h most = grind (arith, nat_tests)
 
-finite_once : (i : ℕ) (ds es : List ℕ) → length ds ≡ length es → All (λ d. d ≤ infinite) ds → All (λ d. d ≤ infinite) es → IsSmall (i + length ds) → finite_from i ds ≡ finite_from i es → ds ≡ es
+finite_once : (i : ℕ) (ds es : List ℕ) → length ds ≡ length es → All (λ d. d ≤ infinite) ds → All (λ d. d ≤ infinite) es → IsShort (i + length ds) → finite_from i ds ≡ finite_from i es → ds ≡ es
 finite_once i [] [] long p q small e = refl
 finite_once i [] (y ∷ es) long p q small e = absurd (omega (arith, long))
 finite_once i (x ∷ ds) [] long p q small e = absurd (omega (arith, long))
@@ -124,50 +119,45 @@ finite_once i (x ∷ ds) (y ∷ es) long p q small e =
     here : x ≡ y → ds ≡ es → x ∷ ds ≡ y ∷ es
     here a b = ap₂ (λ (z : ℕ) (zs : List ℕ). z ∷ zs) a b
 
-    shifted : IsSmall (suc i + length es)
+    shifted : IsShort (suc i + length es)
     shifted = omega (arith, small, long)
 
     by : (finite_from (i + 1) ds ≡ finite_from (i + 1) es → ds ≡ es) → (b : Bool) → nat_lt x infinite ≡ b → (c : Bool) → nat_lt y infinite ≡ c → one_from b i x ++ finite_from (i + 1) ds ≡ one_from c i y ++ finite_from (i + 1) es → x ∷ ds ≡ y ∷ es
     by more true f true g h =
         let value : decimal x ≡ decimal y = member_once (decimal i) (decimal x) (decimal y) (first_same h) in
-        here (decimal_injective x y (omega (arith, All-head P x ds p)) (omega (arith, All-head P y es q)) value) (more (rest_same h))
+        here (short_once x y (omega (arith, All-head P x ds p)) (omega (arith, All-head P y es q)) value) (more (rest_same h))
     by more true f false g h = absurd (later i (i + 1) (decimal x) es (finite_from (i + 1) ds) (omega arith) (omega (arith, shifted)) (sym h))
     by more false f true g h = absurd (later i (i + 1) (decimal y) ds (finite_from (i + 1) es) (omega arith) (omega (arith, small)) h)
     by more false f false g h = here (past x f (All-head P x ds p) ∙ sym (past y g (All-head P y es q))) (more h)
 
-finite_closed : (i : ℕ) (ds : List ℕ) → All (λ d. d ≤ infinite) ds → IsSmall (i + length ds) → All IsClosed (finite_from i ds)
-finite_closed i [] p small = All-nil IsClosed
-finite_closed i (d ∷ ds) p small = by (finite_closed (i + 1) ds (All-tail P d ds p) (omega (arith, small))) (nat_lt d infinite) where
-  P : ℕ → Type 0
-  P x = x ≤ infinite
-
+finite_closed : (i : ℕ) (ds : List ℕ) → All IsClosed (finite_from i ds)
+finite_closed i [] = All-nil IsClosed
+finite_closed i (d ∷ ds) = by (finite_closed (i + 1) ds) (nat_lt d infinite) where
   by : All IsClosed (finite_from (i + 1) ds) → (finite : Bool) → All IsClosed (one_from finite i d ++ finite_from (i + 1) ds)
-  by more true =
-      All-cons IsClosed (member (decimal i) (decimal d)) (finite_from (i + 1) ds)
-      (member_closed (decimal i) (decimal d) (number_lacks i (omega (arith, small))) (numbers_spelled.closed d (omega (arith, All-head P d ds p)))) more
+  by more true = All-cons IsClosed (member (decimal i) (decimal d)) (finite_from (i + 1) ds) (member_closed (decimal i) (decimal d) (decimal_lacks 34 i (lit< tt)) (decimal_closed d)) more
   by more false = more
 
 distances_spelled : Spelled distances_text IsVector
 distances_spelled = record {
-  closed = λ ds is. object_closed (finite_from 1 ds) (finite_closed 1 ds is.in_range (omega (arith, is.one_each)));
+  closed = λ ds is. object_closed (finite_from 1 ds) (finite_closed 1 ds);
   once = λ ds es p q e. finite_once 1 ds es (p.one_each ∙ sym q.one_each) p.in_range q.in_range (omega (arith, p.one_each))
-      (object_once (finite_from 1 ds) (finite_from 1 es) (finite_closed 1 ds p.in_range (omega (arith, p.one_each))) (finite_closed 1 es q.in_range (omega (arith, q.one_each))) e);
+      (object_once (finite_from 1 ds) (finite_from 1 es) (finite_closed 1 ds) (finite_closed 1 es) e);
 }
 
-heard_closed : (o : Option (List ℕ)) → IsHeard o → IsClosed (heard_text o)
+heard_closed : (o : Option (List ℕ)) → IsHeardTold o → IsClosed (heard_text o)
 heard_closed None is = null_closed
 heard_closed (Some ds) is = distances_spelled.closed ds is
 
 pub not_null : (r : List ℕ) → codes "null" ≡ 123 ∷ r → ⊥
 not_null r e = let bad : 110 ≡ 123 = first_same e in absurd (omega (arith, bad))
 
-heard_once : (o r : Option (List ℕ)) → IsHeard o → IsHeard r → heard_text o ≡ heard_text r → o ≡ r
+heard_once : (o r : Option (List ℕ)) → IsHeardTold o → IsHeardTold r → heard_text o ≡ heard_text r → o ≡ r
 heard_once None None p q e = refl
 heard_once None (Some es) p q e = absurd (not_null _ e)
 heard_once (Some ds) None p q e = absurd (not_null _ (sym e))
 heard_once (Some ds) (Some es) p q e = ap (λ (zs : List ℕ). Some zs) (distances_spelled.once ds es p q e)
 
-pub heard_spelled : Spelled heard_text IsHeard
+pub heard_spelled : Spelled heard_text IsHeardTold
 heard_spelled = record { closed = heard_closed; once = heard_once }
 
 -- ---- members
@@ -185,25 +175,25 @@ also_closed name {value} {others} plain closed more = record { all = All-cons Is
 
 -- ---- frames
 
-packet_spelled : Spelled (λ p. quoted (packet_text p)) IsPacket
-packet_spelled = strings_spelled packet_text IsPacket packet_words
+packet_spelled : Spelled (λ p. quoted (packet_text p)) IsPacketTold
+packet_spelled = strings_spelled packet_text IsPacketTold packet_words
 
-content_closed : (c : Content) → IsContent c → AreClosed (content_members c)
+content_closed : (c : Content) → IsContentTold c → AreClosed (content_members c)
 content_closed (content.Packet carried) is =
-    also_closed (codes "channel") refl (numbers_spelled.closed carried.channel (omega (arith, is.0)))
+    also_closed (codes "channel") refl (decimal_closed carried.channel)
     (also_closed (codes "bit") refl (bit_spelled.closed carried.bit tt)
-    (also_closed (codes "packet") refl (packet_spelled.closed carried.packet is.1) none_closed))
+    (also_closed (codes "packet") refl (packet_spelled.closed carried.packet is.packet) none_closed))
 content_closed content.Nothing is = none_closed
 content_closed (content.Routes distances) is = also_closed (codes "routes") refl (distances_spelled.closed distances is) none_closed
 
-carriage_once : (c d : Carriage) → IsContent (content.Packet c) → IsContent (content.Packet d) → content_members (content.Packet c) ≡ content_members (content.Packet d) → c ≡ d
+carriage_once : (c d : Carriage) → IsContentTold (content.Packet c) → IsContentTold (content.Packet d) → content_members (content.Packet c) ≡ content_members (content.Packet d) → c ≡ d
 carriage_once c d p q e =
-    let channel : c.channel ≡ d.channel = numbers_spelled.once c.channel d.channel (omega (arith, p.0)) (omega (arith, q.0)) (member_once (codes "channel") (decimal c.channel) (decimal d.channel) (first_same e)) in
+    let channel : c.channel ≡ d.channel = short_once c.channel d.channel p.channel q.channel (member_once (codes "channel") (decimal c.channel) (decimal d.channel) (first_same e)) in
     let bit : c.bit ≡ d.bit = bit_once c.bit d.bit (member_once (codes "bit") (bit_text c.bit) (bit_text d.bit) (first_same (rest_same e))) in
-    let packet : c.packet ≡ d.packet = packet_spelled.once c.packet d.packet p.1 q.1 (member_once (codes "packet") (quoted (packet_text c.packet)) (quoted (packet_text d.packet)) (first_same (rest_same (rest_same e)))) in
+    let packet : c.packet ≡ d.packet = packet_spelled.once c.packet d.packet p.packet q.packet (member_once (codes "packet") (quoted (packet_text c.packet)) (quoted (packet_text d.packet)) (first_same (rest_same (rest_same e)))) in
     λ i. record { channel = channel i; bit = bit i; packet = packet i }
 
-content_once : (c d : Content) → IsContent c → IsContent d → content_members c ≡ content_members d → c ≡ d
+content_once : (c d : Content) → IsContentTold c → IsContentTold d → content_members c ≡ content_members d → c ≡ d
 content_once (content.Packet c) (content.Packet d) p q e = ap (λ (x : Carriage). content.Packet x) (carriage_once c d p q e)
 content_once (content.Packet c) content.Nothing p q e = absurd (none_left (sym e))
 content_once (content.Packet c) (content.Routes es) p q e = absurd (none_left (sym (rest_same e)))
@@ -217,26 +207,26 @@ content_once (content.Routes ds) (content.Routes es) p q e = ap (λ (zs : List �
 abbrev frame_members : Frame → List (List ℕ)
 frame_members f = member (codes "acks") (quoted (bits_text f.acks)) ∷ content_members f.content
 
-frame_members_closed : (f : Frame) → IsFrame f → AreClosed (frame_members f)
+frame_members_closed : (f : Frame) → IsFrameTold f → AreClosed (frame_members f)
 frame_members_closed f is = also_closed (codes "acks") refl (bits_spelled.closed f.acks tt) (content_closed f.content is)
 
-frame_once : (f g : Frame) → IsFrame f → IsFrame g → frame_text f ≡ frame_text g → f ≡ g
+frame_once : (f g : Frame) → IsFrameTold f → IsFrameTold g → frame_text f ≡ frame_text g → f ≡ g
 frame_once f g p q e =
     let all = object_once (frame_members f) (frame_members g) (frame_members_closed f p).all (frame_members_closed g q).all e in
     let acks : f.acks ≡ g.acks = bits_spelled.once f.acks g.acks tt tt (member_once (codes "acks") (quoted (bits_text f.acks)) (quoted (bits_text g.acks)) (first_same all)) in
     let brings : f.content ≡ g.content = content_once f.content g.content p q (rest_same all) in
     λ i. record { acks = acks i; content = brings i }
 
-pub frame_spelled : Spelled frame_text IsFrame
+pub frame_spelled : Spelled frame_text IsFrameTold
 frame_spelled = record { closed = λ f is. object_closed (frame_members f) (frame_members_closed f is).all; once = frame_once }
 
 -- ---- hosts
 
-queue_spelled : Spelled (λ xs. strings (map whole_text xs)) (All IsWhole)
-queue_spelled = lists_of_strings whole_text IsWhole whole_words
+queue_spelled : Spelled (λ xs. strings (map whole_text xs)) (All IsMessageTold)
+queue_spelled = lists_of_strings whole_text IsMessageTold whole_words
 
-answers_spelled : Spelled (λ xs. strings (map told_text xs)) (All IsAnswer)
-answers_spelled = lists_of_strings told_text IsAnswer told_words
+answers_spelled : Spelled (λ xs. strings (map told_text xs)) (All IsAnswerTold)
+answers_spelled = lists_of_strings told_text IsAnswerTold told_words
 
 abbrev host_members : HostState → List (List ℕ)
 host_members h = member (codes "up") (bool_text h.up) ∷ member (codes "messages") (strings (map whole_text h.queue)) ∷ member (codes "answers") (strings (map told_text h.answers)) ∷ []
@@ -260,19 +250,19 @@ host_spelled = record { closed = λ h is. object_closed (host_members h) (host_c
 
 -- ---- ports
 
-sending_spelled : Spelled (λ xs. strings (map channel_text xs)) (All IsChannel)
-sending_spelled = lists_of_strings channel_text IsChannel channel_words
+sending_spelled : Spelled (λ xs. strings (map channel_text xs)) (All IsChannelTold)
+sending_spelled = lists_of_strings channel_text IsChannelTold channel_words
 
 abbrev port_members : Port → List (List ℕ)
 port_members p = member (codes "up") (bool_text p.up) ∷ member (codes "sending") (strings (map channel_text p.line.sending)) ∷ member (codes "expected") (quoted (bits_text p.line.expected)) ∷ []
 
-port_closed : (p : Port) → IsPort p → AreClosed (port_members p)
+port_closed : (p : Port) → IsPortTold p → AreClosed (port_members p)
 port_closed p is =
     also_closed (codes "up") refl (bool_spelled.closed p.up tt)
     (also_closed (codes "sending") refl (sending_spelled.closed p.line.sending is)
     (also_closed (codes "expected") refl (bits_spelled.closed p.line.expected tt) none_closed))
 
-port_once : (g h : Port) → IsPort g → IsPort h → port_object g ≡ port_object h → g ≡ h
+port_once : (g h : Port) → IsPortTold g → IsPortTold h → port_object g ≡ port_object h → g ≡ h
 port_once g h p q e =
     let all = object_once (port_members g) (port_members h) (port_closed g p).all (port_closed h q).all e in
     let up : g.up ≡ h.up = bool_spelled.once g.up h.up tt tt (member_once (codes "up") (bool_text g.up) (bool_text h.up) (first_same all)) in
@@ -280,32 +270,34 @@ port_once g h p q e =
     let expected : g.line.expected ≡ h.line.expected = bits_spelled.once g.line.expected h.line.expected tt tt (member_once (codes "expected") (quoted (bits_text g.line.expected)) (quoted (bits_text h.line.expected)) (first_same (rest_same (rest_same all)))) in
     λ i. record { up = up i; line = record { sending = sending i; expected = expected i } }
 
-pub port_spelled : Spelled port_object IsPort
+pub port_spelled : Spelled port_object IsPortTold
 port_spelled = record { closed = λ p is. object_closed (port_members p) (port_closed p is).all; once = port_once }
 
 -- ---- slots
 
-pub packets_spelled : Spelled (λ xs. strings (map packet_text xs)) (All IsPacket)
-packets_spelled = lists_of_strings packet_text IsPacket packet_words
+pub packets_spelled : Spelled (λ xs. strings (map packet_text xs)) (All IsPacketTold)
+packets_spelled = lists_of_strings packet_text IsPacketTold packet_words
 
-record SameMessage (f g : Flow) (n m : ℕ) : Type 0 where
-  flow : f ≡ g
-  number : n ≡ m
+record SameMessage (s t : SlotState) : Type 0 where
+  flow : s.flow ≡ t.flow
+  number : s.number ≡ t.number
 
 -- the pieces say which message they are of
-of_one : (f g : Flow) (n m : ℕ) (ps : List PacketFields) → 0 < length ps → All (IsPieceFor f n) ps → All (IsPieceFor g m) ps → SameMessage f g n m
-of_one f g n m [] some p q = absurd (omega (arith, some))
-of_one f g n m (x ∷ ps) some p q =
-    let a : IsPieceFor f n x = All-head (IsPieceFor f n) x ps p in
-    let b : IsPieceFor g m x = All-head (IsPieceFor g m) x ps q in
-    record { flow = sym a.flow ∙ b.flow; number = sym a.same_number ∙ b.same_number }
+of_one : (s t : SlotState) (ps : List PacketFields) → 0 < length ps → All (IsPieceTold s) ps → All (IsPieceTold t) ps → SameMessage s t
+of_one s t [] some p q = absurd (omega (arith, some))
+of_one s t (x ∷ ps) some p q =
+    let a : IsPieceTold s x = All-head (IsPieceTold s) x ps p in
+    let b : IsPieceTold t x = All-head (IsPieceTold t) x ps q in
+    record { flow = sym a.flow ∙ b.flow; number = sym a.number ∙ b.number }
 
-slot_once : (s t : SlotState) → IsSlot s → IsSlot t → slot_text s ≡ slot_text t → s ≡ t
+pieces_told : (s : SlotState) → IsSlotTold s → All IsPacketTold s.pieces
+pieces_told s is = All-weaker (IsPieceTold s) IsPacketTold (λ p piece. piece.told) s.pieces is.pieces
+
+slot_once : (s t : SlotState) → IsSlotTold s → IsSlotTold t → slot_text s ≡ slot_text t → s ≡ t
 slot_once s t p q e =
-    let pieces : s.pieces ≡ t.pieces = packets_spelled.once s.pieces t.pieces p.packets q.packets e in
-    let there : All (IsPieceFor t.flow t.number) s.pieces = subst (λ (ps : List PacketFields). All (IsPieceFor t.flow t.number) ps) (sym pieces) q.pieces in
-    let same : SameMessage s.flow t.flow s.number t.number = of_one s.flow t.flow s.number t.number s.pieces p.some p.pieces there in
+    let pieces : s.pieces ≡ t.pieces = packets_spelled.once s.pieces t.pieces (pieces_told s p) (pieces_told t q) e in
+    let same : SameMessage s t = of_one s t s.pieces p.some p.pieces (subst (λ (ps : List PacketFields). All (IsPieceTold t) ps) (sym pieces) q.pieces) in
     λ i. record { flow = same.flow i; number = same.number i; pieces = pieces i }
 
-pub slot_spelled : Spelled slot_text IsSlot
-slot_spelled = record { closed = λ s is. packets_spelled.closed s.pieces is.packets; once = slot_once }
+pub slot_spelled : Spelled slot_text IsSlotTold
+slot_spelled = record { closed = λ s is. packets_spelled.closed s.pieces (pieces_told s is); once = slot_once }

@@ -43,10 +43,10 @@ record IsFound (a k i : ℕ) (ws : List Wire) : Type 0 where
   is : k ≡ a + place
   ends : ends_at i (wire_at ws place) ≡ true
 
-some_is : {X : Type 0} {x y : X} → Some x ≡ Some y → x ≡ y
+pub some_is : {X : Type 0} {x y : X} → Some x ≡ Some y → x ≡ y
 some_is e = cc
 
-not_some : {X : Type 0} {x : X} → None ≡ Some x → ⊥
+pub not_some : {X : Type 0} {x : X} → None ≡ Some x → ⊥
 not_some e = absurd (cc)
 
 further_found : (a k i : ℕ) (w : Wire) (ws : List Wire) → IsFound (a + 1) k i ws → IsFound a k i (w ∷ ws)
@@ -105,7 +105,7 @@ apart_from j i e same = grind (arith, nat_tests)
 -- ---- a call of one IMP
 
 -- where the network has no such IMP none is up
-is_there : (n : Net) (i : ℕ) (s : State) → IsPlaced n → imp_at n.imps i ≡ Some s → is_imp n i ≡ true
+pub is_there : (n : Net) (i : ℕ) (s : State) → IsPlaced n → imp_at n.imps i ≡ Some s → is_imp n i ≡ true
 is_there n i s placed up = by (site_at n i) refl where
   by : (o : Option ℕ) → site_at n i ≡ o → is_imp n i ≡ true
   by None none = absurd (not_some (sym (placed i none) ∙ up))
@@ -226,7 +226,7 @@ goes_after_take (Ok taken) goes = tt
 goes_after_take (Err f) goes = goes
 
 -- while it runs, a call is refused as the subnet refuses it
-runs : (b : Bool) (o : Option CarrierFault) → first_of b fault.Stopped o ≡ None → o ≡ None
+pub runs : (b : Bool) (o : Option CarrierFault) → first_of b fault.Stopped o ≡ None → o ≡ None
 runs true o h = absurd (not_some (sym h))
 runs false o h = h
 
@@ -299,9 +299,9 @@ one_placed n i o there placed j none = get_or-set_other n.imps i j o None other 
   other same = false≢true (sym (ap is_some none) ∙ ap (is_imp n) same ∙ there)
 
 -- the network is the same, and has no more IMPs than before
-record Keeps (n m : Net) : Type 0 where
-  network : IsOneNetwork n m
-  placed : IsPlaced n → IsPlaced m
+pub record Keeps (n m : Net) : Type 0 where
+  pub network : IsOneNetwork n m
+  pub placed : IsPlaced n → IsPlaced m
 
 unchanged : (n m : Net) → m ≡ n → Keeps n m
 unchanged n m e = record {
@@ -309,7 +309,7 @@ unchanged n m e = record {
   placed = λ placed. subst IsPlaced (sym e) placed;
 }
 
-at_keeps : (n : Net) (i : ℕ) (call : State → ImpTurn) → Keeps n (at_imp (imp_at n.imps i) i call n)
+pub at_keeps : (n : Net) (i : ℕ) (call : State → ImpTurn) → Keeps n (at_imp (imp_at n.imps i) i call n)
 at_keeps n i call = by (imp_at n.imps i) refl where
   by : (o : Option State) → imp_at n.imps i ≡ o → Keeps n (at_imp o i call n)
   by None down = unchanged n n refl
@@ -326,15 +326,18 @@ dropping_ends : (d : Direction) (k : ℕ) (w : Wire) → ends_of (dropping d k w
 dropping_ends way.Forward k w = refl
 dropping_ends way.Back k w = refl
 
-logged : (n m : Net) (log : List Crossing) → Keeps n m → Keeps n (record m { log = log })
-logged n m log k = record { network = record { hosts = k.network.hosts; sites = k.network.sites; lines = k.network.lines }; placed = k.placed }
-
-step_keeps : (n : Net) (e : NetEvent) → step_refusal n e ≡ None → Keeps n (stepped n e)
-step_keeps n (net.Deliver l d k) ok = deliver_keeps n l d (slice_get (frames_on d (wire_at n.lines l)) k)
-step_keeps n (net.Drop l d k) ok = record {
+pub drop_keeps : (n : Net) (l : ℕ) (d : Direction) (k : ℕ) → Keeps n (drop_frame n l d k)
+drop_keeps n l d k = record {
   network = record { hosts = refl; sites = refl; lines = sym (map-set_same ends_of n.lines l (dropping d k (wire_at n.lines l)) no_wire (dropping_ends d k (wire_at n.lines l))) };
   placed = λ placed. placed;
 }
+
+logged : (n m : Net) (log : List Crossing) → Keeps n m → Keeps n (record m { log = log })
+logged n m log k = record { network = record { hosts = k.network.hosts; sites = k.network.sites; lines = k.network.lines }; placed = k.placed }
+
+pub step_keeps : (n : Net) (e : NetEvent) → step_refusal n e ≡ None → Keeps n (stepped n e)
+step_keeps n (net.Deliver l d k) ok = deliver_keeps n l d (slice_get (frames_on d (wire_at n.lines l)) k)
+step_keeps n (net.Drop l d k) ok = drop_keeps n l d k
 step_keeps n (net.Resend i) ok = at_keeps n i _
 step_keeps n (net.Route i) ok = at_keeps n i _
 step_keeps n (net.EndDown i l) ok = at_keeps n i _

@@ -1,20 +1,17 @@
 -- What is spelled by words is told apart: packets, messages, channels, and the records of flows.
 use Rattle.std.proofs.Common.{◌≡◌, ℕ, ◌<◌, ◌==◌, nat_le, Bool, true, false, List, [], ◌∷◌, ◌++◌, codes, if◌then◌else◌, length, Option, Some, None, IfSome, refl, sym, ap, ap₂, ◌∙◌, arith, lit<, append_assoc}
 use Rattle.std.proofs.lemmas.Bool.Decides.{nat_tests}
-use Rattle.std.proofs.lemmas.Fmt.{decimal_injective}
 use Rattle.std.proofs.lemmas.List.{append-nil}
 use Rattle.std.proofs.lemmas.List.Elements.{All-append, All-cons, All-head, All-nil, All-tail}
 use Rattle.std.specs.Fmt.{decimal}
 use Rattle.std.specs.List.{All, list_all}
 use Rattle.std.specs.Str.{bytes_eq}
-use Rattle.hex.specs.Hex.{encode_upper}
-use Rattle.bit_messages.specs.Octets.{octets_of}
 use Rattle.leader1822.specs.Host.{Host}
 use Rattle.leader1822.specs.Printed.{flow_text, host_text}
 use Rattle.leader1822.specs.declared.address.Flow.{Flow}
 use Rattle.leader1822.specs.declared.crossing.Answer.{Answer}
 use Rattle.leader1822.specs.declared.crossing.Answer.TheVariants as answer
-use Rattle.packetiser.specs.PacketFields.{Carries, IsPacket, IsPacketHost, PacketFields, flow_of}
+use Rattle.packetiser.specs.PacketFields.{PacketFields, flow_of}
 use Rattle.packetiser.specs.declared.packet.PacketKind.{PacketKind}
 use Rattle.packetiser.specs.declared.packet.PacketKind.TheVariants as kind
 use Rattle.imp_channel.specs.declared.channel.Channel.{Channel}
@@ -26,16 +23,15 @@ use Rattle.link_table.specs.declared.source.Standing.{Standing}
 use Rattle.link_table.specs.declared.source.Standing.TheVariants as standing
 use Rattle.imp_node.specs.declared.waiting.Message.{Message}
 use Rattle.imp_node.specs.declared.waiting.Told.{Told}
-use Rattle.script.specs.Spelling.{IsFlow, IsHost, IsMessage, is_upper_digit, octets_text}
+use Rattle.script.specs.Spelling.{octets_text}
 use Rattle.script.specs.Steps.{Lacks}
-use Rattle.script.proofs.lemmas.{All-unmarked_decimal, SameCut, host_once, host_unmarked, octets_are_small, same_cut, spelled_digits, text_once}
-use Rattle.leader1822.specs.Boxes.{WaitingAnswer}
-use Rattle.trace.specs.Kept.{IsValidAnswer}
-use Rattle.trace.specs.Texts.{answer_word, queues_text, strings}
-use Rattle.trace.proofs.lemmas.{SameQueues, Words, queues_once}
+use Rattle.script.proofs.lemmas.{SameCut, same_cut}
+use Rattle.trace.specs.Texts.{answer_word}
+use Rattle.trace.proofs.lemmas.{Words}
 use Rattle.subnet_trace.specs.Texts.{bit_text, bits_text, channel_text, fate_word, held_words, kept_text, kind_word, last_word, packet_text, source_text, standing_word, told_text, whole_text, words}
-use Rattle.subnet_trace.specs.Told.{IsAnswer, IsChannel, IsKept, IsSource, IsWhole}
-use Rattle.subnet_trace.proofs.Json.{IsSmall, first_same, other_first, rest_same}
+use Rattle.subnet_trace.specs.Told.{IsAnswerTold, IsChannelTold, IsFlowNamed, IsHostNamed, IsKeptTold, IsMessageTold, IsPacketTold, IsShort, IsSourceTold}
+use Rattle.subnet_trace.proofs.Decimals.{decimal_lacks, octets_lack, short_once, sized_once}
+use Rattle.subnet_trace.proofs.Json.{other_first, rest_same}
 
 -- ---- words with spaces between
 
@@ -62,33 +58,44 @@ words_lack mark space (w ∷ v ∷ ws) h =
 
 -- ---- numbers and flows
 
-number_word : IsWord decimal IsSmall
-number_word = record { unmarked = λ mark low n small. All-unmarked_decimal mark n (omega arith) small; once = λ m n p q e. decimal_injective m n p q e }
+number_word : IsWord decimal IsShort
+number_word = record { unmarked = λ mark low n short. decimal_lacks mark n (omega (arith, low)); once = short_once }
+
+host_word : IsWord host_text IsHostNamed
+host_word = record { unmarked = unmarked; once = once } where
+  unmarked : (mark : ℕ) → mark < 45 → (h : Host) → IsHostNamed h → Lacks mark (host_text h)
+  unmarked mark low h is =
+      let P : ℕ → Type 0 = λ x. (x == mark) ≡ false in
+      All-append P (decimal h.host) (47 ∷ decimal h.imp) (decimal_lacks mark h.host (omega (arith, low))) (All-cons P 47 (decimal h.imp) (grind (arith, nat_tests)) (decimal_lacks mark h.imp (omega (arith, low))))
+
+  once : (g h : Host) → IsHostNamed g → IsHostNamed h → host_text g ≡ host_text h → g ≡ h
+  once g h p q e =
+      let cut : SameCut (decimal g.host) (decimal g.imp) (decimal h.host) (decimal h.imp) = same_cut 47 (decimal g.host) (decimal g.imp) (decimal h.host) (decimal h.imp) (decimal_lacks 47 g.host (lit< tt)) (decimal_lacks 47 h.host (lit< tt)) e in
+      let host : g.host ≡ h.host = short_once g.host h.host p.host q.host cut.front in
+      let imp : g.imp ≡ h.imp = short_once g.imp h.imp p.imp q.imp cut.back in
+      λ i. record { imp = imp i; host = host i }
 
 flow_then : (f : Flow) (r : List ℕ) → flow_text f ++ 32 ∷ r ≡ host_text f.source ++ 32 ∷ (host_text f.destination ++ 32 ∷ (decimal f.link.0 ++ 32 ∷ r))
 flow_then f r =
     append_assoc (host_text f.source) (32 ∷ (host_text f.destination ++ 32 ∷ decimal f.link.0)) (32 ∷ r)
     ∙ ap (λ zs. host_text f.source ++ 32 ∷ zs) (append_assoc (host_text f.destination) (32 ∷ decimal f.link.0) (32 ∷ r))
 
-host_word : IsWord host_text IsHost
-host_word = record { unmarked = λ mark low h is. host_unmarked mark h (omega arith) is; once = host_once }
-
-flow_cut : (f g : Flow) (r s : List ℕ) → IsFlow f → IsFlow g → flow_text f ++ 32 ∷ r ≡ flow_text g ++ 32 ∷ s → SameWord f g r s
+flow_cut : (f g : Flow) (r s : List ℕ) → IsFlowNamed f → IsFlowNamed g → flow_text f ++ 32 ∷ r ≡ flow_text g ++ 32 ∷ s → SameWord f g r s
 flow_cut f g r s p q e =
-    let f_link : f.link.0 < 256 = p.2 in
-    let g_link : g.link.0 < 256 = q.2 in
-    let source = word_cut host_text IsHost host_word f.source g.source (host_text f.destination ++ 32 ∷ (decimal f.link.0 ++ 32 ∷ r)) (host_text g.destination ++ 32 ∷ (decimal g.link.0 ++ 32 ∷ s)) p.0 q.0 (sym (flow_then f r) ∙ e ∙ flow_then g s) in
-    let destination = word_cut host_text IsHost host_word f.destination g.destination (decimal f.link.0 ++ 32 ∷ r) (decimal g.link.0 ++ 32 ∷ s) p.1 q.1 source.behind in
-    let link = word_cut decimal IsSmall number_word f.link.0 g.link.0 r s (omega (arith, f_link)) (omega (arith, g_link)) destination.behind in
+    let source = word_cut host_text IsHostNamed host_word f.source g.source (host_text f.destination ++ 32 ∷ (decimal f.link.0 ++ 32 ∷ r)) (host_text g.destination ++ 32 ∷ (decimal g.link.0 ++ 32 ∷ s)) p.source q.source (sym (flow_then f r) ∙ e ∙ flow_then g s) in
+    let destination = word_cut host_text IsHostNamed host_word f.destination g.destination (decimal f.link.0 ++ 32 ∷ r) (decimal g.link.0 ++ 32 ∷ s) p.destination q.destination source.behind in
+    let link = word_cut decimal IsShort number_word f.link.0 g.link.0 r s p.link q.link destination.behind in
     record { first = λ i. record { source = source.first i; destination = destination.first i; link = record { 0 = link.first i } }; behind = link.behind }
 
-flow_unmarked : (mark : ℕ) → mark < 45 → (32 == mark) ≡ false → (f : Flow) → IsFlow f → Lacks mark (flow_text f)
+flow_once : (f g : Flow) → IsFlowNamed f → IsFlowNamed g → flow_text f ≡ flow_text g → f ≡ g
+flow_once f g p q e = (flow_cut f g [] [] p q (ap (λ (text : List ℕ). text ++ 32 ∷ []) e)).first
+
+flow_unmarked : (mark : ℕ) → mark < 45 → (32 == mark) ≡ false → (f : Flow) → IsFlowNamed f → Lacks mark (flow_text f)
 flow_unmarked mark low space f is =
-    let link : f.link.0 < 256 = is.2 in
     words_lack mark space (host_text f.source ∷ host_text f.destination ∷ decimal f.link.0 ∷ [])
-    (All-cons (Lacks mark) (host_text f.source) (host_text f.destination ∷ decimal f.link.0 ∷ []) (host_word.unmarked mark low f.source is.0)
-    (All-cons (Lacks mark) (host_text f.destination) (decimal f.link.0 ∷ []) (host_word.unmarked mark low f.destination is.1)
-    (All-cons (Lacks mark) (decimal f.link.0) [] (number_word.unmarked mark low f.link.0 (omega (arith, link))) (All-nil (Lacks mark)))))
+    (All-cons (Lacks mark) (host_text f.source) (host_text f.destination ∷ decimal f.link.0 ∷ []) (host_word.unmarked mark low f.source is.source)
+    (All-cons (Lacks mark) (host_text f.destination) (decimal f.link.0 ∷ []) (host_word.unmarked mark low f.destination is.destination)
+    (All-cons (Lacks mark) (decimal f.link.0) [] (number_word.unmarked mark low f.link.0 is.link) (All-nil (Lacks mark)))))
 
 -- ---- bits
 
@@ -124,26 +131,6 @@ bit_unmarked mark low false = let P : ℕ → Type 0 = λ x. (x == mark) ≡ fal
 pub bits_plain : (bits : List Bool) → Lacks 34 (bits_text bits)
 bits_plain [] = All-nil (λ x. (x == 34) ≡ false)
 bits_plain (b ∷ bits) = All-append (λ x. (x == 34) ≡ false) (bit_text b) (bits_text bits) (bit_unmarked 34 (lit< tt) b) (bits_plain bits)
-
-digits_unmarked : (mark : ℕ) → mark < 45 → (word : List ℕ) → list_all is_upper_digit word ≡ true → Lacks mark word
-digits_unmarked mark low [] h = All-nil (λ x. (x == mark) ≡ false)
-digits_unmarked mark low (c ∷ word) h = by (λ k. digits_unmarked mark low word k) (is_upper_digit c) refl h where
-  digit_apart : (d : ℕ) → is_upper_digit d ≡ true → (d == mark) ≡ false
-  digit_apart d e = grind (arith, nat_tests)
-
-  by : (list_all is_upper_digit word ≡ true → Lacks mark word) → (b : Bool) → is_upper_digit c ≡ b → list_all is_upper_digit (c ∷ word) ≡ true → Lacks mark (c ∷ word)
-  by more true e all = All-cons (λ x. (x == mark) ≡ false) c word (digit_apart c e) (more (rw e at all))
-  by more false e all = absurd (let bad : false ≡ true = rw e at all in cc)
-
-octets_unmarked : (mark : ℕ) → mark < 45 → (text : List Bool) → Lacks mark (octets_text text)
-octets_unmarked mark low [] = let P : ℕ → Type 0 = λ x. (x == mark) ≡ false in All-cons P 45 [] (grind (arith, nat_tests)) (All-nil P)
-octets_unmarked mark low (b ∷ bits) = digits_unmarked mark low (encode_upper (octets_of (b ∷ bits))) (spelled_digits (octets_of (b ∷ bits)) (octets_are_small (b ∷ bits)))
-
--- how many bits there are, and their octets
-sized_once : (a b : List Bool) → IsSmall (length a) → IsSmall (length b) → decimal (length a) ++ 32 ∷ octets_text a ≡ decimal (length b) ++ 32 ∷ octets_text b → a ≡ b
-sized_once a b p q e =
-    let size = word_cut decimal IsSmall number_word (length a) (length b) (octets_text a) (octets_text b) p q e in
-    text_once a b size.first size.behind
 
 -- ---- packets
 
@@ -216,31 +203,14 @@ last_is_word = record {
   once = λ b c p q e. sym (last_again b) ∙ ap last_in_word e ∙ last_again c;
 }
 
-packet_host : (h : Host) → IsPacketHost h → IsHost h
-packet_host h is =
-    let host : nat_le h.host 3 ≡ true = grind (arith, nat_tests, is.host) in
-    let low : nat_le 1 h.imp ≡ true = grind (arith, nat_tests, is.some) in
-    let high : nat_le h.imp 63 ≡ true = grind (arith, nat_tests, is.imp) in
-    rw (host, low, high) refl
-
-pub packet_flow : (p : PacketFields) → IsPacket p → IsFlow (flow_of p)
-packet_flow p is = (packet_host p.source is.source, packet_host p.destination is.destination, is.link)
-
-few_bits : (k : PacketKind) (place : ℕ) (last : Bool) (size : ℕ) → Carries k place last size → IsSmall size
-few_bits kind.Data place last size h = omega (arith, h.most)
-few_bits kind.Rfnm place last size h = omega (arith, h.empty)
-few_bits kind.Dead place last size h = omega (arith, h.empty)
-few_bits kind.Ask place last size h = omega (arith, h.empty)
-few_bits kind.Never place last size h = omega (arith, h.empty)
-
-packet_once : (p q : PacketFields) → IsPacket p → IsPacket q → packet_text p ≡ packet_text q → p ≡ q
+packet_once : (p q : PacketFields) → IsPacketTold p → IsPacketTold q → packet_text p ≡ packet_text q → p ≡ q
 packet_once p q ps qs e =
     let kinds = word_cut kind_word Any kind_is_word p.kind q.kind _ _ tt tt e in
-    let flows = flow_cut (flow_of p) (flow_of q) _ _ (packet_flow p ps) (packet_flow q qs) kinds.behind in
-    let numbers = word_cut decimal IsSmall number_word p.number q.number _ _ (omega (arith, ps.number)) (omega (arith, qs.number)) flows.behind in
-    let places = word_cut decimal IsSmall number_word p.place q.place _ _ (omega (arith, ps.place)) (omega (arith, qs.place)) numbers.behind in
+    let flows = flow_cut (flow_of p) (flow_of q) _ _ ps.flow qs.flow kinds.behind in
+    let numbers = word_cut decimal IsShort number_word p.number q.number _ _ ps.number qs.number flows.behind in
+    let places = word_cut decimal IsShort number_word p.place q.place _ _ ps.place qs.place numbers.behind in
     let lasts = word_cut last_word Any last_is_word p.last q.last _ _ tt tt places.behind in
-    let bits : p.bits ≡ q.bits = sized_once p.bits q.bits (few_bits p.kind p.place p.last (length p.bits) ps.body) (few_bits q.kind q.place q.last (length q.bits) qs.body) lasts.behind in
+    let bits : p.bits ≡ q.bits = sized_once p.bits q.bits lasts.behind in
     let flow : flow_of p ≡ flow_of q = flows.first in
     λ i. record { kind = kinds.first i; source = (flow i).source; destination = (flow i).destination; link = (flow i).link.0; number = numbers.first i; place = places.first i; last = lasts.first i; bits = bits i }
 
@@ -251,38 +221,52 @@ record Plain (t : List ℕ) : Type 0 where
 plain_word : {X : Type 0} {text : X → List ℕ} {IsValid : X → Type 0} → IsWord text IsValid → (x : X) → IsValid x → Plain (text x)
 plain_word word x valid = record { lacks = word.unmarked 34 (lit< tt) x valid }
 
-plain_flow : (f : Flow) → IsFlow f → Plain (flow_text f)
+plain_flow : (f : Flow) → IsFlowNamed f → Plain (flow_text f)
 plain_flow f is = record { lacks = flow_unmarked 34 (lit< tt) refl f is }
-
-plain_octets : (bits : List Bool) → Plain (octets_text bits)
-plain_octets bits = record { lacks = octets_unmarked 34 (lit< tt) bits }
 
 spaced : {t u : List ℕ} → Plain t → Plain u → Plain (t ++ 32 ∷ u)
 spaced {t} {u} p q = record { lacks = All-append (λ x. (x == 34) ≡ false) t (32 ∷ u) p.lacks (All-cons (λ x. (x == 34) ≡ false) 32 u refl q.lacks) }
 
-packet_plain : (p : PacketFields) → IsPacket p → Plain (packet_text p)
-packet_plain p is =
-    let size : IsSmall (length p.bits) = few_bits p.kind p.place p.last (length p.bits) is.body in
-    spaced (plain_word kind_is_word p.kind tt) (spaced (plain_flow (flow_of p) (packet_flow p is)) (spaced (plain_word number_word p.number (omega (arith, is.number)))
-    (spaced (plain_word number_word p.place (omega (arith, is.place))) (spaced (plain_word last_is_word p.last tt) (spaced (plain_word number_word (length p.bits) size) (plain_octets p.bits))))))
+-- how many bits there are, and their octets
+plain_bits : (bits : List Bool) → Plain (decimal (length bits) ++ 32 ∷ octets_text bits)
+plain_bits bits = spaced (record { lacks = decimal_lacks 34 (length bits) (lit< tt) }) (record { lacks = octets_lack 34 (lit< tt) bits })
 
-pub packet_words : Words packet_text IsPacket
+packet_plain : (p : PacketFields) → IsPacketTold p → Plain (packet_text p)
+packet_plain p is =
+    spaced (plain_word kind_is_word p.kind tt) (spaced (plain_flow (flow_of p) is.flow) (spaced (plain_word number_word p.number is.number)
+    (spaced (plain_word number_word p.place is.place) (spaced (plain_word last_is_word p.last tt) (plain_bits p.bits)))))
+
+pub packet_words : Words packet_text IsPacketTold
 packet_words = record { plain = λ p is. (packet_plain p is).lacks; once = packet_once }
 
 -- ---- what waits for hosts
 
-whole_once : (m n : Message) → IsWhole m → IsWhole n → whole_text m ≡ whole_text n → m ≡ n
+whole_once : (m n : Message) → IsMessageTold m → IsMessageTold n → whole_text m ≡ whole_text n → m ≡ n
 whole_once m n ms ns e =
     let flows = flow_cut m.flow n.flow _ _ ms.flow ns.flow e in
-    let numbers = word_cut decimal IsSmall number_word m.number n.number _ _ (omega (arith, ms.number)) (omega (arith, ns.number)) flows.behind in
-    let text : m.text ≡ n.text = sized_once m.text n.text (omega (arith, ms.short)) (omega (arith, ns.short)) numbers.behind in
+    let numbers = word_cut decimal IsShort number_word m.number n.number _ _ ms.number ns.number flows.behind in
+    let text : m.text ≡ n.text = sized_once m.text n.text numbers.behind in
     λ i. record { flow = flows.first i; number = numbers.first i; text = text i }
 
-whole_plain : (m : Message) → IsWhole m → Plain (whole_text m)
-whole_plain m is = spaced (plain_flow m.flow is.flow) (spaced (plain_word number_word m.number (omega (arith, is.number))) (spaced (plain_word number_word (length m.text) (omega (arith, is.short))) (plain_octets m.text)))
+whole_plain : (m : Message) → IsMessageTold m → Plain (whole_text m)
+whole_plain m is = spaced (plain_flow m.flow is.flow) (spaced (plain_word number_word m.number is.number) (plain_bits m.text))
 
-pub whole_words : Words whole_text IsWhole
+pub whole_words : Words whole_text IsMessageTold
 whole_words = record { plain = λ m is. (whole_plain m is).lacks; once = whole_once }
+
+answer_in_word : List ℕ → Answer
+answer_in_word word =
+    if bytes_eq word (codes "rfnm") then answer.Rfnm
+    else if bytes_eq word (codes "incomplete") then answer.Incomplete
+    else if bytes_eq word (codes "dead") then answer.Dead
+    else answer.NotTaken
+
+answer_again : (k : Answer) → answer_in_word (answer_word k) ≡ k
+unfolding answer_in_word
+answer_again answer.Rfnm = refl
+answer_again answer.Incomplete = refl
+answer_again answer.Dead = refl
+answer_again answer.NotTaken = refl
 
 answer_letters : (k : Answer) → list_all is_letter (answer_word k) ≡ true
 unfolding is_letter
@@ -291,21 +275,20 @@ answer_letters answer.Incomplete = refl
 answer_letters answer.Dead = refl
 answer_letters answer.NotTaken = refl
 
-told_plain : (t : Told) → IsAnswer t → Plain (told_text t)
-told_plain t is = let word : Plain (answer_word t.kind) = record { lacks = letters_unmarked 34 (lit< tt) (answer_word t.kind) (answer_letters t.kind) } in spaced word (plain_flow t.flow is)
+answer_is_word : IsWord answer_word Any
+answer_is_word = record {
+  unmarked = λ mark low k any. letters_unmarked mark low (answer_word k) (answer_letters k);
+  once = λ j k p q e. sym (answer_again j) ∙ ap answer_in_word e ∙ answer_again k;
+}
 
--- as of one answer that waits at plain mailboxes
-told_once : (s t : Told) → IsAnswer s → IsAnswer t → told_text s ≡ told_text t → s ≡ t
+told_once : (s t : Told) → IsAnswerTold s → IsAnswerTold t → told_text s ≡ told_text t → s ≡ t
 told_once s t p q e =
-    let one : List WaitingAnswer = (s.kind, s.flow) ∷ [] in
-    let other : List WaitingAnswer = (t.kind, t.flow) ∷ [] in
-    let alike : queues_text [] one ≡ queues_text [] other = ap (λ (text : List ℕ). codes "{\"messages\":" ++ (strings [] ++ (codes ",\"answers\":" ++ (strings (text ∷ []) ++ codes "}")))) e in
-    let same : SameQueues [] [] one other =
-    queues_once [] [] one other (All-nil IsMessage) (All-nil IsMessage) (All-cons IsValidAnswer (s.kind, s.flow) [] p (All-nil IsValidAnswer)) (All-cons IsValidAnswer (t.kind, t.flow) [] q (All-nil IsValidAnswer)) alike in
-    ap (λ (a : WaitingAnswer). record { kind = a.0; flow = a.1 }) (first_same same.answers)
+    let kinds = word_cut answer_word Any answer_is_word s.kind t.kind (flow_text s.flow) (flow_text t.flow) tt tt e in
+    let flow : s.flow ≡ t.flow = flow_once s.flow t.flow p q kinds.behind in
+    λ i. record { kind = kinds.first i; flow = flow i }
 
-pub told_words : Words told_text IsAnswer
-told_words = record { plain = λ t is. (told_plain t is).lacks; once = told_once }
+pub told_words : Words told_text IsAnswerTold
+told_words = record { plain = λ t is. (spaced (plain_word answer_is_word t.kind tt) (plain_flow t.flow is)).lacks; once = told_once }
 
 -- ---- channels
 
@@ -316,7 +299,7 @@ record SameHeld (b c : Bool) (o r : Option PacketFields) : Type 0 where
   bits : b ≡ c
   packets : o ≡ r
 
-held_once : (b c : Bool) (o r : Option PacketFields) → IfSome o IsPacket → IfSome r IsPacket → words (bit_text b ∷ held_words o) ≡ words (bit_text c ∷ held_words r) → SameHeld b c o r
+held_once : (b c : Bool) (o r : Option PacketFields) → IfSome o IsPacketTold → IfSome r IsPacketTold → words (bit_text b ∷ held_words o) ≡ words (bit_text c ∷ held_words r) → SameHeld b c o r
 held_once b c None None p q e = record { bits = bit_once b c e; packets = refl }
 held_once b c None (Some y) p q e = absurd (no_more b c (packet_text y) e)
 held_once b c (Some x) None p q e = absurd (no_more c b (packet_text x) (sym e))
@@ -324,16 +307,16 @@ held_once b c (Some x) (Some y) p q e =
     let cut = bit_head b c (32 ∷ packet_text x) (32 ∷ packet_text y) e in
     record { bits = cut.first; packets = ap (λ (z : PacketFields). Some z) (packet_once x y p q (rest_same cut.behind)) }
 
-held_plain : (b : Bool) (o : Option PacketFields) → IfSome o IsPacket → Plain (words (bit_text b ∷ held_words o))
+held_plain : (b : Bool) (o : Option PacketFields) → IfSome o IsPacketTold → Plain (words (bit_text b ∷ held_words o))
 held_plain b None is = record { lacks = bit_unmarked 34 (lit< tt) b }
 held_plain b (Some packet) is = let bit : Plain (bit_text b) = record { lacks = bit_unmarked 34 (lit< tt) b } in spaced bit (packet_plain packet is)
 
-channel_once : (c d : Channel) → IsChannel c → IsChannel d → channel_text c ≡ channel_text d → c ≡ d
+channel_once : (c d : Channel) → IsChannelTold c → IsChannelTold d → channel_text c ≡ channel_text d → c ≡ d
 channel_once c d p q e =
     let same = held_once c.bit d.bit c.packet d.packet p q e in
     λ i. record { bit = same.bits i; packet = same.packets i }
 
-pub channel_words : Words channel_text IsChannel
+pub channel_words : Words channel_text IsChannelTold
 channel_words = record { plain = λ c is. (held_plain c.bit c.packet is).lacks; once = channel_once }
 
 -- ---- flows at their sources and destinations
@@ -356,20 +339,20 @@ standing_letters (standing.Answered l) = refl
 standing_unmarked : (mark : ℕ) → mark < 45 → (s : Standing) → Lacks mark (standing_word s)
 standing_unmarked mark low s = letters_unmarked mark low (standing_word s) (standing_letters s)
 
-source_once : (e f : Flow × Standing) → IsSource e → IsSource f → source_text e ≡ source_text f → e ≡ f
+source_once : (e f : Flow × Standing) → IsSourceTold e → IsSourceTold f → source_text e ≡ source_text f → e ≡ f
 source_once e f p q h =
     let cut = same_cut 32 (standing_word e.1) (flow_text e.0 ++ 32 ∷ decimal (last_of e.1)) (standing_word f.1) (flow_text f.0 ++ 32 ∷ decimal (last_of f.1)) (standing_unmarked 32 (lit< tt) e.1) (standing_unmarked 32 (lit< tt) f.1) h in
-    let flows = flow_cut e.0 f.0 (decimal (last_of e.1)) (decimal (last_of f.1)) p.0 q.0 cut.back in
-    let last : last_of e.1 ≡ last_of f.1 = decimal_injective (last_of e.1) (last_of f.1) (omega (arith, p.1)) (omega (arith, q.1)) flows.behind in
+    let flows = flow_cut e.0 f.0 (decimal (last_of e.1)) (decimal (last_of f.1)) p.flow q.flow cut.back in
+    let last : last_of e.1 ≡ last_of f.1 = short_once (last_of e.1) (last_of f.1) p.number q.number flows.behind in
     let standings : e.1 ≡ f.1 = sym (standing_again e.1) ∙ ap₂ standing_in cut.front last ∙ standing_again f.1 in
     λ i. (flows.first i, standings i)
 
-source_plain : (e : Flow × Standing) → IsSource e → Plain (source_text e)
+source_plain : (e : Flow × Standing) → IsSourceTold e → Plain (source_text e)
 source_plain e is =
     let word : Plain (standing_word e.1) = record { lacks = standing_unmarked 34 (lit< tt) e.1 } in
-    spaced word (spaced (plain_flow e.0 is.0) (plain_word number_word (last_of e.1) (omega (arith, is.1))))
+    spaced word (spaced (plain_flow e.0 is.flow) (plain_word number_word (last_of e.1) is.number))
 
-pub source_words : Words source_text IsSource
+pub source_words : Words source_text IsSourceTold
 source_words = record { plain = λ e is. (source_plain e is).lacks; once = source_once }
 
 fate_in_word : List ℕ → Fate
@@ -395,15 +378,15 @@ fate_is_word = record {
   once = λ x y p q e. sym (fate_again x) ∙ ap fate_in_word e ∙ fate_again y;
 }
 
-kept_once : (e f : Flow × Noted) → IsKept e → IsKept f → kept_text e ≡ kept_text f → e ≡ f
+kept_once : (e f : Flow × Noted) → IsKeptTold e → IsKeptTold f → kept_text e ≡ kept_text f → e ≡ f
 kept_once e f p q h =
     let fates = word_cut fate_word Any fate_is_word e.1.fate f.1.fate (flow_text e.0 ++ 32 ∷ decimal e.1.number) (flow_text f.0 ++ 32 ∷ decimal f.1.number) tt tt h in
-    let flows = flow_cut e.0 f.0 (decimal e.1.number) (decimal f.1.number) p.0 q.0 fates.behind in
-    let number : e.1.number ≡ f.1.number = decimal_injective e.1.number f.1.number (omega (arith, p.1)) (omega (arith, q.1)) flows.behind in
+    let flows = flow_cut e.0 f.0 (decimal e.1.number) (decimal f.1.number) p.flow q.flow fates.behind in
+    let number : e.1.number ≡ f.1.number = short_once e.1.number f.1.number p.number q.number flows.behind in
     λ i. (flows.first i, record { number = number i; fate = fates.first i })
 
-kept_plain : (e : Flow × Noted) → IsKept e → Plain (kept_text e)
-kept_plain e is = spaced (plain_word fate_is_word e.1.fate tt) (spaced (plain_flow e.0 is.0) (plain_word number_word e.1.number (omega (arith, is.1))))
+kept_plain : (e : Flow × Noted) → IsKeptTold e → Plain (kept_text e)
+kept_plain e is = spaced (plain_word fate_is_word e.1.fate tt) (spaced (plain_flow e.0 is.flow) (plain_word number_word e.1.number is.number))
 
-pub kept_words : Words kept_text IsKept
+pub kept_words : Words kept_text IsKeptTold
 kept_words = record { plain = λ e is. (kept_plain e is).lacks; once = kept_once }

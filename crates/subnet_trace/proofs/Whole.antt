@@ -5,14 +5,13 @@ use Rattle.std.proofs.lemmas.List.Elements.{All-head, All-tail}
 use Rattle.std.proofs.lemmas.Bool.Decides.{nat_tests}
 use Rattle.std.specs.FinMap as fin
 use Rattle.std.specs.List.{All}
-use Rattle.packetiser.specs.Slots.{IsSlot}
 use Rattle.imp_node.specs.State.{State}
 use Rattle.subnet.specs.Events.{is_imp, site_at}
 use Rattle.subnet.specs.Net.{Net, Wire, imp_at, wire_at}
 use Rattle.trace.specs.Texts.{array, member, object, strings}
-use Rattle.subnet_trace.specs.Parts.{Part, Imp, Line, is_part, part_text}
+use Rattle.subnet_trace.specs.Parts.{Imp, Line}
 use Rattle.subnet_trace.specs.Texts.{frame_text, heard_text, host_object, imp_members, imp_text, kept_text, line_text, port_object, slot_text, source_text}
-use Rattle.subnet_trace.specs.Told.{IsFrame, IsHeard, IsHostTold, IsImpTold, IsKept, IsLineTold, IsOneNetwork, IsPort, IsSource, IsTold, IsToldAt, ends_of}
+use Rattle.subnet_trace.specs.Told.{IsFrameTold, IsHeardTold, IsHostTold, IsImpTold, IsKeptTold, IsLineTold, IsOneNetwork, IsPortTold, IsSlotTold, IsSourceTold, IsTold, IsToldAt, SameTexts, ends_of}
 use Rattle.subnet_trace.proofs.Json.{Spelled, first_same, lists_spelled, member_once, object_once, rest_same}
 use Rattle.subnet_trace.proofs.Objects.{AreClosed, also_closed, frame_spelled, heard_spelled, host_spelled, lists_of_strings, none_closed, not_null, packets_spelled, port_spelled, slot_spelled}
 use Rattle.subnet_trace.proofs.Spelling.{kept_words, source_words}
@@ -22,20 +21,20 @@ use Rattle.subnet_trace.proofs.Spelling.{kept_words, source_words}
 hosts_spelled : Spelled (λ xs. array (map host_object xs)) (All IsHostTold)
 hosts_spelled = lists_spelled host_object IsHostTold host_spelled
 
-ports_spelled : Spelled (λ xs. array (map port_object xs)) (All IsPort)
-ports_spelled = lists_spelled port_object IsPort port_spelled
+ports_spelled : Spelled (λ xs. array (map port_object xs)) (All IsPortTold)
+ports_spelled = lists_spelled port_object IsPortTold port_spelled
 
-routes_spelled : Spelled (λ xs. array (map heard_text xs)) (All IsHeard)
-routes_spelled = lists_spelled heard_text IsHeard heard_spelled
+routes_spelled : Spelled (λ xs. array (map heard_text xs)) (All IsHeardTold)
+routes_spelled = lists_spelled heard_text IsHeardTold heard_spelled
 
-slots_spelled : Spelled (λ xs. array (map slot_text xs)) (All IsSlot)
-slots_spelled = lists_spelled slot_text IsSlot slot_spelled
+slots_spelled : Spelled (λ xs. array (map slot_text xs)) (All IsSlotTold)
+slots_spelled = lists_spelled slot_text IsSlotTold slot_spelled
 
-sources_spelled : Spelled (λ xs. strings (map source_text xs)) (All IsSource)
-sources_spelled = lists_of_strings source_text IsSource source_words
+sources_spelled : Spelled (λ xs. strings (map source_text xs)) (All IsSourceTold)
+sources_spelled = lists_of_strings source_text IsSourceTold source_words
 
-kept_spelled : Spelled (λ xs. strings (map kept_text xs)) (All IsKept)
-kept_spelled = lists_of_strings kept_text IsKept kept_words
+kept_spelled : Spelled (λ xs. strings (map kept_text xs)) (All IsKeptTold)
+kept_spelled = lists_of_strings kept_text IsKeptTold kept_words
 
 members_closed : (i : ℕ) (s : State) → IsImpTold i s → AreClosed (imp_members s)
 members_closed i s is =
@@ -75,8 +74,8 @@ imp_once i (Some s) (Some t) p q e = ap (λ (x : State). Some x) (state_once i s
 
 -- ---- a line
 
-frames_spelled : Spelled (λ xs. array (map frame_text xs)) (All IsFrame)
-frames_spelled = lists_spelled frame_text IsFrame frame_spelled
+frames_spelled : Spelled (λ xs. array (map frame_text xs)) (All IsFrameTold)
+frames_spelled = lists_spelled frame_text IsFrameTold frame_spelled
 
 abbrev line_members : Wire → List (List ℕ)
 line_members w = member (codes "+") (array (map frame_text w.forward)) ∷ member (codes "-") (array (map frame_text w.back)) ∷ []
@@ -121,7 +120,7 @@ same_imps n m p q sites texts =
     let long : length n.imps ≡ length m.imps = p.places ∙ ap length sites ∙ sym q.places in
     same_lists n.imps m.imps long (λ i d less. get_or_default n.imps i d None less ∙ imp_same n m p q sites texts i ∙ sym (get_or_default m.imps i d None (omega (arith, less, long))))
 
-pub whole : (n m : Net) → IsTold n → IsTold m → IsOneNetwork n m → ((p : Part) → is_part n p ≡ true → part_text n p ≡ part_text m p) → m ≡ record n { log = m.log }
+pub whole : (n m : Net) → IsTold n → IsTold m → IsOneNetwork n m → SameTexts n m → m ≡ record n { log = m.log }
 whole n m p q same texts =
     let imps : n.imps ≡ m.imps = same_imps n m p q same.sites (λ i there. texts (Imp i) there) in
     let lines : n.lines ≡ m.lines = lines_once n.lines m.lines p.lines q.lines same.lines (λ l there. texts (Line l) there) in

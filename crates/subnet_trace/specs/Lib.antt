@@ -1,4 +1,7 @@
+pub mod Elements
 pub mod Parts
+pub mod Printing
+pub mod Steps
 pub mod Texts
 pub mod Told
 pub mod Worked

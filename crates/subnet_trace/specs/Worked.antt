@@ -1,9 +1,22 @@
--- Words for worked examples: a flow, packets of it, and an IMP that keeps some of them.
-use Rattle.std.specs.Prelude.{true, false, [], ◌∷◌, replicate}
+-- Words for worked examples: a flow, packets of it, long numbers, and parts of calms.
+use Rattle.std.specs.Prelude.{ℕ, ◌^◌, true, false, List, [], ◌∷◌, Option, None, Some, replicate}
+use Rattle.leader1822.specs.Host.{Host}
 use Rattle.leader1822.specs.declared.address.Flow.{Flow}
+use Rattle.leader1822.specs.declared.event.Direction.{Direction}
+use Rattle.leader1822.specs.declared.event.NetEvent.TheVariants as net
+use Rattle.script.specs.declared.event.RawEvent.TheVariants as event
+use Rattle.imp_node.specs.Examples.{ack_frame, from_1, imp, packets_to}
+use Rattle.imp_node.specs.Flows.{answer_packet}
+use Rattle.imp_node.specs.Pump.{pump}
+use Rattle.imp_node.specs.State.{State}
+use Rattle.subnet.specs.Examples.{imp_1, ours, pair, past_one, sending_ours, serving_ours}
+use Rattle.subnet.specs.Net.{Net}
+use Rattle.trace.specs.declared.element.Element.{Element}
 use Rattle.packetiser.specs.PacketFields.{PacketFields}
 use Rattle.packetiser.specs.declared.packet.PacketKind.TheVariants as kind
 use Rattle.packetiser.specs.Slots.{SlotState}
+use Rattle.imp_channel.specs.declared.frame.Content.TheVariants as content
+use Rattle.imp_channel.specs.declared.frame.Frame.{Frame}
 
 -- from host 0 of IMP 1 to host 1 of IMP 2 on link 5
 abbrev pub flow : Flow
@@ -23,3 +36,54 @@ rfnm = record { kind = kind.Rfnm; source = flow.source; destination = flow.desti
 
 abbrev pub slot : SlotState
 slot = record { flow = flow; number = 7; pieces = other_piece ∷ piece ∷ [] }
+
+-- the least number of 65 digits
+abbrev pub long : ℕ
+long = 10 ^ 64
+
+-- a frame with a packet on this channel
+abbrev pub frame_on : ℕ → Frame
+frame_on channel = record { acks = replicate 8 false; content = content.Packet (record { channel = channel; bit = false; packet = rfnm }) }
+
+-- a network with a place for an IMP, but without IMPs and lines
+abbrev pub nowhere : List (Option State) → Net
+nowhere imps = record { hosts = []; sites = None ∷ []; imps = imps; lines = []; log = [] }
+
+-- ---- calms of the subnets of subnet's worked rows: IMPs 1 and 2, with two hosts each, and line 0 between them
+
+-- in a round an IMP tells its distances, or sends again
+abbrev pub tells : ℕ → ℕ → Element
+tells round i = record { round = round; event = event.Net (net.Route i) }
+
+abbrev pub sends : ℕ → ℕ → Element
+sends round i = record { round = round; event = event.Net (net.Resend i) }
+
+-- the oldest frame of a directed line arrives, or is gone
+abbrev pub arrives : ℕ → ℕ → Direction → Element
+arrives round l d = record { round = round; event = event.Net (net.Deliver l d 0) }
+
+abbrev pub gone : ℕ → ℕ → Direction → Element
+gone round l d = record { round = round; event = event.Net (net.Drop l d 0) }
+
+-- a host takes
+abbrev pub takes : ℕ → Host → Element
+takes round h = record { round = round; event = event.Take h }
+
+-- IMP 1 has taken a packet from channel 0 of the line, and IMP 2 sends it again
+abbrev pub past_at_1 : State
+past_at_1 = record imp_1 { ports = past_one.ports }
+
+abbrev pub sending_at_2 : State
+sending_at_2 = (pump [] (imp 2 (Some from_1 ∷ []) (answer_packet kind.Rfnm ours 0 ∷ []))).state
+
+-- a message waits at IMP 2 for host 0, and the store there is full
+abbrev pub full_at_2 : State
+full_at_2 = record (pump [] (imp 2 (Some from_1 ∷ []) (packets_to 1 32))).state { hosts = serving_ours.hosts }
+
+-- IMP 1 is up alone, holds a packet, and its line leads back to it
+abbrev pub looping : Net
+looping = record (pair (Some sending_ours) None [] []) { lines = record { a = 1; b = 1; forward = []; back = [] } ∷ [] }
+
+-- both IMPs down, and frames on two lines
+abbrev pub two_lines : Net
+two_lines = record (pair None None [] []) { lines = record { a = 1; b = 2; forward = ack_frame ∷ ack_frame ∷ []; back = ack_frame ∷ [] } ∷ record { a = 1; b = 2; forward = []; back = ack_frame ∷ [] } ∷ [] }

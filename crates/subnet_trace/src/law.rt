@@ -1,16 +1,36 @@
 //! What traces of subnets promise, as laws over their definitions. The functions here do nothing: each clause is the law.
 
+ghost use Rattle.std.specs.List.{All};
 ghost use Rattle.std.specs.Prelude.{◌≡◌, ℕ, List, Option, true, false};
 ghost use Rattle.leader1822.specs.Host.{Host};
 ghost use Rattle.replay.specs.Output.{Shown};
-ghost use Rattle.replay.specs.Replay.{Happens, IsOneCall};
+ghost use Rattle.replay.specs.Replay.{Happens, IsOneCall, Replays};
 ghost use Rattle.script.specs.declared.event.RawEvent.{RawEvent};
-ghost use Rattle.subnet.specs.Calls.{Kept};
+ghost use Rattle.subnet.specs.Calls.{Kept, running};
 ghost use Rattle.subnet.specs.Net.{Net};
-ghost use Rattle.subnet.specs.Opening.{opening_subnet};
+ghost use Rattle.subnet.specs.Opening.{hosts_from, opening_subnet};
 ghost use Rattle.subnet.specs.declared.Ends.{Ends};
-ghost use Rattle.subnet_trace.specs.Parts.{Part, SamePart, is_named, is_part, of_subnet, part_text, parts_of};
-ghost use Rattle.subnet_trace.specs.Told.{IsOneNetwork, IsPlaced, IsTold};
+ghost use Rattle.subnet_trace.specs.Elements.{beginning, calm_left, calm_of, elements_of};
+ghost use Rattle.subnet_trace.specs.Parts.{Part, SamePart, is_named, is_part, of_subnet, parts_of};
+ghost use Rattle.subnet_trace.specs.Told.{IsOneNetwork, IsPlaced, IsReached, IsTold, SameTexts};
+ghost use Rattle.trace.specs.Elements.{events_of};
+
+/// An event of a script is its elementary events one after another: each of them alone, as a line of a script, leaves what the
+/// event leaves and prints what it prints. So a calm is a list of calls of the subnet.
+pub fn elementary()
+    // of subnets that have no IMP where their network has none
+    ensures course { (old new : Kept) (e : RawEvent) (shown : List Shown) → IsPlaced old.net → Happens of_subnet old e new shown → Replays of_subnet old (events_of (elements_of old.net e)) new shown }
+
+    // each is one call of the subnet, and none a calm
+    ensures one_call { (n : Net) (e : RawEvent) → All IsOneCall (events_of (elements_of n e)) }
+
+    // all events keep it so, calms too, and so each subnet that a replay comes to is one
+    ensures placed { (old new : Kept) (e : RawEvent) (shown : List Shown) → IsPlaced old.net → Happens of_subnet old e new shown → IsPlaced new.net }
+    ensures reached { (hosts : List Host) (sites : List (Option ℕ)) (ends : List Ends) (events : List RawEvent) (k : Kept) (shown : List Shown) → Replays of_subnet (running (opening_subnet hosts sites ends)) events k shown → IsPlaced k.net }
+
+    // what is left of a calm where it begins is all of it
+    ensures beginning { (n : Net) (rounds : ℕ) → calm_left n (beginning rounds) ≡ calm_of n rounds }
+{}
 
 /// What an elementary event's parts do not name is as before.
 pub fn rest()
@@ -24,8 +44,15 @@ pub fn rest()
     ensures opening { (hosts : List Host) (sites : List (Option ℕ)) (ends : List Ends) → IsPlaced (opening_subnet hosts sites ends) }
 {}
 
-/// The texts of all parts tell the whole state, but for the log, in every state in which all that is inside can be
-/// named.
+/// The texts of all parts tell the whole state, but for the log, in every state that a replay comes to.
 pub fn whole()
-    ensures texts { (one other : Net) → IsTold one → IsTold other → IsOneNetwork one other → ((p : Part) → is_part one p ≡ true → part_text one p ≡ part_text other p) → other ≡ record one { log = other.log } }
+    // of two subnets of one network of which `IsTold` holds
+    ensures texts { (one other : Net) → IsTold one → IsTold other → IsOneNetwork one other → SameTexts one other → other ≡ record one { log = other.log } }
+
+    // it holds of each subnet that a replay comes to, and the network is that of the opening
+    ensures reached { (sites : List (Option ℕ)) (ends : List Ends) (k : Kept) → IsReached sites ends k → IsTold k.net }
+    ensures network { (sites : List (Option ℕ)) (ends : List Ends) (k : Kept) → IsReached sites ends k → IsOneNetwork (opening_subnet (hosts_from 0 sites) sites ends) k.net }
+
+    // so two replays over one network that end with the same texts end in the same state, but for the log
+    ensures replays { (sites : List (Option ℕ)) (ends : List Ends) (one other : Kept) → IsReached sites ends one → IsReached sites ends other → SameTexts one.net other.net → other.net ≡ record one.net { log = other.net.log } }
 {}

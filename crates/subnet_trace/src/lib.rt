@@ -3,11 +3,27 @@
 //! The *parts* of a subnet are its IMPs and its lines. Each has a JSON text, which tells all that is in it: an IMP's hosts
 //! with what waits for them, its ports with their channels, what its neighbours told, the packets that it stores, the
 //! messages in reassembly and what it knows of flows; and the frames that are live on a line. An elementary event can
-//! change only the parts that `parts_of` names.
+//! change only the parts that `parts_of` names, and [`print_parts`] prints these.
 //!
-//! A reader of traces may rely on two laws ([`law`]). What an event's parts do not name is as before. Subnets with equal
-//! texts of all parts are equal, but for their logs, so a trace leaves nothing out.
+//! A calm has the calls of its quiet rounds that do something, and the takings of the hosts, as elementary events; a [`Place`]
+//! is between two of them.
+//!
+//! A reader of traces may rely on three laws ([`law`]). A calm is its elementary events one after another. What an event's
+//! parts do not name is as before. Of the subnets that replays come to, those with equal texts of all parts are equal, but
+//! for their logs, so a trace leaves nothing out.
 #![tactic(auto)]
 
+mod calm;
+mod flows;
+mod imp;
 pub mod law;
+mod lists;
+mod packets;
+mod parts;
+mod place;
+mod traced;
 pub mod worked;
+
+pub use parts::print_parts;
+pub use place::{Place, Stage};
+pub use traced::TracedSubnet;

@@ -1,13 +1,11 @@
 -- What a call of plain mailboxes did where memory did not run out.
-use Rattle.std.proofs.Common.{◌≡◌, ◌⊎◌, inl, inr, subst, ◌||◌, Bool, true, false, List, ◌++◌, Option, Some, None, Result, Ok, Err, reverse, sym, ap, ◌∙◌}
-use Rattle.std.proofs.lemmas.List.{append_cancel_right, reverse-reverse}
+use Rattle.std.proofs.Common.{◌≡◌, ◌⊎◌, inl, inr, subst, ◌||◌, Bool, true, false, List, Option, Some, None, Result, Ok, Err, ap, ◌∙◌}
 use Rattle.leader1822.specs.Boxes.{Boxes, BoxesDecided, host_refusal, inbound_taken, next_for, offer_refusal, offered, step_grows, step_refusal, stepped, take_grows}
 use Rattle.leader1822.specs.Host.{Host}
 use Rattle.leader1822.specs.Calls.{is_halt, is_memory}
 use Rattle.leader1822.specs.declared.CarrierFault.{CarrierFault}
 use Rattle.leader1822.specs.declared.CarrierFault.TheVariants as fault
 use Rattle.leader1822.specs.declared.Inbound.{Inbound}
-use Rattle.leader1822.specs.declared.crossing.Crossing.{Crossing}
 use Rattle.leader1822.specs.declared.HostMessage.{HostMessage}
 use Rattle.leader1822.specs.declared.NetEvent.{NetEvent}
 use Rattle.replay.specs.Output.{Shown}
@@ -45,12 +43,6 @@ goes_after (Err f) goes = goes
 pub goes_after_take : (r : Result (Option Inbound) CarrierFault) → GoesOn (outcome_of r) → GoesOnAfter r
 goes_after_take (Ok taken) goes = tt
 goes_after_take (Err f) goes = goes
-
--- crossings by which a log grew, where it is known how it grew
-pub crossings_are : (cs ds log new : List Crossing) → new ≡ reverse cs ++ log → new ≡ reverse ds ++ log → cs ≡ ds
-crossings_are cs ds log new h k =
-    let back : reverse cs ≡ reverse ds = append_cancel_right (reverse cs) (reverse ds) log (sym h ∙ k) in
-    sym (reverse-reverse cs) ∙ ap reverse back ∙ reverse-reverse ds
 
 -- ---- what an event of one call leaves
 

@@ -4,6 +4,8 @@ pub mod Whole
 pub mod Each
 pub mod Rest
 pub mod Calms
+pub mod Courses
+pub mod Going
 pub mod Keeping
 pub mod TwoRounds
 pub mod Joined

@@ -19,7 +19,8 @@ use Rattle.script.specs.declared.event.RawEvent.TheVariants as event
 use Rattle.trace.specs.Elements.{plain}
 use Rattle.trace.specs.Parts.{Part, Down, Waiting, IsPart, SamePart, is_named, is_source, moves_host, parts_of, reaches}
 use Rattle.replay.proofs.lemmas.{happens_shows}
-use Rattle.trace.proofs.Each.{Left, crossings_are, left_of}
+use Rattle.trace.proofs.Each.{Left, left_of}
+use Rattle.trace.proofs.Going.{crossings_are}
 use Rattle.trace.proofs.Queues.{for_other, host_is, queued_other}
 
 -- ---- what is not named

@@ -1,4 +1,4 @@
--- Elementary events: an event of a script, or within a calm each of its takings.
+-- Elementary events: an event of a script, or within a calm each of its parts. First what all networks share, and then plain mailboxes.
 use Rattle.std.specs.Prelude.{ℕ, zero, suc, ◌-◌, Bool, ◌&&◌, drop, if◌then◌else◌, is_some, List, [], ◌∷◌, ◌++◌, map}
 use Rattle.leader1822.specs.Boxes.{Boxes, BoxesOffer, BoxesRound, BoxesStep, BoxesTake, inbound_taken, is_running, next_for, seen_of}
 use Rattle.leader1822.specs.Host.{Host}
@@ -8,70 +8,102 @@ use Rattle.script.specs.declared.event.RawEvent.TheVariants as event
 use Rattle.trace.specs.declared.element.Element.{Element}
 use Rattle.trace.specs.declared.turn.Turn.{Turn}
 
--- the calls of plain mailboxes
-abbrev pub plain : Calls Boxes
-plain = record { seen = seen_of; offers = BoxesOffer; takes = BoxesTake; steps = BoxesStep; rounds = BoxesRound }
+-- ---- courses
 
--- elementary events one after another, and the mailboxes after them
-pub record Course : Type 0 where
+-- elementary events one after another, and the network after them
+pub record Course (S : Type 0) : Type 0 where
   pub elements : List Element
-  pub left : Boxes
+  pub left : S
 
-abbrev pub no_course : Boxes → Course
-no_course b = record { elements = []; left = b }
+abbrev pub no_course : {S : Type 0} → S → Course S
+no_course s = record { elements = []; left = s }
 
 -- one course, and then the next
-abbrev pub then_course : Course → (Boxes → Course) → Course
+abbrev pub then_course : {S : Type 0} → Course S → (S → Course S) → Course S
 then_course first next = record { elements = first.elements ++ (next first.left).elements; left = (next first.left).left }
 
--- a taking that gives something: the host is up, and something waits for it
-abbrev pub is_given : Boxes → Host → Bool
-is_given b h = is_running b.hosts b.down h && is_some (next_for b h)
+-- one event in this round, and the network after it
+abbrev pub one_event : {S : Type 0} → ℕ → RawEvent → S → Course S
+one_event round e left = record { elements = record { round = round; event = e } ∷ []; left = left }
+
+-- ---- takings
+
+-- what hosts are given: whether a taking gives something, and what it leaves then
+pub record Giving (S : Type 0) : Type 0 where
+  pub is_given : S → Host → Bool
+  pub after : S → Host → S
 
 -- one taking
-abbrev pub taking : ℕ → Host → Boxes → Course
-taking round h b = record { elements = record { round = round; event = event.Take h } ∷ []; left = inbound_taken b h (next_for b h) }
+abbrev pub taking : {S : Type 0} → Giving S → ℕ → Host → S → Course S
+taking giving round h s = one_event round (event.Take h) (giving.after s h)
 
--- in a round of a calm a host takes while something waits for it, so many times at most
-abbrev pub takings : ℕ → Host → ℕ → Boxes → Course
-takings round h zero b = no_course b
-takings round h (suc times) b = if is_given b h then then_course (taking round h b) (takings round h times) else no_course b
+-- in a round of a calm a host takes while it is given something, so many times at most
+abbrev pub takings : {S : Type 0} → Giving S → ℕ → Host → ℕ → S → Course S
+takings giving round h zero s = no_course s
+takings giving round h (suc times) s = if giving.is_given s h then then_course (taking giving round h s) (takings giving round h times) else no_course s
 
 -- these hosts take one after the other, each 16 times at most
-abbrev pub all_takings : ℕ → List Host → Boxes → Course
-all_takings round [] b = no_course b
-all_takings round (h ∷ hosts) b = then_course (takings round h 16 b) (all_takings round hosts)
+abbrev pub all_takings : {S : Type 0} → Giving S → ℕ → List Host → S → Course S
+all_takings giving round [] s = no_course s
+all_takings giving round (h ∷ hosts) s = then_course (takings giving round h 16 s) (all_takings giving round hosts)
 
--- so many rounds, from this one on: the quiet round of plain mailboxes changes nothing, and then all hosts take
-abbrev pub rounds_from : ℕ → ℕ → Boxes → Course
-rounds_from round zero b = no_course b
-rounds_from round (suc times) b = then_course (all_takings round b.hosts b) (rounds_from (suc round) times)
+-- what is left of the takings of a round, where the first of these hosts takes so many times at most, and the others 16 times
+abbrev pub takings_from : {S : Type 0} → Giving S → ℕ → List Host → ℕ → S → Course S
+takings_from giving round [] times s = no_course s
+takings_from giving round (h ∷ hosts) times s = then_course (takings giving round h times s) (all_takings giving round hosts)
 
--- the elementary events of a calm of so many rounds
-abbrev pub calm_of : Boxes → ℕ → List Element
-calm_of b rounds = (rounds_from 1 rounds b).elements
+-- ---- rounds
 
--- an event as its elementary events: a calm is what the carrier says, and any other event is one itself
+-- so many rounds, from this one on, where a round is this course
+abbrev pub rounds_from : {S : Type 0} → (ℕ → S → Course S) → ℕ → ℕ → S → Course S
+rounds_from whole round zero s = no_course s
+rounds_from whole round (suc times) s = then_course (whole round s) (rounds_from whole (suc round) times)
+
+-- what is left of a round, and then the rounds after it, up to this one
+abbrev pub rest_of_calm : {S : Type 0} → (ℕ → S → Course S) → ℕ → ℕ → Course S → List Element
+rest_of_calm whole round rounds first = (then_course first (rounds_from whole (suc round) (rounds - round))).elements
+
+-- ---- events
+
+-- an event as its elementary events: a calm is what the network says, and any other event is one itself
 abbrev pub elements_in : (ℕ → List Element) → RawEvent → List Element
 elements_in calm (event.Calm rounds) = calm rounds
 elements_in calm (event.Out m) = record { round = 0; event = event.Out m } ∷ []
 elements_in calm (event.Take h) = record { round = 0; event = event.Take h } ∷ []
 elements_in calm (event.Net e) = record { round = 0; event = event.Net e } ∷ []
 
-abbrev pub elements_of : Boxes → RawEvent → List Element
-elements_of b e = elements_in (calm_of b) e
-
--- what they ask for
+-- what elementary events ask for
 abbrev pub events_of : List Element → List RawEvent
 events_of elements = map (λ x. x.event) elements
 
--- ---- in the middle of a calm
+-- ---- plain mailboxes
 
--- what is left of a round, where the first of these hosts takes so many times at most, and the others 16 times
-abbrev pub round_from : ℕ → List Host → ℕ → Boxes → Course
-round_from round [] times b = no_course b
-round_from round (h ∷ hosts) times b = then_course (takings round h times b) (all_takings round hosts)
+-- their calls
+abbrev pub plain : Calls Boxes
+plain = record { seen = seen_of; offers = BoxesOffer; takes = BoxesTake; steps = BoxesStep; rounds = BoxesRound }
 
--- and of the calm
+-- a taking gives something where the host is up and something waits for it
+abbrev pub is_given : Boxes → Host → Bool
+is_given b h = is_running b.hosts b.down h && is_some (next_for b h)
+
+abbrev pub from_boxes : Giving Boxes
+from_boxes = record { is_given = is_given; after = λ b h. inbound_taken b h (next_for b h) }
+
+-- the quiet round of plain mailboxes changes nothing, and then all hosts take
+abbrev pub round_of : ℕ → Boxes → Course Boxes
+round_of round b = all_takings from_boxes round b.hosts b
+
+-- the elementary events of a calm of so many rounds
+abbrev pub calm_of : Boxes → ℕ → List Element
+calm_of b rounds = (rounds_from round_of 1 rounds b).elements
+
+abbrev pub elements_of : Boxes → RawEvent → List Element
+elements_of b e = elements_in (calm_of b) e
+
+-- what is left of the round of a turn
+abbrev pub round_left : Boxes → Turn → Course Boxes
+round_left b t = takings_from from_boxes t.round (drop t.host b.hosts) t.times b
+
+-- and of its calm
 abbrev pub calm_left : Boxes → Turn → List Element
-calm_left b t = (then_course (round_from t.round (drop t.host b.hosts) t.times b) (rounds_from (suc t.round) (t.rounds - t.round))).elements
+calm_left b t = rest_of_calm round_of t.round t.rounds (round_left b t)

@@ -11,7 +11,7 @@ use Rattle.script.specs.declared.event.RawEvent.{RawEvent}
 use Rattle.trace.specs.Traces.{EndsEvent, Inside, MayTell, StopsElement, TellsElement, TellsEvent, WritesTrace}
 use Rattle.leader1822.specs.Host.{Host}
 use Rattle.script.specs.declared.event.RawEvent.TheVariants as event
-use Rattle.trace.specs.Elements.{Course, is_given, no_course, round_from, taking, then_course}
+use Rattle.trace.specs.Elements.{from_boxes, is_given, no_course, round_left, taking, takings_from, then_course}
 use Rattle.trace.specs.declared.element.Element.{Element}
 use Rattle.trace.specs.declared.turn.Turn.{Turn}
 
@@ -37,13 +37,9 @@ EventEnds calls inside old e r new before after =
 
 -- ---- plain mailboxes
 
--- what is left of the round of a turn
-abbrev pub round_left : Boxes → Turn → Course
-round_left b t = round_from t.round (drop t.host b.hosts) t.times b
-
 -- the next taking of a turn's round: none is left; or a host takes for which something waits, and then it is this turn of the same calm
 abbrev pub IsNext : Boxes → Turn → Option (Element × Turn) → Type 0
 IsNext b t None = round_left b t ≡ no_course b
 IsNext b t (Some next) =
     (h : Host) × (next.0 ≡ record { round = t.round; event = event.Take h }) × (is_given b h ≡ true)
-    × (next.1.round ≡ t.round) × (next.1.rounds ≡ t.rounds) × (round_left b t ≡ then_course (taking t.round h b) (λ c. round_from t.round (drop next.1.host b.hosts) next.1.times c))
+    × (next.1.round ≡ t.round) × (next.1.rounds ≡ t.rounds) × (round_left b t ≡ then_course (taking from_boxes t.round h b) (λ c. takings_from from_boxes t.round (drop next.1.host b.hosts) next.1.times c))

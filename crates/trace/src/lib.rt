@@ -27,4 +27,5 @@ pub use element::Element;
 pub use events::trace_events;
 pub use inspect::Inspect;
 pub use parts::print_parts;
+pub use print::answer_word;
 pub use turn::Turn;

@@ -24,8 +24,8 @@ fn print_string<W: Output>(message: &HostMessage, writer: &mut W) -> Result<(), 
     writer.write_all(b"\"")
 }
 
-/// The word of an answer.
-fn word_of(kind: Answer) -> &'static str
+/// The word of an answer that waits. `NotTaken` has one of its own, though hosts are told `Incomplete` for it.
+pub fn answer_word(kind: Answer) -> &'static str
     ensures { result.now ≡ answer_word kind }
 {
     match kind {
@@ -42,7 +42,7 @@ fn print_answer<W: Output>(kind: Answer, flow: &Flow, writer: &mut W) -> Result<
     ensures written { OnOk result (Appends (W.contents writer.old) (W.contents writer.new) (quoted (waiting_answer_text (kind, flow.now)))) }
     ensures failed { TellsFailure result (W.failed writer.new) }
 {
-    let word = word_of(kind);
+    let word = answer_word(kind);
     write!(writer, "\"{word} {flow}\"")
 }
 

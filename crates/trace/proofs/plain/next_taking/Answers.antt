@@ -1,7 +1,7 @@
 use Rattle.std.proofs.Common.{◌≡◌, ◌<◌, ◌-◌, ℕ, suc, false, true, List, arith, get_or, length, refl, subst, sym, ◌∙◌}
 use Rattle.leader1822.specs.Host.{Host}
-use Rattle.trace.specs.Elements.{is_given}
-use Rattle.trace.proofs.Turns.{passes, takes_here}
+use Rattle.trace.specs.Elements.{from_boxes, is_given}
+use Rattle.trace.proofs.Courses.{passes, takes_here}
 use Rattle.trace.proofs.plain.next_taking.Goals.{else-times-gt0-via-then-times-gt0+else-is_given, else-times-gt0-via-else-times-gt0}
 use Rattle.trace.proofs.plain.next_taking.Goals as goal
 
@@ -14,7 +14,7 @@ returns-then-is_given c =
     let is : h ≡ get_or hosts i h = subst (λ (hs : List Host). h ≡ get_or hs i h) c.hosts-hosts.ensures.value c.index-hosts-place.is in
     let more : c.loop-place.times ≡ suc (c.loop-place.times - 1) = omega (arith, c.if-times-gt0.true) in
     let given : is_given c.args.boxes.now h ≡ true = sym c.is_given.ensures ∙ c.if-is_given.true in
-    (h, refl, given, refl, refl, sym c.loop-place.invariant.1 ∙ takes_here c.args.turn.round i (c.loop-place.times - 1) c.loop-place.times hosts h c.args.boxes.now lt is more given)
+    (h, refl, given, refl, refl, sym c.loop-place.invariant.1 ∙ takes_here from_boxes c.args.turn.round i (c.loop-place.times - 1) c.loop-place.times hosts h c.args.boxes.now lt is more given)
 
 pub loop-place-preserved : goal.loop-place-preserved
 loop-place-preserved c =
@@ -27,4 +27,4 @@ loop-place-preserved c =
       | else-times-gt0-via-then-times-gt0+else-is_given w ↦ λ n e. sym w.is_given.ensures ∙ w.if-is_given.false
       | else-times-gt0-via-else-times-gt0 w ↦ λ n e. absurd (omega (arith, w.if-times-gt0.false, e))
     ] in
-    (refl, sym (passes c.args.turn.round i c.loop-place.times hosts h c.args.boxes.now lt is none) ∙ c.loop-place.invariant.1)
+    (refl, sym (passes from_boxes c.args.turn.round i c.loop-place.times hosts h c.args.boxes.now lt is none) ∙ c.loop-place.invariant.1)

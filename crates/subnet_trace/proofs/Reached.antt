@@ -1,0 +1,160 @@
+-- Each subnet that a replay comes to is told by the texts of its parts.
+use Rattle.std.proofs.Common.{◌≡◌, ℕ, zero, suc, ◌+◌, ◌≤◌, ◌||◌, Bool, true, false, List, [], ◌∷◌, length, Option, Some, None, Result, Ok, Err, refl, sym, ap, ◌∙◌, subst, arith}
+use Rattle.std.proofs.lemmas.Bool.{false≢true}
+use Rattle.std.proofs.lemmas.Bool.Decides.{nat_tests}
+use Rattle.std.proofs.lemmas.List.Elements.{All-head, All-tail}
+use Rattle.std.specs.List.{All}
+use Rattle.leader1822.specs.Calls.{is_halt, is_memory}
+use Rattle.leader1822.specs.Host.{Host, IsAddress, most_imps}
+use Rattle.leader1822.specs.declared.CarrierFault.{CarrierFault}
+use Rattle.leader1822.specs.declared.HostMessage.{HostMessage}
+use Rattle.leader1822.specs.declared.Inbound.{Inbound}
+use Rattle.leader1822.specs.declared.NetEvent.{NetEvent}
+use Rattle.leader1822.proofs.lemmas.{or_false}
+use Rattle.replay.specs.Output.{Shown}
+use Rattle.replay.specs.Replay.{AllTake, Chain, GoesOn, Happens, Onward, Part, Quiet, Replays, Round, Rounds, Takings, calmly, outcome_of}
+use Rattle.script.specs.Spelling.{IsEvent, IsHost, IsMessage, IsNetEvent}
+use Rattle.script.specs.declared.event.RawEvent.{RawEvent}
+use Rattle.script.specs.declared.event.RawEvent.TheVariants as event
+use Rattle.subnet.specs.Calls.{Fails, Kept, running}
+use Rattle.subnet.specs.Events.{offer_out, quiet_round, stepped, step_refusal, take_in}
+use Rattle.subnet.specs.Net.{Net}
+use Rattle.subnet.specs.Opening.{hosts_from, opening_subnet}
+use Rattle.subnet.specs.Routed.{IsHostMessage}
+use Rattle.subnet.specs.Sound.{IsSound}
+use Rattle.subnet.specs.Working.{IsWorking, SubnetOffer, SubnetRound, SubnetStep, SubnetTake}
+use Rattle.subnet.specs.declared.Ends.{Ends}
+use Rattle.subnet.proofs.lemmas.{offer_working, opening_working, round_working, step_working, take_working}
+use Rattle.subnet_trace.specs.Parts.{of_subnet}
+use Rattle.subnet_trace.specs.Told.{IsOneNetwork, IsReached, IsTold, SameTexts}
+use Rattle.subnet_trace.proofs.Known.{IsKnown, flow_named, offer_known, opening_known, round_known, step_known, take_known, told}
+use Rattle.subnet_trace.proofs.Rest.{runs}
+use Rattle.subnet_trace.proofs.Whole.{whole}
+use Rattle.trace.proofs.lemmas.{goes_calmly}
+
+-- ---- messages of a script
+
+address : (h : Host) → IsHost h → IsAddress h
+address h is = record { imp_from = grind (arith, nat_tests); imp_to = grind (arith, nat_tests); host_to = grind (arith, nat_tests) }
+
+host_message : (m : HostMessage) → IsMessage m → IsHostMessage m
+host_message m is = record { source = address m.flow.source is.0.0; destination = address m.flow.destination is.0.1; link = is.0.2; text = is.1 }
+
+-- ---- calls that went on
+
+-- a subnet in which memory never ran out, and of which all can be told
+record Holds (o : Net) (k : Kept) : Type 0 where
+  working : IsWorking k
+  runs : k.stopped ≡ false
+  known : IsKnown o k.net
+
+sound_of : {o : Net} (k : Kept) → Holds o k → IsSound k.net
+sound_of k holds = (holds.working.whole holds.runs).sound
+
+-- a call that is refused, and not for want of memory, changes nothing
+unchanged : (refusal : Option CarrierFault) (grows : Bool) (old new : Kept) (f : CarrierFault) → Fails refusal grows (is_memory f) f old new → (is_halt f || is_memory f) ≡ false → new ≡ old
+unchanged refusal grows old new f h goes = by (is_memory f) (or_false (is_halt f) (is_memory f) goes).1 h where
+  by : (b : Bool) → b ≡ false → Fails refusal grows b f old new → new ≡ old
+  by true e h = absurd (false≢true (sym e))
+  by false e h = h.1
+
+same_holds : {o : Net} (old new : Kept) → new ≡ old → Holds o old → Holds o new
+same_holds {o} old new same holds = subst (Holds o) (sym same) holds
+
+-- after a call that succeeded
+after_call : {o : Net} (old new : Kept) (left : Net) → new ≡ running left → IsWorking new → IsKnown o left → Holds o new
+after_call {o} old new left is working known = record {
+  working = working;
+  runs = ap (λ (k : Kept). k.stopped) is;
+  known = subst (λ (k : Kept). IsKnown o k.net) (sym is) known;
+}
+
+offer_holds : {o : Net} (old new : Kept) (m : HostMessage) (r : Result (Unit {0}) CarrierFault) → IsMessage m → SubnetOffer old m r new → GoesOn r → Holds o old → Holds o new
+offer_holds old new m (Ok done) valid h goes holds = after_call old new (offer_out old.net m) h.1 (offer_working old m (Ok done) new (host_message m valid) h holds.working) (offer_known old.net m (flow_named m.flow valid.0) holds.known)
+offer_holds old new m (Err f) valid h goes holds = same_holds old new (unchanged _ _ old new f h goes) holds
+
+take_holds : {o : Net} (old new : Kept) (h : Host) (r : Result (Option Inbound) CarrierFault) → SubnetTake old h r new → GoesOn (outcome_of r) → Holds o old → Holds o new
+take_holds old new h (Ok given) k goes holds = after_call old new (take_in old.net h) k.1.1 (take_working old h (Ok given) new k holds.working) (take_known old.net h holds.known)
+take_holds old new h (Err f) k goes holds = same_holds old new (unchanged _ _ old new f k goes) holds
+
+step_holds : {o : Net} (old new : Kept) (e : NetEvent) (r : Result (Unit {0}) CarrierFault) → IsNetEvent e → SubnetStep old e r new → GoesOn r → Holds o old → Holds o new
+step_holds old new e (Ok done) valid h goes holds =
+    after_call old new (stepped old.net e) h.1 (step_working old e (Ok done) new h holds.working)
+    (step_known old.net e valid (runs old.stopped (step_refusal old.net e) h.0) (sound_of old holds) holds.known)
+step_holds old new e (Err f) valid h goes holds = same_holds old new (unchanged _ _ old new f h goes) holds
+
+round_holds : {o : Net} (old new : Kept) (r : Result (Unit {0}) CarrierFault) → SubnetRound old r new → GoesOn r → Holds o old → Holds o new
+round_holds old new (Ok done) h goes holds = after_call old new (quiet_round old.net) h.1 (round_working old (Ok done) new h holds.working) (round_known old.net (sound_of old holds) holds.known)
+round_holds old new (Err f) h goes holds = same_holds old new (unchanged _ _ old new f h goes) holds
+
+-- ---- a calm
+
+-- after a part of a calm that goes on it holds as before
+abbrev PartHolds : Net → Part Kept → Type 0
+PartHolds o P = (old new : Kept) (r : Result (Unit {0}) CarrierFault) → P old r new → GoesOn r → Holds o old → Holds o new
+
+calmly_goes : (r : Result (Unit {0}) CarrierFault) → GoesOn (calmly r) → GoesOn r
+calmly_goes (Ok done) goes = tt
+calmly_goes (Err f) goes = goes_calmly f goes
+
+onward_holds : {o : Net} (Next : Part Kept) → PartHolds o Next → (first : Result (Unit {0}) CarrierFault) (old mid new : Kept) (r : Result (Unit {0}) CarrierFault) → (GoesOn first → Holds o mid) → Onward Next first mid r new → GoesOn r → Holds o new
+onward_holds Next keeps (Ok done) old mid new r before h goes = keeps mid new r h goes (before tt)
+onward_holds Next keeps (Err f) old mid new r before h goes = same_holds mid new h.1 (before (subst GoesOn h.0 goes))
+
+chain_holds : {o : Net} (First Next : Part Kept) → PartHolds o First → PartHolds o Next → PartHolds o (Chain First Next)
+chain_holds First Next one more old new r (first, mid, h, k) goes holds = onward_holds Next more first old mid new r (λ went. one old mid first h went holds) k goes
+
+takings_hold : {o : Net} (h : Host) (times : ℕ) → PartHolds o (Takings of_subnet h times)
+takings_hold h zero old new r k goes holds = same_holds old new k.1 holds
+takings_hold h (suc times) old new r (Ok (Some given), mid, k, more) goes holds = takings_hold h times mid new r more goes (take_holds old mid h (Ok (Some given)) k tt holds)
+takings_hold h (suc times) old new r (Ok None, mid, k, done) goes holds = same_holds mid new done.1 (take_holds old mid h (Ok None) k tt holds)
+takings_hold h (suc times) old new r (Err f, mid, k, done) goes holds =
+    same_holds mid new done.1 (take_holds old mid h (Err f) k (calmly_goes (Err f) (subst GoesOn done.0 goes)) holds)
+
+all_take_hold : {o : Net} (hosts : List Host) → PartHolds o (AllTake of_subnet hosts)
+all_take_hold [] old new r k goes holds = same_holds old new k.1 holds
+all_take_hold (h ∷ hosts) old new r k goes holds = chain_holds (Takings of_subnet h 16) (AllTake of_subnet hosts) (takings_hold h 16) (all_take_hold hosts) old new r k goes holds
+
+quiet_holds : {o : Net} → PartHolds o (Quiet of_subnet)
+quiet_holds old new r (answer, k, is) goes holds = round_holds old new answer k (calmly_goes answer (subst GoesOn is goes)) holds
+
+rounds_hold : {o : Net} (times : ℕ) → PartHolds o (Rounds of_subnet times)
+rounds_hold zero old new r k goes holds = same_holds old new k.1 holds
+rounds_hold (suc times) old new r k goes holds =
+    chain_holds (Round of_subnet) (Rounds of_subnet times)
+    (λ from to q h went before. chain_holds (Quiet of_subnet) (AllTake of_subnet from.net.hosts) quiet_holds (all_take_hold from.net.hosts) from to q h went before)
+    (rounds_hold times) old new r k goes holds
+
+-- ---- a replay
+
+event_holds : {o : Net} (old new : Kept) (e : RawEvent) (shown : List Shown) → IsEvent e → Happens of_subnet old e new shown → Holds o old → Holds o new
+event_holds old new (event.Out m) shown valid k holds = offer_holds old new m k.outcome valid k.gives k.goes_on holds
+event_holds old new (event.Take h) shown valid k holds = take_holds old new h k.gives.0 k.gives.1 (subst GoesOn k.gives.2 k.goes_on) holds
+event_holds old new (event.Net e) shown valid k holds = step_holds old new e k.outcome valid k.gives k.goes_on holds
+event_holds old new (event.Calm rounds) shown valid k holds = rounds_hold rounds old new k.outcome k.gives k.goes_on holds
+
+replay_holds : {o : Net} (events : List RawEvent) (old new : Kept) (shown : List Shown) → All IsEvent events → Replays of_subnet old events new shown → Holds o old → Holds o new
+replay_holds {o} [] old new shown valid h holds = subst (Holds o) (sym h.0) holds
+replay_holds (e ∷ events) old new shown valid (mid, first, rest, h, hs, whole) holds =
+    replay_holds events mid new rest (All-tail IsEvent e events valid) hs (event_holds old mid e first (All-head IsEvent e events valid) h holds)
+
+-- ---- from the opening
+
+opening_holds : (sites : List (Option ℕ)) (ends : List Ends) → length sites ≤ most_imps + 1 → Holds (opening_subnet (hosts_from 0 sites) sites ends) (running (opening_subnet (hosts_from 0 sites) sites ends))
+opening_holds sites ends few = record { working = opening_working sites ends few; runs = refl; known = opening_known (hosts_from 0 sites) sites ends }
+
+reached_holds : (sites : List (Option ℕ)) (ends : List Ends) (k : Kept) → IsReached sites ends k → Holds (opening_subnet (hosts_from 0 sites) sites ends) k
+reached_holds sites ends k is = replay_holds is.events (running (opening_subnet (hosts_from 0 sites) sites ends)) k is.shown is.valid is.replayed (opening_holds sites ends is.few)
+
+pub reached : (sites : List (Option ℕ)) (ends : List Ends) (k : Kept) → IsReached sites ends k → IsTold k.net
+reached sites ends k is = let holds = reached_holds sites ends k is in told k.net (holds.working.whole holds.runs) holds.known
+
+pub network : (sites : List (Option ℕ)) (ends : List Ends) (k : Kept) → IsReached sites ends k → IsOneNetwork (opening_subnet (hosts_from 0 sites) sites ends) k.net
+network sites ends k is = (reached_holds sites ends k is).known.network
+
+one_opening : (o n m : Net) → IsOneNetwork o n → IsOneNetwork o m → IsOneNetwork n m
+one_opening o n m p q = record { hosts = sym p.hosts ∙ q.hosts; sites = sym p.sites ∙ q.sites; lines = sym p.lines ∙ q.lines }
+
+pub replays : (sites : List (Option ℕ)) (ends : List Ends) (one other : Kept) → IsReached sites ends one → IsReached sites ends other → SameTexts one.net other.net → other.net ≡ record one.net { log = other.net.log }
+replays sites ends one other p q same =
+    whole one.net other.net (reached sites ends one p) (reached sites ends other q) (one_opening (opening_subnet (hosts_from 0 sites) sites ends) one.net other.net (network sites ends one p) (network sites ends other q)) same

@@ -1,0 +1,205 @@
+//! The parts of a subnet that an event can change, looked at and printed.
+
+ghost use Rattle.std.specs.Prelude.{◌≡◌, OnOk, false};
+ghost use Rattle.std.specs.Io.KnownBytes.{Appends};
+ghost use Rattle.replay.specs.Failing.{TellsFailure};
+ghost use Rattle.script.specs.declared.event.RawEvent.TheVariants as raw;
+ghost use Rattle.subnet_trace.specs.Parts.{Imp, Line, far_end_of, imp_alone, imp_and_lines, line_alone, part_name, part_text, parts_of, parts_text};
+ghost use Rattle.subnet_trace.specs.Printing.{line_behind, parts_in};
+ghost use Rattle.subnet_trace.specs.Texts.{line_text};
+ghost use Rattle.trace.specs.Texts.{member};
+
+use crate::imp::print_imp;
+use crate::lists::print_array;
+use leader1822::{Direction, NetEvent};
+use replay::{Output, WriteFailed};
+use script::RawEvent;
+use subnet::{Subnet, Wire};
+
+/// Which parts an event can change.
+#[derive(Clone, Copy)]
+enum Scope {
+    /// An IMP and its lines.
+    ImpAndLines(u8),
+    /// An IMP.
+    Imp(u8),
+    /// A line.
+    Line(u32),
+    /// None.
+    Nothing,
+}
+
+/// Which parts the arrival of a frame can change: those of the IMP at the far end of its line.
+fn scope_of_delivery(subnet: &Subnet, line: u32, direction: Direction) -> Scope
+    ensures { parts_in subnet.now.net result ≡ far_end_of subnet.now.net line direction }
+{
+    let lines = subnet.lines();
+    let place = line as usize;
+    if place >= lines.len() {
+        return Scope::Nothing;
+    }
+    Scope::ImpAndLines(lines[place].far_end(direction))
+}
+
+/// Which parts an event inside the network can change.
+fn scope_of_net(subnet: &Subnet, event: &NetEvent) -> Scope
+    ensures { parts_in subnet.now.net result ≡ parts_of subnet.now.net (raw.Net event.now) }
+{
+    match *event {
+        NetEvent::Deliver {
+            line,
+            direction,
+            ..
+        } => scope_of_delivery(subnet, line, direction),
+        NetEvent::Drop { line, .. } => Scope::Line(line),
+        NetEvent::ImpDown(imp) | NetEvent::ImpUp(imp) => Scope::Imp(imp.number()),
+        NetEvent::Resend(imp) | NetEvent::Route(imp) => Scope::ImpAndLines(imp.number()),
+        NetEvent::EndDown { imp, .. } | NetEvent::EndUp { imp, .. } => {
+            Scope::ImpAndLines(imp.number())
+        }
+        NetEvent::HostDown(host) | NetEvent::HostUp(host) => Scope::ImpAndLines(host.imp()),
+        NetEvent::GiveUp(flow) | NetEvent::Ask(flow) => Scope::ImpAndLines(flow.source.imp()),
+        NetEvent::Forget { at, .. } => Scope::ImpAndLines(at.number()),
+        NetEvent::Abandon(flow) => Scope::ImpAndLines(flow.destination.imp()),
+    }
+}
+
+/// Which parts an event can change.
+fn scope_of(subnet: &Subnet, event: &RawEvent) -> Scope
+    ensures { parts_in subnet.now.net result ≡ parts_of subnet.now.net event.now }
+{
+    match event {
+        RawEvent::Out(message) => Scope::ImpAndLines(message.flow.source.imp()),
+        RawEvent::Take(host) => Scope::ImpAndLines(host.imp()),
+        RawEvent::Net(event) => scope_of_net(subnet, event),
+        RawEvent::Calm(_) => Scope::Nothing,
+    }
+}
+
+/// Prints an IMP with its name.
+fn print_named_imp<W: Output>(
+    subnet: &Subnet,
+    number: u8,
+    writer: &mut W,
+) -> Result<(), WriteFailed>
+    requires { W.failed writer.old ≡ false }
+    ensures written { OnOk result (Appends (W.contents writer.old) (W.contents writer.new) (member (part_name (Imp number)) (part_text subnet.now.net (Imp number)))) }
+    ensures failed { TellsFailure result (W.failed writer.new) }
+{
+    let Some(imp) = subnet.imp(number) else {
+        return write!(writer, "\"imp {number}\":null");
+    };
+    write!(writer, "\"imp {number}\":")?;
+    print_imp(imp, writer)
+}
+
+/// Prints a line with its name: the frames that are live each way.
+fn print_named_line<W: Output>(
+    number: usize,
+    line: &Wire,
+    writer: &mut W,
+) -> Result<(), WriteFailed>
+    requires { W.failed writer.old ≡ false }
+    ensures written { OnOk result (Appends (W.contents writer.old) (W.contents writer.new) (member (part_name (Line number)) (line_text line.now))) }
+    ensures failed { TellsFailure result (W.failed writer.new) }
+{
+    write!(writer, "\"line {number}\":{{\"+\":")?;
+    print_array(&line.frames(Direction::Forward), writer)?;
+    writer.write_all(b",\"-\":")?;
+    print_array(&line.frames(Direction::Back), writer)?;
+    writer.write_all(b"}")
+}
+
+/// Prints a line of an IMP behind another part. It prints nothing for a line that doesn't end there.
+fn print_line_of<W: Output>(
+    imp: u8,
+    number: usize,
+    line: &Wire,
+    writer: &mut W,
+) -> Result<(), WriteFailed>
+    requires { W.failed writer.old ≡ false }
+    ensures written { OnOk result (Appends (W.contents writer.old) (W.contents writer.new) (line_behind imp number line.now)) }
+    ensures failed { TellsFailure result (W.failed writer.new) }
+{
+    if !line.ends_at(imp) {
+        return Ok(());
+    }
+    writer.write_all(b",")?;
+    print_named_line(number, line, writer)
+}
+
+/// Prints an IMP and its lines.
+fn print_imp_and_lines<W: Output>(
+    subnet: &Subnet,
+    imp: u8,
+    writer: &mut W,
+) -> Result<(), WriteFailed>
+    requires { W.failed writer.old ≡ false }
+    ensures written { OnOk result (Appends (W.contents writer.old) (W.contents writer.new) (parts_text subnet.now.net (imp_and_lines subnet.now.net imp))) }
+    ensures failed { TellsFailure result (W.failed writer.new) }
+{
+    if !subnet.is_imp(imp) {
+        return writer.write_all(b"{}");
+    }
+    writer.write_all(b"{")?;
+    print_named_imp(subnet, imp, writer)?;
+    let lines = subnet.lines();
+    for number in 0..lines.len() {
+        print_line_of(imp, number, &lines[number], writer)?;
+    }
+    writer.write_all(b"}")
+}
+
+/// Prints an IMP.
+fn print_imp_alone<W: Output>(subnet: &Subnet, imp: u8, writer: &mut W) -> Result<(), WriteFailed>
+    requires { W.failed writer.old ≡ false }
+    ensures written { OnOk result (Appends (W.contents writer.old) (W.contents writer.new) (parts_text subnet.now.net (imp_alone subnet.now.net imp))) }
+    ensures failed { TellsFailure result (W.failed writer.new) }
+{
+    if !subnet.is_imp(imp) {
+        return writer.write_all(b"{}");
+    }
+    writer.write_all(b"{")?;
+    print_named_imp(subnet, imp, writer)?;
+    writer.write_all(b"}")
+}
+
+/// Prints a line.
+fn print_line_alone<W: Output>(
+    subnet: &Subnet,
+    line: u32,
+    writer: &mut W,
+) -> Result<(), WriteFailed>
+    requires { W.failed writer.old ≡ false }
+    ensures written { OnOk result (Appends (W.contents writer.old) (W.contents writer.new) (parts_text subnet.now.net (line_alone subnet.now.net line))) }
+    ensures failed { TellsFailure result (W.failed writer.new) }
+{
+    let lines = subnet.lines();
+    let number = line as usize;
+    if number >= lines.len() {
+        return writer.write_all(b"{}");
+    }
+    writer.write_all(b"{")?;
+    print_named_line(number, &lines[number], writer)?;
+    writer.write_all(b"}")
+}
+
+/// Prints the parts that an event can change, as a JSON object.
+///
+/// Errors: `WriteFailed`.
+pub fn print_parts<W: Output>(
+    subnet: &Subnet,
+    event: &RawEvent,
+    writer: &mut W,
+) -> Result<(), WriteFailed>
+    requires { W.failed writer.old ≡ false }
+    ensures written { OnOk result (Appends (W.contents writer.old) (W.contents writer.new) (parts_text subnet.now.net (parts_of subnet.now.net event.now))) }
+    ensures failed { TellsFailure result (W.failed writer.new) }
+{
+    match scope_of(subnet, event) {
+        Scope::ImpAndLines(imp) => print_imp_and_lines(subnet, imp, writer),
+        Scope::Imp(imp) => print_imp_alone(subnet, imp, writer),
+        Scope::Line(line) => print_line_alone(subnet, line, writer),
+        Scope::Nothing => writer.write_all(b"{}"),
+    }
+}

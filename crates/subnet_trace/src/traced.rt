@@ -1,0 +1,115 @@
+//! A subnet as a carrier whose inside can be traced.
+
+ghost use Rattle.std.specs.Prelude.{◌≡◌};
+ghost use Rattle.subnet.specs.Working.{SubnetOffer, SubnetRound, SubnetStep, SubnetTake, seen_of};
+ghost use Rattle.subnet_trace.specs.Elements.{calm_left, calm_of};
+ghost use Rattle.subnet_trace.specs.Parts.{parts_of, parts_text};
+
+use crate::calm::next_in_calm;
+use crate::parts::print_parts;
+use crate::place::{Place, Stage};
+use leader1822::{Carrier, CarrierFault, Crossing, HostAddr, HostMessage, Inbound, NetEvent};
+use replay::{Output, WriteFailed};
+use script::RawEvent;
+use std::marker::Model;
+use subnet::Subnet;
+use trace::{Element, Inspect};
+
+/// A subnet whose inside can be traced: the subnet itself, and nothing else.
+///
+/// It is a type of its own since [`trace::Inspect`] and `Subnet` stand in other crates than this one, and a crate may
+/// implement a trait of another crate for its own types alone.
+#[derive(Drop)]
+pub struct TracedSubnet {
+    subnet: Subnet,
+}
+
+impl Model for TracedSubnet {
+    ghost use Rattle.std.specs.Coded.{codes};
+    ghost use Rattle.link_table.specs.Codes.{coded_sources, coded_destinations};
+    ghost use Rattle.subnet.specs.Calls.{Kept};
+
+    ghost Value = { Kept };
+
+    ghost coded = { Prim.hlevel (codes, coded_sources, coded_destinations) };
+
+    ghost view = { λ t. t.subnet };
+}
+
+impl TracedSubnet {
+    /// This subnet.
+    pub fn new(subnet: Subnet) -> TracedSubnet
+        ensures { result ≡ subnet }
+    {
+        TracedSubnet { subnet }
+    }
+}
+
+/// Each call is that of the subnet.
+impl Carrier for TracedSubnet {
+    ghost seen = { seen_of };
+
+    ghost offers = { SubnetOffer };
+
+    ghost takes = { SubnetTake };
+
+    ghost steps = { SubnetStep };
+
+    ghost rounds = { SubnetRound };
+
+    fn offer_out(&mut self, message: HostMessage) -> Result<(), CarrierFault> {
+        self.subnet.offer_out(message)
+    }
+
+    fn take_in(&mut self, host: HostAddr) -> Result<Option<Inbound>, CarrierFault> {
+        self.subnet.take_in(host)
+    }
+
+    fn step(&mut self, event: NetEvent) -> Result<(), CarrierFault> {
+        self.subnet.step(event)
+    }
+
+    fn quiet_round(&mut self) -> Result<(), CarrierFault> {
+        self.subnet.quiet_round()
+    }
+
+    fn log(&self) -> &[Crossing] {
+        self.subnet.log()
+    }
+
+    fn hosts(&self) -> &[HostAddr] {
+        self.subnet.hosts()
+    }
+}
+
+impl Inspect for TracedSubnet {
+    type Place = Place;
+
+    ghost calm = { λ k rounds. calm_of k.net rounds };
+
+    ghost left = { λ k place. calm_left k.net place };
+
+    ghost parts = { λ k e crossings. parts_text k.net (parts_of k.net e) };
+
+    fn begin_calm(&self, rounds: u32) -> Place {
+        Place {
+            round: 0,
+            rounds,
+            stage: Stage::Over,
+        }
+    }
+
+    fn next_in_calm(&self, place: Place) -> Option<(Element, Place)> {
+        next_in_calm(&self.subnet, place)
+    }
+
+    /// What crossed in the event does not matter: an event alone tells which parts it can change.
+    fn print_parts<W: Output>(
+        &self,
+        event: &RawEvent,
+        _crossings: &[Crossing],
+        writer: &mut W,
+    ) -> Result<(), WriteFailed> {
+        print_parts(&self.subnet, event, writer)
+    }
+}
