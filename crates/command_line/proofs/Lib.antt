@@ -6,6 +6,7 @@ mod Judged
 mod Logs
 mod Once
 mod OneInput
+mod OneTrace
 mod Printed
 mod Settled
 mod Sites

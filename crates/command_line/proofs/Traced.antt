@@ -1,24 +1,35 @@
 -- What `--trace` writes is the trace of the input's script.
-use Rattle.std.proofs.Common.{◌≡◌, ◌⊎◌, inl, inr, ℕ, List, Option, Some, None, IfSome, Result, Ok, Err, IfErr, MatchResult, OnOk, subst}
+use Rattle.std.proofs.Common.{◌≡◌, ◌⊎◌, inl, inr, ℕ, List, Option, Some, None, IfSome, Result, Ok, Err, IfErr, MatchResult, OnOk, subst, sym}
 use Rattle.std.specs.Io.KnownBytes.{Keeps}
-use Rattle.leader1822.specs.Boxes.{Boxes}
 use Rattle.replay.specs.InTurn.{text_of}
+use Rattle.replay.specs.Replay.{Calls}
 use Rattle.script.specs.declared.event.RawEvent.{RawEvent}
 use Rattle.topology.specs.Topology.{TopologyFields}
-use Rattle.trace.specs.Traces.{Traces, WritesTrace}
-use Rattle.command_line.specs.Carriers.{plain_calls}
-use Rattle.command_line.specs.Events.{Asked}
+use Rattle.topology.specs.declared.network.CarrierKind.{CarrierKind}
+use Rattle.trace.specs.Traces.{Inside, Traces, WritesTrace}
+use Rattle.command_line.specs.Events.{Asked, Raw}
 use Rattle.command_line.specs.Input.{IsInput, IsInputFault, IsSomeInput}
-use Rattle.command_line.specs.Traced.{EndsOn, IsTraceFault, IsTracingFault, TraceStops, Traced, TracedInPart, TracesFrom, TracesInput, TracesOn, plain_inside}
+use Rattle.command_line.specs.Traced.{EndsOn, EndsOver, IsTraceFault, IsTracingFault, TraceStops, Traced, TracedInPart, TracesFrom, TracesInput, TracesOn, TracesOver}
 use Rattle.command_line.proofs.Judged.{stays}
 use Rattle.command_line.specs.declared.fault.ScriptFault.{ScriptFault}
 use Rattle.command_line.specs.declared.fault.ScriptFault.TheVariants as fault
 
--- ---- over mailboxes
+-- ---- over a carrier
 
 -- a trace that was written stays where it is handed on
-pub flushed_trace : (opening last : Boxes) (events : List RawEvent) (a b c : Option (List ℕ)) → WritesTrace (Traces plain_calls plain_inside opening events last) a b → Keeps b c → TracesFrom opening events a c
-flushed_trace opening last events a b c w k = record { last = last; traced = record { shown = w.shown; is_shown = w.is_shown; written = stays a b c (text_of (λ line. line) w.shown) w.written k } }
+pub flushed_trace : {C : Type 0} (calls : Calls C) (inside : Inside C) (opening last : C) (events : List RawEvent) (a b c : Option (List ℕ)) → WritesTrace (Traces calls inside opening events last) a b → Keeps b c → TracesFrom calls inside opening events a c
+flushed_trace calls inside opening last events a b c w k = record { last = last; traced = record { shown = w.shown; is_shown = w.is_shown; written = stays a b c (text_of (λ line. line) w.shown) w.written k } }
+
+-- ---- over the carrier of a topology
+
+pub traced_over : {A E : Type 0} (carrier : CarrierKind) (network : TopologyFields) (events : List RawEvent) (asked : Asked) (a b : Option (List ℕ)) (r : Result A E)
+    → network.carrier ≡ carrier → asked ≡ Raw events → OnOk r (TracesOver carrier network events a b) → OnOk r (TracesOn network asked a b)
+traced_over carrier network events asked a b r is raw h =
+    subst (λ (asked : Asked). OnOk r (TracesOn network asked a b)) (sym raw) (subst (λ (k : CarrierKind). OnOk r (TracesOver k network events a b)) (sym is) h)
+
+pub ends_over : (carrier : CarrierKind) (network : TopologyFields) (events : List RawEvent) (asked : Asked) (a b : Option (List ℕ)) → network.carrier ≡ carrier → asked ≡ Raw events → EndsOver carrier network events a b → EndsOn network asked a b
+ends_over carrier network events asked a b is raw h =
+    subst (λ (asked : Asked). EndsOn network asked a b) (sym raw) (subst (λ (k : CarrierKind). EndsOver k network events a b) (sym is) h)
 
 -- ---- of known octets
 

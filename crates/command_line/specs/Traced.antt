@@ -1,59 +1,65 @@
 -- What is written of a replay as a trace.
 use Rattle.std.specs.Prelude.{ℕ, List, Option}
 use Rattle.leader1822.specs.Boxes.{Boxes}
+use Rattle.replay.specs.Replay.{Calls}
 use Rattle.script.specs.declared.event.RawEvent.{RawEvent}
+use Rattle.subnet.specs.Calls.{Kept}
+use Rattle.subnet_trace.specs.Elements as subnet
+use Rattle.subnet_trace.specs.Parts.{parts_of, parts_text}
 use Rattle.topology.specs.Topology.{TopologyFields}
 use Rattle.topology.specs.declared.network.CarrierKind.{CarrierKind}
 use Rattle.topology.specs.declared.network.CarrierKind.TheVariants as kind
 use Rattle.trace.specs.Elements.{calm_of}
 use Rattle.trace.specs.Texts.{changed_text}
 use Rattle.trace.specs.Traces.{Inside, StopsElement, TraceEnds, Traces, WritesTrace}
-use Rattle.command_line.specs.Carriers.{plain_calls, plain_of}
+use Rattle.command_line.specs.Carriers.{plain_calls, plain_of, subnet_calls, subnet_of}
 use Rattle.command_line.specs.Events.{Asked, Raw, World}
 use Rattle.command_line.specs.Input.{IsInput, IsInputFault}
 use Rattle.command_line.specs.declared.fault.ScriptFault.{ScriptFault}
 use Rattle.command_line.specs.declared.fault.ScriptFault.TheVariants as fault
 
--- what plain mailboxes tell of their inside
+-- what plain mailboxes tell of their inside, and what subnets tell
 abbrev pub plain_inside : Inside Boxes
 plain_inside = record { calm = calm_of; parts = changed_text }
 
--- events are replayed over plain mailboxes, and their trace is written, and nothing else
-pub record TracesFrom (opening : Boxes) (events : List RawEvent) (before after : Option (List ℕ)) : Type 0 where
-  pub last : Boxes
-  pub traced : WritesTrace (Traces plain_calls plain_inside opening events last) before after
+abbrev pub subnet_inside : Inside Kept
+subnet_inside = record { calm = λ k. subnet.calm_of k.net; parts = λ k e crossings. parts_text k.net (parts_of k.net e) }
+
+-- events are replayed over a carrier with such calls and such an inside, and their trace is written, and nothing else
+pub record TracesFrom {C : Type 0} (calls : Calls C) (inside : Inside C) (opening : C) (events : List RawEvent) (before after : Option (List ℕ)) : Type 0 where
+  pub last : C
+  pub traced : WritesTrace (Traces calls inside opening events last) before after
 
 -- memory ran out in one of the elementary events: the lines of those before it are written, and nothing else
-pub record EndsFrom (opening : Boxes) (events : List RawEvent) (before after : Option (List ℕ)) : Type 0 where
-  pub last : Boxes
-  pub traced : WritesTrace (TraceEnds plain_calls plain_inside (StopsElement plain_calls) opening events last) before after
+pub record EndsFrom {C : Type 0} (calls : Calls C) (inside : Inside C) (opening : C) (events : List RawEvent) (before after : Option (List ℕ)) : Type 0 where
+  pub last : C
+  pub traced : WritesTrace (TraceEnds calls inside (StopsElement calls) opening events last) before after
 
--- ---- of a topology: only raw networks of plain mailboxes have traces
+-- ---- of a topology: only raw networks have traces
 
-abbrev pub TracesOver : CarrierKind → TopologyFields → Asked → Option (List ℕ) → Option (List ℕ) → Type 0
-TracesOver kind.Plain t (Raw events) before after = TracesFrom (plain_of t) events before after
-TracesOver kind.Plain t (World events) before after = ⊥
-TracesOver kind.Subnet t events before after = ⊥
+abbrev pub TracesOver : CarrierKind → TopologyFields → List RawEvent → Option (List ℕ) → Option (List ℕ) → Type 0
+TracesOver kind.Plain t events before after = TracesFrom plain_calls plain_inside (plain_of t) events before after
+TracesOver kind.Subnet t events before after = TracesFrom subnet_calls subnet_inside (subnet_of t) events before after
 
-abbrev pub EndsOver : CarrierKind → TopologyFields → Asked → Option (List ℕ) → Option (List ℕ) → Type 0
-EndsOver kind.Plain t (Raw events) before after = EndsFrom (plain_of t) events before after
-EndsOver kind.Plain t (World events) before after = ⊥
-EndsOver kind.Subnet t events before after = ⊥
+abbrev pub EndsOver : CarrierKind → TopologyFields → List RawEvent → Option (List ℕ) → Option (List ℕ) → Type 0
+EndsOver kind.Plain t events before after = EndsFrom plain_calls plain_inside (plain_of t) events before after
+EndsOver kind.Subnet t events before after = EndsFrom subnet_calls subnet_inside (subnet_of t) events before after
 
-abbrev pub HasTrace : CarrierKind → Asked → Type 0
-HasTrace kind.Plain (Raw events) = Unit {0}
-HasTrace kind.Plain (World events) = ⊥
-HasTrace kind.Subnet events = ⊥
+abbrev pub HasTrace : Asked → Type 0
+HasTrace (Raw events) = Unit {0}
+HasTrace (World events) = ⊥
 
 abbrev pub TracesOn : TopologyFields → Asked → Option (List ℕ) → Option (List ℕ) → Type 0
-TracesOn t events before after = TracesOver t.carrier t events before after
+TracesOn t (Raw events) before after = TracesOver t.carrier t events before after
+TracesOn t (World events) before after = ⊥
 
 abbrev pub EndsOn : TopologyFields → Asked → Option (List ℕ) → Option (List ℕ) → Type 0
-EndsOn t events before after = EndsOver t.carrier t events before after
+EndsOn t (Raw events) before after = EndsOver t.carrier t events before after
+EndsOn t (World events) before after = ⊥
 
 -- ---- of an input
 
--- the trace of its script over the mailboxes of its topology is written
+-- the trace of its script over the carrier of its topology is written
 pub record TracesInput (octets : List ℕ) (before after : Option (List ℕ)) : Type 0 where
   pub network : TopologyFields
   pub events : Asked
@@ -80,12 +86,12 @@ pub record TracedInPart (before after : Option (List ℕ)) : Type 0 where
 
 -- ---- faults
 
--- an input whose network has no traces
+-- an input whose network has no traces: its hosts have programs
 pub record IsUntraced (octets : List ℕ) : Type 0 where
   pub network : TopologyFields
   pub events : Asked
   pub input : IsInput octets network events
-  pub untraced : ¬ HasTrace network.carrier events
+  pub untraced : ¬ HasTrace events
 
 -- when each fault may be given for these octets, where no read failed: those of an input, and where its network has no traces
 abbrev pub IsTraceFault : List ℕ → ScriptFault → Type 0
@@ -99,7 +105,7 @@ IsTraceFault octets fault.BadOptions = IsInputFault octets fault.BadOptions
 
 -- the faults of tracing the script of a topology, as the contracts of private functions say them
 abbrev pub IsTracingFault : TopologyFields → Asked → ScriptFault → Type 0
-IsTracingFault t events fault.NoTrace = ¬ HasTrace t.carrier events
+IsTracingFault t events fault.NoTrace = ¬ HasTrace events
 IsTracingFault t events fault.OutOfMemory = Unit {0}
 IsTracingFault t events fault.CannotWrite = Unit {0}
 IsTracingFault t events fault.BadTopology = ⊥

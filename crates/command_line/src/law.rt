@@ -12,6 +12,7 @@ ghost use Rattle.command_line.specs.Carriers.{hosting, plain_calls};
 ghost use Rattle.command_line.specs.Logs.{Logged};
 ghost use Rattle.command_line.specs.Printed.{PrintsBook, PrintsPart};
 ghost use Rattle.command_line.specs.Replayed.{Ran, RanInPart, ReplaysInput, StopsInput, WorldShowsFrom};
+ghost use Rattle.command_line.specs.Traced.{TraceStops, TracesInput};
 
 /// The input determines the output, with the book and without it, with texts and without them. It asks for one list of events over the carrier of one
 /// topology, and neither plain mailboxes nor a subnet leave their replay a choice, without host programs or with them.
@@ -22,6 +23,12 @@ pub fn one_output()
 /// What stands on the output after memory has run out is a prefix of what the whole replay writes.
 pub fn first_part()
     ensures { (book : Bool) (detail : Detail) (input before part whole : List ℕ) → StopsInput detail input (Some before) (Some part) → ReplaysInput book detail input (Some before) (Some whole) → (rest : List ℕ) × (whole ≡ part ++ rest) }
+{}
+
+/// The input determines its trace, too; and what stands on the output after memory has run out is a prefix of the whole trace.
+pub fn one_trace()
+    ensures whole { (input before after other : List ℕ) → TracesInput input (Some before) (Some after) → TracesInput input (Some before) (Some other) → after ≡ other }
+    ensures part { (input before part whole : List ℕ) → TraceStops input (Some before) (Some part) → TracesInput input (Some before) (Some whole) → (rest : List ℕ) × (whole ≡ part ++ rest) }
 {}
 
 /// What is printed is a formed and safe book, of whatever network and events: the crossings of the lines, and the lives, which are printed where the book is

@@ -7,6 +7,7 @@ ghost use Rattle.command_line.specs.Input.{IsSomeInput};
 ghost use Rattle.command_line.specs.Steps.{IsReplayFault};
 ghost use Rattle.command_line.specs.Traced.{EndsFrom, EndsOn, IsTraceFault, IsTracingFault, TraceStops, Traced, TracedInPart, TracesFrom, TracesInput, TracesOn};
 
+use crate::carriers::subnet_of;
 use crate::fault::ScriptFault;
 use crate::input::{Events, Input, read_input, read_octets};
 use crate::source::Source;
@@ -14,15 +15,16 @@ use leader1822::PlainBoxes;
 use replay::Output;
 use script::RawEvent;
 use std::alloc::Global;
+use subnet_trace::TracedSubnet;
 use topology::{CarrierKind, Topology};
-use trace::trace_events;
+use trace::{Inspect, trace_events};
 
 /// Reads a topology, the marker line `%` and a script, replays the script, and writes its trace: one line for each elementary
 /// event.
 ///
 /// Errors, in this order:
 /// - `CannotRead`, `BadTopology` and `BadLine`, as [`crate::run_script`].
-/// - `NoTrace`: the network has host programs, or a subnet. Nothing is replayed and nothing is written.
+/// - `NoTrace`: the network has host programs. Nothing is replayed and nothing is written.
 /// - `CannotWrite`: a write or a flush failed. Nothing more is asked of the writer, which alone knows how much was written.
 ///
 /// `OutOfMemory` may come at any of these steps. What was written by then is a prefix of the trace.
@@ -35,7 +37,7 @@ pub fn run_trace<R: Source, W: Output>(
     requires reads { R.failed reader.old ≡ false }
     requires writes { W.failed writer.old ≡ false }
 
-    // the trace of some script over the plain mailboxes of some topology is written, whatever the reader
+    // the trace of some script over the carrier of some topology is written, whatever the reader
     ensures ran { OnOk result (Traced (W.contents writer.old) (W.contents writer.new)) }
 
     // and of a reader whose octets are known these are the script and the topology that were read
@@ -64,10 +66,10 @@ pub fn run_trace<R: Source, W: Output>(
     trace_on(alloc, &network, events, writer)
 }
 
-/// Replays events over the plain mailboxes of a topology, and writes their trace.
+/// Replays events over the carrier that a topology names, and writes their trace.
 ///
-/// Errors: `NoTrace` where the hosts have programs or the topology names a subnet; `CannotWrite`; `OutOfMemory`, after which the
-/// first lines of the trace are written.
+/// Errors: `NoTrace` where the hosts have programs; `CannotWrite`; `OutOfMemory`, after which the first lines of the trace are
+/// written.
 fn trace_on<W: Output>(
     alloc: Global,
     network: &Topology,
@@ -90,26 +92,29 @@ fn trace_on<W: Output>(
             let hosts = network.hosts(alloc)?;
             trace_from(PlainBoxes::new(alloc, hosts), &events, writer)
         }
-        CarrierKind::Subnet => Err(ScriptFault::NoTrace),
+        CarrierKind::Subnet => {
+            let subnet = subnet_of(alloc, network)?;
+            trace_from(TracedSubnet::new(subnet), &events, writer)
+        }
     }
 }
 
-/// Replays events over plain mailboxes, and writes their trace.
+/// Replays events over a carrier at its opening, and writes their trace.
 ///
 /// Errors: `CannotWrite`; `OutOfMemory`, after which the first lines of the trace are written.
-fn trace_from<W: Output>(
-    mut boxes: PlainBoxes,
+fn trace_from<C: Inspect, W: Output>(
+    mut carrier: C,
     events: &[RawEvent],
     writer: &mut W,
 ) -> Result<(), ScriptFault>
     requires { W.failed writer.old ≡ false }
-    ensures traced { OnOk result (TracesFrom boxes events.now (W.contents writer.old) (W.contents writer.new)) }
-    ensures stopped { result ≡ Err ScriptFault.OutOfMemory → EndsFrom boxes events.now (W.contents writer.old) (W.contents writer.new) }
+    ensures traced { OnOk result (TracesFrom (record { seen = C.seen; offers = C.offers; takes = C.takes; steps = C.steps; rounds = C.rounds }) (record { calm = C.calm; parts = C.parts }) carrier events.now (W.contents writer.old) (W.contents writer.new)) }
+    ensures stopped { result ≡ Err ScriptFault.OutOfMemory → EndsFrom (record { seen = C.seen; offers = C.offers; takes = C.takes; steps = C.steps; rounds = C.rounds }) (record { calm = C.calm; parts = C.parts }) carrier events.now (W.contents writer.old) (W.contents writer.new) }
     ensures fault { IfErr result IsReplayFault }
     ensures failed { (result ≡ Err ScriptFault.CannotWrite) ↔ (W.failed writer.new ≡ true) }
     ensures flushed { OnOk result (W.flushed writer.new ≡ true) }
 {
-    match trace_events(&mut boxes, events, writer) {
+    match trace_events(&mut carrier, events, writer) {
         Ok(()) => Ok(writer.flush()?),
         Err(fault) => Err(ScriptFault::from(fault)),
     }

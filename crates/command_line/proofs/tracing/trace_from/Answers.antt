@@ -1,11 +1,15 @@
 use Rattle.std.proofs.Common.{Err, ap}
+use Rattle.replay.specs.Replay.{Calls}
+use Rattle.trace.specs.Traces.{Inside}
 use Rattle.command_line.proofs.Faults.{told_memory, told_write}
 use Rattle.command_line.proofs.Traced.{flushed_trace}
 use Rattle.command_line.proofs.tracing.trace_from.Goals as goal
 
 pub returns-in-Ok-clause-traced : goal.returns-in-Ok-clause-traced
 returns-in-Ok-clause-traced g c =
-    flushed_trace c.args.boxes c.trace_events.new.carrier c.args.events.now (g.W.Output.contents c.args.writer.now) (g.W.Output.contents c.trace_events.new.writer) (g.W.Output.contents c.flush.new.self) c.in-Ok.ensures.traced c.flush.ensures.kept
+    let calls : Calls g.row.C.Denot = record { seen = g.C.Carrier.seen; offers = g.C.Carrier.offers; takes = g.C.Carrier.takes; steps = g.C.Carrier.steps; rounds = g.C.Carrier.rounds } in
+    let inside : Inside g.row.C.Denot = record { calm = g.C.Inspect.calm; parts = g.C.Inspect.parts } in
+    flushed_trace calls inside c.args.carrier c.trace_events.new.carrier c.args.events.now (g.W.Output.contents c.args.writer.now) (g.W.Output.contents c.trace_events.new.writer) (g.W.Output.contents c.flush.new.self) c.in-Ok.ensures.traced c.flush.ensures.kept
 
 pub returns-clause-stopped : goal.returns-clause-stopped
 returns-clause-stopped g c = λ e. record { last = c.trace_events.new.carrier; traced = c.in-Err.ensures.memory (ap Err (told_memory c.in-Err.fault c.from.result c.from.ensures e)) }

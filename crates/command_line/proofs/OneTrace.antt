@@ -1,0 +1,97 @@
+-- An input leaves its trace no choice.
+use Rattle.std.proofs.Common.{◌≡◌, ℕ, List, [], ◌∷◌, ◌++◌, Some, refl, sym, ap, ap₂, subst, ◌∙◌}
+use Rattle.std.proofs.lemmas.List.{append_assoc, append-nil}
+use Rattle.replay.specs.InTurn.{HappensOnce, InTurn, ShowsFront, text_of}
+use Rattle.replay.specs.Output.{Shown, crossings_of}
+use Rattle.replay.specs.Replay.{Calls}
+use Rattle.replay.specs.Settled.{AreSettled}
+use Rattle.replay.proofs.lemmas.{OneReplay, ends_front, in_turn_once, replays_once, text_of-append}
+use Rattle.script.specs.declared.event.RawEvent.{RawEvent}
+use Rattle.topology.specs.Topology.{TopologyFields}
+use Rattle.topology.specs.declared.network.CarrierKind.{CarrierKind}
+use Rattle.topology.specs.declared.network.CarrierKind.TheVariants as kind
+use Rattle.trace.specs.Elements.{elements_in}
+use Rattle.trace.specs.Texts.{trace_line}
+use Rattle.trace.specs.Traces.{EndsEvent, Inside, StopsElement, TellsElement, TellsEvent, numbered_from}
+use Rattle.command_line.specs.Carriers.{plain_calls, plain_of, subnet_calls, subnet_of}
+use Rattle.command_line.specs.Events.{Asked, Raw, World}
+use Rattle.command_line.specs.Traced.{EndsFrom, EndsOn, EndsOver, TraceStops, TracesFrom, TracesInput, TracesOn, TracesOver, plain_inside, subnet_inside}
+use Rattle.command_line.proofs.OneInput.{OneInput, input_once}
+use Rattle.command_line.proofs.Settled.{plain_settled, subnet_settled}
+
+-- ---- events have one trace
+
+element_once : {C : Type 0} (calls : Calls C) (inside : Inside C) → AreSettled calls → (number : ℕ) → HappensOnce (TellsElement calls inside number)
+element_once {C} calls inside settled number old x new other lines more (shown, h, is) (others, k, are) =
+    let one : OneReplay new other shown others = replays_once calls settled old (x.event ∷ []) new other shown others
+    (new, shown, [], h, (refl, refl), sym (append-nil shown)) (other, others, [], k, (refl, refl), sym (append-nil others)) in
+    (one.carriers, is ∙ ap₂ (λ (c : C) (s : List Shown). trace_line number x s (inside.parts c x.event (crossings_of s)) ∷ []) one.carriers one.lines ∙ sym are)
+
+event_once : {C : Type 0} (calls : Calls C) (inside : Inside C) → AreSettled calls → HappensOnce (TellsEvent calls inside)
+event_once calls inside settled old e new other lines more h k =
+    in_turn_once (TellsElement calls inside e.0) (element_once calls inside settled e.0) old (elements_in (inside.calm old) e.1) new other lines more h k
+
+from_once : {C : Type 0} (calls : Calls C) (inside : Inside C) → AreSettled calls → (opening : C) (events : List RawEvent) (before after other : List ℕ) → TracesFrom calls inside opening events (Some before) (Some after)
+    → TracesFrom calls inside opening events (Some before) (Some other) → after ≡ other
+from_once calls inside settled opening events before after other h k =
+    let one : (h.last ≡ k.last) × (h.traced.shown ≡ k.traced.shown) =
+    in_turn_once (TellsEvent calls inside) (event_once calls inside settled) opening (numbered_from 1 events) h.last k.last h.traced.shown k.traced.shown h.traced.is_shown k.traced.is_shown in
+    h.traced.written ∙ ap (λ lines. before ++ text_of (λ line. line) lines) one.1 ∙ sym k.traced.written
+
+-- ---- the first part of a trace
+
+-- the elementary event in which memory ran out has no line
+stops_front : {C : Type 0} (calls : Calls C) (inside : Inside C) (number : ℕ) → ShowsFront (StopsElement calls) (TellsElement calls inside number)
+stops_front calls inside number old x new other part whole h k = (whole, sym (ap (λ xs. xs ++ whole) h.1))
+
+event_front : {C : Type 0} (calls : Calls C) (inside : Inside C) → AreSettled calls → ShowsFront (EndsEvent calls inside (StopsElement calls)) (TellsEvent calls inside)
+event_front calls inside settled old e new other part whole h k =
+    ends_front (TellsElement calls inside e.0) (StopsElement calls) (element_once calls inside settled e.0) (stops_front calls inside e.0) old (elements_in (inside.calm old) e.1) new other part whole h k
+
+from_front : {C : Type 0} (calls : Calls C) (inside : Inside C) → AreSettled calls → (opening : C) (events : List RawEvent) (before part whole : List ℕ) → EndsFrom calls inside opening events (Some before) (Some part)
+    → TracesFrom calls inside opening events (Some before) (Some whole) → (rest : List ℕ) × (whole ≡ part ++ rest)
+from_front calls inside settled opening events before part whole h k =
+    let starts : (more : List (List ℕ)) × (k.traced.shown ≡ h.traced.shown ++ more) =
+    ends_front (TellsEvent calls inside) (EndsEvent calls inside (StopsElement calls)) (event_once calls inside settled) (event_front calls inside settled) opening (numbered_from 1 events) h.last k.last h.traced.shown k.traced.shown
+    h.traced.is_shown k.traced.is_shown in
+    let text : List (List ℕ) → List ℕ = text_of (λ line. line) in (
+      text starts.0,
+      k.traced.written ∙ ap (λ lines. before ++ text lines) starts.1 ∙ ap (λ xs. before ++ xs) (text_of-append (λ line. line) h.traced.shown starts.0)
+          ∙ sym (append_assoc before (text h.traced.shown) (text starts.0)) ∙ ap (λ xs. xs ++ text starts.0) (sym h.traced.written),
+    )
+
+-- ---- of a topology
+
+over_once : (carrier : CarrierKind) (network : TopologyFields) (events : List RawEvent) (before after other : List ℕ) → TracesOver carrier network events (Some before) (Some after) → TracesOver carrier network events (Some before) (Some other) → after ≡ other
+over_once kind.Plain network events before after other h k = from_once plain_calls plain_inside plain_settled (plain_of network) events before after other h k
+over_once kind.Subnet network events before after other h k = from_once subnet_calls subnet_inside subnet_settled (subnet_of network) events before after other h k
+
+on_once : (network : TopologyFields) (events : Asked) (before after other : List ℕ) → TracesOn network events (Some before) (Some after) → TracesOn network events (Some before) (Some other) → after ≡ other
+on_once network (Raw events) before after other h k = over_once network.carrier network events before after other h k
+on_once network (World events) before after other h k = absurd h
+
+over_front : (carrier : CarrierKind) (network : TopologyFields) (events : List RawEvent) (before part whole : List ℕ) → EndsOver carrier network events (Some before) (Some part) → TracesOver carrier network events (Some before) (Some whole) → (rest : List ℕ) × (whole ≡ part ++ rest)
+over_front kind.Plain network events before part whole h k = from_front plain_calls plain_inside plain_settled (plain_of network) events before part whole h k
+over_front kind.Subnet network events before part whole h k = from_front subnet_calls subnet_inside subnet_settled (subnet_of network) events before part whole h k
+
+on_front : (network : TopologyFields) (events : Asked) (before part whole : List ℕ) → EndsOn network events (Some before) (Some part) → TracesOn network events (Some before) (Some whole) → (rest : List ℕ) × (whole ≡ part ++ rest)
+on_front network (Raw events) before part whole h k = over_front network.carrier network events before part whole h k
+on_front network (World events) before part whole h k = absurd h
+
+-- ---- of an input
+
+pub one_trace : (input before after other : List ℕ) → TracesInput input (Some before) (Some after) → TracesInput input (Some before) (Some other) → after ≡ other
+one_trace input before after other h k =
+    let same : OneInput h.network k.network h.events k.events = input_once input h.network k.network h.events k.events h.input k.input in
+    let moved : TracesOn k.network k.events (Some before) (Some after) =
+    subst (λ (network : TopologyFields). TracesOn network k.events (Some before) (Some after)) same.same_network
+    (subst (λ (events : Asked). TracesOn h.network events (Some before) (Some after)) same.same_events h.traced) in
+    on_once k.network k.events before after other moved k.traced
+
+pub first_of_trace : (input before part whole : List ℕ) → TraceStops input (Some before) (Some part) → TracesInput input (Some before) (Some whole) → (rest : List ℕ) × (whole ≡ part ++ rest)
+first_of_trace input before part whole h k =
+    let same : OneInput h.network k.network h.events k.events = input_once input h.network k.network h.events k.events h.input k.input in
+    let moved : EndsOn k.network k.events (Some before) (Some part) =
+    subst (λ (network : TopologyFields). EndsOn network k.events (Some before) (Some part)) same.same_network
+    (subst (λ (events : Asked). EndsOn h.network events (Some before) (Some part)) same.same_events h.stopped) in
+    on_front k.network k.events before part whole moved k.traced
