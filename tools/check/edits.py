@@ -1,12 +1,15 @@
-"""Each planted bug of crates/*/wrong-bodies is refused by the proofs (minutes for a crate, an hour for all): ./check edits [CRATE | CRATE/NAME ..]
+"""Each planted bug of crates/*/wrong-bodies is refused by the proofs (minutes for a crate, an hour for all): ./check edits [--whole] [--jobs N] [CRATE | CRATE/NAME ..]
 
 `rt must-fail` tries each edit of must-fail/ by itself, and the first of a crate costs a whole check. Here edits of different
 functions of a crate are tried together, in a copy of the crate and of what its last check kept. A function is proved over the
-contracts of those it calls, so an edit counts as refused only at goals of its own function, which are printed. What a batch leaves
-open is tried alone. An edit that doesn't compile is named, and so is one that is refused only because a proof file names what it
-took away: neither says anything of the contract. Nothing is written beside the copy, which is removed.
+contracts of those it calls, so an edit counts as refused only at goals of its own function, which are printed. So only these
+functions are checked, with those that they call, first as they stand and then with the edits. What a batch leaves open is tried
+alone. An edit that is in no function, or in one that `rt check --only` doesn't find, is tried over whole checks of the crate, and
+with --whole so is each. An edit that doesn't compile is named, and so is one that is refused only because a proof file names what
+it took away: neither says anything of the contract. Nothing is written beside the copy, which is removed.
 """
 
+import glob
 import os
 import re
 import shutil
@@ -20,6 +23,28 @@ from parts import ROOT
 
 # what antt says of a proof that names what is no longer there, or answers a goal that says nothing any more
 GONE = r"has no field|is not in scope|has no `|was not admitted|\(nearest: \.|types are `Unit \{0\}` \(expected\)"
+# the head of an `impl`: its trait if it has one, and its type
+IMPL = re.compile(r"impl\b(?:<.*?>)?(?: (\S.*) for)?.*?(\w+)(?:<[^{]*>)? (?:where.*)?\{")
+
+
+def module_at(path):
+    """The module that a file below src/ has, as its parts."""
+    return [it for it in path.removesuffix(".rt").split("/") if it not in ("lib", "main", "mod")]
+
+
+def modules_of(crate, name):
+    """The modules of a crate that have a type of this name."""
+    found = []
+    for path in sorted(glob.glob(f"{ROOT}/crates/{crate}/src/**/*.rt", recursive=True)):
+        with open(path, encoding="utf-8") as file:
+            found += [module_at(path.partition("/src/")[2]) for _ in re.findall(rf"^(?:pub(?:\(\w+\))? )?(?:struct|enum) {name}\b", file.read(), re.MULTILINE)]
+    return found
+
+
+def has_ended(lines, at):
+    """Whether the function that begins at a line ends before the last of these lines, by the layout of `rt fmt`."""
+    closing = f"{re.match(' *', lines[at])[0]}}}"
+    return at + 1 < len(lines) and (lines[at].endswith("}") or closing in lines[at + 1 : -1])
 
 
 class Edit:
@@ -31,14 +56,15 @@ class Edit:
             text = file.read()
         self.files = sorted({it.strip() for it in re.findall(r"^file: (.*)$", text, re.MULTILINE)})
         self.pairs = re.findall(r"^old: (.*)\nnew: ?(.*)$", text, re.MULTILINE)
-        self.function = self.function_of()
+        self.function, self.only = self.function_of() or (None, None)
 
     def source(self):
         with open(f"{ROOT}/crates/{self.crate}/{self.files[0]}", encoding="utf-8") as file:
             return file.read()
 
     def function_of(self):
-        """The function that all of it is in, as a pattern of the checker's names for it and its closures. None where this isn't clear."""
+        """The function that all of it is in, as a pattern of the checker's names for it and its closures, and as what `rt check --only`
+        takes, which may be None. None where this isn't clear."""
         if len(self.files) != 1 or not self.files[0].startswith("src/"):
             return None
         text, found = self.source(), set()
@@ -47,17 +73,22 @@ class Edit:
                 return None  # a contract is read by other functions too
             lines = text[: text.index(old) + len(old)].split("\n")
             names = [(at, it[1]) for at, line in enumerate(lines) if (it := re.match(r"\s*(?:pub(?:\(\w+\))? )?(?:const )?(?:unsafe )?fn (\w+)", line))]
-            types = [it[1] for line in lines[: names[-1][0] if names else 0] if (it := re.match(r"impl\b(?:<.*?>)?.*?(\w+)(?:<[^{]*>)? (?:where.*)?\{", line) or re.match(r"(\})", line))]
-            if not names:
+            if not names or has_ended(lines, names[-1][0]):
                 return None
-            found.add((types[-1] if types and types[-1] != "}" else "", names[-1][1]))
+            owners = [it.groups() for line in lines[: names[-1][0]] if (it := IMPL.match(line) or re.match(r"()(\})", line))]
+            trait, owner = owners[-1] if owners else ("", "}")
+            found.add((trait or "", owner, names[-1][1]))
         if len(found) != 1:
             return None
-        ((owner, name),) = found
-        if owner:  # named by the module of its type, which may be another
-            return rf"{self.crate}::(?:\w+::)*{owner}[\w+]*::{name}(?=$|::)"
-        module = "::".join([self.crate, *(it for it in self.files[0][len("src/") : -len(".rt")].split("/") if it not in ("lib", "main", "mod"))])
-        return rf"{module}::(?:fn::)?{name}(?=$|::)"
+        ((trait, owner, name),) = found
+        if owner != "}":  # named by the module of its type, which may be another
+            modules = modules_of(self.crate, owner)
+            # a trait's method stands under the names of type, trait and the trait's argument, as in LineFaultFromAllocError::from
+            of_trait = re.match(r"(?:\w+::)*(\w+)(?:<(?:\w+::)*(\w+))?", trait)
+            of_type = owner + "".join(of_trait.groups("") if of_trait else [])
+            return rf"{self.crate}::(?:\w+::)*{of_type}[\w+]*::{name}(?=$|::)", "::".join([self.crate, *modules[0], of_type, name]) if len(modules) == 1 else None
+        module = "::".join([self.crate, *module_at(self.files[0][len("src/") :])])
+        return rf"{module}::(?:fn::)?{name}(?=$|::)", f"{module}::{name}"
 
     def applied(self, texts):
         """The texts with this edit, None where it doesn't fit them."""
@@ -117,54 +148,78 @@ def not_compiled(batch, texts, said):
     return found
 
 
+def linked(path, to):
+    """A second name for a file, or a copy of it where there can't be one."""
+    try:
+        os.link(path, to)
+    except OSError:
+        shutil.copy2(path, to)
+
+
 class Copy:
     """A copy of a crate, of those below it and of what their checks kept."""
 
-    def __init__(self, crate, folder):
-        self.crate, self.folder = crate, folder
+    def __init__(self, crate, folder, words):
+        self.crate, self.folder, self.words = crate, folder, words
         with open(f"{ROOT}/crates.txt", encoding="utf-8") as file:
             lines = dict(re.match(r"(\w+)[^:]*:(.*)", line).groups() for line in file if line.strip() and not line.startswith("#"))
         needed = crates_below({name: below.split() for name, below in lines.items()}, crate)
         for name in needed:
-            # of those below, what is built serves
-            shutil.copytree(f"{ROOT}/crates/{name}", f"{folder}/crates/{name}", symlinks=True, ignore=shutil.ignore_patterns(*["incremental"] * (name != crate)))
+            # of its own what earlier checks kept; of those below what is built, which nothing writes to
+            what = {"ignore": shutil.ignore_patterns("rlib")} if name == crate else {"ignore": shutil.ignore_patterns("incremental", "must-fail"), "copy_function": linked}
+            shutil.copytree(f"{ROOT}/crates/{name}", f"{folder}/crates/{name}", symlinks=True, **what)
         with open(f"{folder}/crates.txt", "w", encoding="utf-8") as file:
             file.writelines(f"{name}:{lines[name]}\n" for name in needed)
         self.own = f"{folder}/crates/{crate}"
-        for name in needed:
-            shutil.rmtree(f"{folder}/crates/{name}/must-fail", ignore_errors=True)
+        shutil.rmtree(f"{self.own}/must-fail", ignore_errors=True)
 
-    def check(self):
-        """How a check of the crate ends: its status and what it said."""
-        ran = subprocess.run(["rt", "check"], cwd=self.own, stdin=subprocess.DEVNULL, stdout=subprocess.PIPE, stderr=subprocess.STDOUT, text=True, errors="replace")
+    def check(self, functions):
+        """How a check of these functions ends, or of the crate where there are none: its status and what it said."""
+        words = [*self.words, *(word for it in functions for word in ("--only", it))]
+        ran = subprocess.run(["rt", "check", *words], cwd=self.own, stdin=subprocess.DEVNULL, stdout=subprocess.PIPE, stderr=subprocess.STDOUT, text=True, errors="replace")
         return ran.returncode, ran.stdout
 
-    def keep(self):
-        """Notes what a check kept, so that `check_with` can begin with it."""
-        shutil.copytree(f"{self.own}/out", f"{self.folder}/kept", symlinks=True)
+    def keep(self, functions):
+        """Checks the functions, or the crate, as they stand, and notes what that kept, so that `check_with` can begin with it."""
+        shutil.rmtree(f"{self.folder}/kept", ignore_errors=True)
+        status, said = self.check(functions)
+        if status == 0:
+            self.is_kept = True
+            shutil.copytree(f"{self.own}/out", f"{self.folder}/kept", symlinks=True)
+        return status, said
 
-    def check_with(self, texts):
-        """What a check says of the crate with these texts in the place of its own, over what was noted."""
+    def check_with(self, texts, functions):
+        """What a check says with these texts in the place of the crate's own, over what was noted."""
+        if not self.is_kept:
+            shutil.rmtree(f"{self.own}/out")
+            shutil.copytree(f"{self.folder}/kept", f"{self.own}/out", symlinks=True)
+        self.is_kept = False
         shutil.copytree(f"{self.own}/src", f"{self.folder}/src")
         for path, text in texts.items():
             with open(f"{self.own}/{path}", "w", encoding="utf-8") as file:
                 file.write(text)
         try:
-            return self.check()[1]
+            return self.check(functions)[1]
         finally:
             shutil.rmtree(f"{self.own}/src")
             os.rename(f"{self.folder}/src", f"{self.own}/src")
-            shutil.rmtree(f"{self.own}/out")
-            shutil.copytree(f"{self.folder}/kept", f"{self.own}/out", symlinks=True)
+
+
+def functions_of(edits, whole):
+    """What a check of these edits looks at: their functions, or with `whole` the crate."""
+    return [] if whole else [*dict.fromkeys(it.only for it in edits)]
 
 
 def verdict_alone(edit, said):
     """What a check with this edit alone says of it, as whether it is refused and in words."""
-    if not re.search(r"^logic=", said, re.MULTILINE):
+    ended = re.search(r"^(?:logic=(proved)?|only=(\d+) proved=(\d+)$)", said, re.MULTILINE)
+    if "\nrattle: no verdict" in said:
+        return False, "NOT JUDGED: the prover met a limit"
+    if not ended:
         error = re.search(r"^.*\berror.*$", said, re.MULTILINE)
         return False, f"DOES NOT COMPILE: {error[0] if error else said[-300:]}"
-    if re.search(r"^logic=proved", said, re.MULTILINE):
-        return False, "NOT REFUSED: the crate is still proved with this edit"
+    if ended[1] or (ended[2] and ended[2] == ended[3]):
+        return False, f"NOT REFUSED: the {'crate' if ended[1] else 'function'} is still proved with this edit"
     goals = refusal(edit, said) if edit.function else "; ".join(f"{name}: {', '.join(goals)}" for name, goals in open_goals(said).items())
     if goals:
         return True, f"refused, alone ({goals})"
@@ -172,16 +227,16 @@ def verdict_alone(edit, said):
     return False, f"SAYS NOTHING: it is refused, but at no goal of its own function: {'; '.join(errors)[:400]}"
 
 
-def try_all(copy, edits):
-    """Tries the edits, together where that can tell. Gives those that are not refused, and prints what comes of each."""
-    waiting, alone, failed, batches = edits, [], [], 0
+def try_in_batches(copy, edits, whole):
+    """Tries the edits together where that can tell, and prints those that are refused. Gives those that are left."""
+    waiting, alone, batches = edits, [], 0
     while True:
         batch, texts = first_batch(waiting)
         waiting = [it for it in waiting if it not in batch]
         if len(batch) < 2:
-            break
+            return batch + waiting + alone
         batches += 1
-        said = copy.check_with(texts)
+        said = copy.check_with(texts, functions_of(batch, whole))
         if not re.search(r"^fn ", said, re.MULTILINE):
             bad = not_compiled(batch, texts, said)
             alone += bad or batch
@@ -196,9 +251,30 @@ def try_all(copy, edits):
                 alone.append(edit)
         if others:
             print(f"{copy.crate}: batch {batches} tells nothing, since it leaves goals open in {', '.join(others)}", flush=True)
-    for edit in batch + waiting + alone:
+
+
+def begin(copy, edits, whole):
+    """Checks the functions of the edits as they stand, or with `whole` the crate. Gives the edits whose functions that finds, and whether
+    these are proved."""
+    found = edits
+    while found:
+        status, said = copy.keep(functions_of(found, whole))
+        unknown = re.findall(r"(?:has no function|several functions are named) `([^`]+)`", said) if status == 2 else []
+        if not unknown:
+            if status:
+                print(f"{copy.crate}: edits can't be tried, since what they are in is not proved as it stands:\n{said[-2000:]}", flush=True)
+            looked_at = re.findall(r"^fn (\S+): proved$", said, re.MULTILINE)
+            return [it for it in found if whole or status or any(re.match(it.function, name) for name in looked_at)], status == 0
+        found = [it for it in found if it.only not in unknown]
+    return [], True
+
+
+def try_all(copy, edits, whole):
+    """Tries the edits over their functions, or with `whole` over the crate. Gives those that are not refused, and prints what comes of each."""
+    failed = []
+    for edit in try_in_batches(copy, edits, whole):
         texts = edit.applied({})
-        is_refused, words = verdict_alone(edit, copy.check_with(texts)) if texts else (False, "DOES NOT FIT: what it replaces doesn't stand once in its file")
+        is_refused, words = verdict_alone(edit, copy.check_with(texts, functions_of([edit], whole))) if texts else (False, "DOES NOT FIT: what it replaces doesn't stand once in its file")
         print(f"{copy.crate}/{edit.name}: {words}", flush=True)
         if not is_refused:
             failed.append(edit)
@@ -210,26 +286,39 @@ def edits_of(crate):
     return [Edit(crate, f"{folder}/{it}") for it in sorted(os.listdir(folder)) if it.endswith(".edit")]
 
 
-def check_crate(crate, names):
+def check_crate(crate, names, whole, words):
     """Tries the edits of a crate, all of them or those that are named. Gives how many are refused, and how many are not."""
     begun = time.monotonic()
     edits = [it for it in edits_of(crate) if not names or it.name.removesuffix(".edit") in names]
+    left, quick, failed = edits, 0, []
     with tempfile.TemporaryDirectory(prefix="edits-") as room:
-        copy = Copy(crate, room)
-        status, said = copy.check()
-        if status:
-            print(f"{crate}: its edits can't be tried, since it is not proved as it stands:\n{said[-2000:]}")
-            return 0, len(edits)
-        copy.keep()
-        failed = try_all(copy, edits)
-    print(f"{crate}: {len(edits) - len(failed)} of {len(edits)} refused, {time.monotonic() - begun:.0f} seconds", flush=True)
+        copy = Copy(crate, room, words)
+        for is_whole in (False, True)[whole:]:
+            tried, is_proved = begin(copy, left if is_whole else [it for it in left if it.only], is_whole)
+            left = [it for it in left if it not in tried]
+            failed += try_all(copy, tried, is_whole) if is_proved else tried
+            if left:
+                print(f"{crate}: over whole checks: {', '.join(it.name for it in left)}", flush=True)
+            quick += 0 if is_whole else len(tried)
+    print(f"{crate}: {len(edits) - len(failed)} of {len(edits)} refused, {quick} tried over their functions alone, {time.monotonic() - begun:.0f} seconds", flush=True)
     return len(edits) - len(failed), len(failed)
+
+
+def options(words):
+    """What is asked for: whether each edit is tried over whole checks, the words that `rt check` gets, and the crates and edits."""
+    whole, jobs = "--whole" in words, []
+    words = [it for it in words if it != "--whole"]
+    if "--jobs" in words:
+        at = words.index("--jobs")
+        jobs, words = words[at : at + 2], words[:at] + words[at + 2 :]
+    return whole, jobs, words
 
 
 def main():
     having = [it for it in sorted(os.listdir(f"{ROOT}/crates")) if os.path.isdir(f"{ROOT}/crates/{it}/wrong-bodies")]
+    whole, jobs, words = options(sys.argv[1:])
     asked = {}
-    for word in sys.argv[1:] or having:
+    for word in words or having:
         crate, _, name = word.partition("/")
         if crate not in having:
             print(f"check edits: no planted bugs stand in crates/{crate}/wrong-bodies; there are some in {', '.join(having)}")
@@ -240,7 +329,7 @@ def main():
         asked.setdefault(crate, []).extend([name] if name else [])
     refused = failed = 0
     for crate, names in asked.items():
-        counts = check_crate(crate, names)
+        counts = check_crate(crate, names, whole, jobs)
         refused, failed = refused + counts[0], failed + counts[1]
     print(f"{refused} refused, {failed} not")
     return 1 if failed else 0
