@@ -13,7 +13,6 @@ use Rattle.imp_channel.specs.Holding.{packet_of, packets_in}
 use Rattle.imp_channel.specs.declared.frame.Content.TheVariants as content
 use Rattle.imp_channel.specs.Line.{End, frames_of, frames_from, resent, differs, acknowledged, all_acknowledged, answer_to}
 use Rattle.routing.specs.RouteTable.{vector_of}
-use Rattle.leader1822.specs.declared.crossing.Inbound.{Inbound}
 use Rattle.imp_node.specs.declared.outgoing.Outgoing.{Outgoing}
 use Rattle.imp_node.specs.declared.port.Port.{Port}
 use Rattle.imp_node.specs.declared.waiting.Message.{Message}

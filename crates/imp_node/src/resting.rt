@@ -1,6 +1,6 @@
 //! Calls that would give nothing and change nothing, and so need not be made.
 
-ghost use Rattle.std.specs.Prelude.{◌≡◌, None, Some, true, slice_index_or};
+ghost use Rattle.std.specs.Prelude.{◌≡◌, ◌↔◌, None, Some, true, slice_index_or};
 ghost use Rattle.routing.specs.RouteTable.{vector_of};
 ghost use Rattle.imp_node.specs.Arrival.{ignored};
 ghost use Rattle.imp_node.specs.Resting as resting;
@@ -26,7 +26,7 @@ impl Imp {
     /// Whether one of the two ends of a line is down, this IMP's port or the other IMP's, or the distances that this IMP heard
     /// last at its port are those that the other would tell. This takes no memory.
     pub fn has_heard(&self, port: u8, other: &Imp, other_port: u8) -> bool
-        ensures { result ≡ true → (port_at other.now.ports other_port).up ≡ true → (port_at self.now.ports port).up ≡ true → slice_index_or self.now.routes.heard port None ≡ Some (vector_of other.now.routes) }
+        ensures { (result ≡ true) ↔ ((port_at other.now.ports other_port).up ≡ true → (port_at self.now.ports port).up ≡ true → slice_index_or self.now.routes.heard port None ≡ Some (vector_of other.now.routes)) }
     {
         if !self.is_live(port) || !other.is_live(other_port) {
             return true;
@@ -37,7 +37,7 @@ impl Imp {
 
 /// Whether these distances were heard.
 fn is_heard(heard: &Option<Vector>, distances: &Vector) -> bool
-    ensures { result ≡ true → heard.now ≡ Some distances.now }
+    ensures { (result ≡ true) ↔ (heard.now ≡ Some distances.now) }
 {
     match heard {
         Some(vector) => vector.distances() == distances.distances(),
