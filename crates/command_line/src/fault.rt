@@ -28,7 +28,7 @@ pub enum ScriptFault {
     /// This line of the script, counted from 1, is no event. Nothing was replayed.
     #[error("arpasim: bad script line {0}")]
     BadLine(usize),
-    /// The network has no traces: it has a subnet, or programs on its hosts. Nothing was replayed.
+    /// The network has no traces: its hosts have programs. Nothing was replayed.
     #[error("arpasim: no trace of such a network")]
     NoTrace,
     /// No memory was left. The output is a prefix of what the replay would have written.
