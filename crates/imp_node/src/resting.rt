@@ -31,7 +31,7 @@ impl Imp {
         if !self.is_live(port) || !other.is_live(other_port) {
             return true;
         }
-        is_heard(&self.routes.heard()[port as usize], &other.routes.vector())
+        is_heard(&self.routes.heard()[port as usize], other.routes.distances())
     }
 }
 
@@ -40,7 +40,7 @@ fn is_heard(heard: &Option<Vector>, distances: &Vector) -> bool
     ensures { (result ≡ true) ↔ (heard.now ≡ Some distances.now) }
 {
     match heard {
-        Some(vector) => vector.distances() == distances.distances(),
+        Some(vector) => vector.is_same(distances),
         None => false,
     }
 }

@@ -1,6 +1,6 @@
 //! What an IMP knows of routes.
 
-ghost use Rattle.std.specs.Prelude.{◌≡◌, ◌≢◌, ◌+◌, ◌<◌, ◌≤◌, ◌==◌, ℕ, min, if◌then◌else◌, IfOk, IfSome, OnErr, length, position, ◌-◌, All, Some, map, [], slice_index_or};
+ghost use Rattle.std.specs.Prelude.{◌≡◌, ◌≢◌, ◌+◌, ◌<◌, ◌≤◌, ◌==◌, ℕ, min, if◌then◌else◌, IfOk, IfSome, OnErr, length, position, ◌↔◌, true, ◌-◌, All, Some, map, [], slice_index_or};
 ghost use Rattle.routing.specs.RouteTable.{opening_table, hears, loses, distance_in, heard_distance, least_heard, distance_to, vector_of, next_of};
 ghost use Rattle.leader1822.specs.Host.{most_imps};
 ghost use Rattle.routing.specs.Vector.{infinite, IsVector};
@@ -13,18 +13,25 @@ use std::marker::Model;
 
 /// The route table of one IMP: its own number, and for each port the distances last heard there (Heart et
 /// al., "Routing algorithm"). Contracts see it as a `Table`.
+///
+/// It keeps the distances that follow from what was heard, since they are asked for far more often than
+/// something else is heard.
 #[derive(Debug, Drop)]
 pub struct RouteTable {
     own: u8,
     heard: Vec<Option<Vector>>,
+    told: Vector,
 }
 
 impl Model for RouteTable {
-    ghost use Rattle.routing.specs.RouteTable.{Table};
+    ghost use Rattle.std.specs.Prelude.{◌≡◌};
+    ghost use Rattle.routing.specs.RouteTable.{Table, vector_of};
 
     ghost Value = { Table };
 
     ghost view = { λ t. record { own = t.own; heard = t.heard.items } };
+
+    ghost invariant = { λ t. t.told ≡ vector_of (record { own = t.own; heard = t.heard.items }) };
 }
 
 impl RouteTable {
@@ -39,7 +46,8 @@ impl RouteTable {
         for _ in 0..ports {
             heard.push(None)?;
         }
-        Ok(RouteTable { own, heard })
+        let told = told_by(own, &heard);
+        Ok(RouteTable { own, heard, told })
     }
 
     /// Notes the distances that came on a port, in place of those that were heard there before.
@@ -47,7 +55,11 @@ impl RouteTable {
         requires { port < length self.old.heard }
         ensures { self.new ≡ hears self.old port distances }
     {
+        if is_heard(&self.heard[port as usize], &distances) {
+            return;
+        }
         self.heard[port as usize] = Some(distances);
+        self.told = told_by(self.own, &self.heard);
     }
 
     /// Forgets what was heard on a port, since its line was lost.
@@ -56,20 +68,22 @@ impl RouteTable {
         ensures { self.new ≡ loses self.old port }
     {
         self.heard[port as usize] = None;
+        self.told = told_by(self.own, &self.heard);
     }
 
     /// The IMP's distances: 0 to itself, and to any other IMP the least that was heard plus one, at most
     /// [`INFINITE`]. This takes no memory.
-    #[tactic(auto, unfolding(crate::specs::RouteTable::vector_of))]
     pub fn vector(&self) -> Vector
         ensures { result ≡ vector_of self.now }
     {
-        let least = all_least_heard(&self.heard);
-        let mut distances = [INFINITE; MOST_IMPS];
-        for place in 0..MOST_IMPS {
-            distances[place] = distance_by(self.own, place as u8 + 1, least[place]);
-        }
-        Vector::new(distances)
+        self.told.copy()
+    }
+
+    /// The IMP's distances as [`vector`](Self::vector) gives them, without a copy.
+    pub fn distances(&self) -> &Vector
+        ensures { result.now ≡ vector_of self.now }
+    {
+        &self.told
     }
 
     /// The IMP's own number.
@@ -109,17 +123,33 @@ impl RouteTable {
         ensures { self.new ≡ after_round graph.now told.now self.old }
     {
         hear_lines(self.own, graph, told, &mut self.heard);
+        self.told = told_by(self.own, &self.heard);
     }
 
     /// The distance to one IMP.
-    #[tactic(auto, unfolding(crate::specs::RouteTable::distance_to))]
     fn distance_to(&self, imp: u8) -> u8
         ensures value { result ≡ distance_to self.now imp }
         ensures most { result ≤ infinite }
         ensures no_imp { most_imps < imp → imp ≢ self.now.own → result ≡ infinite }
     {
-        distance_by(self.own, imp, least_heard(&self.heard, imp))
+        if imp == self.own {
+            return 0;
+        }
+        distance_in(self.told.distances(), imp)
     }
+}
+
+/// The distances of an IMP whose ports have heard this.
+#[tactic(auto, unfolding(crate::specs::RouteTable::vector_of))]
+fn told_by(own: u8, ports: &[Option<Vector>]) -> Vector
+    ensures { result ≡ vector_of (record { own = own; heard = ports.now }) }
+{
+    let least = all_least_heard(ports);
+    let mut distances = [INFINITE; MOST_IMPS];
+    for place in 0..MOST_IMPS {
+        distances[place] = distance_by(own, place as u8 + 1, least[place]);
+    }
+    Vector::new(distances)
 }
 
 /// The distance to an IMP, of which this is the least that was heard.
@@ -134,6 +164,16 @@ fn distance_by(own: u8, imp: u8, least: u8) -> u8
         least + 1
     } else {
         INFINITE
+    }
+}
+
+/// Whether these distances were heard on a port.
+fn is_heard(heard: &Option<Vector>, distances: &Vector) -> bool
+    ensures { (result ≡ true) ↔ (heard.now ≡ Some distances.now) }
+{
+    match heard {
+        Some(vector) => vector.is_same(distances),
+        None => false,
     }
 }
 
@@ -163,19 +203,6 @@ fn hear_lines(own: u8, graph: &[(u8, u8)], told: &[Vector], heard: &mut [Option<
             port += 1;
         }
     }
-}
-
-/// The least distance to an IMP that was heard on any port.
-fn least_heard(ports: &[Option<Vector>], imp: u8) -> u8
-    ensures value { result ≡ least_heard ports.now imp }
-    ensures most { result ≤ infinite }
-    ensures no_imp { most_imps < imp → result ≡ infinite }
-{
-    let mut least = INFINITE;
-    for heard in ports {
-        least = least.min(heard_distance(heard, imp));
-    }
-    least
 }
 
 /// The least distance to each IMP that was heard on any port, that to IMP 1 first. It takes one port's

@@ -1,6 +1,6 @@
 //! What an IMP tells its neighbours: its distance to every IMP.
 
-ghost use Rattle.std.specs.Prelude.{◌≡◌, ◌≤◌, ◌<◌, ◌↔◌, ℕ, min, slice_index_or, All, IsTrue, nat_le, Some, None, if◌then◌else◌};
+ghost use Rattle.std.specs.Prelude.{◌≡◌, ◌≤◌, ◌<◌, ◌↔◌, ℕ, min, slice_index_or, All, IsTrue, nat_le, true, Some, None, if◌then◌else◌};
 ghost use Rattle.leader1822.specs.Host.{most_imps};
 ghost use Rattle.std.specs.List.{list_all};
 ghost use Rattle.routing.specs.Vector.{IsVector, is_vector, infinite};
@@ -86,6 +86,14 @@ impl Vector {
         }
     }
 
+    /// Whether another vector has the same distances. It looks at all of them, with no early end, which is faster
+    /// where vectors mostly are the same.
+    pub fn is_same(&self, other: &Vector) -> bool
+        ensures { (result ≡ true) ↔ (self.now ≡ other.now) }
+    {
+        are_same(&self.distances, &other.distances)
+    }
+
     /// The distances, that to IMP 1 first.
     pub fn distances(&self) -> &[u8]
         ensures value { result.now ≡ self.now }
@@ -94,6 +102,17 @@ impl Vector {
     {
         &self.distances
     }
+}
+
+/// Whether these are the same numbers, place by place.
+fn are_same(these: &[u8; MOST_IMPS], those: &[u8; MOST_IMPS]) -> bool
+    ensures { (result ≡ true) ↔ (these.now ≡ those.now) }
+{
+    let mut same = true;
+    for place in 0..MOST_IMPS {
+        same = same & (these[place] == those[place]);
+    }
+    same
 }
 
 /// Whether no distance is above the infinite one.

@@ -2,12 +2,12 @@ use Rattle.std.proofs.Common.{◌≡◌, ℕ, ◌+◌, ◌<◌, ◌≤◌, get_o
 use Rattle.leader1822.specs.Host.{most_imps}
 use Rattle.routing.specs.Vector.{infinite}
 use Rattle.routing.specs.RouteTable.{distance_to}
-use Rattle.routing.proofs.route_table.RouteTable.vector.Given as goal
+use Rattle.routing.proofs.route_table.told_by.Given as goal
 
 -- the distances so far, none of them above the infinite one
 abbrev pub invariant-loop-place : goal.invariant-loop-place
 invariant-loop-place l = record {
   one_each : length l.distances ≡ most_imps;
-  far : (k : ℕ) → k < l.place → get_or l.distances k 0 ≡ distance_to l.self (k + 1);
+  far : (k : ℕ) → k < l.place → get_or l.distances k 0 ≡ distance_to (record { own = l.own; heard = l.ports }) (k + 1);
   in_range : All (λ d. d ≤ infinite) l.distances;
 }
