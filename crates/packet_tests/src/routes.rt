@@ -80,3 +80,56 @@ fn a_table_follows_what_its_lines_tell(rt: HostRuntime) {
     ];
     assert_eq!(rt; story(rt.alloc()), Ok(wanted));
 }
+
+/// A table's distances, without a copy of its vector.
+fn kept(table: &RouteTable) -> [u8; MOST_IMPS] {
+    let mut distances = [0; MOST_IMPS];
+    distances.copy_from_slice(table.distances().distances());
+    distances
+}
+
+/// IMP 2 with two lines: its distances at the opening, after it hears on the second line, hears the same there again,
+/// hears on the first line, hears something else on the second, and loses the first.
+fn kept_story(alloc: Global) -> Result<[[u8; MOST_IMPS]; 6], AllocError> {
+    let mut table = RouteTable::new(alloc, 2, 2)?;
+    let opening = kept(&table);
+    if let Some(vector) = near([0, 1, 2, 3]) {
+        table.hear(1, vector);
+    }
+    let one_heard = kept(&table);
+    if let Some(vector) = near([0, 1, 2, 3]) {
+        table.hear(1, vector);
+    }
+    let heard_again = kept(&table);
+    if let Some(vector) = near([2, 1, 0, 1]) {
+        table.hear(0, vector);
+    }
+    let both_heard = kept(&table);
+    if let Some(vector) = near([0, 1, 2, 0]) {
+        table.hear(1, vector);
+    }
+    let heard_anew = kept(&table);
+    table.lost(0);
+    let one_lost = kept(&table);
+    Ok([
+        opening,
+        one_heard,
+        heard_again,
+        both_heard,
+        heard_anew,
+        one_lost,
+    ])
+}
+
+#[test]
+fn a_table_keeps_the_distances_that_follow_from_what_it_heard_last(rt: HostRuntime) {
+    let wanted = [
+        far_from_others([63, 0, 63, 63]),
+        far_from_others([1, 0, 3, 4]),
+        far_from_others([1, 0, 3, 4]),
+        far_from_others([1, 0, 1, 2]),
+        far_from_others([1, 0, 1, 1]),
+        far_from_others([1, 0, 3, 1]),
+    ];
+    assert_eq!(rt; kept_story(rt.alloc()), Ok(wanted));
+}

@@ -69,3 +69,37 @@ fn vectors_are_compared_and_copied_by_their_distances(rt: HostRuntime) {
     let like = [true, false, false, true];
     assert_eq!(rt; likeness(), Ok(Some(like)));
 }
+
+/// Whether vectors with these distances are the same. `None` where the distances are no vector's.
+fn same(these: &[u8], those: &[u8]) -> Option<bool> {
+    let this = Vector::from_slice(these)?;
+    let that = Vector::from_slice(those)?;
+    Some(this.is_same(&that))
+}
+
+#[test]
+fn vectors_are_the_same_where_all_their_distances_are(rt: HostRuntime) {
+    let near = far_from_others([1, 0, 1, 2]);
+    let first = far_from_others([0, 0, 1, 2]);
+    let mut middle = near;
+    middle[31] = 62;
+    let mut last = near;
+    last[62] = 62;
+    let found = [
+        same(&near, &near),
+        same(&last, &last),
+        same(&near, &first),
+        same(&near, &middle),
+        same(&near, &last),
+        same(&last, &near),
+    ];
+    let wanted = [
+        Some(true),
+        Some(true),
+        Some(false),
+        Some(false),
+        Some(false),
+        Some(false),
+    ];
+    assert_eq!(rt; found, wanted);
+}

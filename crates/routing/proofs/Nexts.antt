@@ -1,5 +1,5 @@
 -- Distances and next lines of a table.
-use Rattle.std.proofs.Common.{◌≡◌, ℕ, ◌+◌, ◌-◌, ◌<◌, ◌≤◌, ◌==◌, Bool, true, false, List, length, get_or, min, Option, Some, None, IsSome, refl, ◌∙◌, ap, arith, inl, inr, eqb, nat_lt, subst, map, if◌then◌else◌}
+use Rattle.std.proofs.Common.{◌≡◌, ℕ, ◌+◌, ◌-◌, ◌<◌, ◌≤◌, ◌==◌, Bool, true, false, List, length, get_or, min, Option, Some, None, IsSome, refl, ◌∙◌, ap, sym, arith, inl, inr, eqb, nat_lt, subst, map, if◌then◌else◌}
 use Rattle.std.specs.Prelude.{◌⊎◌}
 use Rattle.std.specs.List.{position_or_len, range_with_len}
 use Rattle.std.proofs.lemmas.Bool.{cases_lt, eq-eqb, eqb-true, eqb-false}
@@ -9,7 +9,8 @@ use Rattle.std.proofs.lemmas.List.FromFn.{length-map-range_with_len, get_or-map-
 use Rattle.leader1822.specs.Host.{most_imps}
 use Rattle.routing.specs.Vector.{infinite, IsVector}
 use Rattle.routing.specs.RouteTable.{Table, heard_distance, least_heard, distance_in, distance_to, vector_of, next_of, IsNext}
-use Rattle.routing.proofs.Tables.{least_heard-least, least_heard-attained, IsHeardOn}
+use Rattle.routing.specs.Inside.{IsKept}
+use Rattle.routing.proofs.Tables.{least_heard-least, least_heard-attained, IsHeardOn, least_heard-none, distance_past}
 
 same_by : (b : Bool) (x y : ℕ) → eqb x y ≡ b → (x ≡ y) ⊎ (x ≡ y → ⊥)
 same_by true x y e = inl (eqb-true x y e)
@@ -154,3 +155,23 @@ vector-distance t imp some most =
     let at : get_or (map (λ (place : ℕ). distance_to t (place + 1)) (range_with_len 0 most_imps)) (imp - 1) infinite ≡ distance_to t (imp - 1 + 1) =
     get_or-map-range_with_len (λ (place : ℕ). distance_to t (place + 1)) 0 most_imps (imp - 1) (imp - 1) infinite (omega (arith, some, most)) (omega arith) in
     rw is_imp (at ∙ ap (λ (n : ℕ). distance_to t n) (omega (arith, some)))
+
+-- the distance to IMP 0, which there can't be
+vector-zero : (t : Table) (imp : ℕ) → imp ≡ 0 → (imp ≡ t.own → ⊥) → distance_in (vector_of t) imp ≡ distance_to t imp
+vector-zero t imp none other =
+    let some : (imp == 0) ≡ true = eq-eqb imp 0 none in
+    rw some (omega (arith, distance-other t imp other, least_heard-none t.heard imp none))
+
+told_by : (t : Table) (imp : ℕ) → ((imp : ℕ) → most_imps < imp → least_heard t.heard imp ≡ infinite) → (imp ≡ t.own → ⊥) → (most_imps < imp) ⊎ (imp ≤ most_imps)
+    → distance_in (vector_of t) imp ≡ distance_to t imp
+told_by t imp no_imp other (inl far) =
+    let vector : IsVector (vector_of t) = vector-is t in
+    distance_past (vector_of t) imp (omega (arith, far, vector.one_each)) ∙ omega (arith, distance-other t imp other, no_imp imp far)
+told_by t imp no_imp other (inr most) = elim (same_or_other imp 0) [
+  | inl none ↦ vector-zero t imp none other
+  | inr some ↦ vector-distance t imp (omega (arith, some)) most
+]
+
+-- the distance to another IMP, looked up
+pub distance-told : (t : Table) (told : List ℕ) (imp : ℕ) → IsKept t told → (imp ≡ t.own → ⊥) → distance_in told imp ≡ distance_to t imp
+distance-told t told imp kept other = subst (λ (told : List ℕ). distance_in told imp ≡ distance_to t imp) (sym kept.told_is) (told_by t imp kept.no_imp other (cases_lt most_imps imp))

@@ -2,3 +2,4 @@ pub mod Vector
 pub mod RouteTable
 pub mod Walks
 pub mod Settle
+pub mod Inside

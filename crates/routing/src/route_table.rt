@@ -4,6 +4,7 @@ ghost use Rattle.std.specs.Prelude.{◌≡◌, ◌≢◌, ◌+◌, ◌<◌, ◌�
 ghost use Rattle.routing.specs.RouteTable.{opening_table, hears, loses, distance_in, heard_distance, least_heard, distance_to, vector_of, next_of};
 ghost use Rattle.leader1822.specs.Host.{most_imps};
 ghost use Rattle.routing.specs.Vector.{infinite, IsVector};
+ghost use Rattle.routing.specs.Inside.{IsKept};
 ghost use Rattle.routing.specs.Settle.{IsImp, after_round, neighbours, other_end};
 
 use crate::vector::{INFINITE, Vector};
@@ -24,14 +25,14 @@ pub struct RouteTable {
 }
 
 impl Model for RouteTable {
-    ghost use Rattle.std.specs.Prelude.{◌≡◌};
-    ghost use Rattle.routing.specs.RouteTable.{Table, vector_of};
+    ghost use Rattle.routing.specs.Inside.{IsKept};
+    ghost use Rattle.routing.specs.RouteTable.{Table};
 
     ghost Value = { Table };
 
     ghost view = { λ t. record { own = t.own; heard = t.heard.items } };
 
-    ghost invariant = { λ t. t.told ≡ vector_of (record { own = t.own; heard = t.heard.items }) };
+    ghost invariant = { λ t. IsKept (record { own = t.own; heard = t.heard.items }) t.told };
 }
 
 impl RouteTable {
@@ -133,16 +134,16 @@ impl RouteTable {
         ensures no_imp { most_imps < imp → imp ≢ self.now.own → result ≡ infinite }
     {
         if imp == self.own {
-            return 0;
+            0
+        } else {
+            distance_in(self.told.distances(), imp)
         }
-        distance_in(self.told.distances(), imp)
     }
 }
 
 /// The distances of an IMP whose ports have heard this.
-#[tactic(auto, unfolding(crate::specs::RouteTable::vector_of))]
 fn told_by(own: u8, ports: &[Option<Vector>]) -> Vector
-    ensures { result ≡ vector_of (record { own = own; heard = ports.now }) }
+    ensures { IsKept (record { own = own; heard = ports.now }) result }
 {
     let least = all_least_heard(ports);
     let mut distances = [INFINITE; MOST_IMPS];
@@ -208,7 +209,8 @@ fn hear_lines(own: u8, graph: &[(u8, u8)], told: &[Vector], heard: &mut [Option<
 /// The least distance to each IMP that was heard on any port, that to IMP 1 first. It takes one port's
 /// distances after the other, which is faster than to ask every port for each IMP.
 fn all_least_heard(ports: &[Option<Vector>]) -> [u8; MOST_IMPS]
-    ensures { (place : ℕ) → place < most_imps → slice_index_or result place 0 ≡ least_heard ports.now (place + 1) }
+    ensures least { (place : ℕ) → place < most_imps → slice_index_or result place 0 ≡ least_heard ports.now (place + 1) }
+    ensures no_imp { (imp : ℕ) → most_imps < imp → least_heard ports.now imp ≡ infinite }
 {
     let mut least = [INFINITE; MOST_IMPS];
     for heard in ports {

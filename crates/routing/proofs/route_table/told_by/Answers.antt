@@ -20,7 +20,7 @@ pub loop-place-preserved : goal.loop-place-preserved
 loop-place-preserved c =
     let imp : ℕ = c.loop-place.place + 1 in
     let least : get_or c.all_least_heard-least.result c.loop-place.place 0 ≡ least_heard c.args.ports.now imp =
-    c.all_least_heard-least.ensures c.loop-place.place c.loop-place-test.true in
+    c.all_least_heard-least.ensures.least c.loop-place.place c.loop-place-test.true in
     let is : c.distance_by.result ≡ distance_to (record { own = c.args.own; heard = c.args.ports.now }) imp =
     c.distance_by.ensures.value ∙ distance-by (record { own = c.args.own; heard = c.args.ports.now }) imp (get_or c.all_least_heard-least.result c.loop-place.place 0) least in
     record {
@@ -32,6 +32,9 @@ loop-place-preserved c =
 
 pub returns : goal.returns
 unfolding vector_of
-returns c =
-    c.new.ensures ∙ fill_by_all (λ (k : ℕ). distance_to (record { own = c.args.own; heard = c.args.ports.now }) (k + 1)) c.loop-place.distances most_imps 0 c.loop-place.invariant.one_each
-    (λ k below. c.loop-place.invariant.far k (omega arith))
+returns c = record {
+  told_is = c.new.ensures
+      ∙ fill_by_all (λ (k : ℕ). distance_to (record { own = c.args.own; heard = c.args.ports.now }) (k + 1)) c.loop-place.distances most_imps 0 c.loop-place.invariant.one_each
+      (λ k below. c.loop-place.invariant.far k (omega arith));
+  no_imp = c.all_least_heard-least.ensures.no_imp;
+}
