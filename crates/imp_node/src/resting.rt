@@ -31,7 +31,10 @@ impl Imp {
         if !self.is_live(port) || !other.is_live(other_port) {
             return true;
         }
-        is_heard(&self.routes.heard()[port as usize], other.routes.distances())
+        is_heard(
+            &self.routes.heard()[port as usize],
+            other.routes.distances(),
+        )
     }
 }
 

@@ -104,13 +104,19 @@ impl Vector {
     }
 }
 
-/// Whether these are the same numbers, place by place.
+/// Half of the places, which are an odd number.
+const HALF: usize = MOST_IMPS / 2;
+
+/// Whether these are the same numbers, place by place. Two halves that share the place in the middle are
+/// compared side by side: as many octets as the processor takes at once then leave no rest.
 fn are_same(these: &[u8; MOST_IMPS], those: &[u8; MOST_IMPS]) -> bool
     ensures { (result ≡ true) ↔ (these.now ≡ those.now) }
 {
     let mut same = true;
-    for place in 0..MOST_IMPS {
-        same = same & (these[place] == those[place]);
+    for place in 0..HALF + 1 {
+        let first = these[place] == those[place];
+        let second = these[place + HALF] == those[place + HALF];
+        same = same & first & second;
     }
     same
 }
