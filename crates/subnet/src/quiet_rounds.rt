@@ -82,7 +82,7 @@ impl Parts {
     }
 
     /// The same, by the calls of the IMP.
-    #[tactic(auto, using(crate::proofs::Calls::Attempting::resend_ignores, crate::proofs::Calls::Attempting::route_ignores, crate::proofs::Calls::RoundMemory::telling_wants, crate::proofs::Calls::RoundMemory::sending_wants))]
+    #[tactic(auto, using(crate::proofs::Calls::Attempting::resend_ignores, crate::proofs::Calls::RoundMemory::telling_wants, crate::proofs::Calls::RoundMemory::sending_wants))]
     fn tell_and_resend(&mut self, imp: u8) -> Result<(), AllocError>
         requires { AreLive self.old.imps }
         ensures ok { OnOk result (self.new ≡ events.refreshed self.old imp) }
@@ -90,7 +90,7 @@ impl Parts {
         ensures memory { OnErr result (round_grows self.old ≡ true) }
         ensures keeps { SameLog self.old self.new }
     {
-        self.attempt(imp, ImpCall::Route)?;
+        self.tell(imp)?;
         if self.has_nothing_to_resend(imp) {
             return Ok(());
         }
