@@ -1,7 +1,8 @@
 -- Calls that would give nothing and change nothing.
 use Rattle.std.specs.Prelude.{if◌then◌else◌, not, is_some}
 use Rattle.std.specs.List.{sum_by}
-use Rattle.std.proofs.Common.{◌≡◌, ℕ, ◌+◌, ◌<◌, Bool, true, false, zero, suc, List, [], ◌∷◌, ◌++◌, length, map, get_or, set, nat_lt, Option, Some, None, refl, ap, sym, ◌∙◌, arith}
+use Rattle.std.proofs.Common.{◌≡◌, ℕ, ◌+◌, ◌<◌, Bool, true, false, zero, suc, List, [], ◌∷◌, ◌++◌, length, map, get_or, set, nat_lt, ◌==◌, ◌&&◌, Option, Some, None, refl, ap, sym, ◌∙◌, arith}
+use Rattle.std.proofs.lemmas.Bool.{eqb-true}
 use Rattle.std.proofs.lemmas.Bool.Decides.{nat_tests}
 use Rattle.std.proofs.lemmas.List.{append-nil, length-append, set-get_or}
 use Rattle.std.proofs.lemmas.List.Sums.{sum_by-cons}
@@ -10,6 +11,7 @@ use Rattle.packetiser.specs.PacketFields.{PacketFields}
 use Rattle.imp_channel.specs.declared.channel.Channel.{Channel}
 use Rattle.imp_channel.specs.declared.frame.Frame.{Frame}
 use Rattle.imp_channel.specs.Holding.{packet_of, packets_in}
+use Rattle.imp_channel.specs.declared.frame.Content.{Content}
 use Rattle.imp_channel.specs.declared.frame.Content.TheVariants as content
 use Rattle.imp_channel.specs.Line.{End, frames_of, frames_from, resent, differs, acknowledged, all_acknowledged, answer_to}
 use Rattle.routing.specs.RouteTable.{vector_of}
@@ -21,6 +23,7 @@ use Rattle.imp_node.specs.State.{State, ImpTurn, host_at, port_at, down_port}
 use Rattle.imp_node.specs.Arrival.{ignored, taken_frame, frame_taken, vector_heard, from_line}
 use Rattle.imp_node.specs.Lines.{on_port, resent_from, resend, told_from, route}
 use Rattle.imp_node.specs.Pump.{pump, pumped}
+use Rattle.imp_node.specs.Resting.{IsKnown, Ignores, is_at_rest}
 use Rattle.imp_node.specs.Room.{busy_channels, stored_count}
 use Rattle.imp_node.specs.Queries.{holds_packet}
 use Rattle.imp_node.specs.Taking.{first_of, taking_has_room, taken_by, next_for, to_host, to_host_refusal}
@@ -87,9 +90,12 @@ resending_rests s none =
     let are : StoresNone s = stores_none s none in
     ap (λ (frames : List Outgoing). pump frames s) (none_sent 0 s.ports are.free) ∙ pump_rests s are.waits
 
--- and tells its distances, and nothing else
+-- where no packet waits it tells its distances, and nothing else
+pub telling_alone : (s : State) → length s.store ≡ 0 → route s ≡ leaving s (told_from (vector_of s.routes) 0 s.ports)
+telling_alone s none = pump_with (told_from (vector_of s.routes) 0 s.ports) s none
+
 pub telling_rests : (s : State) → holds_packet s ≡ false → route s ≡ leaving s (told_from (vector_of s.routes) 0 s.ports)
-telling_rests s none = pump_with (told_from (vector_of s.routes) 0 s.ports) s (stores_none s none).waits
+telling_rests s none = telling_alone s (stores_none s none).waits
 
 -- ---- distances that were heard last
 
@@ -113,24 +119,59 @@ port_free [] k none = refl
 port_free (port ∷ ports) zero none = omega (arith, none, sum_by-cons busy_channels port ports)
 port_free (port ∷ ports) (suc k) none = port_free ports k (omega (arith, none, sum_by-cons busy_channels port ports))
 
-routes_again : (up : Bool) (s : State) (k : ℕ) (acks : List Bool) (distances : List ℕ) → StoresNone s → (up ≡ true → get_or s.routes.heard k None ≡ Some distances)
-    → (if up then taken_frame (answer_to (port_at s.ports k).line (record { acks = acks; content = content.Routes distances })) k (record { acks = acks; content = content.Routes distances }) s else ignored s) ≡ ignored s
-routes_again false s k acks distances none heard = refl
-routes_again true s k acks distances none heard =
+record IsIdle (s : State) (k : ℕ) : Type 0 where
+  pub waits : length s.store ≡ 0
+  pub free : length (packets_in (port_at s.ports k).line.sending) ≡ 0
+
+-- where no packet waits, acknowledgements change nothing
+taken_again : (s : State) (k : ℕ) (acks : List Bool) → IsIdle s k
+    → set s.ports k (record (port_at s.ports k) { line = record (port_at s.ports k).line { sending = all_acknowledged acks (port_at s.ports k).line.sending } }) ≡ s.ports
+taken_again s k acks idle =
     let line : End = (port_at s.ports k).line in
-    let free : all_acknowledged acks line.sending ≡ line.sending = all_free acks line.sending (port_free s.ports k none.free) in
-    let port : set s.ports k (record (port_at s.ports k) { line = record line { sending = all_acknowledged acks line.sending } }) ≡ s.ports =
-    ap (λ (channels : List Channel). set s.ports k (record (port_at s.ports k) { line = record line { sending = channels } })) free ∙ set-get_or s.ports k down_port in
+    ap (λ (channels : List Channel). set s.ports k (record (port_at s.ports k) { line = record line { sending = channels } })) (all_free acks line.sending idle.free) ∙ set-get_or s.ports k down_port
+
+routes_again : (up : Bool) (s : State) (k : ℕ) (acks : List Bool) (distances : List ℕ) → IsIdle s k → (up ≡ true → get_or s.routes.heard k None ≡ Some distances)
+    → (if up then taken_frame (answer_to (port_at s.ports k).line (record { acks = acks; content = content.Routes distances })) k (record { acks = acks; content = content.Routes distances }) s else ignored s) ≡ ignored s
+routes_again false s k acks distances idle heard = refl
+routes_again true s k acks distances idle heard =
     let routes : set s.routes.heard k (Some distances) ≡ s.routes.heard = ap (set s.routes.heard k) (sym (heard refl)) ∙ set-get_or s.routes.heard k None in
     let same : vector_heard k distances (frame_taken k (record { acks = acks; content = content.Routes distances }) s) ≡ s =
-    ap (λ (ports : List Port). record s { ports = ports; routes = record { own = s.routes.own; heard = set s.routes.heard k (Some distances) } }) port
+    ap (λ (ports : List Port). record s { ports = ports; routes = record { own = s.routes.own; heard = set s.routes.heard k (Some distances) } }) (taken_again s k acks idle)
     ∙ ap (λ (heard : List (Option (List ℕ))). record s { routes = record { own = s.routes.own; heard = heard } }) routes in
-    ap (λ (t : State). pump [] t) same ∙ pump_rests s none.waits
+    ap (λ (t : State). pump [] t) same ∙ pump_rests s idle.waits
 
 -- an IMP without packets that hears again what it heard last does nothing
 pub hears_again : (s : State) (k : ℕ) (acks : List Bool) (distances : List ℕ) → holds_packet s ≡ false → ((port_at s.ports k).up ≡ true → get_or s.routes.heard k None ≡ Some distances)
     → from_line s k (record { acks = acks; content = content.Routes distances }) ≡ ignored s
-hears_again s k acks distances none heard = routes_again (port_at s.ports k).up s k acks distances (stores_none s none) heard
+hears_again s k acks distances none heard =
+    let are : StoresNone s = stores_none s none in
+    routes_again (port_at s.ports k).up s k acks distances (record { waits = are.waits; free = port_free s.ports k are.free }) heard
+
+-- ---- a frame that brings nothing new
+
+known_again : (s : State) (k : ℕ) (acks : List Bool) (brings : Content) → IsIdle s k → IsKnown s k brings
+    → taken_frame (answer_to (port_at s.ports k).line (record { acks = acks; content = brings })) k (record { acks = acks; content = brings }) s ≡ ignored s
+known_again s k acks (content.Packet carried) idle known = absurd known
+known_again s k acks content.Nothing idle known =
+    ap (λ (ports : List Port). pump [] (record s { ports = ports })) (taken_again s k acks idle) ∙ pump_rests s idle.waits
+known_again s k acks (content.Routes distances) idle known = routes_again true s k acks distances idle (λ up. known)
+
+and_true : (a b : Bool) → (a && b) ≡ true → (a ≡ true) × (b ≡ true)
+and_true true b both = (refl, both)
+and_true false b both = absurd cc
+
+idle_of : (s : State) (k : ℕ) → is_at_rest s k ≡ true → IsIdle s k
+idle_of s k rests =
+    let both = and_true (length s.store == 0) (busy_channels (port_at s.ports k) == 0) rests in
+    record { waits = eqb-true (length s.store) 0 both.0; free = eqb-true (busy_channels (port_at s.ports k)) 0 both.1 }
+
+by_up : (up : Bool) (s : State) (k : ℕ) (acks : List Bool) (brings : Content) → (up ≡ true → (is_at_rest s k ≡ true) × IsKnown s k brings)
+    → (if up then taken_frame (answer_to (port_at s.ports k).line (record { acks = acks; content = brings })) k (record { acks = acks; content = brings }) s else ignored s) ≡ ignored s
+by_up false s k acks brings ignores = refl
+by_up true s k acks brings ignores = known_again s k acks brings (idle_of s k (ignores refl).0) (ignores refl).1
+
+pub ignoring_rests : (s : State) (k : ℕ) (f : Frame) → Ignores s k f → from_line s k f ≡ ignored s
+ignoring_rests s k f ignores = by_up (port_at s.ports k).up s k f.acks f.content ignores
 
 -- ---- a taking
 

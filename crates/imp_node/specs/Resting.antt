@@ -1,8 +1,27 @@
 -- Calls that would give nothing and change nothing.
-use Rattle.std.specs.Prelude.{ℕ, Bool, length, is_none, ◌==◌, ◌&&◌}
-use Rattle.imp_node.specs.State.{State, host_at}
+use Rattle.std.specs.Prelude.{◌≡◌, ℕ, Bool, true, length, Some, None, is_none, slice_index_or, ◌==◌, ◌&&◌}
+use Rattle.imp_channel.specs.declared.frame.Content.{Content}
+use Rattle.imp_channel.specs.declared.frame.Content.TheVariants as content
+use Rattle.imp_channel.specs.declared.frame.Frame.{Frame}
+use Rattle.imp_node.specs.Room.{busy_channels}
+use Rattle.imp_node.specs.State.{State, host_at, port_at}
 use Rattle.imp_node.specs.Taking.{next_for}
 
 -- a host is up and nothing waits for it, and no packet waits for a channel: it would take nothing
 abbrev pub has_nothing_for : State → ℕ → Bool
 has_nothing_for s h = (host_at s h).up && (is_none (next_for s h) && length s.store == 0)
+
+-- what a frame brings is known at a port: the distances that were heard there last, or nothing. A packet never is
+abbrev pub IsKnown : State → ℕ → Content → Type 0
+IsKnown s k (content.Packet carried) = ⊥
+IsKnown s k content.Nothing = Unit {0}
+IsKnown s k (content.Routes distances) = slice_index_or s.routes.heard k None ≡ Some distances
+
+-- no packet waits for a channel, and none waits at this port for its acknowledgement
+abbrev pub is_at_rest : State → ℕ → Bool
+is_at_rest s k = length s.store == 0 && busy_channels (port_at s.ports k) == 0
+
+-- A frame at an end that is down is ignored. Elsewhere it is where the port is at rest, so that neither the pump nor acknowledgements do
+-- anything, and where what the frame brings is known
+abbrev pub Ignores : State → ℕ → Frame → Type 0
+Ignores s k f = (port_at s.ports k).up ≡ true → (is_at_rest s k ≡ true) × IsKnown s k f.content

@@ -1,6 +1,6 @@
 //! Calls on the ends of lines: what is sent again, the distances that are told, and ends that go down and up.
 
-ghost use Rattle.std.specs.Prelude.{◌≡◌, ◌<◌, ◌++◌, ◌∷◌, [], true, false, length, map, nat_lt, slice_set, IfOk, OnOk, OnErr};
+ghost use Rattle.std.specs.Prelude.{◌≡◌, ◌==◌, ◌<◌, ◌++◌, ◌∷◌, [], true, false, length, map, nat_lt, slice_set, IfOk, OnOk, OnErr};
 ghost use Rattle.imp_channel.specs.Holding.{packets_in};
 ghost use Rattle.imp_channel.specs.Line.{resent, opening_end};
 ghost use Rattle.routing.specs.RouteTable.{vector_of, loses};
@@ -10,6 +10,7 @@ ghost use Rattle.imp_node.specs.Turns.{Turned, Takes, sends, resend_grows, route
 
 use crate::port::Port;
 use crate::{Imp, Outgoing};
+use imp_channel::Frame;
 use leader1822::CarrierFault;
 use routing::Vector;
 use std::alloc::{AllocError, Global};
@@ -61,6 +62,33 @@ impl Imp {
         let spare = self.spare.take(self.alloc);
         let frames = told_from(spare, &self.routes.vector(), &self.ports)?;
         self.pump(frames)
+    }
+
+    /// Whether no packet waits for a channel: `route` then changes nothing, and only tells the distances. This takes no memory.
+    #[tactic(auto, using(crate::proofs::RestingLemmas::telling_alone))]
+    pub fn only_tells(&self) -> bool
+        ensures answer { result ≡ (length self.now.store == 0) }
+        ensures told { result ≡ true → lines.route self.now ≡ record { state = self.now; frames = lines.told_from (vector_of self.now.routes) 0 self.now.ports } }
+    {
+        self.store.is_empty()
+    }
+
+    /// How many ports it has.
+    pub fn port_count(&self) -> u8
+        ensures { result ≡ length self.now.ports }
+    {
+        self.ports.len() as u8
+    }
+
+    /// The frame that tells its distances at a port; `None` where the end there is down or isn't there. This takes no memory.
+    pub fn told_at(&self, port: u8) -> Option<Frame>
+        ensures { result ≡ lines.told_at self.now port }
+    {
+        if !self.is_live(port) {
+            return None;
+        }
+        let distances = self.routes.vector();
+        Some(self.ports[port as usize].line.routes_frame(distances))
     }
 
     /// Whether its end at this port is up; an end that isn't there is not.

@@ -1,13 +1,14 @@
 //! Calls that would give nothing and change nothing, and so need not be made.
 
-ghost use Rattle.std.specs.Prelude.{◌≡◌, ◌↔◌, None, Some, true, slice_index_or};
+ghost use Rattle.std.specs.Prelude.{◌≡◌, ◌↔◌, ◌<◌, length, None, Some, true, slice_index_or};
 ghost use Rattle.routing.specs.RouteTable.{vector_of};
-ghost use Rattle.imp_node.specs.Arrival.{ignored};
+ghost use Rattle.imp_node.specs.Arrival.{from_line, ignored};
 ghost use Rattle.imp_node.specs.Resting as resting;
 ghost use Rattle.imp_node.specs.State.{port_at};
 ghost use Rattle.imp_node.specs.Taking.{to_host, to_host_refusal, next_for};
 
 use crate::Imp;
+use imp_channel::{Content, Frame};
 use routing::Vector;
 
 impl Imp {
@@ -35,6 +36,36 @@ impl Imp {
             &self.routes.heard()[port as usize],
             other.routes.distances(),
         )
+    }
+
+    /// Whether a frame that comes in at a port would be ignored: the end there is down; or no packet waits in the store or in a
+    /// channel of that port, and the frame brings nothing, or the distances that were heard there last. This takes no memory.
+    #[tactic(auto, using(crate::proofs::RestingLemmas::ignoring_rests))]
+    pub fn ignores(&self, port: u8, frame: &Frame) -> bool
+        ensures answer { (result ≡ true) ↔ resting.Ignores self.now port frame.now }
+        ensures unchanged { result ≡ true → from_line self.now port frame.now ≡ ignored self.now }
+    {
+        !self.is_live(port) || (self.is_at_rest(port) && self.knows(port, &frame.content))
+    }
+
+    /// Whether no packet waits for a channel, and none waits at this port for its acknowledgement.
+    fn is_at_rest(&self, port: u8) -> bool
+        requires { port < length self.now.ports }
+        ensures { result ≡ resting.is_at_rest self.now port }
+    {
+        self.store.is_empty() && self.ports[port as usize].line.busy_channels() == 0
+    }
+
+    /// Whether what a frame brings is known at this port.
+    fn knows(&self, port: u8, content: &Content) -> bool
+        requires { port < length self.now.ports }
+        ensures { (result ≡ true) ↔ resting.IsKnown self.now port content.now }
+    {
+        match content {
+            Content::Routes(distances) => is_heard(&self.routes.heard()[port as usize], distances),
+            Content::Nothing => true,
+            Content::Packet(_) => false,
+        }
     }
 }
 

@@ -22,4 +22,5 @@ pub mod SiteHosts
 pub mod Starts
 pub mod Stopping
 pub mod Taken
+pub mod Telling
 pub mod Working

@@ -3,3 +3,4 @@ pub mod Joined
 pub mod Seeking
 pub mod Settled
 pub mod Taking
+pub mod Telling

@@ -22,6 +22,7 @@ mod starting;
 mod stops;
 mod subnet;
 mod taking;
+mod telling;
 mod wire;
 
 pub use subnet::Subnet;

@@ -160,7 +160,7 @@ impl Lines {
     }
 
     /// An IMP puts a frame on the line at one of its ports.
-    fn put_one(&mut self, imp: u8, outgoing: Outgoing) -> Result<(), AllocError>
+    pub(crate) fn put_one(&mut self, imp: u8, outgoing: Outgoing) -> Result<(), AllocError>
         ensures ok { OnOk result (self.new ≡ put_one self.old imp outgoing) }
         ensures count { length self.new ≡ length self.old }
     {

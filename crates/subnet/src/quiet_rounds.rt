@@ -82,7 +82,7 @@ impl Parts {
     }
 
     /// The same, by the calls of the IMP.
-    #[tactic(auto, using(crate::proofs::Calls::Attempting::resend_ignores, crate::proofs::Calls::Attempting::route_ignores, crate::proofs::Calls::RoundMemory::telling_wants, crate::proofs::Calls::RoundMemory::sending_wants))]
+    #[tactic(auto, using(crate::proofs::Calls::Attempting::resend_ignores, crate::proofs::Calls::RoundMemory::telling_wants, crate::proofs::Calls::RoundMemory::sending_wants))]
     fn tell_and_resend(&mut self, imp: u8) -> Result<(), AllocError>
         requires { AreLive self.old.imps }
         ensures ok { OnOk result (self.new ≡ events.refreshed self.old imp) }
@@ -90,7 +90,7 @@ impl Parts {
         ensures memory { OnErr result (round_grows self.old ≡ true) }
         ensures keeps { SameLog self.old self.new }
     {
-        self.attempt(imp, ImpCall::Route)?;
+        self.tell(imp)?;
         if self.has_nothing_to_resend(imp) {
             return Ok(());
         }
@@ -182,7 +182,7 @@ impl Parts {
         Ok(())
     }
 
-    /// The oldest frame of a directed line arrives at the far end, if the IMP there is up. It isn't copied: an empty
+    /// The oldest frame of a directed line arrives at the far end, unless that would change nothing. It isn't copied: an empty
     /// frame stands in its place until that is dropped.
     ///
     /// Errors: memory runs out, and nothing else.
@@ -196,13 +196,28 @@ impl Parts {
         ensures memory { OnErr result (delivered_grows self.old line direction (slice_get (frames_on direction (wire_at self.old.lines line)) 0) ≡ true) }
         ensures keeps { SameLog self.old self.new }
     {
-        let imp = self.far_end(line, direction);
-        if !self.is_up(imp) {
+        if self.ignores_first(line, direction) {
             return Ok(());
         }
+        let imp = self.far_end(line, direction);
         let port = self.far_port(line, direction);
         let frame = self.take_first(line, direction);
         self.attempt_arrival(imp, port, frame)
+    }
+
+    /// Whether the oldest frame of a directed line would change nothing where it arrives: the IMP there is down, or ignores it.
+    #[tactic(auto, using(crate::proofs::Calls::Taken::none_at_first, crate::proofs::Calls::Taken::first_ignored))]
+    fn ignores_first(&self, line: usize, direction: Direction) -> bool
+        requires { line < length self.now.lines }
+        ensures { result ≡ true → events.deliver self.now line direction 0 ≡ self.now }
+    {
+        let Some(imp) = self.imp(self.far_end(line, direction)) else {
+            return true;
+        };
+        match self.lines.all()[line].frames(direction).get(0) {
+            Some(frame) => imp.ignores(self.far_port(line, direction), frame),
+            None => true,
+        }
     }
 
     /// A frame comes in at a port of the IMP of this number, if it is up and has that port, and the IMP's frames go on lines.

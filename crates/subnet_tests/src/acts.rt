@@ -71,6 +71,12 @@ pub(crate) enum Act {
     HostUp(u8),
     /// Whether this host is up.
     IsUp(u8),
+    /// Whether nothing is to be done for this host.
+    HasNothingFor(u8),
+    /// Whether the frame of the octets beside it would be ignored at this port.
+    Ignores(u8),
+    /// Whether what IMP 2, with so many ports, tells as it opens was heard last at this port.
+    HasHeard(u8, u8),
     /// All queries are made about a flow and its message 0.
     Look(Way),
 }
@@ -91,6 +97,8 @@ pub(crate) enum Want {
     Given(Way, usize, usize),
     /// The host is up, or it isn't.
     Up(bool),
+    /// It is so, or it isn't.
+    Is(bool),
     /// The queries tell this.
     Seen(Seen),
 }
@@ -110,6 +118,8 @@ pub(crate) enum Outcome {
     Given(Flow, usize, usize),
     /// The host is up, or it isn't.
     Up(bool),
+    /// It is so, or it isn't.
+    Is(bool),
     /// The queries tell this.
     Seen(Seen),
 }
@@ -142,6 +152,7 @@ fn wanted(want: Want) -> Outcome {
         Want::Answered(kind, way) => Outcome::Answered(kind, flow_of(way)),
         Want::Given(way, bits, frames) => Outcome::Given(flow_of(way), bits, frames),
         Want::Up(is_up) => Outcome::Up(is_up),
+        Want::Is(so) => Outcome::Is(so),
         Want::Seen(seen) => Outcome::Seen(seen),
     }
 }
@@ -221,6 +232,20 @@ fn hear(
         return Err(CarrierFault::OutOfMemory);
     };
     sent(alloc, imp.from_line(port, frame), out)
+}
+
+/// Whether a frame of these octets would be ignored at a port.
+fn ignored(alloc: Global, imp: &Imp, port: u8, octets: &[u8]) -> Result<Outcome, CarrierFault> {
+    let Ok(frame) = Frame::read(alloc, octets) else {
+        return Err(CarrierFault::OutOfMemory);
+    };
+    Ok(Outcome::Is(imp.ignores(port, &frame)))
+}
+
+/// Whether what IMP 2, with so many ports, tells as it opens was heard last at a port.
+fn heard(alloc: Global, imp: &Imp, port: u8, ports: u8) -> Result<Outcome, CarrierFault> {
+    let other = opened(alloc, 2, ports)?;
+    Ok(Outcome::Is(imp.has_heard(port, &other, 0)))
 }
 
 /// What a host got, with so many frames: a message's text is put behind the octets.
@@ -320,6 +345,9 @@ fn outcome_of(
         Act::HostDown(host) => sent(alloc, imp.host_down(host), out),
         Act::HostUp(host) => sent(alloc, imp.host_up(host), out),
         Act::IsUp(host) => Ok(Outcome::Up(imp.is_up(host))),
+        Act::HasNothingFor(host) => Ok(Outcome::Is(imp.has_nothing_for(host))),
+        Act::Ignores(port) => ignored(alloc, imp, port, octets),
+        Act::HasHeard(port, ports) => heard(alloc, imp, port, ports),
         Act::Look(way) => Ok(Outcome::Seen(looked_up(imp, &flow_of(way)))),
     }
 }

@@ -367,6 +367,36 @@ fn a_subnet_has_the_hosts_of_its_imps(rt: HostRuntime) {
     assert_eq!(rt; has_hosts(rt.alloc()), Ok(true));
 }
 
+/// How many lines the row of three has, and how IMP 2 is told of before it stops and after, and IMPs 0, 4 and 255, which aren't there.
+fn counted(alloc: Global) -> Result<(u32, [Option<u8>; 5]), AllocError> {
+    let mut subnet = row(alloc)?;
+    let up = numbered(&subnet, 2);
+    if subnet.step(NetEvent::ImpDown(imp_of(At::Two))).is_err() {
+        return Err(AllocError);
+    }
+    let down = numbered(&subnet, 2);
+    let nobody = [
+        numbered(&subnet, 0),
+        numbered(&subnet, 4),
+        numbered(&subnet, 255),
+    ];
+    Ok((
+        subnet.line_count(),
+        [up, down, nobody[0], nobody[1], nobody[2]],
+    ))
+}
+
+/// The number of an IMP as the subnet knows it.
+fn numbered(subnet: &Subnet, number: u8) -> Option<u8> {
+    Some(subnet.imp_number(number)?.number())
+}
+
+#[test]
+fn a_subnet_tells_its_lines_and_the_numbers_of_its_imps(rt: HostRuntime) {
+    let numbers = [Some(2), Some(2), None, None, None];
+    assert_eq!(rt; counted(rt.alloc()), Ok((2, numbers)));
+}
+
 /// A message to a host one line away, and what is refused before and meanwhile.
 const REFUSED: [Row; 15] = [
     (Act::Rounds(1), Want::Done),

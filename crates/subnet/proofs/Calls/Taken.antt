@@ -5,15 +5,16 @@ use Rattle.leader1822.specs.declared.event.Direction.{Direction}
 use Rattle.leader1822.specs.declared.event.Direction.TheVariants as way
 use Rattle.imp_channel.specs.declared.frame.Frame.{Frame}
 use Rattle.imp_node.specs.declared.outgoing.Outgoing.{Outgoing}
+use Rattle.imp_node.specs.Arrival.{from_line, ignored}
 use Rattle.imp_node.specs.State.{State, ImpTurn}
 use Rattle.subnet.specs.Net.{Net, Wire, line_places, imp_at, wire_at, ends_at, line_from, frames_on, far_end, port_of, followed_by, with_frame, put_on, put_one, put_all, with_turn, without_at, dropping}
-use Rattle.subnet.specs.Flows.{imp_is_up}
-use Rattle.subnet.specs.Events.{at_imp, deliver, drop_frame}
+use Rattle.subnet.specs.Events.{at_imp, delivered, deliver, drop_frame}
 use Rattle.subnet.specs.Calls.{grows_at, delivered_grows}
 use Rattle.subnet.specs.declared.imp_call.ImpCall.TheVariants as call
 use Rattle.subnet.specs.Inside.Calling.{call_turn, call_grows, carried_first, AreLive, SameLog}
 use Rattle.subnet.specs.Inside.Taking.{hollow, hollowed, frame_taken}
-use Rattle.subnet.proofs.Calls.Delivering.{not_brought, brought, bring_grows_on}
+use Rattle.subnet.proofs.Calls.Delivering.{brought, bring_grows_on}
+use Rattle.subnet.proofs.Calls.Resting.{rests_at}
 
 -- ---- one line
 
@@ -147,8 +148,24 @@ pub handed_grows : {T E : Type 0} (r : Result T E) (n old : Net) (l i p : ℕ) (
 handed_grows r n old l i p d f is there far port grows =
     bring_grows_on r n l d 0 i p f there far port (subst (λ (m : Net). OnErr r (grows_at (imp_at m.imps i) (call_grows (call.Arrive p f)) ≡ true)) is grows)
 
-pub not_handed : (n : Net) (l : ℕ) (d : Direction) → imp_is_up (imp_at n.imps (far_end d (wire_at n.lines l))) ≡ false → drop_frame n l d 0 ≡ carried_first l d n
-not_handed n l d down = ap (λ (m : Net). drop_frame m l d 0) (not_brought n l d 0 down)
+pub not_handed : (n : Net) (l : ℕ) (d : Direction) → deliver n l d 0 ≡ n → drop_frame n l d 0 ≡ carried_first l d n
+not_handed n l d same = ap (λ (m : Net). drop_frame m l d 0) (sym same)
+
+-- ---- a frame that would change nothing
+
+by_frame : (n : Net) (l : ℕ) (d : Direction) (o : Option Frame) → imp_at n.imps (far_end d (wire_at n.lines l)) ≡ None → delivered n l d o ≡ n
+by_frame n l d None down = refl
+by_frame n l d (Some f) down = ap (λ (o : Option State). at_imp o (far_end d (wire_at n.lines l)) (λ s. from_line s (port_of n.lines (far_end d (wire_at n.lines l)) l) f) n) down
+
+pub none_at_first : (n : Net) (l : ℕ) (d : Direction) → imp_at n.imps (far_end d (wire_at n.lines l)) ≡ None → deliver n l d 0 ≡ n
+none_at_first n l d down = by_frame n l d (slice_get (frames_on d (wire_at n.lines l)) 0) down
+
+pub first_ignored : (n : Net) (l p : ℕ) (d : Direction) (s : State) (f : Frame) → imp_at n.imps (far_end d (wire_at n.lines l)) ≡ Some s → p ≡ port_of n.lines (far_end d (wire_at n.lines l)) l
+    → slice_get (frames_on d (wire_at n.lines l)) 0 ≡ Some f → from_line s p f ≡ ignored s → deliver n l d 0 ≡ n
+first_ignored n l p d s f is port there ignores =
+    let far : ℕ = far_end d (wire_at n.lines l) in
+    ap (delivered n l d) there
+    ∙ rests_at n far (imp_at n.imps far) s (λ s. from_line s (port_of n.lines far l) f) refl is (ap (λ (q : ℕ). from_line s q f) (sym port) ∙ ignores)
 
 pub taken_lives : (n m : Net) (l : ℕ) (d : Direction) → m ≡ frame_taken n l d → AreLive n.imps → AreLive m.imps
 taken_lives n m l d is live = subst (λ (x : Net). AreLive x.imps) (sym is) live
