@@ -1,5 +1,6 @@
 pub mod Calling
 pub mod Joined
+pub mod Remembering
 pub mod Seeking
 pub mod Settled
 pub mod Taking

@@ -27,9 +27,6 @@ impl Parts {
         ensures memory { OnErr result (round_grows self.old ≡ true) }
         ensures keeps { SameLog self.old self.new }
     {
-        if self.is_settled() {
-            return Ok(());
-        }
         let imps = self.imp_places();
         let lines = self.line_count() as usize;
         self.refresh_all(imps)?;

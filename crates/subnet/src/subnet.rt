@@ -1,8 +1,9 @@
 //! A packet subnet: all IMPs and lines, as a carrier.
 
-ghost use Rattle.std.specs.Prelude.{◌≡◌, ◌+◌, ◌<◌, ◌≤◌, true, false, reverse, None, All, IfSome, IfOk, length, slice_index_or};
+ghost use Rattle.std.specs.Prelude.{◌≡◌, ◌+◌, ◌<◌, ◌≤◌, ◌&&◌, true, false, reverse, None, Ok, All, IfSome, IfOk, length, slice_index_or};
 ghost use Rattle.leader1822.specs.Host.{most_imps};
 ghost use Rattle.subnet.specs.Inside.Calling.{AreLive, SameLog, runs_out};
+ghost use Rattle.subnet.specs.Inside.Remembering.{is_refused};
 ghost use Rattle.subnet.specs.Routed.{IsHostMessage};
 ghost use Rattle.subnet.specs.Alive.{is_alive};
 ghost use Rattle.subnet.specs.Calls.{running, round_grows};
@@ -23,17 +24,20 @@ use std::marker::Model;
 /// Hosts offer messages to their IMPs, which cut them into packets and pass those on over lines; each packet
 /// may be lost, repeated and overtaken. Running out of memory stops the subnet: nothing more is done, and its log
 /// stands.
+///
+/// Beside its parts it remembers whether it rests: a quiet round then changes nothing, and is not made.
 #[derive(Drop)]
 pub struct Subnet {
     pub(crate) parts: Parts,
     stopped: bool,
+    rests: bool,
 }
 
 impl Model for Subnet {
     ghost use Rattle.std.specs.Coded.{codes};
     ghost use Rattle.link_table.specs.Codes.{coded_sources, coded_destinations};
     ghost use Rattle.subnet.specs.Calls.{Kept};
-    ghost use Rattle.subnet.specs.Working.{IsWorking};
+    ghost use Rattle.subnet.specs.Inside.Remembering.{IsRemembered};
 
     ghost Value = { Kept };
 
@@ -41,7 +45,7 @@ impl Model for Subnet {
 
     ghost view = { λ s. record { net = s.parts; stopped = s.stopped } };
 
-    ghost invariant = { λ s. IsWorking (record { net = s.parts; stopped = s.stopped }) };
+    ghost invariant = { λ s. IsRemembered (record { net = s.parts; stopped = s.stopped }) s.rests };
 }
 
 impl Subnet {
@@ -66,6 +70,7 @@ impl Subnet {
         Ok(Subnet {
             parts: Parts::open(alloc, hosts, sites, ends)?,
             stopped: false,
+            rests: false,
         })
     }
 
@@ -97,6 +102,7 @@ impl Subnet {
         known(&message);
         let outcome = self.parts.offer_out(message);
         self.stopped = runs_out(&outcome);
+        self.rests = still_rests(self.rests, &outcome);
         outcome
     }
 
@@ -105,10 +111,34 @@ impl Subnet {
         ensures { SubnetTake self.old host result self.new }
     {
         if self.stopped {
+            return self.take_out(host);
+        }
+        if self.gives_nothing(&host) {
+            return Ok(None);
+        }
+        self.take_out(host)
+    }
+
+    /// Whether a taking of this host gives nothing and changes nothing.
+    #[tactic(auto, using(crate::proofs::Calls::Working::nothing_given))]
+    fn gives_nothing(&self, host: &HostAddr) -> bool
+        ensures { result ≡ true → SubnetTake self.now host.now (Ok None) self.now }
+    {
+        !self.stopped && self.parts.has_nothing_for(host)
+    }
+
+    /// The same as [`Subnet::take`], without a look at whether anything waits. That one calls it at two places, so that the
+    /// compiler leaves it a function of its own: where nothing waits, no room is made for what it wants on the stack.
+    #[inline(never)]
+    fn take_out(&mut self, host: HostAddr) -> Result<Option<Inbound>, CarrierFault>
+        ensures { SubnetTake self.old host result self.new }
+    {
+        if self.stopped {
             return Err(CarrierFault::Stopped);
         }
         let outcome = self.parts.take_in(host);
         self.stopped = has_run_out(&outcome);
+        self.rests = still_rests_taken(self.rests, &outcome);
         outcome
     }
 
@@ -121,16 +151,24 @@ impl Subnet {
         }
         let outcome = self.parts.step(event);
         self.stopped = runs_out(&outcome);
+        self.rests = still_rests(self.rests, &outcome);
         outcome
     }
 
-    /// A round in which what is in transit moves on.
-    #[tactic(auto, using(crate::proofs::Calls::Working::round_done))]
+    /// A round in which what is in transit moves on. A subnet that rests is left as it is.
+    #[tactic(auto, using(crate::proofs::Calls::Working::round_done, crate::proofs::Calls::Working::rested_round))]
     fn round(&mut self) -> Result<(), CarrierFault>
         ensures { SubnetRound self.old result self.new }
     {
         if self.stopped {
             return Err(CarrierFault::Stopped);
+        }
+        if self.rests {
+            return Ok(());
+        }
+        if self.parts.is_settled() {
+            self.rests = true;
+            return Ok(());
         }
         let failed = self.parts.fails_in_round();
         self.stopped = failed;
@@ -225,6 +263,20 @@ impl Parts {
     {
         self.hosts.all()
     }
+}
+
+/// Whether a subnet that rested before a call, or didn't, rests after it: a call that is refused changes nothing.
+fn still_rests(rested: bool, outcome: &Result<(), CarrierFault>) -> bool
+    ensures { result ≡ (rested && is_refused outcome.now) }
+{
+    rested && outcome.is_err() && !runs_out(outcome)
+}
+
+/// The same for a taking.
+fn still_rests_taken(rested: bool, outcome: &Result<Option<Inbound>, CarrierFault>) -> bool
+    ensures { result ≡ (rested && is_refused outcome.now) }
+{
+    rested && outcome.is_err() && !has_run_out(outcome)
 }
 
 /// Whether memory ran out.

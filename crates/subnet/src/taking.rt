@@ -17,7 +17,6 @@ use std::alloc::AllocError;
 
 impl Parts {
     /// A host takes the oldest of what waits for it. What it gets is put on the log.
-    #[tactic(auto, using(crate::proofs::Calls::Resting::nothing_taken))]
     pub(crate) fn take_in(&mut self, host: HostAddr) -> Result<Option<Inbound>, CarrierFault>
         requires { AreLive self.old.imps }
         ensures call { CallEnds (events.take_refusal self.old host) (take_grows self.old host) (λ given. (given ≡ events.taken_by_host self.old host) × (self.new ≡ events.take_in self.old host)) self.old self.new result }
@@ -27,9 +26,6 @@ impl Parts {
         if !self.is_there(&host) {
             return Err(CarrierFault::NoSuch);
         }
-        if self.has_nothing_for(&host) {
-            return Ok(None);
-        }
         let given = self.take_from(host.imp(), host.host())?;
         if self.cross_given(&given).is_err() {
             return Err(CarrierFault::OutOfMemory);
@@ -37,9 +33,19 @@ impl Parts {
         Ok(given)
     }
 
+    /// Whether this is a host of the network, and a taking of it is not refused, gives nothing and changes nothing.
+    #[tactic(auto, using(crate::proofs::Calls::Resting::nothing_taken))]
+    pub(crate) fn has_nothing_for(&self, host: &HostAddr) -> bool
+        ensures accepted { result ≡ true → events.take_refusal self.now host.now ≡ None }
+        ensures nothing { result ≡ true → events.taken_by_host self.now host.now ≡ None }
+        ensures unchanged { result ≡ true → events.take_in self.now host.now ≡ self.now }
+    {
+        self.is_there(host) && self.imp_has_nothing_for(host)
+    }
+
     /// Whether a host's IMP is up and says that the host would take nothing, and that nothing would change.
     #[tactic(auto, using(crate::proofs::Calls::Resting::rests_at))]
-    fn has_nothing_for(&self, host: &HostAddr) -> bool
+    fn imp_has_nothing_for(&self, host: &HostAddr) -> bool
         ensures accepted { result ≡ true → at_up (imp_at self.now.imps host.now.imp) (λ s. taking.to_host_refusal s host.now.host) ≡ None }
         ensures nothing { result ≡ true → events.taken_by_host self.now host.now ≡ None }
         ensures unchanged { result ≡ true → events.at_imp (imp_at self.now.imps host.now.imp) host.now.imp (λ s. taking.to_host s host.now.host) self.now ≡ self.now }

@@ -1,7 +1,10 @@
 -- Calls that would change nothing, and need not be made.
-use Rattle.std.proofs.Common.{◌≡◌, ℕ, false, List, set, Option, Some, None, refl, ap, sym, ◌∙◌}
+use Rattle.std.specs.Prelude.{not}
+use Rattle.std.proofs.Common.{◌≡◌, ℕ, Bool, true, false, ◌&&◌, List, set, Option, Some, None, Result, Ok, Err, refl, ap, sym, ◌∙◌}
 use Rattle.std.proofs.lemmas.List.{set-get_or}
+use Rattle.leader1822.specs.Calls.{is_memory}
 use Rattle.leader1822.specs.Host.{Host}
+use Rattle.leader1822.specs.declared.carrier.CarrierFault.{CarrierFault}
 use Rattle.leader1822.specs.declared.crossing.Inbound.{Inbound}
 use Rattle.imp_node.specs.State.{State, ImpTurn}
 use Rattle.imp_node.specs.Arrival.{ignored}
@@ -11,7 +14,9 @@ use Rattle.imp_node.specs.Taking.{to_host}
 use Rattle.imp_node.proofs.lemmas.{resending_rests}
 use Rattle.subnet.specs.Net.{Net, imp_at, with_turn}
 use Rattle.subnet.specs.Flows.{imp_is_up}
-use Rattle.subnet.specs.Events.{at_imp, refreshed, logging, crossings_of, taken_by_host, take_in}
+use Rattle.subnet.specs.Events.{at_imp, refreshed, logging, crossings_of, taken_by_host, take_in, quiet_round}
+use Rattle.subnet.specs.Inside.Calling.{CallEnds, Fails}
+use Rattle.subnet.specs.Inside.Remembering.{is_refused}
 
 -- ---- a turn that changes nothing
 
@@ -38,3 +43,24 @@ down_refreshed n i (Some s) at down = cc
 
 pub not_refreshed : (n : Net) (i : ℕ) → imp_is_up (imp_at n.imps i) ≡ false → n ≡ refreshed n i
 not_refreshed n i down = sym (down_refreshed n i (imp_at n.imps i) refl down)
+
+-- a call that is refused changes nothing, and so keeps what rests at rest
+refused_fails : (refusal : Option CarrierFault) (grows : Bool) (e : CarrierFault) (old n : Net) (b : Bool) → Fails refusal grows b e old n → not b ≡ true → n ≡ old
+refused_fails refusal grows e old n true fails is = absurd (cc)
+refused_fails refusal grows e old n false fails is = fails.1
+
+refused_same : {T : Type 0} (refusal : Option CarrierFault) (grows : Bool) (Gives : T → Type 0) (old n : Net) (r : Result T CarrierFault) → CallEnds refusal grows Gives old n r → is_refused r ≡ true → n ≡ old
+refused_same refusal grows Gives old n (Ok x) ends is = absurd (cc)
+refused_same refusal grows Gives old n (Err e) ends is = refused_fails refusal grows e old n (is_memory e) ends is
+
+same_rests : (old n : Net) → n ≡ old → quiet_round old ≡ old → quiet_round n ≡ n
+same_rests old n same rests = ap quiet_round same ∙ rests ∙ sym same
+
+pub still_rests : {T : Type 0} (refusal : Option CarrierFault) (grows : Bool) (Gives : T → Type 0) (old n : Net) (r : Result T CarrierFault) (rested after : Bool)
+    → after ≡ (rested && is_refused r) → CallEnds refusal grows Gives old n r → (rested ≡ true → quiet_round old ≡ old) → after ≡ true → quiet_round n ≡ n
+still_rests refusal grows Gives old n r true after is ends rests says = same_rests old n (refused_same refusal grows Gives old n r ends (sym is ∙ says)) (rests refl)
+still_rests refusal grows Gives old n r false after is ends rests says = absurd (cc)
+
+pub never_rests : (n : Net) (rests : Bool) → rests ≡ false → rests ≡ true → quiet_round n ≡ n
+never_rests n true is says = absurd (cc)
+never_rests n false is says = absurd (cc)

@@ -1,22 +1,21 @@
 -- A quiet round of a settled network changes nothing: the frames that it puts on lines tell what was heard, and are gone at its end.
 use Rattle.std.specs.Prelude.{if◌then◌else◌, IfSome, not}
 use Rattle.std.specs.List.{AllByRecursion, range_with_len, list_all}
-use Rattle.std.proofs.Common.{◌≡◌, ℕ, ◌+◌, ◌-◌, ◌<◌, ◌≤◌, zero, suc, Bool, true, false, List, [], ◌∷◌, ◌++◌, length, map, take, get_or, set, slice_get, nat_lt, ◌==◌, ◌||◌, ◌&&◌, count_by, Option, Some, None, refl, ap, sym, subst, ◌∙◌, arith}
-use Rattle.std.proofs.lemmas.List.{set-get_or, length-set, length-map}
+use Rattle.std.proofs.Common.{◌≡◌, ℕ, ◌+◌, ◌-◌, ◌<◌, ◌≤◌, zero, suc, Bool, true, false, List, [], ◌∷◌, ◌++◌, length, map, take, set, slice_get, nat_lt, ◌==◌, ◌||◌, ◌&&◌, count_by, Option, Some, None, refl, ap, sym, subst, ◌∙◌, arith}
+use Rattle.std.proofs.lemmas.List.{set-get_or, length-map}
 use Rattle.std.proofs.lemmas.List.Sums.{sum_by-cons}
 use Rattle.std.proofs.lemmas.Bool.{eqb-true}
 use Rattle.std.proofs.lemmas.Bool.Decides.{nat_tests}
 use Rattle.leader1822.specs.declared.event.Direction.{Direction}
 use Rattle.leader1822.specs.declared.event.Direction.TheVariants as way
 use Rattle.imp_channel.specs.Line.{routes_frame}
-use Rattle.imp_channel.specs.declared.frame.Content.TheVariants as content
 use Rattle.imp_channel.specs.declared.frame.Frame.{Frame}
 use Rattle.routing.specs.RouteTable.{vector_of}
 use Rattle.imp_node.specs.declared.outgoing.Outgoing.{Outgoing}
 use Rattle.imp_node.specs.declared.port.Port.{Port}
-use Rattle.imp_node.specs.State.{State, ImpTurn, port_at, down_port}
+use Rattle.imp_node.specs.State.{State, ImpTurn, port_at}
 use Rattle.imp_node.specs.Arrival.{from_line, ignored}
-use Rattle.imp_node.specs.Lines.{on_port, told_by, told_from, route, resend}
+use Rattle.imp_node.specs.Lines.{on_port, told_from, route, resend}
 use Rattle.imp_node.specs.Queries.{holds_packet}
 use Rattle.imp_node.proofs.lemmas.{at_set, hears_again, telling_rests, resending_rests}
 use Rattle.subnet.specs.Net.{Net, Wire, no_wire, imp_at, wire_at, ends_at, port_of, line_places, line_from, followed_by, with_frame, put_on, put_one, put_all, with_turn, frames_on, far_end, without_at, dropping}

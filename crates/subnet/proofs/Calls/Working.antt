@@ -422,3 +422,18 @@ pub round_invariant : (old : Kept) (n : Net) (failed : Bool) → old.stopped ≡
 round_invariant old n failed goes round grows same is =
     let new : Kept = record { net = n; stopped = failed } in
     round_working old (if failed then Err fault.OutOfMemory else Ok tt) new (round_done old n failed goes round grows same) is
+
+-- ---- calls that would change nothing
+
+same_kept : (old : Kept) (n : Net) → old.stopped ≡ false → n ≡ old.net → old ≡ running n
+same_kept old n goes same =
+    let at : Bool → Kept = λ b. record { net = old.net; stopped = b } in
+    ap at goes ∙ ap running (sym same)
+
+-- a taking that gives nothing and changes nothing
+pub nothing_given : (old : Kept) (h : Host) → old.stopped ≡ false → take_refusal old.net h ≡ None → taken_by_host old.net h ≡ None → take_in old.net h ≡ old.net → SubnetTake old h (Ok None) old
+nothing_given old h goes accepted nothing same = (went_on (λ k. take_refusal k h) old goes accepted, (sym nothing, same_kept old (take_in old.net h) goes same))
+
+-- a quiet round of a subnet that rests
+pub rested_round : (old : Kept) → old.stopped ≡ false → quiet_round old.net ≡ old.net → SubnetRound old (Ok tt) old
+rested_round old goes rests = (went_on (λ k. None) old goes refl, same_kept old (quiet_round old.net) goes rests)

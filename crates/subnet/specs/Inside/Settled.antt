@@ -1,6 +1,6 @@
 -- A network in which a quiet round changes nothing: no frame is on a line, no IMP stores a packet, and what each IMP would tell its
 -- neighbours they heard last.
-use Rattle.std.specs.Prelude.{◌≡◌, ℕ, ◌<◌, ◌==◌, ◌&&◌, Bool, true, false, not, List, [], length, Option, Some, None, IfSome, slice_index_or}
+use Rattle.std.specs.Prelude.{◌≡◌, ℕ, ◌<◌, ◌==◌, ◌&&◌, Bool, true, false, not, [], length, Option, Some, None, IfSome, slice_index_or}
 use Rattle.leader1822.specs.declared.event.Direction.{Direction}
 use Rattle.leader1822.specs.declared.event.Direction.TheVariants as way
 use Rattle.routing.specs.RouteTable.{vector_of}
