@@ -87,7 +87,7 @@ impl Line {
     }
 
     /// Puts an octet in front.
-    #[inline(always)]
+    #[inline]
     pub fn put_octet(&mut self, octet: u8)
         requires { length self.old ≤ 255 }
         ensures text { self.new ≡ octet ∷ self.old }
@@ -108,27 +108,26 @@ impl Line {
     }
 
     /// Puts a number in front, in decimal digits.
-    #[inline(always)]
     pub fn put_number(&mut self, number: u64)
         requires { length self.old ≤ 236 }
         ensures text { self.new ≡ decimal number ++ self.old }
         ensures room { length self.new ≤ length self.old + 20 }
     {
-        if number < 10 {
-            self.put_octet(b'0' + number as u8);
-        } else {
-            self.put_long(number);
-        }
+        self.start = put_digits(&mut self.octets, self.start, number);
     }
 
-    /// Puts a number of any length in front, in decimal digits.
-    #[inline(never)]
-    fn put_long(&mut self, number: u64)
+    /// Puts a number in front that is mostly less than 10.
+    #[inline]
+    fn put_small(&mut self, number: u8)
         requires { length self.old ≤ 236 }
         ensures text { self.new ≡ decimal number ++ self.old }
         ensures room { length self.new ≤ length self.old + 20 }
     {
-        self.start = put_digits(&mut self.octets, self.start, number);
+        if number < 10 {
+            self.put_octet(b'0' + number);
+        } else {
+            self.put_number(number as u64);
+        }
     }
 
     /// Puts a host in front: its number, a slash, and its IMP's number.
@@ -138,9 +137,9 @@ impl Line {
         ensures text { self.new ≡ host_text host ++ self.old }
         ensures room { length self.new ≤ length self.old + 41 }
     {
-        self.put_number(host.imp() as u64);
+        self.put_small(host.imp());
         self.put_octet(b'/');
-        self.put_number(host.host() as u64);
+        self.put_small(host.host());
     }
 
     /// Puts a flow in front: its source, its destination and its link, with spaces between.
@@ -150,7 +149,7 @@ impl Line {
         ensures text { self.new ≡ flow_text flow.now ++ self.old }
         ensures room { length self.new ≤ length self.old + 104 }
     {
-        self.put_number(flow.link.0 as u64);
+        self.put_small(flow.link.0);
         self.put_octet(b' ');
         self.put_host(flow.destination);
         self.put_octet(b' ');
