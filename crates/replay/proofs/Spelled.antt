@@ -1,8 +1,7 @@
 -- Texts are printed as a script spells them.
-use Rattle.std.proofs.Common.{◌≡◌, ℕ, ◌+◌, ◌/◌, ◌%◌, ◌^◌, ◌-◌, ◌<◌, ◌≤◌, zero, suc, true, false, List, [], ◌∷◌, ◌++◌, drop, slice_index, Option, Result, Ok, Err, OnOk, codes, length, refl, sym, ap, ap₂, subst, ◌∙◌, arith}
+use Rattle.std.proofs.Common.{◌≡◌, ℕ, ◌+◌, ◌/◌, ◌%◌, ◌<◌, ◌≤◌, List, [], ◌∷◌, ◌++◌, drop, slice_index, Option, Result, Ok, Err, OnOk, codes, length, refl, sym, ap, subst, ◌∙◌}
 use Rattle.std.proofs.lemmas.List.{append_assoc, append-nil, drop_all}
-use Rattle.std.proofs.lemmas.Fmt.{hex_byte}
-use Rattle.std.specs.Fmt.{decimal, digit_glyph, digits, format_spec, padded_integral}
+use Rattle.std.specs.Fmt.{decimal}
 use Rattle.std.specs.Io.KnownBytes.{Appends}
 use Rattle.hex.specs.Hex.{encode_upper, encode_with, upper_digits}
 use Rattle.hex.proofs.Pairs.{encode_with-drop}
@@ -20,32 +19,9 @@ use Rattle.replay.proofs.Shown.{appends_more, appends_none}
 
 -- ---- octets
 
--- the digits in their order
-glyph : (k : ℕ) → k < 16 → digit_glyph true k ≡ slice_index upper_digits k
-glyph zero h = refl
-glyph (suc zero) h = refl
-glyph (suc (suc zero)) h = refl
-glyph (suc (suc (suc zero))) h = refl
-glyph (suc (suc (suc (suc zero)))) h = refl
-glyph (suc (suc (suc (suc (suc zero))))) h = refl
-glyph (suc (suc (suc (suc (suc (suc zero)))))) h = refl
-glyph (suc (suc (suc (suc (suc (suc (suc zero))))))) h = refl
-glyph (suc (suc (suc (suc (suc (suc (suc (suc zero)))))))) h = refl
-glyph (suc (suc (suc (suc (suc (suc (suc (suc (suc zero))))))))) h = refl
-glyph (suc (suc (suc (suc (suc (suc (suc (suc (suc (suc zero)))))))))) h = refl
-glyph (suc (suc (suc (suc (suc (suc (suc (suc (suc (suc (suc zero))))))))))) h = refl
-glyph (suc (suc (suc (suc (suc (suc (suc (suc (suc (suc (suc (suc zero)))))))))))) h = refl
-glyph (suc (suc (suc (suc (suc (suc (suc (suc (suc (suc (suc (suc (suc zero))))))))))))) h = refl
-glyph (suc (suc (suc (suc (suc (suc (suc (suc (suc (suc (suc (suc (suc (suc zero)))))))))))))) h = refl
-glyph (suc (suc (suc (suc (suc (suc (suc (suc (suc (suc (suc (suc (suc (suc (suc zero))))))))))))))) h = refl
-glyph (suc (suc (suc (suc (suc (suc (suc (suc (suc (suc (suc (suc (suc (suc (suc (suc k)))))))))))))))) h = absurd (omega arith)
-
 -- two digits are printed for an octet
-abbrev pub two_digits : ℕ → List ℕ
-two_digits n = padded_integral (format_spec 32 0 4 2 (2 ^ 64 - 1)) false [] (digits 16 true n)
-
-two_spelled : (n : ℕ) → n < 256 → two_digits n ≡ slice_index upper_digits (n / 16) ∷ slice_index upper_digits (n % 16) ∷ []
-two_spelled n h = hex_byte true n h ∙ ap₂ (λ (a b : ℕ). a ∷ b ∷ []) (glyph (n / 16) (omega (arith, h))) (glyph (n % 16) (omega (arith, h)))
+abbrev pub pair : ℕ → List ℕ
+pair n = slice_index upper_digits (n / 16) ∷ slice_index upper_digits (n % 16) ∷ []
 
 -- the octets up to this one are written: with what those that are left come to it is the whole
 pub record Written (octets : List ℕ) (i : ℕ) (a b : Option (List ℕ)) : Type 0 where
@@ -56,15 +32,13 @@ pub record Written (octets : List ℕ) (i : ℕ) (a b : Option (List ℕ)) : Typ
 pub none_written : (octets : List ℕ) (a : Option (List ℕ)) → Written octets 0 a a
 none_written octets a = record { front = []; whole = refl; written = appends_none a }
 
-pub one_written : (octets : List ℕ) (i n : ℕ) (a b c : Option (List ℕ)) → i < length octets → n < 256 → n ≡ slice_index octets i → Written octets i a b → Appends b c (two_digits n) → Written octets (i + 1) a c
-one_written octets i n a b c lt small is h now =
-    let pair : List ℕ = slice_index upper_digits (n / 16) ∷ slice_index upper_digits (n % 16) ∷ [] in
-    let next : encode_upper (drop i octets) ≡ pair ++ encode_upper (drop (i + 1) octets) =
-    encode_with-drop upper_digits octets i lt ∙ ap (λ (k : ℕ). slice_index upper_digits (k / 16) ∷ slice_index upper_digits (k % 16) ∷ encode_upper (drop (i + 1) octets)) (sym is) in
+pub one_written : (octets : List ℕ) (i : ℕ) (a b c : Option (List ℕ)) → i < length octets → Written octets i a b → Appends b c (pair (slice_index octets i)) → Written octets (i + 1) a c
+one_written octets i a b c lt h now =
+    let two : List ℕ = pair (slice_index octets i) in
     record {
-      front = h.front ++ pair;
-      whole = append_assoc h.front pair (encode_upper (drop (i + 1) octets)) ∙ ap (λ xs. h.front ++ xs) (sym next) ∙ h.whole;
-      written = appends_more a b c h.front pair h.written (subst (Appends b c) (two_spelled n small) now);
+      front = h.front ++ two;
+      whole = append_assoc h.front two (encode_upper (drop (i + 1) octets)) ∙ ap (λ xs. h.front ++ xs) (sym (encode_with-drop upper_digits octets i lt)) ∙ h.whole;
+      written = appends_more a b c h.front two h.written now;
     }
 
 pub all_written : (octets : List ℕ) (i : ℕ) (a b : Option (List ℕ)) → length octets ≤ i → Written octets i a b → Appends a b (encode_upper octets)

@@ -24,4 +24,6 @@ pub mod worked;
 pub use events::{ReplayFault, replay_events};
 pub use line::Line;
 pub use output::{Output, Printer, WriteFailed};
-pub use print::{Detail, carrier_refusal, print_bits, print_crossing, print_text};
+pub use print::{
+    Detail, carrier_refusal, print_bits, print_crossing, print_crossing_in, print_text,
+};

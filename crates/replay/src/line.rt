@@ -13,8 +13,8 @@ use std::marker::Model;
 /// How many octets a line has room for, with its end.
 const ROOM: usize = 256;
 
-/// A line with its end, put together from its end to its front in a buffer of its own, so that it is printed by one call. It is
-/// seen as its octets, and has room for 256 of them.
+/// A line with its end, put together from its end to its front in a buffer of its own, so that it is printed by one call. The
+/// buffer serves one line after the other. It is seen as its octets, and has room for 256 of them.
 #[derive(Drop)]
 pub struct Line {
     octets: [u8; ROOM],
@@ -64,11 +64,38 @@ impl Line {
         }
     }
 
+    /// Forgets what was put together.
+    pub(crate) fn clear(&mut self)
+        ensures { self.new ≡ [] }
+    {
+        self.start = ROOM;
+    }
+
+    /// Begins the next line: its end, with nothing before it yet.
+    pub fn begin(&mut self)
+        ensures { self.new ≡ 10 ∷ [] }
+    {
+        self.clear();
+        self.put_octet(b'\n');
+    }
+
     /// Its octets.
     pub fn as_octets(&self) -> &[u8]
         ensures { result.now ≡ self.now }
     {
         &self.octets[self.start..]
+    }
+
+    /// Puts an octet in front.
+    #[inline]
+    pub fn put_octet(&mut self, octet: u8)
+        requires { length self.old ≤ 255 }
+        ensures text { self.new ≡ octet ∷ self.old }
+        ensures room { length self.new ≡ length self.old + 1 }
+    {
+        let at = self.start - 1;
+        self.octets[at] = octet;
+        self.start = at;
     }
 
     /// Puts a word in front.
@@ -89,6 +116,20 @@ impl Line {
         self.start = put_digits(&mut self.octets, self.start, number);
     }
 
+    /// Puts a number in front that is mostly less than 10.
+    #[inline]
+    fn put_small(&mut self, number: u8)
+        requires { length self.old ≤ 236 }
+        ensures text { self.new ≡ decimal number ++ self.old }
+        ensures room { length self.new ≤ length self.old + 20 }
+    {
+        if number < 10 {
+            self.put_octet(b'0' + number);
+        } else {
+            self.put_number(number as u64);
+        }
+    }
+
     /// Puts a host in front: its number, a slash, and its IMP's number.
     #[tactic(auto, using(crate::proofs::Lines::host_before))]
     pub fn put_host(&mut self, host: HostAddr)
@@ -96,9 +137,9 @@ impl Line {
         ensures text { self.new ≡ host_text host ++ self.old }
         ensures room { length self.new ≤ length self.old + 41 }
     {
-        self.put_number(host.imp() as u64);
-        self.put_word(b"/");
-        self.put_number(host.host() as u64);
+        self.put_small(host.imp());
+        self.put_octet(b'/');
+        self.put_small(host.host());
     }
 
     /// Puts a flow in front: its source, its destination and its link, with spaces between.
@@ -108,74 +149,68 @@ impl Line {
         ensures text { self.new ≡ flow_text flow.now ++ self.old }
         ensures room { length self.new ≤ length self.old + 104 }
     {
-        self.put_number(flow.link.0 as u64);
-        self.put_word(b" ");
+        self.put_small(flow.link.0);
+        self.put_octet(b' ');
         self.put_host(flow.destination);
-        self.put_word(b" ");
+        self.put_octet(b' ');
         self.put_host(flow.source);
     }
-}
 
-/// The word for what became of a message.
-fn answer_word(kind: Answer) -> &'static [u8]
-    ensures word { result.now ≡ answer_text kind }
-    ensures short { length result.now ≤ 10 }
-{
-    match kind {
-        Answer::Rfnm => b"rfnm",
-        Answer::Incomplete | Answer::NotTaken => b"incomplete",
-        Answer::Dead => b"dead",
+    /// Puts a message that crosses in front, behind this word: its flow and how many bits its text has.
+    #[tactic(auto, using(crate::proofs::Lines::message_before))]
+    fn put_message(&mut self, word: &[u8], message: &HostMessage)
+        requires { (length word.now ≤ 4) × (length self.old ≤ 2) }
+        ensures { self.new ≡ (word.now ++ (flow_text message.now.flow ++ (codes " " ++ decimal (length message.now.text)))) ++ self.old }
+    {
+        self.put_number(message.text.bits().len() as u64);
+        self.put_octet(b' ');
+        self.put_flow(&message.flow);
+        self.put_word(word);
+    }
+
+    /// Puts an answer in front.
+    #[tactic(auto, using(crate::proofs::Lines::answer_before))]
+    fn put_answer(&mut self, kind: Answer, flow: &Flow)
+        requires { length self.old ≤ 2 }
+        ensures { self.new ≡ crossing_text (crossing.Answer kind flow.now) ++ self.old }
+    {
+        self.put_flow(flow);
+        self.put_word(answer_head(kind));
+    }
+
+    /// Puts a host that goes down or comes up in front, behind this word.
+    #[tactic(auto, using(crate::proofs::Lines::one_before))]
+    fn put_change(&mut self, word: &[u8], host: HostAddr)
+        requires { (length word.now ≤ 5) × (length self.old ≤ 2) }
+        ensures { self.new ≡ (word.now ++ host_text host) ++ self.old }
+    {
+        self.put_host(host);
+        self.put_word(word);
+    }
+
+    /// Puts a crossing in front. Of a text only the number of bits is told.
+    pub(crate) fn put_crossing(&mut self, crossing: &Crossing)
+        requires { length self.old ≤ 2 }
+        ensures { self.new ≡ crossing_text crossing.now ++ self.old }
+    {
+        match crossing {
+            Crossing::Out(message) => self.put_message(b"out ", message),
+            Crossing::In(message) => self.put_message(b"in ", message),
+            Crossing::Answer(kind, flow) => self.put_answer(*kind, flow),
+            Crossing::Down(host) => self.put_change(b"down ", *host),
+            Crossing::Up(host) => self.put_change(b"up ", *host),
+        }
     }
 }
 
-/// The line of a message that crosses, behind this word: its flow and how many bits its text has.
-#[tactic(auto, using(crate::proofs::Lines::message_before))]
-fn message_line(word: &[u8], message: &HostMessage) -> Line
-    requires { length word.now ≤ 4 }
-    ensures { result ≡ ended_line (word.now ++ (flow_text message.now.flow ++ (codes " " ++ decimal (length message.now.text)))) }
+/// The words for what became of a message, with a space behind them.
+fn answer_head(kind: Answer) -> &'static [u8]
+    ensures words { result.now ≡ codes "answer " ++ (answer_text kind ++ codes " ") }
+    ensures short { length result.now ≤ 18 }
 {
-    let mut line = Line::new();
-    line.put_number(message.text.bits().len() as u64);
-    line.put_word(b" ");
-    line.put_flow(&message.flow);
-    line.put_word(word);
-    line
-}
-
-/// The line of an answer.
-#[tactic(auto, using(crate::proofs::Lines::answer_before))]
-fn answer_line(kind: Answer, flow: &Flow) -> Line
-    ensures { result ≡ ended_line (crossing_text (crossing.Answer kind flow.now)) }
-{
-    let mut line = Line::new();
-    line.put_flow(flow);
-    line.put_word(b" ");
-    line.put_word(answer_word(kind));
-    line.put_word(b"answer ");
-    line
-}
-
-/// The line of a host that goes down or comes up, behind this word.
-#[tactic(auto, using(crate::proofs::Lines::one_before))]
-fn host_line(word: &[u8], host: HostAddr) -> Line
-    requires { length word.now ≤ 5 }
-    ensures { result ≡ ended_line (word.now ++ host_text host) }
-{
-    let mut line = Line::new();
-    line.put_host(host);
-    line.put_word(word);
-    line
-}
-
-/// The line of a crossing. Of a text only the number of bits is told.
-pub(crate) fn line_of(crossing: &Crossing) -> Line
-    ensures { result ≡ ended_line (crossing_text crossing.now) }
-{
-    match crossing {
-        Crossing::Out(message) => message_line(b"out ", message),
-        Crossing::In(message) => message_line(b"in ", message),
-        Crossing::Answer(kind, flow) => answer_line(*kind, flow),
-        Crossing::Down(host) => host_line(b"down ", *host),
-        Crossing::Up(host) => host_line(b"up ", *host),
+    match kind {
+        Answer::Rfnm => b"answer rfnm ",
+        Answer::Incomplete | Answer::NotTaken => b"answer incomplete ",
+        Answer::Dead => b"answer dead ",
     }
 }

@@ -1,8 +1,8 @@
 //! Printing what an event shows.
 
-ghost use Rattle.std.specs.Prelude.{◌≡◌, ◌↔◌, Err, OnOk, IfSome, drop, length, ◌≤◌, IsSome, false};
+ghost use Rattle.std.specs.Prelude.{◌≡◌, ◌↔◌, Err, OnOk, IfSome, drop, length, slice_index, ◌<◌, ◌≤◌, IsSome, false};
 ghost use Rattle.std.specs.Io.KnownBytes.{Appends};
-ghost use Rattle.hex.specs.Hex.{encode_upper};
+ghost use Rattle.hex.specs.Hex.{encode_upper, upper_digits};
 ghost use Rattle.replay.specs.Failing.{TellsCannotWrite, TellsFailure};
 ghost use Rattle.replay.specs.Replay.{GoesOn, Halts};
 ghost use Rattle.replay.specs.Output.{crossing_line, output, shown_refusal, shown_crossings, spelled, fault_name};
@@ -12,10 +12,13 @@ ghost use Rattle.script.specs.Input.{ended_line};
 ghost use Rattle.script.specs.Spelling.{octets_text};
 
 use crate::events::ReplayFault;
-use crate::line::line_of;
+use crate::line::Line;
 use crate::output::{Output, WriteFailed};
 use bit_messages::Bits;
 use leader1822::{CarrierFault, Crossing, Text};
+
+/// The upper case hexadecimal digits.
+const DIGITS: [u8; 16] = *b"0123456789ABCDEF";
 
 /// How much is printed of a message that crosses.
 #[derive(Clone, Copy)]
@@ -76,10 +79,32 @@ pub fn print_crossing<W: Output>(
     ensures written { OnOk result (Appends (W.contents writer.old) (W.contents writer.new) (ended_line (crossing_line detail crossing.now))) }
     ensures failed { TellsFailure result (W.failed writer.new) }
 {
+    print_crossing_in(&mut Line::new(), crossing, detail, writer)
+}
+
+/// Prints the line of a crossing, put together in this buffer, of which nothing is kept.
+///
+/// Errors: `WriteFailed`.
+pub fn print_crossing_in<W: Output>(
+    line: &mut Line,
+    crossing: &Crossing,
+    detail: Detail,
+    writer: &mut W,
+) -> Result<(), WriteFailed>
+    requires { W.failed writer.old ≡ false }
+    ensures written { OnOk result (Appends (W.contents writer.old) (W.contents writer.new) (ended_line (crossing_line detail crossing.now))) }
+    ensures failed { TellsFailure result (W.failed writer.new) }
+{
     match detail {
-        Detail::Sizes => writer.write_all(line_of(crossing).as_octets()),
+        Detail::Sizes => {
+            line.begin();
+            line.put_crossing(crossing);
+            writer.write_all(line.as_octets())
+        }
         Detail::Texts => {
-            write!(writer, "{crossing}")?;
+            line.clear();
+            line.put_crossing(crossing);
+            writer.write_all(line.as_octets())?;
             print_spelled(crossing, writer)?;
             writer.write_all(b"\n")
         }
@@ -133,9 +158,17 @@ fn print_octets<W: Output>(octets: &[u8], writer: &mut W) -> Result<(), WriteFai
     ensures failed { TellsFailure result (W.failed writer.new) }
 {
     for octet in octets {
-        write!(writer, "{octet:02X}")?;
+        writer.write_all(&[digit(*octet / 16), digit(*octet % 16)])?;
     }
     Ok(())
+}
+
+/// The upper case hexadecimal digit of a value.
+fn digit(value: u8) -> u8
+    requires { value < 16 }
+    ensures { result ≡ slice_index upper_digits value }
+{
+    DIGITS[value as usize]
 }
 
 /// Prints the name of a refusal. It prints nothing for an event that was not refused.

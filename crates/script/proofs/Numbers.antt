@@ -1,17 +1,18 @@
 -- Numbers as words: what `decimal` writes, and what `parse` reads of it.
-use Rattle.std.proofs.Common.{◌≡◌, ◌≢◌, ℕ, ◌<◌, ◌≤◌, ◌^◌, ◌==◌, true, false, List, [], ◌∷◌, get_or, Result, Ok, Err, refl, sym, ap, ◌∙◌, subst, arith, zero, suc, lit<, length}
+use Rattle.std.proofs.Common.{◌≡◌, ◌≢◌, ℕ, ◌+◌, ◌-◌, ◌*◌, ◌<◌, ◌≤◌, ◌^◌, ◌==◌, true, false, List, [], ◌∷◌, Option, Some, None, MatchOption, get_or, drop, refl, sym, ap, ◌∙◌, subst, arith, zero, suc, lit<, length}
 use Rattle.std.proofs.lemmas.Bool.Decides.{nat_tests}
-use Rattle.std.proofs.lemmas.Fmt.{decimal_is_IsNumeral, decimal_digit, decimal_injective, decimal-digits_value, parse-decimal, first_decimal, IsAscii-decimal}
-use Rattle.std.proofs.lemmas.Str.{IsUtf8-from_ascii}
-use Rattle.std.proofs.lemmas.Str.Parse.{IsNumeralModel, numerals_by_value, tells_digits, parse_plain, digit_from_value}
+use Rattle.std.proofs.lemmas.Fmt.{decimal_is_IsNumeral, decimal_digit, decimal_injective, decimal-digits_value, first_decimal}
+use Rattle.std.proofs.lemmas.List.{drop_more, drop_all}
+use Rattle.std.proofs.lemmas.Str.{digit_value_digit}
+use Rattle.std.proofs.lemmas.Str.Parse.{IsNumeralModel, numerals_by_value, tells_digits, digit_from_value}
+use Rattle.std.specs.Char.{digit_value}
 use Rattle.std.specs.Fmt.{decimal}
+use Rattle.std.specs.Int.{IsInRange}
 use Rattle.std.specs.List.{All}
-use Rattle.std.specs.Result.{OkIff, result_ok}
-use Rattle.script.specs.Spelling.{ReadsAs}
 use Rattle.std.proofs.lemmas.List.Elements.{All-nil, All-cons}
 use Rattle.std.proofs.lemmas.Bool.{false≢true}
-use Rattle.std.specs.Str.{IsUtf8}
-use Rattle.std.specs.Str.Parse.{AllDigits, digits_value, ParsesUnsigned}
+use Rattle.std.specs.Str.Parse.{AllDigits, digits_value, digits_value_after}
+use Rattle.script.specs.Spelling.{ReadsAs}
 use Rattle.script.specs.Steps.{begins_wrong}
 
 own : IsNumeralModel (AllDigits 10) (digits_value 10)
@@ -30,29 +31,78 @@ plus_is_wrong : (bs : List ℕ) → begins_wrong bs ≡ false → get_or bs 0 0 
 plus_is_wrong [] h e = absurd (omega (arith, e))
 plus_is_wrong (c ∷ cs) h e = grind (arith, nat_tests)
 
+some_octet : (bs : List ℕ) → begins_wrong bs ≡ false → 0 < length bs
+some_octet [] right = absurd (false≢true (sym right))
+some_octet (c ∷ cs) right = omega arith
+
 zero_is_wrong : (bs : List ℕ) → begins_wrong bs ≡ false → get_or bs 0 0 ≡ 48 → length bs ≡ 1
 zero_is_wrong [] h e = absurd (omega (arith, e))
 zero_is_wrong (c ∷ cs) h e = grind (arith, nat_tests)
 
--- a word that is no number by its first octet, or no text, is no number
+-- a word that is no number by its first octet is no number
 pub wrong_is_none : (bs : List ℕ) → begins_wrong bs ≡ true → (n : ℕ) → n < 2 ^ 32 → bs ≢ decimal n
 wrong_is_none bs wrong n small e =
     let right : begins_wrong bs ≡ false = ap begins_wrong e ∙ begins_wrong-decimal n (omega arith) in
     false≢true (sym right ∙ wrong)
 
-pub no_text_is_none : (bs : List ℕ) → ¬ (IsUtf8 bs) → (n : ℕ) → n < 2 ^ 32 → bs ≢ decimal n
-no_text_is_none bs bad n small e = bad (subst IsUtf8 (sym e) (IsUtf8-from_ascii (decimal n) (IsAscii-decimal n (omega arith))))
+-- a word that begins like a number, and spells none by its digits, is no number
+bad_is_none : (bs : List ℕ) → (AllDigits 10 bs → 2 ^ 32 ≤ digits_value 10 bs) → (n : ℕ) → n < 2 ^ 32 → bs ≢ decimal n
+bad_is_none bs bad n small e =
+    let numeral = decimal_is_IsNumeral n (omega arith) in
+    let large : 2 ^ 32 ≤ digits_value 10 (decimal n) = subst (λ ds. AllDigits 10 ds → 2 ^ 32 ≤ digits_value 10 ds) e bad numeral.0.1 in
+    absurd (omega (arith, numeral.1, large))
 
--- a text that begins like a number is read as the number that is written so, and as none where there is none
-pub parsed_as : {E : Type 0} (bs : List ℕ) (r : Result ℕ E) → begins_wrong bs ≡ false → ParsesUnsigned 32 10 bs r → ReadsAs decimal (λ n. n < 2 ^ 32) bs (result_ok r)
-parsed_as {E} bs (Ok n) right parses =
-    let read : OkIff {T = ℕ} {E = E} (Ok n) (AllDigits 10 bs × (0 < length bs) × (digits_value 10 bs < 2 ^ 32)) (digits_value 10 bs) = parse_plain own {E = E} 32 bs (Ok n) parses (plus_is_wrong bs right) in
-    let small : digits_value 10 bs < 2 ^ 32 = read.0.2 in
-    let written : decimal (digits_value 10 bs) ≡ bs = decimal-digits_value own bs read.0.0 read.0.1 (zero_is_wrong bs right) (omega arith) in
-    (sym written ∙ ap decimal (sym read.1), rw read.1 small)
-parsed_as {E} bs (Err e) right parses = λ n small is.
-    let read : Err e ≡ Ok n = parse-decimal 32 n bs (Err e) small (omega arith) is parses in
-    cc
+-- digits that begin like a number spell the number that is written so
+spelled_as : (bs : List ℕ) (n : ℕ) → begins_wrong bs ≡ false → AllDigits 10 bs → n ≡ digits_value 10 bs → n < 2 ^ 32 → bs ≡ decimal n
+spelled_as bs n right digits is small =
+    sym (decimal-digits_value own bs digits (some_octet bs right) (zero_is_wrong bs right) (omega (arith, is))) ∙ ap decimal (sym is)
+
+pub number_read : (bs : List ℕ) (read : Option ℕ) → begins_wrong bs ≡ false
+    → MatchOption read (AllDigits 10 bs → 2 ^ 32 ≤ digits_value 10 bs) (λ n. AllDigits 10 bs × (n ≡ digits_value 10 bs) × (n < 2 ^ 32)) → ReadsAs decimal (λ n. n < 2 ^ 32) bs read
+number_read bs (Some n) right h = (spelled_as bs n right h.0 h.1 h.2, h.2)
+number_read bs None right h = bad_is_none bs h
+
+-- ---- digits, read from the first to the last
+
+-- of the digits `all`, those before `rest` spell n
+pub record SoFar (all rest : List ℕ) (n : ℕ) : Type 0 where
+  pub same : digits_value_after 10 n rest ≡ digits_value 10 all
+  pub back : AllDigits 10 rest → AllDigits 10 all
+  pub on : AllDigits 10 all → AllDigits 10 rest
+
+pub begun : (all : List ℕ) → SoFar all all 0
+begun all = record { same = refl; back = λ h. h; on = λ h. h }
+
+grows : (n : ℕ) (ds : List ℕ) → n ≤ digits_value_after 10 n ds
+grows n [] = omega arith
+grows n (c ∷ cs) = omega (arith, grows (n * 10 + digit_value c) cs)
+
+module _ (all : List ℕ) (i n : ℕ) (so_far : SoFar all (drop i all) n) where
+  module _ (lt : i < length all) where
+    opened : SoFar all (get_or all i 0 ∷ drop (i + 1) all) n
+    opened = subst (λ ds. SoFar all ds n) (drop_more all i 0 lt) so_far
+
+    -- one more digit
+    pub one_more : (m : ℕ) → IsInRange 48 57 (get_or all i 0) → m ≡ n * 10 + (get_or all i 0 - 48) → SoFar all (drop (i + 1) all) m
+    one_more m range is =
+        let digit : digit_value (get_or all i 0) + 48 ≡ get_or all i 0 = digit_value_digit (get_or all i 0) range in
+        let next : m ≡ n * 10 + digit_value (get_or all i 0) = omega (arith, digit, is) in
+        record {
+          same = ap (λ k. digits_value_after 10 k (drop (i + 1) all)) next ∙ opened.same;
+          back = λ rest. opened.back (omega (arith, digit, range), rest);
+          on = λ digits. (opened.on digits).1;
+        }
+
+    -- one digit too many
+    pub too_large : IsInRange 48 57 (get_or all i 0) → 2 ^ 32 ≤ n * 10 + (get_or all i 0 - 48) → AllDigits 10 all → 2 ^ 32 ≤ digits_value 10 all
+    too_large range large digits =
+        let digit : digit_value (get_or all i 0) + 48 ≡ get_or all i 0 = digit_value_digit (get_or all i 0) range in
+        omega (arith, opened.same, grows (n * 10 + digit_value (get_or all i 0)) (drop (i + 1) all), digit, large)
+
+  pub all_read : length all ≤ i → AllDigits 10 all × (n ≡ digits_value 10 all)
+  all_read end =
+      let whole : SoFar all [] n = subst (λ ds. SoFar all ds n) (drop_all i all end) so_far in
+      (whole.back tt, whole.same)
 
 -- digits have no mark below them
 All-unmarked_digits : (mark : ℕ) (ds : List ℕ) → mark < 48 → AllDigits 10 ds → All (λ x. (x == mark) ≡ false) ds

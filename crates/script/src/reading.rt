@@ -5,4 +5,4 @@
 pub use crate::events::is_passed_over;
 pub use crate::input::first_line;
 pub use crate::network::read_net;
-pub use crate::word::{cut, plain_number, read_bits, read_host, read_number};
+pub use crate::word::{cut, is_word, plain_number, read_bits, read_host, read_number};

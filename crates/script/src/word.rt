@@ -3,6 +3,7 @@
 ghost use Rattle.std.specs.Prelude.{◌≡◌, ◌≢◌, ℕ, ◌<◌, ◌≤◌, ◌==◌, ◌^◌, false, List, ◌∷◌, ◌++◌, length, ◌*◌, take, Ok, MatchOption, IfOk, IfErr, IsTrue, ◌↔◌};
 ghost use Rattle.std.specs.List.{All};
 ghost use Rattle.std.specs.Fmt.{decimal};
+ghost use Rattle.std.specs.Str.Parse.{AllDigits, digits_value};
 ghost use Rattle.bit_messages.specs.Octets.{bits_of};
 ghost use Rattle.leader1822.specs.Printed.{host_text};
 ghost use Rattle.script.specs.Steps.{begins_wrong, IsDirection};
@@ -12,7 +13,6 @@ use crate::hexadecimal::read_octets;
 use bit_messages::{BitFault, Bits, MAX_TEXT_BITS};
 use leader1822::{Direction, HostAddr, ImpNumber, Text};
 use std::alloc::{AllocError, Global};
-use std::str;
 
 /// What stands before the first separator, and what stands after it. `None` where there is no separator.
 pub fn cut(text: &[u8], separator: u8) -> Option<(&[u8], &[u8])>
@@ -20,6 +20,14 @@ pub fn cut(text: &[u8], separator: u8) -> Option<(&[u8], &[u8])>
 {
     let at = text.iter().position(|octet| *octet == separator)?;
     Some((&text[..at], &text[at + 1..]))
+}
+
+/// Whether a word is this one. Where their lengths differ, no octet is looked at.
+#[inline(always)]
+pub fn is_word(word: &[u8], key: &[u8]) -> bool
+    ensures { IsTrue result ↔ (word.now ≡ key.now) }
+{
+    word.len() == key.len() && word == key
 }
 
 /// The number up to `most` that a word spells, without sign and leading zeros.
@@ -35,12 +43,29 @@ pub fn plain_number(word: &[u8]) -> Option<u32>
     ensures { ReadsAs decimal (λ n. n < 2 ^ 32) word.now result }
 {
     if begins_wrong(word) {
-        return None;
+        None
+    } else {
+        spelled_number(word)
     }
-    match str::from_utf8(word) {
-        Ok(text) => text.parse::<u32>().ok(),
-        Err(_) => None,
+}
+
+/// The number of 32 bits that these digits spell, read from the first to the last. `None` where one of them is no digit,
+/// and where the number has more bits.
+fn spelled_number(word: &[u8]) -> Option<u32>
+    ensures { MatchOption result (AllDigits 10 word.now → 2 ^ 32 ≤ digits_value 10 word.now) (λ n. AllDigits 10 word.now × (n ≡ digits_value 10 word.now) × (n < 2 ^ 32)) }
+{
+    let mut number: u32 = 0;
+    for octet in word {
+        if *octet < b'0' || *octet > b'9' {
+            return None;
+        }
+        let next = number as u64 * 10 + (*octet - b'0') as u64;
+        if next > u32::MAX as u64 {
+            return None;
+        }
+        number = next as u32;
     }
+    Some(number)
 }
 
 /// Whether the first octet shows that a word is no number.

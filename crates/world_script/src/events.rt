@@ -14,7 +14,9 @@ use crate::request::read_request;
 use crate::services::{read_server, read_typed, read_user};
 use crate::verb::{Verb, read_verb};
 use net_sim::Event;
-use script::reading::{cut, first_line, is_passed_over, plain_number, read_host, read_net};
+use script::reading::{
+    cut, first_line, is_passed_over, is_word, plain_number, read_host, read_net,
+};
 use script::{LineFault, MAX_INPUT};
 use std::alloc::{AllocError, Global};
 
@@ -57,7 +59,7 @@ fn read_event(alloc: Global, line: &[u8]) -> Result<Option<WorldEvent>, AllocErr
     if let Some(verb) = read_verb(word) {
         return read_ask(alloc, verb, rest);
     }
-    if word == b"type".as_slice() {
+    if is_word(word, b"type") {
         return read_typed(alloc, rest);
     }
     Ok(read_plain(word, rest))
@@ -89,19 +91,19 @@ fn read_plain(word: &[u8], rest: &[u8]) -> Option<WorldEvent>
     requires not_typed { word.now ≢ codes "type" }
     ensures { ReadsAs world_spelling IsWorldEvent (word.now ++ 32 ∷ rest.now) result }
 {
-    if word == b"offer".as_slice() {
+    if is_word(word, b"offer") {
         return Some(WorldEvent::Happen(Event::Offer(read_host(rest)?)));
     }
-    if word == b"take".as_slice() {
+    if is_word(word, b"take") {
         return Some(WorldEvent::Happen(Event::Take(read_host(rest)?)));
     }
-    if word == b"server".as_slice() {
+    if is_word(word, b"server") {
         return read_server(rest);
     }
-    if word == b"user".as_slice() {
+    if is_word(word, b"user") {
         return read_user(rest);
     }
-    if word == b"calm".as_slice() {
+    if is_word(word, b"calm") {
         return Some(WorldEvent::Calm(plain_number(rest)?));
     }
     Some(WorldEvent::Happen(Event::Net(read_net(word, rest)?)))

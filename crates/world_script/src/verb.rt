@@ -4,6 +4,8 @@ ghost use Rattle.std.specs.Prelude.{◌≡◌};
 ghost use Rattle.script.specs.Spelling.{ReadsAs};
 ghost use Rattle.world_script.specs.Steps.{IsVerb, verb_text};
 
+use script::reading::is_word;
+
 /// What a user asks for, by its first word.
 #[derive(Clone, Copy, Debug)]
 pub(crate) enum Verb {
@@ -23,25 +25,25 @@ pub(crate) enum Verb {
 pub(crate) fn read_verb(word: &[u8]) -> Option<Verb>
     ensures { ReadsAs verb_text IsVerb word.now result }
 {
-    if word == b"contact".as_slice() {
+    if is_word(word, b"contact") {
         Some(Verb::Contact)
-    } else if word == b"echo".as_slice() {
+    } else if is_word(word, b"echo") {
         Some(Verb::Echo)
-    } else if word == b"listen".as_slice() {
+    } else if is_word(word, b"listen") {
         Some(Verb::Listen)
-    } else if word == b"opensend".as_slice() {
+    } else if is_word(word, b"opensend") {
         Some(Verb::OpenSend)
-    } else if word == b"openrecv".as_slice() {
+    } else if is_word(word, b"openrecv") {
         Some(Verb::OpenReceive)
-    } else if word == b"send".as_slice() {
+    } else if is_word(word, b"send") {
         Some(Verb::Send)
-    } else if word == b"grant".as_slice() {
+    } else if is_word(word, b"grant") {
         Some(Verb::Grant)
-    } else if word == b"askback".as_slice() {
+    } else if is_word(word, b"askback") {
         Some(Verb::AskBack)
-    } else if word == b"interrupt".as_slice() {
+    } else if is_word(word, b"interrupt") {
         Some(Verb::Interrupt)
-    } else if word == b"close".as_slice() {
+    } else if is_word(word, b"close") {
         Some(Verb::Close)
     } else {
         None

@@ -1,22 +1,18 @@
-use Rattle.std.proofs.Common.{◌≡◌, ◌^◌, ◌-◌, ℕ, List, [], false, Option, Some, IfSome, option_map, ap, ◌∙◌, refl, slice_index, subst}
-use Rattle.std.specs.Fmt.{format_spec, padded_integral, styled_digits_output}
+use Rattle.std.proofs.Common.{ℕ, [], ◌∷◌, ap₂, subst}
 use Rattle.std.specs.Io.KnownBytes.{Appends}
-use Rattle.replay.proofs.Spelled.{all_written, none_written, one_written, two_digits}
+use Rattle.replay.proofs.Spelled.{all_written, none_written, one_written}
 use Rattle.replay.proofs.print.print_octets.Goals as goal
 
 pub loop-octet-init : goal.loop-octet-init
 loop-octet-init g c = (none_written c.args.octets.now (g.W.Output.contents c.args.writer.now), c.requires)
 
 pub loop-octet-preserved : goal.loop-octet-preserved
-loop-octet-preserved g c =
-    let octet : ℕ = slice_index c.args.octets.now c.loop-octet.octet-index in
-    let printed : styled_digits_output c.in_radix.result c.laid_out.result ≡ Some (two_digits octet) =
-    ap (styled_digits_output c.in_radix.result) c.laid_out.ensures ∙ ap (option_map (padded_integral (format_spec 32 0 4 2 (2 ^ 64 - 1)) false [])) c.in_radix.ensures in (
-      one_written c.args.octets.now c.loop-octet.octet-index octet (g.W.Output.contents c.args.writer.now) (g.W.Output.contents c.loop-octet.writer) (g.W.Output.contents c.write.new.self)
-          c.loop-octet-test.true (c.type_inv.octets c.loop-octet.octet-index).fits refl c.loop-octet.invariant.0
-          (subst (λ (text : Option (List ℕ)). IfSome text (Appends (g.W.Output.contents c.loop-octet.writer) (g.W.Output.contents c.write.new.self))) printed c.in_ok-write.ensures.written),
-      c.in_ok-write.ensures.failed,
-    )
+loop-octet-preserved g c = (
+  one_written c.args.octets.now c.loop-octet.octet-index (g.W.Output.contents c.args.writer.now) (g.W.Output.contents c.loop-octet.writer) (g.W.Output.contents c.write_all.new.self)
+      c.loop-octet-test.true c.loop-octet.invariant.0
+      (subst (Appends (g.W.Output.contents c.loop-octet.writer) (g.W.Output.contents c.write_all.new.self)) (ap₂ (λ (high low : ℕ). high ∷ low ∷ []) c.digit.ensures c.digit-in-loop-octet.ensures) c.in_ok-write_all.ensures.written),
+  c.in_ok-write_all.ensures.failed,
+)
 
 pub returns-clause-written : goal.returns-clause-written
 returns-clause-written g c = all_written c.args.octets.now c.loop-octet.octet-index (g.W.Output.contents c.args.writer.now) (g.W.Output.contents c.loop-octet.writer) c.loop-octet-test.false c.loop-octet.invariant.0

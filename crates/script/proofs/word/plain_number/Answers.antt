@@ -1,16 +1,9 @@
-use Rattle.script.proofs.Numbers.{wrong_is_none, no_text_is_none, parsed_as}
-use Rattle.std.proofs.Common.{◌≡◌, ◌∙◌, sym, false, subst}
-use Rattle.std.specs.Str.Parse.{ParsesUnsigned}
-use Rattle.script.specs.Steps.{begins_wrong}
+use Rattle.std.proofs.Common.{◌∙◌, sym}
+use Rattle.script.proofs.Numbers.{number_read, wrong_is_none}
 use Rattle.script.proofs.word.plain_number.Goals as goal
 
 pub returns-then-begins_wrong : goal.returns-then-begins_wrong
 returns-then-begins_wrong c = wrong_is_none c.args.word.now (sym c.begins_wrong.ensures ∙ c.if-begins_wrong.true)
 
-pub returns-in-Ok : goal.returns-in-Ok
-returns-in-Ok c =
-    let right : begins_wrong c.args.word.now ≡ false = sym c.begins_wrong.ensures ∙ c.if-begins_wrong.false in
-    rw c.ok.ensures.value (parsed_as c.args.word.now c.parse.result right (subst (λ bs. ParsesUnsigned 32 10 bs c.parse.result) c.in-Ok.ensures.cases.0 c.parse.ensures.value.0))
-
-pub returns-in-Err : goal.returns-in-Err
-returns-in-Err c = no_text_is_none c.args.word.now c.in-Err.ensures.cases.0
+pub returns-else-begins_wrong : goal.returns-else-begins_wrong
+returns-else-begins_wrong c = number_read c.args.word.now c.spelled_number.result (sym c.begins_wrong.ensures ∙ c.if-begins_wrong.false) c.spelled_number.ensures

@@ -1,14 +1,14 @@
-use Rattle.std.proofs.Common.{codes}
-use Rattle.script.proofs.lemmas.{differs}
+use Rattle.std.proofs.Common.{◌≡◌, sym, ◌∙◌}
+use Rattle.std.proofs.lemmas.Bool.{false≢true}
 use Rattle.world_script.proofs.Lines.{no_plain}
 use Rattle.world_script.proofs.events.read_plain.Goals as goal
 
 pub returns-in_err-read_net : goal.returns-in_err-read_net
 returns-in_err-read_net c =
     rw c.from_residual-in_err-read_net.ensures (no_plain c.args.word.now c.args.rest.now c.requires.word c.requires.not_asked c.requires.not_typed
-    (differs c.args.word.now (codes "offer") c.as_slice.result.now c.eq.result c.eq.ensures c.as_slice.ensures c.if-eq.false)
-    (differs c.args.word.now (codes "take") c.as_slice-2.result.now c.eq-2.result c.eq-2.ensures c.as_slice-2.ensures c.if-eq-2.false)
-    (differs c.args.word.now (codes "server") c.as_slice-3.result.now c.eq-3.result c.eq-3.ensures c.as_slice-3.ensures c.if-eq-3.false)
-    (differs c.args.word.now (codes "user") c.as_slice-4.result.now c.eq-4.result c.eq-4.ensures c.as_slice-4.ensures c.if-eq-4.false)
-    (differs c.args.word.now (codes "calm") c.as_slice-5.result.now c.eq-5.result c.eq-5.ensures c.as_slice-5.ensures c.if-eq-5.false)
+    (λ e. false≢true (sym c.if-is_word.false ∙ c.is_word.ensures.1 e))
+    (λ e. false≢true (sym c.if-is_word-2.false ∙ c.is_word-2.ensures.1 e))
+    (λ e. false≢true (sym c.if-is_word-3.false ∙ c.is_word-3.ensures.1 e))
+    (λ e. false≢true (sym c.if-is_word-4.false ∙ c.is_word-4.ensures.1 e))
+    (λ e. false≢true (sym c.if-is_word-5.false ∙ c.is_word-5.ensures.1 e))
     c.in_err-read_net.ensures)
