@@ -121,8 +121,8 @@ impl Book {
     pub fn tell(&mut self, host: Host, place: usize, notice: Notice) {
         match &notice {
             Notice::Opened { socket, peer, foreign, own, partner } => self.open(host, *socket, *peer, *foreign, *own, *partner),
-            Notice::Ended { socket, .. } => self.end(host, |life| life.socket == *socket),
-            Notice::PairReset(peer) => self.end(host, |life| life.peer == *peer),
+            Notice::Ended { socket, .. } => self.end((host, *socket)),
+            Notice::PairReset(peer) => self.end_all(host, |life| life.peer == *peer),
             Notice::Sent(socket, bits) | Notice::Arrived(socket, bits) => {
                 if let Some(life) = self.life(host, *socket) {
                     life.carry(bits);
@@ -148,20 +148,23 @@ impl Book {
         self.lives.push(life);
     }
 
+    /// Ends the life of a socket, if it has one.
+    fn end(&mut self, key: (Host, u32)) {
+        if let Some(at) = self.open.remove(&key) {
+            self.lives[at].has_ended = true;
+        }
+    }
+
     /// Ends those lives of a host that are as asked for.
-    fn end(&mut self, host: Host, is_wanted: impl Fn(&Life) -> bool) {
+    fn end_all(&mut self, host: Host, is_wanted: impl Fn(&Life) -> bool) {
         let open = self.open.range((host, 0)..=(host, u32::MAX));
         let ended: Vec<(Host, u32)> = open.filter(|(_, at)| is_wanted(&self.lives[**at])).map(|it| *it.0).collect();
-        for key in ended {
-            if let Some(at) = self.open.remove(&key) {
-                self.lives[at].has_ended = true;
-            }
-        }
+        ended.into_iter().for_each(|key| self.end(key));
     }
 
     /// A host stops.
     pub fn stop(&mut self, host: Host) {
-        self.end(host, |_| true);
+        self.end_all(host, |_| true);
     }
 
     /// Prints all lives, in the order of their opening.

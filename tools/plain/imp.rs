@@ -589,12 +589,8 @@ impl Imp {
         if last.is_none_or(|last| count != last + 1) {
             return if slot.is_none() && self.slots.len() == SLOTS { Arrival::Lost } else { Arrival::Piece };
         }
-        let mut whole = Vec::with_capacity(PIECE * count);
-        for at in 0..count {
-            let octets = if at == place { packet.octets.as_deref() } else { held.and_then(|it| it[at].as_ref()).map(|it| &*it.1) };
-            whole.extend_from_slice(octets.unwrap_or_default());
-        }
-        let text = text_of(whole);
+        let octets_at = |at: usize| if at == place { packet.octets.as_deref() } else { held.and_then(|it| it[at].as_ref()).map(|it| &*it.1) };
+        let text = text_of((0..count).filter_map(octets_at).collect::<Vec<&[u8]>>().concat());
         if text.is_some() && self.hosts[packet.flow.destination.number as usize].messages.len() == QUEUE {
             return Arrival::Lost;
         }
@@ -692,9 +688,8 @@ fn body_of(text: &Bits) -> Vec<u8> {
 }
 
 /// The text of a body: what stands before its last bit 1. There is none if all bits are zero.
-fn text_of(mut body: Vec<u8>) -> Option<Bits> {
+fn text_of(body: Vec<u8>) -> Option<Bits> {
     let last = body.iter().rposition(|it| *it != 0)?;
     let len = 8 * last + 7 - body[last].trailing_zeros() as usize;
-    body.truncate(last + 1);
-    Some(Bits::new(body, len))
+    Some(if len == 0 { Bits::default() } else { Bits::new(body, len) })
 }

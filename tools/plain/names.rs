@@ -1,6 +1,7 @@
 //! Hosts, flows, what crosses an interface, and why something is refused.
 
 use crate::bits::Bits;
+use std::hash::{Hash, Hasher};
 use std::rc::Rc;
 
 /// The greatest number of an IMP.
@@ -10,7 +11,7 @@ pub const MOST_IMPS: u8 = 63;
 pub const HOST_PLACES: usize = 4 * (MOST_IMPS as usize + 1);
 
 /// A host: the number of its IMP, and its own number there. The order of hosts is that of IMPs first.
-#[derive(Clone, Copy, PartialEq, Eq, PartialOrd, Ord, Hash, Debug)]
+#[derive(Clone, Copy, PartialEq, Eq, PartialOrd, Ord, Debug)]
 pub struct Host {
     pub imp: u8,
     pub number: u8,
@@ -22,18 +23,25 @@ impl Host {
         4 * self.imp as usize + self.number as usize
     }
 
-    /// The octet that names this host in a message. Peers are looked at in its order.
+    /// The octet that names this host in messages: no two hosts have the same. Peers are looked at in its order.
     pub fn address(self) -> u8 {
         self.number << 6 | self.imp
     }
 }
 
 /// A flow: the messages from one host to another on one link.
-#[derive(Clone, Copy, PartialEq, Eq, PartialOrd, Ord, Hash, Debug)]
+#[derive(Clone, Copy, PartialEq, Eq, PartialOrd, Ord, Debug)]
 pub struct Flow {
     pub source: Host,
     pub destination: Host,
     pub link: u8,
+}
+
+impl Hash for Flow {
+    /// Hashes a flow as one word, which is faster than field by field.
+    fn hash<H: Hasher>(&self, state: &mut H) {
+        state.write_u32(u32::from_be_bytes([0, self.source.address(), self.destination.address(), self.link]));
+    }
 }
 
 /// What a source is told of its message.

@@ -6,6 +6,7 @@ use crate::commands::{read_header, Command, Fault, CONTROL_TEXT, ERRONEOUS, HEAD
 use crate::names::{Answer, Flow, Host, Inbound, Refusal};
 use crate::pair::{receives, End, Key, Pair, Parcel, Phase, Sockets, Use};
 use crate::script::Request;
+use std::collections::hash_map::Entry;
 use std::collections::BTreeMap;
 use std::rc::Rc;
 
@@ -88,13 +89,11 @@ impl Program {
 
     /// A socket listens.
     fn listen(&mut self, socket: u32, size: u8) -> Result<(), Refusal> {
-        if self.sockets.contains_key(&socket) {
-            return Err(Refusal::InUse);
-        }
+        let Entry::Vacant(free) = self.sockets.entry(socket) else { return Err(Refusal::InUse) };
         if size == 0 {
             return Err(Refusal::BadSize);
         }
-        self.sockets.insert(socket, Use::Listens(size));
+        free.insert(Use::Listens(size));
         Ok(())
     }
 

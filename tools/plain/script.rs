@@ -120,7 +120,7 @@ impl<'a> Words<'a> {
         if digits.len() != 2 * count.div_ceil(8) {
             return Err(BadLine);
         }
-        let octets: Vec<u8> = digits.chunks(2).map(|it| Ok(hex_digit(it[0])? << 4 | hex_digit(it[1])?)).collect::<Result<_, _>>()?;
+        let octets = octets_of(digits)?;
         let rest = octets.last().map_or(0, |it| it & !(0xFF_u16 << (8 * octets.len() - count)) as u8);
         if rest == 0 { Ok(Bits::new(octets, count)) } else { Err(BadLine) }
     }
@@ -152,13 +152,27 @@ fn imp_of(word: &[u8]) -> Result<u8, BadLine> {
     if (1..=MOST_IMPS).contains(&number) { Ok(number) } else { Err(BadLine) }
 }
 
-/// The value of a hexadecimal digit in upper case.
-fn hex_digit(digit: u8) -> Result<u8, BadLine> {
-    match digit {
-        b'0'..=b'9' => Ok(digit - b'0'),
-        b'A'..=b'F' => Ok(digit - b'A' + 10),
-        _ => Err(BadLine),
+/// The value of each hexadecimal digit in upper case, and of all other octets one that is too great.
+const HEX: [u8; 256] = {
+    let (mut values, mut value) = ([NO_DIGIT; 256], 0);
+    while value < 16 {
+        values[b"0123456789ABCDEF"[value] as usize] = value as u8;
+        value += 1;
     }
+    values
+};
+const NO_DIGIT: u8 = 16;
+
+/// The octets that these digits spell, two for each. By a table, since whether a digit is a letter can't be foreseen.
+fn octets_of(digits: &[u8]) -> Result<Vec<u8>, BadLine> {
+    let mut all = 0;
+    let octet = |pair: &[u8]| {
+        let (high, low) = (HEX[pair[0] as usize], HEX[pair[1] as usize]);
+        all |= high | low;
+        high << 4 | low
+    };
+    let octets = digits.chunks_exact(2).map(octet).collect();
+    if all < NO_DIGIT { Ok(octets) } else { Err(BadLine) }
 }
 
 /// The event of a line.
