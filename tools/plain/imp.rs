@@ -86,11 +86,11 @@ struct Kept {
     fate: Fate,
 }
 
-/// A message in reassembly: of each piece that came, whether it is the last one, and its octets.
+/// A message in reassembly, and the pieces of it that came, by place.
 struct Slot {
     flow: Flow,
     number: u16,
-    pieces: [Option<(bool, Rc<[u8]>)>; PIECES],
+    pieces: [Option<Rc<Packet>>; PIECES],
 }
 
 /// What a fresh packet comes to.
@@ -122,7 +122,7 @@ pub struct Imp {
     routes: [Option<u8>; MOST_IMPS as usize + 1],
     /// The distances that this IMP tells.
     told: Rc<Distances>,
-    store: VecDeque<Packet>,
+    store: VecDeque<Rc<Packet>>,
     /// How many packets are in the store and in channels.
     stored: usize,
     slots: Vec<Slot>,
@@ -259,7 +259,7 @@ impl Imp {
     }
 
     /// The packets in store and channels.
-    fn packets(&self) -> impl Iterator<Item = &Packet> {
+    fn packets(&self) -> impl Iterator<Item = &Rc<Packet>> {
         self.store.iter().chain(self.ports.iter().flat_map(|it| it.end.held()))
     }
 
@@ -277,7 +277,7 @@ impl Imp {
     }
 
     /// Keeps a packet until it can go.
-    fn keep(&mut self, packet: Packet) {
+    fn keep(&mut self, packet: Rc<Packet>) {
         self.store.push_back(packet);
         self.stored += 1;
     }
@@ -364,8 +364,8 @@ impl Imp {
         }
         let number = self.begin(flow);
         for (place, octets) in body.chunks(PIECE).enumerate() {
-            let octets = Some(Rc::from(octets));
-            self.keep(Packet { kind: Kind::Data, flow, number, place: place as u8, is_last: place + 1 == count, octets });
+            let (is_last, octets) = (place + 1 == count, Box::from(octets));
+            self.keep(Rc::new(Packet { kind: Kind::Data, flow, number, place: place as u8, is_last, octets }));
         }
         Ok(())
     }
@@ -511,7 +511,7 @@ impl Imp {
     }
 
     /// A packet comes in. If it is fresh and has no room, its whole frame counts as lost.
-    fn packet_in(&mut self, port: usize, acknowledged: u8, channel: u8, bit: bool, packet: Packet) {
+    fn packet_in(&mut self, port: usize, acknowledged: u8, channel: u8, bit: bool, packet: Rc<Packet>) {
         let is_fresh = self.ports[port].end.is_fresh(channel, bit);
         let arrival = if is_fresh { self.arrival_of(&packet) } else { Arrival::Ignored };
         if matches!(arrival, Arrival::Lost) {
@@ -574,23 +574,20 @@ impl Imp {
     /// What a piece comes to whose number is new and whose host is up.
     fn piece_of(&self, packet: &Packet) -> Arrival {
         let slot = self.slots.iter().find(|it| it.flow == packet.flow);
-        let held = slot.filter(|it| it.number == packet.number).map(|it| &it.pieces);
-        let place = packet.place as usize;
-        let pieces = || held.into_iter().flatten().enumerate();
-        let clashes = |(other, it): (usize, &Option<(bool, Rc<[u8]>)>)| match it {
-            None => false,
-            Some((is_last, _)) => other == place || (*is_last && other < place) || (packet.is_last && place < other),
-        };
-        if pieces().any(clashes) {
+        let held = slot.filter(|it| it.number == packet.number).map_or(&[][..], |it| &it.pieces);
+        let (place, is_last) = (packet.place, packet.is_last);
+        let others = || held.iter().flatten().map(|it| (it.place, it.is_last));
+        if others().any(|other| other.0 == place || (other.1 && other.0 < place) || (is_last && place < other.0)) {
             return Arrival::Ignored;
         }
-        let last = if packet.is_last { Some(place) } else { pieces().position(|(_, it)| it.as_ref().is_some_and(|it| it.0)) };
-        let count = 1 + pieces().filter(|(_, it)| it.is_some()).count();
-        if last.is_none_or(|last| count != last + 1) {
+        let last = if is_last { Some(place) } else { others().find(|it| it.1).map(|it| it.0) };
+        let count = 1 + others().count();
+        if last.is_none_or(|last| count != last as usize + 1) {
             return if slot.is_none() && self.slots.len() == SLOTS { Arrival::Lost } else { Arrival::Piece };
         }
-        let octets_at = |at: usize| if at == place { packet.octets.as_deref() } else { held.and_then(|it| it[at].as_ref()).map(|it| &*it.1) };
-        let text = text_of((0..count).filter_map(octets_at).collect::<Vec<&[u8]>>().concat());
+        let before = held.iter().take(place as usize).flatten().map(|it| &*it.octets);
+        let behind = held.iter().skip(place as usize + 1).flatten().map(|it| &*it.octets);
+        let text = text_of(before.chain([&*packet.octets]).chain(behind).collect::<Vec<&[u8]>>().concat());
         if text.is_some() && self.hosts[packet.flow.destination.number as usize].messages.len() == QUEUE {
             return Arrival::Lost;
         }
@@ -598,7 +595,7 @@ impl Imp {
     }
 
     /// Does what is to be done about a fresh packet.
-    fn arrive(&mut self, arrival: Arrival, packet: Packet) {
+    fn arrive(&mut self, arrival: Arrival, packet: Rc<Packet>) {
         let (flow, number) = (packet.flow, packet.number);
         match arrival {
             Arrival::Lost | Arrival::Ignored => (),
@@ -625,14 +622,14 @@ impl Imp {
     }
 
     /// Keeps a piece in the slot of its flow. A slot of another number is emptied.
-    fn keep_piece(&mut self, packet: Packet) {
-        let piece = packet.octets.map(|octets| (packet.is_last, octets));
+    fn keep_piece(&mut self, packet: Rc<Packet>) {
         let at = self.slots.iter().position(|it| it.flow == packet.flow).unwrap_or(self.slots.len());
         if at == self.slots.len() || self.slots[at].number != packet.number {
             let slot = Slot { flow: packet.flow, number: packet.number, pieces: Default::default() };
             if at == self.slots.len() { self.slots.push(slot) } else { self.slots[at] = slot }
         }
-        self.slots[at].pieces[packet.place as usize] = piece;
+        let place = packet.place as usize;
+        self.slots[at].pieces[place] = Some(packet);
     }
 
     /// Sends the packets of all busy channels again.

@@ -35,21 +35,21 @@ impl Kind {
     }
 }
 
-/// A piece of a message, an answer to one, or a question about one. Pieces alone have octets; copies share them.
-#[derive(Clone, Debug)]
+/// A piece of a message, an answer to one, or a question about one. Pieces alone have octets. Whoever keeps a packet shares it.
+#[derive(Debug)]
 pub struct Packet {
     pub kind: Kind,
     pub flow: Flow,
     pub number: u16,
     pub place: u8,
     pub is_last: bool,
-    pub octets: Option<Rc<[u8]>>,
+    pub octets: Box<[u8]>,
 }
 
 impl Packet {
     /// An answer or a question.
-    pub fn bare(kind: Kind, flow: Flow, number: u16) -> Packet {
-        Packet { kind, flow, number, place: 0, is_last: true, octets: None }
+    pub fn bare(kind: Kind, flow: Flow, number: u16) -> Rc<Packet> {
+        Rc::new(Packet { kind, flow, number, place: 0, is_last: true, octets: Box::default() })
     }
 
     /// The IMP to which this packet travels.
@@ -63,7 +63,7 @@ impl Packet {
 pub enum Content {
     Acknowledgements,
     Routes(Rc<Distances>),
-    Packet { channel: u8, bit: bool, packet: Packet },
+    Packet { channel: u8, bit: bool, packet: Rc<Packet> },
 }
 
 /// What is put on a line. Bit `c` of the acknowledgements is the one that the sender expects next on channel `c`.
@@ -76,7 +76,7 @@ pub struct Frame {
 /// One end of a line: eight channels to send on, each with its bit, and the bits that are expected from the other end.
 #[derive(Default, Debug)]
 pub struct LineEnd {
-    busy: [Option<Packet>; CHANNELS],
+    busy: [Option<Rc<Packet>>; CHANNELS],
     /// Which channels are busy, a bit for each.
     busy_bits: u8,
     next_bits: u8,
@@ -85,7 +85,7 @@ pub struct LineEnd {
 
 impl LineEnd {
     /// Puts a packet into the lowest free channel and gives its frame, or gives the packet back if all are busy.
-    pub fn submit(&mut self, packet: Packet) -> Result<Frame, Packet> {
+    pub fn submit(&mut self, packet: Rc<Packet>) -> Result<Frame, Rc<Packet>> {
         let channel = self.busy_bits.trailing_ones() as usize;
         if channel >= CHANNELS {
             return Err(packet);
@@ -102,7 +102,7 @@ impl LineEnd {
     }
 
     /// What the frame of a channel carries.
-    fn content(&self, channel: usize, packet: Packet) -> Content {
+    fn content(&self, channel: usize, packet: Rc<Packet>) -> Content {
         Content::Packet { channel: channel as u8, bit: self.next_bits >> channel & 1 == 1, packet }
     }
 
@@ -139,7 +139,7 @@ impl LineEnd {
     }
 
     /// The packets in the channels.
-    pub fn held(&self) -> impl Iterator<Item = &Packet> {
+    pub fn held(&self) -> impl Iterator<Item = &Rc<Packet>> {
         self.busy.iter().flatten()
     }
 }
