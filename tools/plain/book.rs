@@ -11,11 +11,25 @@ pub enum Notice {
     Ready(Host),
     ContactFailed(Host),
     PairReset(Host),
-    Opened { socket: u32, peer: Host, foreign: u32, own: usize, partner: usize },
-    Ended { socket: u32, peer: Host, foreign: u32 },
+    Opened {
+        socket: u32,
+        peer: Host,
+        foreign: u32,
+        own: usize,
+        partner: usize,
+    },
+    Ended {
+        socket: u32,
+        peer: Host,
+        foreign: u32,
+    },
     Sent(u32, Text),
     Arrived(u32, Text),
-    Returned { socket: u32, messages: u16, bits: u32 },
+    Returned {
+        socket: u32,
+        messages: u16,
+        bits: u32,
+    },
     Interrupt(u32),
     Echoed(Host, u8),
     /// The quoted octets are kept, but not printed.
@@ -144,7 +158,8 @@ impl Book {
         self.open.insert((host, socket), self.lives.len());
         let (bits, handed) = Default::default();
         let (granted, returned) = ((0, 0), (0, 0));
-        let life = Life { host, socket, peer, foreign, own, partner, bits, messages: 0, granted, returned, has_ended: false, handed };
+        let life =
+            Life { host, socket, peer, foreign, own, partner, bits, messages: 0, granted, returned, has_ended: false, handed };
         self.lives.push(life);
     }
 

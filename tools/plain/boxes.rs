@@ -41,7 +41,8 @@ impl Boxes {
     pub fn new(hosts: Vec<Host>) -> Boxes {
         let mut boxes: Vec<Option<HostBox>> = (0..HOST_PLACES).map(|_| None).collect();
         for host in &hosts {
-            boxes[host.index()] = Some(HostBox { is_up: true, messages: VecDeque::new(), answers: VecDeque::new(), outstanding: 0 });
+            boxes[host.index()] =
+                Some(HostBox { is_up: true, messages: VecDeque::new(), answers: VecDeque::new(), outstanding: 0 });
         }
         Boxes { boxes, hosts, waiting: HashMap::new(), next_id: 0, log: Vec::new() }
     }
@@ -54,7 +55,11 @@ impl Boxes {
     /// The box of a host, which has to be there and up.
     fn up(&mut self, host: Host) -> Result<&mut HostBox, Refusal> {
         let found = self.host(host)?;
-        if found.is_up { Ok(found) } else { Err(Refusal::IsDown) }
+        if found.is_up {
+            Ok(found)
+        } else {
+            Err(Refusal::IsDown)
+        }
     }
 
     /// The box of a host of which it is known that it is there.

@@ -33,10 +33,15 @@ pub enum Command {
 /// The code of an error. A host here sends 1 to 5, and reads any.
 pub type Fault = u8;
 
+/// There is no command with this code.
 pub const ILLEGAL_CODE: Fault = 1;
+/// Octets of a command are missing.
 pub const SHORT: Fault = 2;
+/// A number is outside its range, or something contradicts what was agreed before.
 pub const ERRONEOUS: Fault = 3;
+/// There is no end with these sockets.
 pub const NO_SOCKET: Fault = 4;
+/// There is no connection on this link.
 pub const NOT_CONNECTED: Fault = 5;
 
 impl Command {

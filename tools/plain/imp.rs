@@ -191,7 +191,11 @@ impl Imp {
     /// A host of this IMP, which has to be there and up.
     fn up(&mut self, host: Host) -> Result<&mut LocalHost, Refusal> {
         let found = self.host(host)?;
-        if found.is_up { Ok(found) } else { Err(Refusal::IsDown) }
+        if found.is_up {
+            Ok(found)
+        } else {
+            Err(Refusal::IsDown)
+        }
     }
 
     /// Whether a host is one of this IMP, and up.
@@ -626,7 +630,11 @@ impl Imp {
         let at = self.slots.iter().position(|it| it.flow == packet.flow).unwrap_or(self.slots.len());
         if at == self.slots.len() || self.slots[at].number != packet.number {
             let slot = Slot { flow: packet.flow, number: packet.number, pieces: Default::default() };
-            if at == self.slots.len() { self.slots.push(slot) } else { self.slots[at] = slot }
+            if at == self.slots.len() {
+                self.slots.push(slot)
+            } else {
+                self.slots[at] = slot
+            }
         }
         let place = packet.place as usize;
         self.slots[at].pieces[place] = Some(packet);

@@ -54,7 +54,11 @@ impl Packet {
 
     /// The IMP to which this packet travels.
     pub fn target(&self) -> u8 {
-        if self.kind.is_request() { self.flow.destination.imp } else { self.flow.source.imp }
+        if self.kind.is_request() {
+            self.flow.destination.imp
+        } else {
+            self.flow.source.imp
+        }
     }
 }
 

@@ -80,7 +80,11 @@ fn run() -> Result<(), Fault> {
     } else {
         replay(Subnet::new(&topology), &topology, events, &options, &mut printer);
     }
-    if printer.finish() { Ok(()) } else { Err(Fault(3, "stopped".into())) }
+    if printer.finish() {
+        Ok(())
+    } else {
+        Err(Fault(3, "stopped".into()))
+    }
 }
 
 /// Replays events over a carrier, and prints what is seen of them.
@@ -119,7 +123,11 @@ fn read_input() -> Result<Vec<u8>, Fault> {
     let mut input = Vec::new();
     let read = std::io::stdin().lock().take(MOST_OCTETS as u64 + 1).read_to_end(&mut input);
     read.map_err(|_| Fault(1, "cannot read".into()))?;
-    if input.len() > MOST_OCTETS { Err(Fault(1, "bad topology".into())) } else { Ok(input) }
+    if input.len() > MOST_OCTETS {
+        Err(Fault(1, "bad topology".into()))
+    } else {
+        Ok(input)
+    }
 }
 
 /// What stands before and behind the first line that is exactly `%`.

@@ -44,7 +44,11 @@ impl Printer {
     pub fn host(&mut self, host: Host) -> &mut Printer {
         let (tens, ones) = (host.imp / 10, host.imp % 10);
         let digits = [b'0' + host.number, b'/', b'0' + tens, b'0' + ones];
-        if tens == 0 { self.word(&[digits[0], digits[1], digits[3]]) } else { self.word(&digits) }
+        if tens == 0 {
+            self.word(&[digits[0], digits[1], digits[3]])
+        } else {
+            self.word(&digits)
+        }
     }
 
     /// Appends a flow.

@@ -78,7 +78,11 @@ impl Program {
         let was_ready = turn.pair.phase == Phase::Ready;
         turn.pair.forget(turn.sockets);
         turn.pair.phase = Phase::Want;
-        if was_ready { vec![Notice::PairReset(peer)] } else { Vec::new() }
+        if was_ready {
+            vec![Notice::PairReset(peer)]
+        } else {
+            Vec::new()
+        }
     }
 
     /// The pair with a peer, which has to be through a reset.
@@ -103,7 +107,11 @@ impl Program {
         if receives(own) != is_receiver || receives(foreign) == is_receiver {
             return Err(Refusal::WrongEnd);
         }
-        if has_end || self.sockets.contains_key(&own) { Err(Refusal::InUse) } else { Ok(()) }
+        if has_end || self.sockets.contains_key(&own) {
+            Err(Refusal::InUse)
+        } else {
+            Ok(())
+        }
     }
 
     /// Asks a peer for a connection to send on.
@@ -132,7 +140,11 @@ impl Program {
         let Some(&Use::End(peer, foreign)) = self.sockets.get(&socket) else { return Err(Refusal::NoSuchSocket) };
         let (_, pair) = self.pairs.get_mut(&peer.address()).ok_or(Refusal::NoSuchSocket)?;
         let key = (socket, foreign);
-        if pair.end(key).is_some_and(|it| it.is_open()) { Ok((pair, key)) } else { Err(Refusal::NotOpen) }
+        if pair.end(key).is_some_and(|it| it.is_open()) {
+            Ok((pair, key))
+        } else {
+            Err(Refusal::NotOpen)
+        }
     }
 
     /// Hands over bits to be sent.
@@ -416,7 +428,9 @@ impl Turn<'_> {
             Command::Rts { own: foreign, foreign: own, link } => self.take_rts((own, foreign), link),
             Command::Str { own: foreign, foreign: own, size } => self.take_str((own, foreign), size),
             Command::Cls { own: foreign, foreign: own } => self.take_cls((own, foreign)),
-            Command::All { link, .. } | Command::Gvb { link, .. } | Command::Inr { link } => self.take_on_link(false, link, command),
+            Command::All { link, .. } | Command::Gvb { link, .. } | Command::Inr { link } => {
+                self.take_on_link(false, link, command)
+            }
             Command::Ret { link, .. } | Command::Ins { link } => self.take_on_link(true, link, command),
             Command::Eco(octet) => {
                 self.pair.queue.push_back(Command::Erp(octet));

@@ -122,12 +122,20 @@ impl<'a> Words<'a> {
         }
         let octets = octets_of(digits)?;
         let rest = octets.last().map_or(0, |it| it & !(0xFF_u16 << (8 * octets.len() - count)) as u8);
-        if rest == 0 { Ok(Bits::new(octets, count)) } else { Err(BadLine) }
+        if rest == 0 {
+            Ok(Bits::new(octets, count))
+        } else {
+            Err(BadLine)
+        }
     }
 
     /// A line ends here.
     fn end(&self) -> Result<(), BadLine> {
-        if self.left.is_none() { Ok(()) } else { Err(BadLine) }
+        if self.left.is_none() {
+            Ok(())
+        } else {
+            Err(BadLine)
+        }
     }
 }
 
@@ -149,10 +157,17 @@ fn number_of(word: &[u8]) -> Result<u32, BadLine> {
 /// The number of an IMP.
 fn imp_of(word: &[u8]) -> Result<u8, BadLine> {
     let number: u8 = number_of(word)?.try_into().map_err(|_| BadLine)?;
-    if (1..=MOST_IMPS).contains(&number) { Ok(number) } else { Err(BadLine) }
+    if (1..=MOST_IMPS).contains(&number) {
+        Ok(number)
+    } else {
+        Err(BadLine)
+    }
 }
 
-/// The value of each hexadecimal digit in upper case, and of all other octets one that is too great.
+/// What stands in the table of digits for an octet that is none.
+const NO_DIGIT: u8 = 16;
+
+/// The value of each hexadecimal digit in upper case.
 const HEX: [u8; 256] = {
     let (mut values, mut value) = ([NO_DIGIT; 256], 0);
     while value < 16 {
@@ -161,7 +176,6 @@ const HEX: [u8; 256] = {
     }
     values
 };
-const NO_DIGIT: u8 = 16;
 
 /// The octets that these digits spell, two for each. By a table, since whether a digit is a letter can't be foreseen.
 fn octets_of(digits: &[u8]) -> Result<Vec<u8>, BadLine> {
@@ -172,7 +186,11 @@ fn octets_of(digits: &[u8]) -> Result<Vec<u8>, BadLine> {
         high << 4 | low
     };
     let octets = digits.chunks_exact(2).map(octet).collect();
-    if all < NO_DIGIT { Ok(octets) } else { Err(BadLine) }
+    if all < NO_DIGIT {
+        Ok(octets)
+    } else {
+        Err(BadLine)
+    }
 }
 
 /// The event of a line.
@@ -221,7 +239,11 @@ fn read_net(name: &[u8], words: &mut Words) -> Result<Option<NetEvent>, BadLine>
 fn read_out(words: &mut Words) -> Result<Event, BadLine> {
     let flow = words.flow()?;
     let text = words.bits()?;
-    if text.len() > MOST_TEXT { Err(BadLine) } else { Ok(Event::Out(flow, Rc::new(text))) }
+    if text.len() > MOST_TEXT {
+        Err(BadLine)
+    } else {
+        Ok(Event::Out(flow, Rc::new(text)))
+    }
 }
 
 /// An event of a network with host programs.

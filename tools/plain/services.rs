@@ -7,8 +7,9 @@ use crate::script::Request;
 use std::collections::BTreeSet;
 use std::rc::Rc;
 
-/// What a terminal or an echo service grants first.
+/// So many messages a terminal or an echo service grants first.
 const FIRST_MESSAGES: u32 = 4;
+/// And so many bits.
 const FIRST_BITS: u32 = 4096;
 
 /// How it stands with a machine of the initial connection.
@@ -86,7 +87,17 @@ impl Service {
     /// A user.
     pub fn user(peer: Host, server: u32, own: u32) -> Service {
         let (bits, base) = Default::default();
-        Service::User(User { outcome: Outcome::None, peer, server, own, is_open: false, bits, base, has_receiver: false, has_sender: false })
+        Service::User(User {
+            outcome: Outcome::None,
+            peer,
+            server,
+            own,
+            is_open: false,
+            bits,
+            base,
+            has_receiver: false,
+            has_sender: false,
+        })
     }
 
     /// What it asks for first.
@@ -116,7 +127,11 @@ impl Service {
             Service::Server(it) => it.hear(notice),
             Service::User(it) => it.hear(notice),
             Service::Echo(it) => follow(it.receives, it.sends, notice, |bits| {
-                if bits.is_empty() { None } else { Some(Request::Send(it.sends, bits.clone())) }
+                if bits.is_empty() {
+                    None
+                } else {
+                    Some(Request::Send(it.sends, bits.clone()))
+                }
             }),
             Service::Terminal(it) => follow(it.receives, it.sends, notice, |bits| {
                 read_lines(&mut it.part, &mut it.kept, &mut it.lines, bits);
@@ -205,7 +220,8 @@ impl Server {
             return vec![Request::Send(socket, base), Request::Close(socket)];
         }
         if let [asked, Some(receiver), Some(sender)] = self.opened {
-            let is_of = |it: (Host, u32), above| asked.is_some_and(|asked| it.0 == asked.0 && asked.1.checked_add(above) == Some(it.1));
+            let is_of =
+                |it: (Host, u32), above| asked.is_some_and(|asked| it.0 == asked.0 && asked.1.checked_add(above) == Some(it.1));
             if is_of(receiver, 3) && is_of(sender, 2) {
                 self.outcome = Outcome::Done;
             } else {
@@ -233,7 +249,9 @@ impl User {
         }
         match notice {
             Notice::Opened { socket, peer, foreign, .. } if *peer == self.peer => return self.hear_opened(*socket, *foreign),
-            Notice::Arrived(socket, bits) if *socket == self.own && self.base.is_none() && self.is_open => return self.hear_bits(bits),
+            Notice::Arrived(socket, bits) if *socket == self.own && self.base.is_none() && self.is_open => {
+                return self.hear_bits(bits)
+            }
             Notice::Ended { socket, .. } => {
                 let is_mine = match self.base {
                     None => *socket == self.own,

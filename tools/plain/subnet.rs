@@ -10,16 +10,16 @@ use std::collections::VecDeque;
 /// Most frames that are in transit on a line, each way.
 const PLACES: usize = 256;
 
-/// The IMP at an end of a line, and its port there.
+/// Where a line ends: an IMP, and its port there.
 #[derive(Clone, Copy)]
-struct LineEnd {
+struct LinePort {
     imp: u8,
     port: usize,
 }
 
 /// A line: its two ends, and the frames in transit each way, the oldest first.
 struct Line {
-    ends: [LineEnd; 2],
+    ends: [LinePort; 2],
     live: [VecDeque<Frame>; 2],
 }
 
@@ -56,7 +56,7 @@ impl Subnet {
             let mut end = |imp: u8, way| {
                 let ports = &mut sites[imp as usize].ports;
                 ports.push((lines.len(), way));
-                LineEnd { imp, port: ports.len() - 1 }
+                LinePort { imp, port: ports.len() - 1 }
             };
             let ends = [end(a, 0), end(b, 1)];
             lines.push(Line { ends, live: Default::default() });
@@ -88,12 +88,20 @@ impl Subnet {
 
     /// There has to be an IMP of this number.
     fn check_site(&self, number: u8) -> Result<(), Refusal> {
-        if self.sites[number as usize].exists { Ok(()) } else { Err(Refusal::NoSuch) }
+        if self.sites[number as usize].exists {
+            Ok(())
+        } else {
+            Err(Refusal::NoSuch)
+        }
     }
 
     /// There has to be such a host.
     fn check_host(&self, host: Host) -> Result<(), Refusal> {
-        if host.number < self.sites[host.imp as usize].hosts { Ok(()) } else { Err(Refusal::NoSuch) }
+        if host.number < self.sites[host.imp as usize].hosts {
+            Ok(())
+        } else {
+            Err(Refusal::NoSuch)
+        }
     }
 
     /// The port of an IMP on a line.
@@ -137,7 +145,11 @@ impl Subnet {
         };
         let lives = oldest.is_some_and(|oldest| self.is_alive(|it, number, _| (it, number) == (flow, oldest)));
         let is_kept = self.imp(flow.destination.imp).is_some_and(|it| it.keeps(flow, next));
-        if lives || is_kept { Err(Refusal::StillAlive) } else { Ok(()) }
+        if lives || is_kept {
+            Err(Refusal::StillAlive)
+        } else {
+            Ok(())
+        }
     }
 
     // What happens to IMPs.
@@ -226,7 +238,7 @@ impl Subnet {
     // What happens on lines.
 
     /// The frame at a place of a line, and where the line leads.
-    fn frame(&self, line: u32, way: Way, place: u32) -> Result<(LineEnd, &Frame), Refusal> {
+    fn frame(&self, line: u32, way: Way, place: u32) -> Result<(LinePort, &Frame), Refusal> {
         let line = self.lines.get(line as usize).ok_or(Refusal::NoSuch)?;
         let frame = line.live[way].get(place as usize).ok_or(Refusal::NoSuch)?;
         Ok((line.ends[1 - way], frame))
@@ -241,7 +253,7 @@ impl Subnet {
     }
 
     /// A frame comes to an end of a line. Answers whether it told anything but distances that were known.
-    fn arrive(&mut self, end: LineEnd, frame: Frame) -> bool {
+    fn arrive(&mut self, end: LinePort, frame: Frame) -> bool {
         self.at(end.imp, |imp| Ok(imp.from_line(end.port, frame))).unwrap_or(false)
     }
 

@@ -26,7 +26,11 @@ impl Table<'_> {
     /// The two numbers of a table that has these two keys and no others.
     fn two(&self, first: &str, second: &str) -> Option<(u8, u8)> {
         let number = |key| self.pairs.iter().find(|it| it.0 == key)?.1.parse().ok();
-        if self.pairs.len() == 2 { Some((number(first)?, number(second)?)) } else { None }
+        if self.pairs.len() == 2 {
+            Some((number(first)?, number(second)?))
+        } else {
+            None
+        }
     }
 }
 

@@ -245,7 +245,9 @@ impl<'a, C: Carrier> World<'a, C> {
                 printer.word(b"ended").host(host).number(socket.into()).host(peer).number(foreign.into())
             }
             Notice::Sent(socket, ref bits) => printer.word(b"sent").host(host).number(socket.into()).number(bits.len() as u64),
-            Notice::Arrived(socket, ref bits) => printer.word(b"arrived").host(host).number(socket.into()).number(bits.len() as u64),
+            Notice::Arrived(socket, ref bits) => {
+                printer.word(b"arrived").host(host).number(socket.into()).number(bits.len() as u64)
+            }
             Notice::Returned { socket, messages, bits } => {
                 printer.word(b"returned").host(host).number(socket.into()).number(messages.into()).number(bits.into())
             }
