@@ -11,7 +11,7 @@ ghost use Rattle.world_replay.specs.Steps.{EventEnds};
 use crate::print::{print_news, print_refusal};
 use leader1822::Carrier;
 use net_sim::{World, WorldFault};
-use replay::{Detail, Output, ReplayFault};
+use replay::{Detail, Line, Output, ReplayFault};
 use world_script::WorldEvent;
 
 /// Lets each event happen in order, and prints what it shows: each crossing, each notice after the crossings that
@@ -72,16 +72,18 @@ fn replay_in_turn<C: Carrier, W: Output>(
     ensures memory { result ≡ Err ReplayFault.OutOfMemory → Writes detail (EndsIn (shown (record { seen = C.seen; offers = C.offers; takes = C.takes; steps = C.steps; rounds = C.rounds })) (StopsIn (shown (record { seen = C.seen; offers = C.offers; takes = C.takes; steps = C.steps; rounds = C.rounds }))) world.old events.items world.new) (W.contents writer.old) (W.contents writer.new) }
     ensures cannot_write { result ≡ Err ReplayFault.CannotWrite → (lines : List Shown) × EndsIn (shown (record { seen = C.seen; offers = C.offers; takes = C.takes; steps = C.steps; rounds = C.rounds })) (MayDo (shown (record { seen = C.seen; offers = C.offers; takes = C.takes; steps = C.steps; rounds = C.rounds }))) world.old events.items world.new lines }
 {
+    let mut line = Line::new();
     for event in events {
-        replay_event(world, event, detail, writer)?;
+        replay_event(world, event, &mut line, detail, writer)?;
     }
     Ok(())
 }
 
-/// Lets one event happen, and prints what it shows.
+/// Lets one event happen, and prints what it shows. Lines are put together in this buffer, of which nothing is kept.
 fn replay_event<C: Carrier, W: Output>(
     world: &mut World<C>,
     event: WorldEvent,
+    line: &mut Line,
     detail: Detail,
     writer: &mut W,
 ) -> Result<(), ReplayFault>
@@ -93,7 +95,7 @@ fn replay_event<C: Carrier, W: Output>(
     let told = world.book().notices().len();
     let said = world.book().reports().len();
     let outcome = happen(world, event);
-    print_news(world.book(), crossed, told, said, detail, writer)?;
+    print_news(line, world.book(), crossed, told, said, detail, writer)?;
     print_refusal(outcome, writer)
 }
 

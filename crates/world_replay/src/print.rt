@@ -12,16 +12,18 @@ ghost use Rattle.world_replay.specs.Printed.{problem_name, refusal_name, report_
 ghost use Rattle.world_replay.specs.Steps.{Fronts};
 
 use crate::lines::{LifeLine, OutcomeLine};
-use crate::told::told_line;
+use crate::told::put_told;
 use leader1822::{Crossing, HostAddr};
 use net_sim::{Book, Life, Report, Reported, Told, WorldFault};
-use replay::{Detail, Output, ReplayFault, WriteFailed, carrier_refusal, print_crossing};
+use replay::{Detail, Line, Output, ReplayFault, WriteFailed, carrier_refusal, print_crossing_in};
 use sockets::NcpFault;
 
-/// Prints what stands in a book after so many crossings, notices and reports.
+/// Prints what stands in a book after so many crossings, notices and reports. Lines are put together in this buffer, of which
+/// nothing is kept.
 ///
 /// Errors: `WriteFailed`.
 pub(crate) fn print_news<W: Output>(
+    line: &mut Line,
     book: &Book,
     crossed: usize,
     told: usize,
@@ -43,8 +45,8 @@ pub(crate) fn print_news<W: Output>(
         before: crossed,
         left,
     };
-    print_told(&mut crossings, told, notices, reports, detail, writer)?;
-    print_crossings(crossings.left, detail, writer)
+    print_told(line, &mut crossings, told, notices, reports, detail, writer)?;
+    print_crossings(line, crossings.left, detail, writer)
 }
 
 /// Crossings that are still to be printed.
@@ -60,6 +62,7 @@ impl Crossings<'_> {
     /// Prints those before a place.
     fn print_before<W: Output>(
         &mut self,
+        line: &mut Line,
         place: usize,
         detail: Detail,
         writer: &mut W,
@@ -72,7 +75,7 @@ impl Crossings<'_> {
     {
         let count = place.saturating_sub(self.before).min(self.left.len());
         let (first, rest) = self.left.split_at(count);
-        print_crossings(first, detail, writer)?;
+        print_crossings(line, first, detail, writer)?;
         self.left = rest;
         self.before = self.before.max(place);
         Ok(())
@@ -82,6 +85,7 @@ impl Crossings<'_> {
 /// Prints notices and reports, each report after its notice, and the crossings that were before them. So many
 /// notices were before all of them.
 fn print_told<W: Output>(
+    line: &mut Line,
     crossings: &mut Crossings<'_>,
     before: usize,
     notices: &[Told],
@@ -98,16 +102,17 @@ fn print_told<W: Output>(
     for reported in reports {
         let count = reported.notices.saturating_sub(before).min(waiting.len());
         let (first, rest) = waiting.split_at(count);
-        print_notices(crossings, first, detail, writer)?;
+        print_notices(line, crossings, first, detail, writer)?;
         print_report(reported, writer)?;
         waiting = rest;
         before = before.max(reported.notices);
     }
-    print_notices(crossings, waiting, detail, writer)
+    print_notices(line, crossings, waiting, detail, writer)
 }
 
 /// Prints notices, each after the crossings that were before it.
 fn print_notices<W: Output>(
+    line: &mut Line,
     crossings: &mut Crossings<'_>,
     notices: &[Told],
     detail: Detail,
@@ -118,19 +123,24 @@ fn print_notices<W: Output>(
     ensures failed { TellsFailure result (W.failed writer.new) }
 {
     for told in notices {
-        crossings.print_before(told.place, detail, writer)?;
-        print_told_line(told, writer)?;
+        crossings.print_before(line, told.place, detail, writer)?;
+        print_told_line(line, told, writer)?;
     }
     Ok(())
 }
 
 /// Prints the line of something that a user was told.
-fn print_told_line<W: Output>(told: &Told, writer: &mut W) -> Result<(), WriteFailed>
+fn print_told_line<W: Output>(
+    line: &mut Line,
+    told: &Told,
+    writer: &mut W,
+) -> Result<(), WriteFailed>
     requires { W.failed writer.old ≡ false }
     ensures written { OnOk result (Appends (W.contents writer.old) (W.contents writer.new) (ended_line (told_text told.now))) }
     ensures failed { TellsFailure result (W.failed writer.new) }
 {
-    writer.write_all(told_line(told).as_octets())
+    put_told(line, told);
+    writer.write_all(line.as_octets())
 }
 
 /// Prints what a service reports.
@@ -190,6 +200,7 @@ fn shown_octet(octet: u8) -> u8
 
 /// Prints crossings.
 fn print_crossings<W: Output>(
+    line: &mut Line,
     crossings: &[Crossing],
     detail: Detail,
     writer: &mut W,
@@ -199,7 +210,7 @@ fn print_crossings<W: Output>(
     ensures failed { TellsFailure result (W.failed writer.new) }
 {
     for crossing in crossings {
-        print_crossing(crossing, detail, writer)?;
+        print_crossing_in(line, crossing, detail, writer)?;
     }
     Ok(())
 }
