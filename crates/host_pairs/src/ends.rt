@@ -218,6 +218,13 @@ pub(crate) fn spend(entries: &mut [Entry], link: u8, bits: u32)
 
 // ---- closing
 
+/// Whether an end has to close now.
+pub(crate) fn has_closing(entries: &[Entry], busy: &[u8]) -> bool
+    ensures { result ≡ list_any (must_close busy.now) entries.now }
+{
+    entries.iter().any(|e| e.must_close(busy))
+}
+
 /// The CLS of each end that has to close now waits to go out.
 pub(crate) fn queue_closings(
     entries: &[Entry],

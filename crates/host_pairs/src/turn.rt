@@ -9,6 +9,7 @@ ghost use Rattle.host_pairs.specs.Desk.{desk_of};
 
 use crate::Notice;
 use crate::desk::Desk;
+use crate::ends::has_closing;
 use crate::listener::Listeners;
 use crate::pair::Pair;
 use crate::phase::Phase;
@@ -64,6 +65,7 @@ impl Turn {
     }
 
     /// Puts the pair's connections back, and tells what is to be told of them.
+    #[tactic(auto, using(crate::proofs::TurnLemmas::told_first))]
     pub(crate) fn restore(&mut self, desk: Desk) -> Result<(), AllocError>
         ensures state { OnOk result (self.new ≡ turns.with_desk self.old desk) }
         ensures memory { OnErr result (0 < length desk.notices) }
@@ -77,6 +79,10 @@ impl Turn {
         self.pair.entries = entries;
         self.pair.queue = queue;
         self.listening = listening;
+        if self.notices.is_empty() {
+            self.notices = notices;
+            return Ok(());
+        }
         self.notices.append(&mut notices)
     }
 
@@ -117,11 +123,15 @@ impl Turn {
         self.restore(desk)
     }
 
-    /// Each end that waited for an answer and has it closes now.
+    /// Each end that waited for an answer and has it closes now. Mostly there is none.
+    #[tactic(auto, using(crate::proofs::TurnLemmas::none_settles))]
     fn settle(&mut self, alloc: Global) -> Result<(), AllocError>
         ensures state { OnOk result (self.new ≡ turns.settled_turn self.old) }
         ensures memory { OnErr result (0 < newly_said self.old (turns.settled_turn self.old)) }
     {
+        if !has_closing(&self.pair.entries, &self.pair.busy) {
+            return Ok(());
+        }
         let mut desk = self.desk(alloc);
         desk.settle(&self.pair.busy)?;
         self.restore(desk)
