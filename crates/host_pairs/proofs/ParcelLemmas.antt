@@ -1,7 +1,7 @@
 -- What goes out of a pair, and when it may.
 use Rattle.std.proofs.Common.{◌≡◌, ℕ, ◌*◌, ◌/◌, ◌<◌, ◌≤◌, ◌==◌, ◌&&◌, Bool, true, false, not, min, nat_lt, List, [], ◌∷◌, length, find, filter, Option, Some, None, is_some, refl, ap, sym, subst, ◌∙◌, arith, zero, suc}
 use Rattle.std.proofs.Math.Nat.{min-le_left, min-le_right, mul-div-le, mul-le-mul_left, zero-div}
-use Rattle.std.proofs.lemmas.Bool.{ltb-true}
+use Rattle.std.proofs.lemmas.Bool.{eqb-true, ltb-true}
 use Rattle.ncp_control.specs.Allocation as counters
 use Rattle.ncp_control.specs.Packing.{packed_count}
 use Rattle.ncp_control.specs.declared.allocation.Allocation.{Allocation}
@@ -110,7 +110,7 @@ no_turn busy e h = no_turn_by busy e (length e.bits == 0) (e.allocation.messages
 
 -- ---- the link of an end
 
-and_turned : (a b : Bool) → (a && b) ≡ (b && a)
+pub and_turned : (a b : Bool) → (a && b) ≡ (b && a)
 and_turned true true = refl
 and_turned true false = refl
 and_turned false true = refl

@@ -9,7 +9,7 @@ ghost use Rattle.host_pairs.specs.Desk.{desk_of};
 
 use crate::Notice;
 use crate::desk::Desk;
-use crate::ends::has_closing;
+use crate::ends::{has_closing, has_due};
 use crate::listener::Listeners;
 use crate::pair::Pair;
 use crate::phase::Phase;
@@ -206,6 +206,22 @@ fn free(busy: &mut Vec<u8>, link: u8)
     busy.retain(|l| *l != link);
 }
 
+impl Pair {
+    /// Whether an RFNM frees its link and nothing else comes of it: the pair is ready, and no end waits to close.
+    pub fn is_quiet(&self) -> bool
+        ensures { result ≡ turns.is_quiet self.now }
+    {
+        self.phase.is_ready() && !has_due(&self.entries)
+    }
+
+    /// A link has no message outstanding any more.
+    pub fn free(&mut self, link: u8)
+        ensures { self.new ≡ turns.freed link self.old }
+    {
+        free(&mut self.busy, link);
+    }
+}
+
 impl Turn {
     /// The pair is closed: its connections and what waits to be said are gone, and the user is told why.
     fn close(&mut self, alloc: Global, notice: Notice) -> Result<(), AllocError>
@@ -273,7 +289,7 @@ impl Turn {
     fn free(&mut self, link: u8)
         ensures { self.new ≡ record self.old { pair = turns.freed link self.old.pair } }
     {
-        free(&mut self.pair.busy, link);
+        self.pair.free(link);
     }
 
     /// An answer about a message that this host has out is taken: the link is free, and what follows by its
