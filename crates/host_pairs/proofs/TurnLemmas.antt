@@ -1,12 +1,11 @@
 -- A turn in which nothing was told before, and one in which no end has to close.
-use Rattle.std.proofs.Common.{◌≡◌, ℕ, ◌++◌, ◌==◌, Bool, true, false, cond, not, List, [], ◌∷◌, length, map, filter, refl, ap, sym, subst, ◌∙◌}
+use Rattle.std.proofs.Common.{◌≡◌, ℕ, ◌++◌, ◌==◌, Bool, true, false, cond, not, List, [], ◌∷◌, length, map, filter, refl, ap, sym, ◌∙◌}
 use Rattle.std.specs.List.{list_any}
 use Rattle.std.proofs.lemmas.List.{append-nil}
 use Rattle.ncp_control.specs.declared.command.Command.{Command}
 use Rattle.leader1822.specs.Host.{Host}
 use Rattle.leader1822.specs.declared.crossing.Answer.TheVariants as answer
 use Rattle.host_pairs.specs.Entries.{is_due, must_close, closed_when, cls_of}
-use Rattle.host_pairs.specs.Pair.{PairState}
 use Rattle.host_pairs.specs.Phases.{is_ready, rfnm_phase}
 use Rattle.host_pairs.specs.Turn.{TurnState, answered_turn, freed, is_quiet, settled_turn}
 use Rattle.host_pairs.specs.declared.entry.Entry.{Entry}
