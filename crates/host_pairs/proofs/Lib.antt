@@ -10,4 +10,5 @@ pub mod ParcelLemmas
 pub mod QueueLemmas
 pub mod ReadLemmas
 pub mod SendingLemmas
+pub mod TurnLemmas
 pub mod lemmas

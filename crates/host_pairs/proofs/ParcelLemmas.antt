@@ -1,7 +1,7 @@
 -- What goes out of a pair, and when it may.
 use Rattle.std.proofs.Common.{◌≡◌, ℕ, ◌*◌, ◌/◌, ◌<◌, ◌≤◌, ◌==◌, ◌&&◌, Bool, true, false, not, min, nat_lt, List, [], ◌∷◌, length, find, filter, Option, Some, None, is_some, refl, ap, sym, subst, ◌∙◌, arith, zero, suc}
 use Rattle.std.proofs.Math.Nat.{min-le_left, min-le_right, mul-div-le, mul-le-mul_left, zero-div}
-use Rattle.std.proofs.lemmas.Bool.{ltb-true}
+use Rattle.std.proofs.lemmas.Bool.{eqb-true, ltb-true}
 use Rattle.ncp_control.specs.Allocation as counters
 use Rattle.ncp_control.specs.Packing.{packed_count}
 use Rattle.ncp_control.specs.declared.allocation.Allocation.{Allocation}
@@ -86,9 +86,38 @@ and_no : (b : Bool) → (b && false) ≡ false
 and_no true = refl
 and_no false = refl
 
-pub nothing_waits : (busy : List ℕ) (e : Entry) → length e.bits ≡ 0 → may_send busy e ≡ false
+nothing_waits : (busy : List ℕ) (e : Entry) → length e.bits ≡ 0 → may_send busy e ≡ false
 nothing_waits busy e z =
     rw (none_sendable e z e.size) (and_no (not (is_receiving e) && is_open e && is_some e.link && is_answered busy e.link))
+
+-- nor does one without a message left
+none_granted : (e : Entry) → (e.allocation.messages == 0) ≡ true → (size : Option ℕ) → sendable_by size e ≡ 0
+none_granted e z None = refl
+none_granted e z (Some size) = rw z refl
+
+nothing_granted : (busy : List ℕ) (e : Entry) → (e.allocation.messages == 0) ≡ true → may_send busy e ≡ false
+nothing_granted busy e z =
+    rw (none_granted e z e.size) (and_no (not (is_receiving e) && is_open e && is_some e.link && is_answered busy e.link))
+
+no_turn_by : (busy : List ℕ) (e : Entry) → (waits granted : Bool) → (length e.bits == 0) ≡ waits → (e.allocation.messages == 0) ≡ granted
+    → (not waits && not granted) ≡ false → may_send busy e ≡ false
+no_turn_by busy e true granted w g h = nothing_waits busy e (eqb-true (length e.bits) 0 w)
+no_turn_by busy e false true w g h = nothing_granted busy e g
+no_turn_by busy e false false w g h = absurd (cc)
+
+pub no_turn : (busy : List ℕ) (e : Entry) → (not (length e.bits == 0) && not (e.allocation.messages == 0)) ≡ false → may_send busy e ≡ false
+no_turn busy e h = no_turn_by busy e (length e.bits == 0) (e.allocation.messages == 0) refl refl h
+
+-- ---- the link of an end
+
+pub and_turned : (a b : Bool) → (a && b) ≡ (b && a)
+and_turned true true = refl
+and_turned true false = refl
+and_turned false true = refl
+and_turned false false = refl
+
+pub on_its_link : (busy : List ℕ) (link : ℕ) (e : Entry) → (link_of e.link == link && may_send busy e) ≡ may_send_on busy link e
+on_its_link busy link e = and_turned (link_of e.link == link) (may_send busy e)
 
 -- ---- data
 

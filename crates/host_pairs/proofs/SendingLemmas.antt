@@ -6,8 +6,9 @@ use Rattle.ncp_control.specs.declared.command.Command.{Command}
 use Rattle.ncp_control.specs.declared.command.Command.TheVariants as command
 use Rattle.ncp_control.proofs.lemmas.{longest_front}
 use Rattle.bit_messages.specs.Octets.{bits_of, octet_bits}
-use Rattle.bit_messages.proofs.lemmas.{length-bits_of}
-use Rattle.std.proofs.lemmas.List.{length-take}
+use Rattle.bit_messages.proofs.lemmas.{bits_of-append, length-bits_of}
+use Rattle.std.proofs.lemmas.List.{length-take, take_all}
+use Rattle.std.specs.Int.{w16, to_be_bytes}
 use Rattle.host_pairs.specs.Control.{control_text}
 use Rattle.host_pairs.specs.Data.{data_text}
 use Rattle.host_pairs.specs.Parcels.{lower}
@@ -39,6 +40,23 @@ whole (o ∷ os) =
 -- all bits of so many octets
 pub whole_octets : (octets : List ℕ) (n : ℕ) → n ≡ length octets → take (8 * n) (bits_of octets) ≡ bits_of octets
 whole_octets octets n is = rw is (whole octets)
+
+-- ---- the octets of a control message
+
+-- those of its header, and these behind them
+abbrev pub message_octets : List ℕ → List ℕ
+message_octets octets = 0 ∷ 8 ∷ to_be_bytes w16 (length octets) ++ 0 ∷ octets
+
+pub message_room : (octets : List ℕ) → length octets ≤ 120 → length (message_octets octets) ≤ 125
+message_room octets room = omega (arith, room)
+
+-- their bits are its text
+pub message_bits : (octets : List ℕ) → bits_of (message_octets octets) ≡ control_text octets
+message_bits octets = bits_of-append (0 ∷ 8 ∷ to_be_bytes w16 (length octets) ++ 0 ∷ []) octets
+
+-- all of so many bits or fewer
+pub all_bits : (count : ℕ) (bits : List Bool) → length bits ≤ count → take count bits ≡ bits
+all_bits count bits le = take_all count bits le
 
 -- ---- commands
 

@@ -8,3 +8,4 @@ pub use Rattle.host_pairs.proofs.OpeningLemmas.{both, not_is, opening_is}
 pub use Rattle.host_pairs.proofs.ParcelLemmas
 pub use Rattle.host_pairs.proofs.ParcelLemmas.{some_is, what_goes}
 pub use Rattle.host_pairs.proofs.ReadLemmas.{control_again, signal_again}
+pub use Rattle.host_pairs.proofs.TurnLemmas.{quiet_turn}

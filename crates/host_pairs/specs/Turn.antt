@@ -1,13 +1,15 @@
 -- What a pair does with what comes in of its peer: commands, data, and answers to what was sent (NIC 8246; BBN Report 1822, RFNM).
-use Rattle.std.specs.Prelude.{ℕ, Bool, true, false, not, ◌==◌, ◌||◌, if◌then◌else◌, List, [], ◌∷◌, ◌++◌, filter}
+use Rattle.std.specs.Prelude.{ℕ, Bool, true, false, not, ◌==◌, ◌&&◌, ◌||◌, if◌then◌else◌, List, [], ◌∷◌, ◌++◌, filter}
 use Rattle.leader1822.specs.Host.{Host}
 use Rattle.leader1822.specs.declared.crossing.Answer.{Answer}
 use Rattle.leader1822.specs.declared.crossing.Answer.TheVariants as answer
 use Rattle.ncp_control.specs.declared.command.Command.{Command}
 use Rattle.ncp_control.specs.declared.command.Command.TheVariants as command
+use Rattle.std.specs.List.{list_any}
 use Rattle.host_pairs.specs.Commands.{desk_taken}
 use Rattle.host_pairs.specs.Control.{Order, Legal, Wrong, orders_of, error}
 use Rattle.host_pairs.specs.Data.{data_taken}
+use Rattle.host_pairs.specs.Entries.{is_due}
 use Rattle.host_pairs.specs.Pair.{PairState}
 use Rattle.host_pairs.specs.Desk.{DeskState, desk_of, command_queued, settled}
 use Rattle.host_pairs.specs.declared.listener.Listener.{Listener}
@@ -126,3 +128,7 @@ answer_taken peer answer.NotTaken link t = failed peer t
 
 abbrev pub answered_turn : Host → Answer → ℕ → TurnState → TurnState
 answered_turn peer kind link t = answer_taken peer kind link (record t { pair = freed link t.pair })
+
+-- an RFNM frees its link and nothing else comes of it: the pair is ready, and no end waits to close
+abbrev pub is_quiet : PairState → Bool
+is_quiet q = is_ready q.phase && not (list_any (λ e. is_due e.closing) q.entries)

@@ -6,7 +6,7 @@ ghost use Rattle.host_pairs.specs.declared.entry.Entry.{Entry};
 ghost use Rattle.host_pairs.specs.Commands.{asked_on_link, asked_with_size, granted, given_back, returned};
 ghost use Rattle.host_pairs.specs.Data.{spent};
 ghost use Rattle.host_pairs.specs.Parcels.{asked_at, cls_sent};
-ghost use Rattle.host_pairs.specs.Entries.{is_at, entry_at, sends_on, receives_on, is_mine_on, changed_first, changed_at, closed_by_partner, must_close, closed_when, cls_of, is_over, ending, free_link};
+ghost use Rattle.host_pairs.specs.Entries.{is_at, entry_at, sends_on, receives_on, is_mine_on, changed_first, changed_at, closed_by_partner, is_due, must_close, closed_when, cls_of, is_over, ending, free_link};
 
 use crate::Notice;
 use crate::entry::{Closing, Entry};
@@ -76,7 +76,7 @@ pub fn own_place(entries: &[Entry], socket: u32) -> Option<usize>
 fn first_own(entries: &[Entry], socket: u32) -> Option<usize>
     ensures { result ≡ position (is_mine_on socket) entries.now }
 {
-    entries.iter().position(|e| e.mine && e.own == socket)
+    entries.iter().position(|e| e.is_mine_on(socket))
 }
 
 /// The links that connections may have.
@@ -217,6 +217,20 @@ pub(crate) fn spend(entries: &mut [Entry], link: u8, bits: u32)
 }
 
 // ---- closing
+
+/// Whether an end is to be closed when what it has sent is answered.
+pub(crate) fn has_due(entries: &[Entry]) -> bool
+    ensures { result ≡ list_any (λ e. is_due e.closing) entries.now }
+{
+    entries.iter().any(|e| e.closing == Closing::Due)
+}
+
+/// Whether an end has to close now.
+pub(crate) fn has_closing(entries: &[Entry], busy: &[u8]) -> bool
+    ensures { result ≡ list_any (must_close busy.now) entries.now }
+{
+    entries.iter().any(|e| e.must_close(busy))
+}
 
 /// The CLS of each end that has to close now waits to go out.
 pub(crate) fn queue_closings(

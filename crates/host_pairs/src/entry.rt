@@ -136,6 +136,14 @@ impl Entry {
         self.link.is_some_and(|l| l.number() == link)
     }
 
+    /// Whether it is this host's own on this socket. The socket is looked at first, since few ends have it.
+    #[tactic(auto, using(crate::proofs::ParcelLemmas::and_turned))]
+    pub(crate) fn is_mine_on(&self, socket: u32) -> bool
+        ensures { result ≡ entries.is_mine_on socket self.now }
+    {
+        self.own == socket && self.mine
+    }
+
     /// Whether it sends on this link.
     pub(crate) fn sends_on(&self, link: u8) -> bool
         ensures { result ≡ entries.sends_on link self.now }

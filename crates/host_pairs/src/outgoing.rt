@@ -1,7 +1,7 @@
 //! What goes out next to a peer (NIC 8246: RST and RRP go alone, control messages hold 120 octets, data go
 //! within the allocation).
 
-ghost use Rattle.std.specs.Prelude.{◌≡◌, ◌==◌, if◌then◌else◌, length, MatchOption, IfSome, Some, None, List, filter, find, is_some, position, slice_index_or};
+ghost use Rattle.std.specs.Prelude.{◌≡◌, ◌==◌, ◌&&◌, not, if◌then◌else◌, length, MatchOption, IfSome, Some, None, List, filter, find, is_some, position, slice_index_or};
 ghost use Rattle.host_pairs.specs.Outgoing.{HasRoom, IsThere, parcel_of};
 ghost use Rattle.host_pairs.specs.Parcels as parcels;
 ghost use Rattle.host_pairs.specs.Parcels.{may_send_on};
@@ -45,14 +45,17 @@ impl Entry {
         }
     }
 
-    /// Whether something may go out now. Most ends have no bits that wait, so that is looked at first.
-    #[tactic(auto, using(crate::proofs::ParcelLemmas::nothing_waits))]
-    fn may_send(&self, busy: &[u8]) -> bool
+    /// Whether bits wait on it and a message of its allocation is left.
+    fn has_turn(&self) -> bool
+        ensures { result ≡ (not (length self.now.bits == 0) && not (self.now.allocation.messages == 0)) }
+    {
+        !self.bits.is_empty() && self.allocation.messages != 0
+    }
+
+    /// Whether something may go out now, by all that a message of data needs.
+    fn has_all(&self, busy: &[u8]) -> bool
         ensures { result ≡ parcels.may_send busy.now self.now }
     {
-        if self.bits.is_empty() {
-            return false;
-        }
         !self.is_receiving()
             && self.is_open()
             && self.link.is_some()
@@ -60,11 +63,23 @@ impl Entry {
             && self.sendable() > 0
     }
 
-    /// Whether something may go out now on this link.
+    /// Whether something may go out now. Most ends have no bits that wait, or wait for a grant, so that is looked at first.
+    #[tactic(auto, using(crate::proofs::ParcelLemmas::no_turn))]
+    fn may_send(&self, busy: &[u8]) -> bool
+        ensures { result ≡ parcels.may_send busy.now self.now }
+    {
+        if !self.has_turn() {
+            return false;
+        }
+        self.has_all(busy)
+    }
+
+    /// Whether something may go out now on this link. The link is looked at first, since each end has one of its own.
+    #[tactic(auto, using(crate::proofs::ParcelLemmas::on_its_link))]
     pub(crate) fn may_send_on(&self, busy: &[u8], link: u8) -> bool
         ensures { result ≡ may_send_on busy.now link self.now }
     {
-        self.may_send(busy) && self.link_number() == link
+        self.link_number() == link && self.has_all(busy)
     }
 }
 

@@ -1,6 +1,7 @@
 //! The text of what goes out.
 
-ghost use Rattle.std.specs.Prelude.{◌≡◌, ◌*◌, ◌≤◌, ◌∷◌, [], IfOk, map, List, length, take, true};
+ghost use Rattle.std.specs.Prelude.{◌≡◌, ◌*◌, ◌++◌, ◌≤◌, ◌∷◌, [], IfOk, OnOk, map, List, length, take, true};
+ghost use Rattle.std.specs.Int.{w16, to_be_bytes};
 ghost use Rattle.bit_messages.specs.Octets.{bits_of};
 ghost use Rattle.ncp_control.specs.Command.{is_alone, spelling};
 ghost use Rattle.ncp_control.specs.Packing.{AreRead, packed_count, spellings};
@@ -21,10 +22,10 @@ use bit_messages::{BitFault, Bits};
 use ncp_control::{Command, DataHeader, pack};
 use std::alloc::{AllocError, Global};
 
-/// The bits of octets that have room in one control message.
+/// The bits of octets that have room in one control message, with those of its header.
 #[tactic(auto, using(crate::proofs::SendingLemmas::whole_octets))]
 fn whole(alloc: Global, octets: &[u8]) -> Result<Bits, AllocError>
-    requires room { length octets.now ≤ 120 }
+    requires room { length octets.now ≤ 125 }
     ensures { IfOk result (λ bits. bits ≡ bits_of octets.now) }
 {
     match Bits::from_octets(alloc, octets, 8 * octets.len()) {
@@ -34,22 +35,28 @@ fn whole(alloc: Global, octets: &[u8]) -> Result<Bits, AllocError>
     }
 }
 
+/// The octets of a control message: those of its header, and these behind them.
+fn with_header(alloc: Global, octets: &[u8]) -> Result<Vec<u8>, AllocError>
+    requires room { length octets.now ≤ 120 }
+    ensures { IfOk result (λ all. all.items ≡ 0 ∷ 8 ∷ to_be_bytes w16 (length octets.now) ++ 0 ∷ octets.now) }
+{
+    let [high, low] = (octets.len() as u16).to_be_bytes();
+    let mut all = Vec::with_capacity(alloc, 5 + octets.len())?;
+    all.extend_from_slice(&[0, 8, high, low, 0])?;
+    all.extend_from_slice(octets)?;
+    Ok(all)
+}
+
 /// The text of a control message with these octets.
-#[tactic(auto, using(crate::proofs::SendingLemmas::control_short))]
+#[tactic(auto, using(crate::proofs::SendingLemmas::control_short, crate::proofs::SendingLemmas::message_room, crate::proofs::SendingLemmas::message_bits))]
 fn control_text(alloc: Global, octets: &[u8]) -> Result<Bits, AllocError>
     requires room { length octets.now ≤ 120 }
     ensures short { IfOk result (λ text. length text ≤ 8063) }
     ensures again { (commands : List Command) → AreRead octets.now commands → IfOk result (λ text. orders_of text ≡ map Legal commands) }
     ensures text { IfOk result (λ text. text ≡ control.control_text octets.now) }
 {
-    let count = octets.len() as u16;
-    let header = DataHeader { size: 8, count };
-    let Ok(mut text) = header.write(alloc) else {
-        return Err(AllocError);
-    };
-    let Ok(()) = text.append(&whole(alloc, octets)?) else {
-        return Err(AllocError);
-    };
+    let all = with_header(alloc, octets)?;
+    let text = whole(alloc, &all)?;
     Ok(text)
 }
 
@@ -81,6 +88,28 @@ fn commands_text(alloc: Global, queue: &Queue) -> Result<Bits, AllocError>
     control_text(alloc, &octets)
 }
 
+/// Puts these bits at the end.
+fn append_all(text: &mut Bits, bits: &Bits) -> Result<(), AllocError>
+    ensures { OnOk result (text.new ≡ text.old ++ bits.now) }
+{
+    match text.append(bits) {
+        Ok(()) => Ok(()),
+        Err(_) => Err(AllocError),
+    }
+}
+
+/// Puts the first `count` of these bits at the end, or all of them. All of them are not copied before.
+#[tactic(auto, using(crate::proofs::SendingLemmas::all_bits))]
+fn append_front(alloc: Global, text: &mut Bits, bits: &Bits, count: usize) -> Result<(), AllocError>
+    ensures { OnOk result (text.new ≡ text.old ++ take count bits.now) }
+{
+    if bits.len() <= count {
+        return append_all(text, bits);
+    }
+    let front = front(alloc, bits, count)?;
+    append_all(text, &front)
+}
+
 /// The text of a message with the first bytes of these bits.
 #[tactic(auto, using(crate::proofs::SendingLemmas::data_short))]
 fn data_text(alloc: Global, size: u8, count: u16, bits: &Bits) -> Result<Bits, AllocError>
@@ -92,10 +121,7 @@ fn data_text(alloc: Global, size: u8, count: u16, bits: &Bits) -> Result<Bits, A
     let Ok(mut text) = header.write(alloc) else {
         return Err(AllocError);
     };
-    let front = front(alloc, bits, size as usize * count as usize)?;
-    let Ok(()) = text.append(&front) else {
-        return Err(AllocError);
-    };
+    append_front(alloc, &mut text, bits, size as usize * count as usize)?;
     Ok(text)
 }
 

@@ -9,6 +9,7 @@ ghost use Rattle.host_pairs.specs.Desk.{desk_of};
 
 use crate::Notice;
 use crate::desk::Desk;
+use crate::ends::{has_closing, has_due};
 use crate::listener::Listeners;
 use crate::pair::Pair;
 use crate::phase::Phase;
@@ -64,6 +65,7 @@ impl Turn {
     }
 
     /// Puts the pair's connections back, and tells what is to be told of them.
+    #[tactic(auto, using(crate::proofs::TurnLemmas::told_first))]
     pub(crate) fn restore(&mut self, desk: Desk) -> Result<(), AllocError>
         ensures state { OnOk result (self.new ≡ turns.with_desk self.old desk) }
         ensures memory { OnErr result (0 < length desk.notices) }
@@ -77,6 +79,10 @@ impl Turn {
         self.pair.entries = entries;
         self.pair.queue = queue;
         self.listening = listening;
+        if self.notices.is_empty() {
+            self.notices = notices;
+            return Ok(());
+        }
         self.notices.append(&mut notices)
     }
 
@@ -117,11 +123,15 @@ impl Turn {
         self.restore(desk)
     }
 
-    /// Each end that waited for an answer and has it closes now.
+    /// Each end that waited for an answer and has it closes now. Mostly there is none.
+    #[tactic(auto, using(crate::proofs::TurnLemmas::none_settles))]
     fn settle(&mut self, alloc: Global) -> Result<(), AllocError>
         ensures state { OnOk result (self.new ≡ turns.settled_turn self.old) }
         ensures memory { OnErr result (0 < newly_said self.old (turns.settled_turn self.old)) }
     {
+        if !has_closing(&self.pair.entries, &self.pair.busy) {
+            return Ok(());
+        }
         let mut desk = self.desk(alloc);
         desk.settle(&self.pair.busy)?;
         self.restore(desk)
@@ -196,6 +206,22 @@ fn free(busy: &mut Vec<u8>, link: u8)
     busy.retain(|l| *l != link);
 }
 
+impl Pair {
+    /// Whether an RFNM frees its link and nothing else comes of it: the pair is ready, and no end waits to close.
+    pub fn is_quiet(&self) -> bool
+        ensures { result ≡ turns.is_quiet self.now }
+    {
+        self.phase.is_ready() && !has_due(&self.entries)
+    }
+
+    /// A link has no message outstanding any more.
+    pub fn free(&mut self, link: u8)
+        ensures { self.new ≡ turns.freed link self.old }
+    {
+        free(&mut self.busy, link);
+    }
+}
+
 impl Turn {
     /// The pair is closed: its connections and what waits to be said are gone, and the user is told why.
     fn close(&mut self, alloc: Global, notice: Notice) -> Result<(), AllocError>
@@ -263,7 +289,7 @@ impl Turn {
     fn free(&mut self, link: u8)
         ensures { self.new ≡ record self.old { pair = turns.freed link self.old.pair } }
     {
-        free(&mut self.pair.busy, link);
+        self.pair.free(link);
     }
 
     /// An answer about a message that this host has out is taken: the link is free, and what follows by its

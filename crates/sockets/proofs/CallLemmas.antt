@@ -1,10 +1,14 @@
 -- How a call ends that is served by what was done to a peer.
-use Rattle.std.proofs.Common.{◌≡◌, ℕ, true, false, List, [], Result, Ok, Err, Option, Some, OnErr, OnOk, IfErr, MatchResult, ◌+◌, ◌<◌, subst, refl, sym, ◌∙◌, arith}
+use Rattle.std.proofs.Common.{◌≡◌, ℕ, true, false, List, [], Result, Ok, Err, Option, Some, OnErr, OnOk, IfErr, MatchResult, ◌+◌, ◌<◌, subst, refl, ap, sym, ◌∙◌, arith}
 use Rattle.std.specs.declared.alloc.AllocError.{AllocError}
 use Rattle.sockets.specs.Calls.{IsSpent}
 use Rattle.sockets.specs.Memory.{newly_known, queued_by_closing}
-use Rattle.sockets.specs.Pairs.{NcpState, owner_of}
+use Rattle.sockets.specs.Accepting.{after_turn, turn_of}
+use Rattle.sockets.specs.Pairs.{NcpState, owner_of, pair_with, with_pair}
 use Rattle.host_pairs.specs.Desk.{listens_on}
+use Rattle.host_pairs.specs.Turn.{TurnState, answered_turn, freed, is_quiet}
+use Rattle.host_pairs.proofs.lemmas.{quiet_turn}
+use Rattle.leader1822.specs.declared.crossing.Answer.TheVariants as answer
 use Rattle.leader1822.specs.Host.{Host}
 use Rattle.sockets.specs.Peers.{AreInOrder}
 use Rattle.sockets.proofs.PeerLemmas.{owner_known}
@@ -13,6 +17,9 @@ use Rattle.host_pairs.specs.Asked.{closed_end}
 use Rattle.sockets.specs.declared.fault.NcpFault.{NcpFault}
 use Rattle.sockets.specs.declared.fault.NcpFault.TheVariants as fault
 use Rattle.host_pairs.specs.declared.notice.Notice.{Notice}
+
+abbrev told_nothing : NcpState → NcpState × List Notice
+told_nothing s = (s, [])
 
 -- what was done is what is to be served
 pub ended : (done : Result (Unit {0}) AllocError) (result : Result (Unit {0}) NcpFault) (mid new found target : NcpState)
@@ -45,3 +52,10 @@ pub wanted_closing : (socket : ℕ) (peer : Host) (old : NcpState) (o : Option H
     → IfErr result (λ f. 0 < queued_by_closing old socket (Some peer)) → IfErr result (λ f. 0 < queued_by_closing old socket o)
 wanted_closing socket peer old o result is memory =
     subst (λ (x : Option Host). IfErr result (λ f. 0 < queued_by_closing old socket x)) (sym is) memory
+
+-- an RFNM of which nothing else comes leaves the host with the link free
+pub freed_quietly : (old new : NcpState) (peer : Host) (link : ℕ) → is_quiet (pair_with peer old.peers) ≡ true
+    → new ≡ record old { peers = with_pair peer (freed link (pair_with peer old.peers)) old.peers }
+    → after_turn old peer (answered_turn peer answer.Rfnm link (turn_of old peer)) ≡ (new, [])
+freed_quietly old new peer link quiet is =
+    ap (λ (t : TurnState). after_turn old peer t) (quiet_turn peer link (turn_of old peer) quiet) ∙ ap (λ (s : NcpState). told_nothing s) (sym is)

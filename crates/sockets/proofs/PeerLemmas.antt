@@ -8,10 +8,14 @@ use Rattle.std.proofs.lemmas.Bool.{eqb-true, ltb-true, ltb-false}
 use Rattle.leader1822.specs.Host.{Host, IsAddress, same_host, address_octet}
 use Rattle.leader1822.proofs.lemmas.{same_host-refl}
 use Rattle.host_pairs.specs.Pair.{PairState, is_opening}
+use Rattle.host_pairs.specs.Phases.{is_closed, is_ready}
+use Rattle.host_pairs.specs.Turn.{freed, is_quiet}
+use Rattle.host_pairs.specs.declared.phase.Phase.{Phase}
+use Rattle.host_pairs.specs.declared.phase.Phase.TheVariants as phase
 use Rattle.host_pairs.specs.Entries.{is_mine_on}
 use Rattle.host_pairs.specs.declared.entry.Entry.{Entry}
 use Rattle.sockets.specs.Memory.{newly_known}
-use Rattle.sockets.specs.Pairs.{NcpState, owner_of, pair_with, placed, without_peer, with_pair}
+use Rattle.sockets.specs.Pairs.{NcpState, owner_of, pair_in, pair_with, placed, without_peer, with_pair}
 use Rattle.sockets.specs.Requests.{at_owner}
 use Rattle.sockets.specs.Peers.{StandAbove, AreInOrder}
 use Rattle.sockets.specs.declared.peer.Peer.{Peer}
@@ -98,20 +102,32 @@ pub record StandsAt (h : Host) (ps : List Peer) (at : ℕ) : Type 0 where
   pub removed : remove ps at ≡ without_peer h ps
   pub placed : (q : PairState) → slice_set ps at (record { host = h; pair = q }) ≡ placed (record { host = h; pair = q }) ps
 
-pub stands_at : (h : Host) (n : ℕ) (ps : List Peer) (at : ℕ) (d : Peer) → StandAbove n ps → Parts h ps at → at < length ps → same_host h (slice_index_or ps at d).host ≡ true → StandsAt h ps at
-stands_at h n [] at d s t lt e = absurd (omega (arith, lt))
-stands_at h n (p ∷ ps) zero d s t lt e = record {
+each_above : (n : ℕ) (ps : List Peer) → StandAbove n ps → (j : ℕ) (d : Peer) → j < length ps → n < address_octet (slice_index_or ps j d).host
+each_above n [] s j d lt = absurd (omega (arith, lt))
+each_above n (p ∷ ps) s zero d lt = s.0
+each_above n (p ∷ ps) s (suc j) d lt = omega (arith, s.0, each_above (address_octet p.host) ps s.2 j d (omega (arith, lt)))
+
+less_by : (m n : ℕ) → m < n → (b : Bool) → nat_lt m n ≡ b → b ≡ true
+less_by m n lt true e = refl
+less_by m n lt false e = absurd (omega (arith, lt, ltb-false m n e))
+
+pub stands_at : (h : Host) (n : ℕ) (ps : List Peer) (at : ℕ) (d : Peer) → StandAbove n ps → at < length ps → same_host h (slice_index_or ps at d).host ≡ true → StandsAt h ps at
+stands_at h n [] at d s lt e = absurd (omega (arith, lt))
+stands_at h n (p ∷ ps) zero d s lt e = record {
   found = λ x. rw e refl;
   removed = rw e (sym (kept_above h (address_octet p.host) ps (omega (arith, same_octet h p.host e)) s.2));
-  placed = λ q. rw (first_not h p ps t, e) refl;
+  placed = λ q. rw (not_less (address_octet p.host) (address_octet h) (omega (arith, same_octet h p.host e)), e) refl;
 }
-stands_at h n (p ∷ ps) (suc at) d s t lt e =
-    let r : StandsAt h ps at = stands_at h (address_octet p.host) ps at d s.2 (rest_parts h p ps at t) (omega (arith, lt)) e in
-    let o : same_host h p.host ≡ false = other_below h p (first_below h p ps at t) in
+stands_at h n (p ∷ ps) (suc at) d s lt e =
+    let r : StandsAt h ps at = stands_at h (address_octet p.host) ps at d s.2 (omega (arith, lt)) e in
+    let same : address_octet h ≡ address_octet (slice_index_or ps at d).host = same_octet h (slice_index_or ps at d).host e in
+    let before : address_octet p.host < address_octet h = omega (arith, same, each_above (address_octet p.host) ps s.2 at d (omega (arith, lt))) in
+    let less : below h p ≡ true = less_by (address_octet p.host) (address_octet h) before (nat_lt (address_octet p.host) (address_octet h)) refl in
+    let o : same_host h p.host ≡ false = other_below h p less in
     record {
       found = λ x. rw o (r.found x);
       removed = rw o (ap (λ (qs : List Peer). p ∷ qs) r.removed);
-      placed = λ q. rw (first_below h p ps at t) (ap (λ (qs : List Peer). p ∷ qs) (r.placed q));
+      placed = λ q. rw less (ap (λ (qs : List Peer). p ∷ qs) (r.placed q));
     }
 
 less_of : (m n : ℕ) → n ≤ m → (n ≡ m → ⊥) → n < m
@@ -246,15 +262,6 @@ missing_more h q (p ∷ ps) none =
 
 -- ---- the search
 
-each_above : (n : ℕ) (ps : List Peer) → StandAbove n ps → (j : ℕ) (d : Peer) → j < length ps → n < address_octet (slice_index_or ps j d).host
-each_above n [] s j d lt = absurd (omega (arith, lt))
-each_above n (p ∷ ps) s zero d lt = s.0
-each_above n (p ∷ ps) s (suc j) d lt = omega (arith, s.0, each_above (address_octet p.host) ps s.2 j d (omega (arith, lt)))
-
-less_by : (m n : ℕ) → m < n → (b : Bool) → nat_lt m n ≡ b → b ≡ true
-less_by m n lt true e = refl
-less_by m n lt false e = absurd (omega (arith, lt, ltb-false m n e))
-
 partitioned_at : (h : Host) (n : ℕ) (ps : List Peer) → StandAbove n ps → (i j : ℕ) (d : Peer) → i ≤ j → j < length ps
     → nat_lt (address_octet (slice_index_or ps j d).host) (address_octet h) ≡ true → nat_lt (address_octet (slice_index_or ps i d).host) (address_octet h) ≡ true
 partitioned_at h n [] s i j d le lt t = absurd (omega (arith, lt))
@@ -331,3 +338,29 @@ order_removed h ps qs s e = subst (λ (rs : List Peer). AreInOrder rs) (sym e) (
 
 pub order_placed : (p : Peer) (ps qs : List Peer) → IsAddress p.host → AreInOrder ps → qs ≡ placed p ps → AreInOrder qs
 order_placed p ps qs a s e = subst (λ (rs : List Peer). AreInOrder rs) (sym e) (placed_above 0 p ps (omega (arith, a.imp_from)) a s)
+
+-- ---- a link that is freed where the pair stands
+
+ready_not_closed : (p : Phase) → is_ready p ≡ true → is_closed p ≡ false
+ready_not_closed phase.Closed e = absurd (cc)
+ready_not_closed phase.Want e = absurd (cc)
+ready_not_closed (phase.Gone early) e = absurd (cc)
+ready_not_closed phase.Heard e = absurd (cc)
+ready_not_closed phase.Ready e = refl
+
+quiet_stays : (link : ℕ) (q : PairState) → is_quiet q ≡ true → is_opening (freed link q) ≡ false
+quiet_stays link q quiet = rw (ready_not_closed q.phase (and_both _ _ quiet).0) refl
+
+pub quiet_there : (h : Host) (at : ℕ) (p : Peer) (ps : List Peer) → ((d : Peer) → find (λ (p : Peer). same_host h p.host) ps ≡ Some (slice_index_or ps at d)) → p ≡ slice_index_or ps at p
+    → is_quiet p.pair ≡ true → is_quiet (pair_with h ps) ≡ true
+quiet_there h at p ps found stands quiet =
+    let pair : pair_with h ps ≡ p.pair = ap (λ (o : Option Peer). pair_in o) (found p) ∙ ap (λ (q : Peer). q.pair) (sym stands) in
+    rw pair quiet
+
+pub freed_there : (h : Host) (link at : ℕ) (p : Peer) (ps qs : List Peer) → ((d : Peer) → find (λ (p : Peer). same_host h p.host) ps ≡ Some (slice_index_or ps at d)) → p ≡ slice_index_or ps at p
+    → is_quiet p.pair ≡ true → ((d : Peer) → qs ≡ placed (record { host = h; pair = freed link (slice_index_or ps at d).pair }) ps)
+    → qs ≡ with_pair h (freed link (pair_with h ps)) ps
+freed_there h link at p ps qs found stands quiet is =
+    let pair : pair_with h ps ≡ p.pair = ap (λ (o : Option Peer). pair_in o) (found p) ∙ ap (λ (q : Peer). q.pair) (sym stands) in
+    let put : qs ≡ placed (record { host = h; pair = freed link p.pair }) ps = is p ∙ ap (λ (q : Peer). placed (record { host = h; pair = freed link q.pair }) ps) (sym stands) in
+    rw (pair, quiet_stays link p.pair quiet) put

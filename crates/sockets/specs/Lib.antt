@@ -9,3 +9,4 @@ pub mod Dialogue
 pub mod Worked
 pub mod Others
 pub mod Owned
+pub mod Due

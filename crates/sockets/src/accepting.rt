@@ -3,7 +3,8 @@
 ghost use Rattle.std.specs.Prelude.{◌≡◌, ◌+◌, ◌<◌, [], false, IfErr, IfOk, OnErr, length};
 ghost use Rattle.leader1822.specs.declared.crossing.Inbound.TheVariants as inbound;
 ghost use Rattle.sockets.specs.Accepting as accepting;
-ghost use Rattle.host_pairs.specs.Turn.{TurnState};
+ghost use Rattle.host_pairs.specs.Turn.{TurnState, answered_turn};
+ghost use Rattle.std.specs.Bool.{OnFalse, OnTrue};
 ghost use Rattle.sockets.specs.Calls.{Turns};
 ghost use Rattle.host_pairs.specs.Entries.{is_busy};
 ghost use Rattle.sockets.specs.Memory.{newly_known, said_by_inbound};
@@ -79,6 +80,18 @@ impl Ncp {
         }
     }
 
+    /// An RFNM is taken where the pair stands, if it frees its link and nothing else comes of it; else nothing changes.
+    #[tactic(auto, using(crate::proofs::CallLemmas::freed_quietly))]
+    fn free(&mut self, kind: Answer, peer: HostAddr, link: u8) -> bool
+        ensures state { OnTrue result (accepting.after_turn self.old peer (answered_turn peer kind link (accepting.turn_of self.old peer)) ≡ (self.new, [])) }
+        ensures kept { OnFalse result (self.new ≡ self.old) }
+    {
+        match kind {
+            Answer::Rfnm => self.peers.free(peer, link),
+            Answer::Incomplete | Answer::Dead | Answer::NotTaken => false,
+        }
+    }
+
     /// An answer comes in.
     fn accept_answer(&mut self, kind: Answer, flow: Flow) -> Result<Vec<Notice>, AllocError>
         ensures state { IfOk result (λ notices. accepting.accepted_answer self.old kind flow ≡ (self.new, notices.items)) }
@@ -90,6 +103,9 @@ impl Ncp {
             link,
         } = flow;
         if self.own != source || !self.is_busy(destination, link.0) {
+            return Ok(Vec::new(self.alloc));
+        }
+        if self.free(kind, destination, link.0) {
             return Ok(Vec::new(self.alloc));
         }
         let mut turn = self.begin(destination);

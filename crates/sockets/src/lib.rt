@@ -11,6 +11,7 @@
 
 mod accepting;
 mod calls;
+mod due;
 mod fault;
 pub mod law;
 mod ncp;

@@ -7,13 +7,15 @@ ghost use Rattle.std.specs.List.Sorted.{IsPartitionPoint};
 ghost use Rattle.leader1822.specs.Host.{address_octet, same_host};
 ghost use Rattle.host_pairs.specs.Outgoing.{HasRoom, IsThere, parcel_of};
 ghost use Rattle.host_pairs.specs.Pair.{PairState, opening_pair};
-ghost use Rattle.host_pairs.specs.Parcels.{next_of};
+ghost use Rattle.host_pairs.specs.Turn.{freed, is_quiet};
 ghost use Rattle.sockets.specs.Owned.{AreKnown, AreKnownBut, some_own};
 ghost use Rattle.sockets.specs.Pairs.{owner_of, pair_with, with_pair, placed, without_peer};
-ghost use Rattle.sockets.specs.Peers.{AreInOrder, has_parcel};
+ghost use Rattle.sockets.specs.Due.{GoNext, is_due};
+ghost use Rattle.sockets.specs.Peers.{AreInOrder};
 ghost use Rattle.sockets.specs.Sending.{next_in};
 ghost use Rattle.sockets.specs.declared.peer.Peer.{Peer};
 
+use crate::due::Due;
 use crate::owned::Owned;
 use crate::peer::Peer;
 use host_pairs::{Entry, Outgoing, Pair, own_place};
@@ -25,26 +27,29 @@ use std::mem;
 /// The other hosts that this one has to do with, in order of their address octets. A host that isn't here has
 /// a pair as at the opening.
 ///
-/// Beside each stands whether something goes to it, so that the next message is found without a look at the others. And so far as it
-/// is known which sockets have an end, one without an end is found without a look at all ends.
+/// Beside each stands what goes to it next, so that the next message is found without a look at the others, and its connections are
+/// looked through once for each change. And so far as it is known which sockets have an end, one without an end is found without a
+/// look at all ends. The place of the peer that was changed last is where one is looked for first.
 #[derive(Drop)]
 pub(crate) struct Peers {
     peers: Vec<Peer>,
-    due: Vec<bool>,
+    due: Vec<Due>,
+    recent: usize,
     owned: Owned,
 }
 
 impl Model for Peers {
-    ghost use Rattle.std.specs.Prelude.{◌≡◌, List, map};
+    ghost use Rattle.std.specs.Prelude.{List};
     ghost use Rattle.sockets.specs.Owned.{AreKnown};
-    ghost use Rattle.sockets.specs.Peers.{AreInOrder, has_parcel};
+    ghost use Rattle.sockets.specs.Due.{GoNext};
+    ghost use Rattle.sockets.specs.Peers.{AreInOrder};
     ghost use Rattle.sockets.specs.declared.peer.Peer.{Peer};
 
     ghost Value = { List Peer };
 
     ghost view = { λ p. p.peers.items };
 
-    ghost invariant = { λ p. AreInOrder p.peers.items × (p.due.items ≡ map has_parcel p.peers.items) × AreKnown p.owned p.peers.items };
+    ghost invariant = { λ p. AreInOrder p.peers.items × GoNext p.due.items p.peers.items × AreKnown p.owned p.peers.items };
 }
 
 impl Peers {
@@ -55,6 +60,7 @@ impl Peers {
         Peers {
             peers: Vec::new(alloc),
             due: Vec::new(alloc),
+            recent: 0,
             owned: Owned::Unknown,
         }
     }
@@ -63,7 +69,7 @@ impl Peers {
     pub fn pair(&self, host: HostAddr) -> Option<&Pair>
         ensures { MatchOption result (pair_with host self.now ≡ opening_pair) (λ pair. pair_with host self.now ≡ pair.now) }
     {
-        match place(&self.peers, host) {
+        match place(&self.peers, self.recent, host) {
             Ok(at) => Some(&self.peers[at].pair),
             Err(_) => None,
         }
@@ -121,6 +127,7 @@ impl Peers {
     }
 
     /// The first peer that something goes to, and what.
+    #[tactic(auto, using(crate::proofs::DueLemmas::same_length))]
     pub fn first(&self) -> Option<(&Peer, Outgoing)>
         ensures next { MatchOption result (next_in self.now ≡ None) (λ found. next_in self.now ≡ Some (found.0.now, parcel_of found.0.now.pair.entries found.1)) }
         ensures there { IfSome result (λ found. IsThere found.0.now.pair.entries found.1) }
@@ -129,8 +136,11 @@ impl Peers {
     {
         let at = first_due(&self.due)?;
         let peer = &self.peers[at];
-        let out = peer.pair.next()?;
-        Some((peer, out))
+        match self.due[at] {
+            Due::Nothing => None,
+            Due::Something => Some((peer, peer.pair.next()?)),
+            Due::Known(out) => Some((peer, out)),
+        }
     }
 
     /// Takes what is known of a peer out, to be changed and put back: its place is kept, so a peer that was
@@ -141,7 +151,32 @@ impl Peers {
         ensures again { (pair : PairState) → with_pair host pair self.new ≡ with_pair host pair self.old }
     {
         self.owned = Owned::Unknown;
-        swap(&mut self.peers, &mut self.due, host, Pair::new(alloc))
+        let opening = Pair::new(alloc);
+        swap(
+            &mut self.peers,
+            &mut self.due,
+            &mut self.recent,
+            host,
+            opening,
+        )
+    }
+
+    /// An RFNM on a link of a peer is taken where it stands, if it frees the link and nothing else comes of it; else nothing changes.
+    #[tactic(auto, using(crate::proofs::PeerLemmas::quiet_there, crate::proofs::PeerLemmas::freed_there))]
+    pub fn free(&mut self, host: HostAddr, link: u8) -> bool
+        ensures quiet { OnTrue result (is_quiet (pair_with host self.old) ≡ true) }
+        ensures freed { OnTrue result (self.new ≡ with_pair host (freed link (pair_with host self.old)) self.old) }
+        ensures kept { OnFalse result (self.new ≡ self.old) }
+    {
+        let Ok(at) = place(&self.peers, self.recent, host) else {
+            return false;
+        };
+        if !self.peers[at].pair.is_quiet() {
+            return false;
+        }
+        self.owned = Owned::Unknown;
+        free_at(&mut self.peers, &mut self.due, at, host, link);
+        true
     }
 
     /// Puts what is known of a peer in. One with a pair as at the opening isn't kept.
@@ -151,55 +186,57 @@ impl Peers {
     {
         self.owned = Owned::Unknown;
         if pair.is_opening() {
-            remove(&mut self.peers, &mut self.due, host);
+            remove(&mut self.peers, &mut self.due, self.recent, host);
             return Ok(());
         }
-        insert(&mut self.peers, &mut self.due, host, pair)
+        insert(&mut self.peers, &mut self.due, self.recent, host, pair)
     }
 }
 
 /// The first place of a peer that something goes to.
-fn first_due(due: &[bool]) -> Option<usize>
-    ensures { result ≡ position (λ is_due. is_due) due.now }
+fn first_due(due: &[Due]) -> Option<usize>
+    ensures { result ≡ position is_due due.now }
 {
-    due.iter().position(|is_due| *is_due)
-}
-
-/// Whether something of a pair goes out next.
-fn has_something(pair: &Pair) -> bool
-    ensures { result ≡ is_some (next_of pair.now) }
-{
-    pair.has_next()
+    due.iter().position(|due| due.is_due())
 }
 
 /// Removes a host from the peers.
-fn remove(peers: &mut Vec<Peer>, due: &mut Vec<bool>, host: HostAddr)
+#[tactic(auto, using(crate::proofs::DueLemmas::same_length))]
+fn remove(peers: &mut Vec<Peer>, due: &mut Vec<Due>, recent: usize, host: HostAddr)
     requires order { AreInOrder peers.old.items }
-    requires due { due.old.items ≡ map has_parcel peers.old.items }
+    requires due { GoNext due.old.items peers.old.items }
     ensures left { peers.new.items ≡ without_peer host peers.old.items }
     ensures order { AreInOrder peers.new.items }
-    ensures due { due.new.items ≡ map has_parcel peers.new.items }
+    ensures due { GoNext due.new.items peers.new.items }
 {
-    if let Ok(at) = place(peers, host) {
+    if let Ok(at) = place(peers, recent, host) {
         let _ = peers.remove(at);
         let _ = due.remove(at);
     }
 }
 
 /// Gives what is known of a host, and leaves a pair as at the opening in its place.
-fn swap(peers: &mut Vec<Peer>, due: &mut Vec<bool>, host: HostAddr, opening: Pair) -> Pair
+#[tactic(auto, using(crate::proofs::DueLemmas::same_length))]
+fn swap(
+    peers: &mut Vec<Peer>,
+    due: &mut Vec<Due>,
+    recent: &mut usize,
+    host: HostAddr,
+    opening: Pair,
+) -> Pair
     requires order { AreInOrder peers.old.items }
-    requires due { due.old.items ≡ map has_parcel peers.old.items }
+    requires due { GoNext due.old.items peers.old.items }
     requires opening { opening ≡ opening_pair }
     ensures found { result ≡ pair_with host peers.old.items }
     ensures known { length peers.new.items ≡ length peers.old.items }
     ensures order { AreInOrder peers.new.items }
     ensures again { (pair : PairState) → with_pair host pair peers.new.items ≡ with_pair host pair peers.old.items }
-    ensures due { due.new.items ≡ map has_parcel peers.new.items }
+    ensures due { GoNext due.new.items peers.new.items }
 {
-    match place(peers, host) {
+    match place(peers, *recent, host) {
         Ok(at) => {
-            due[at] = false;
+            *recent = at;
+            due[at] = Due::Nothing;
             let known = Peer {
                 host,
                 pair: opening,
@@ -210,46 +247,101 @@ fn swap(peers: &mut Vec<Peer>, due: &mut Vec<bool>, host: HostAddr, opening: Pai
     }
 }
 
+/// Frees a link of the host at a place.
+#[tactic(auto, using(crate::proofs::DueLemmas::same_length))]
+fn free_at(peers: &mut Vec<Peer>, due: &mut Vec<Due>, at: usize, host: HostAddr, link: u8)
+    requires there { at < length peers.old.items }
+    requires stands { (pair : PairState) → slice_set peers.old.items at (record { host = host; pair = pair }) ≡ placed (record { host = host; pair = pair }) peers.old.items }
+    requires order { AreInOrder peers.old.items }
+    requires due { GoNext due.old.items peers.old.items }
+    ensures freed { (d : Peer) → peers.new.items ≡ placed (record { host = host; pair = freed link (slice_index_or peers.old.items at d).pair }) peers.old.items }
+    ensures order { AreInOrder peers.new.items }
+    ensures due { GoNext due.new.items peers.new.items }
+{
+    let peer = &mut peers[at];
+    peer.host = host;
+    peer.pair.free(link);
+    due[at] = Due::of(&peer.pair);
+}
+
 /// Puts a host among the peers, or in the place of what stood there of it.
 #[tactic(auto, using(crate::proofs::PeerLemmas::missing_more))]
 fn insert(
     peers: &mut Vec<Peer>,
-    due: &mut Vec<bool>,
+    due: &mut Vec<Due>,
+    recent: usize,
     host: HostAddr,
     pair: Pair,
 ) -> Result<(), AllocError>
     requires order { AreInOrder peers.old.items }
-    requires due { due.old.items ≡ map has_parcel peers.old.items }
+    requires due { GoNext due.old.items peers.old.items }
     ensures placed { OnOk result (peers.new.items ≡ placed (record { host = host; pair = pair }) peers.old.items) }
     ensures order { AreInOrder peers.new.items }
     ensures memory { OnErr result (length peers.old.items < length (placed (record { host = host; pair = pair }) peers.old.items)) }
-    ensures due { due.new.items ≡ map has_parcel peers.new.items }
+    ensures due { GoNext due.new.items peers.new.items }
 {
-    let is_due = has_something(&pair);
-    match place(peers, host) {
+    match place(peers, recent, host) {
         Ok(at) => {
-            peers[at] = Peer { host, pair };
-            due[at] = is_due;
+            put_at(peers, due, at, host, pair);
+            Ok(())
         }
-        Err(at) => {
-            due.reserve(1)?;
-            peers.insert(at, Peer { host, pair })?;
-            let Ok(()) = due.insert(at, is_due) else {
-                unreachable!();
-            };
-        }
+        Err(at) => insert_at(peers, due, at, host, pair),
     }
+}
+
+/// Puts a host in the place of what stood there of it.
+#[tactic(auto, using(crate::proofs::DueLemmas::same_length))]
+fn put_at(peers: &mut Vec<Peer>, due: &mut Vec<Due>, at: usize, host: HostAddr, pair: Pair)
+    requires there { at < length peers.old.items }
+    requires stands { (pair : PairState) → slice_set peers.old.items at (record { host = host; pair = pair }) ≡ placed (record { host = host; pair = pair }) peers.old.items }
+    requires order { AreInOrder peers.old.items }
+    requires due { GoNext due.old.items peers.old.items }
+    ensures placed { peers.new.items ≡ placed (record { host = host; pair = pair }) peers.old.items }
+    ensures order { AreInOrder peers.new.items }
+    ensures due { GoNext due.new.items peers.new.items }
+{
+    due[at] = Due::of(&pair);
+    peers[at] = Peer { host, pair };
+}
+
+/// Puts a host that isn't known among the peers, at this place.
+#[tactic(auto, using(crate::proofs::DueLemmas::same_length, crate::proofs::PeerLemmas::order_placed))]
+fn insert_at(
+    peers: &mut Vec<Peer>,
+    due: &mut Vec<Due>,
+    at: usize,
+    host: HostAddr,
+    pair: Pair,
+) -> Result<(), AllocError>
+    requires there { at ≤ length peers.old.items }
+    requires stands { (pair : PairState) → lists.insert peers.old.items at (record { host = host; pair = pair }) ≡ placed (record { host = host; pair = pair }) peers.old.items }
+    requires order { AreInOrder peers.old.items }
+    requires due { GoNext due.old.items peers.old.items }
+    ensures placed { OnOk result (peers.new.items ≡ placed (record { host = host; pair = pair }) peers.old.items) }
+    ensures order { AreInOrder peers.new.items }
+    ensures due { GoNext due.new.items peers.new.items }
+{
+    let out = pair.next();
+    let next = Due::exact(&pair, out);
+    due.reserve(1)?;
+    peers.insert(at, Peer { host, pair })?;
+    let Ok(()) = due.insert(at, next) else {
+        unreachable!();
+    };
     Ok(())
 }
 
-/// The place of a host among the peers, or that at which it would stand.
-fn place(peers: &[Peer], host: HostAddr) -> Result<usize, usize>
+/// The place of a host among the peers, or that at which it would stand. It is looked for where the last one stood first.
+fn place(peers: &[Peer], recent: usize, host: HostAddr) -> Result<usize, usize>
     requires { AreInOrder peers.now }
     ensures bound { MatchResult result (λ at. at < length peers.now) (λ at. at ≤ length peers.now) }
     ensures found { MatchResult result (λ at. (d : Peer) → find (λ p. same_host host p.host) peers.now ≡ Some (slice_index_or peers.now at d)) (λ at. find (λ p. same_host host p.host) peers.now ≡ None) }
     ensures removed { MatchResult result (λ at. lists.remove peers.now at ≡ without_peer host peers.now) (λ at. without_peer host peers.now ≡ peers.now) }
     ensures placed { (pair : PairState) → MatchResult result (λ at. slice_set peers.now at (record { host = host; pair = pair }) ≡ placed (record { host = host; pair = pair }) peers.now) (λ at. lists.insert peers.now at (record { host = host; pair = pair }) ≡ placed (record { host = host; pair = pair }) peers.now) }
 {
+    if stands_at(peers, recent, host) {
+        return Ok(recent);
+    }
     let at = first_from(peers, host);
     if stands_at(peers, at, host) {
         Ok(at)
