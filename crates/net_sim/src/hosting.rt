@@ -22,7 +22,7 @@ use std::alloc::{AllocError, Global};
 
 /// Where a host's seat stands in a network whose IMPs are numbered from 1 on and have as many hosts each. It promises nothing: in
 /// another network another host may sit there, or none.
-fn likely_place(seats: &[Seat], host: HostAddr) -> usize {
+pub(crate) fn likely_place(seats: &[Seat], host: HostAddr) -> usize {
     let Some(last) = seats.last() else {
         return 0;
     };
@@ -49,14 +49,13 @@ fn first_place(seats: &[Seat], host: HostAddr) -> Option<usize>
     seats.iter().position(|seat| host == seat.host)
 }
 
-/// The place of a host's seat. The likely place is looked at before the others.
-pub(crate) fn place(seats: &[Seat], host: HostAddr) -> Option<usize>
+/// The place of a host's seat. A likely place is looked at before the others.
+pub(crate) fn place(seats: &[Seat], likely: usize, host: HostAddr) -> Option<usize>
     requires once { IsOnce (hosts_of seats.now) }
     ensures { result ≡ position (λ s. same_host host s.host) seats.now }
 {
-    let at = likely_place(seats, host);
-    if sits_at(seats, at, host) {
-        return Some(at);
+    if sits_at(seats, likely, host) {
+        return Some(likely);
     }
     first_place(seats, host)
 }

@@ -19,7 +19,7 @@ ghost use Rattle.sockets.specs.declared.request.Request.TheVariants as requests;
 
 use crate::WorldFault;
 use crate::book::Book;
-use crate::hosting::{copies, place, write_changes};
+use crate::hosting::{copies, likely_place, place, write_changes};
 use crate::seat::{Seat, ServiceSeat, empty_all, turn_all};
 use host_services::TypedLine;
 use leader1822::{CarrierFault, Crossing, HostAddr, HostMessage, Inbound};
@@ -31,7 +31,15 @@ pub(crate) fn up_at(seats: &[Seat], host: HostAddr) -> Result<usize, WorldFault>
     requires once { IsOnce (hosts_of seats.now) }
     ensures { MatchResult result (λ at. (s : NcpState) × Sits host at s seats.now) (λ f. IsAway host f seats.now) }
 {
-    let Some(at) = place(seats, host) else {
+    up_near(seats, likely_place(seats, host), host)
+}
+
+/// The same, where a likely place of the host's seat is known. It is looked at before the others.
+pub(crate) fn up_near(seats: &[Seat], likely: usize, host: HostAddr) -> Result<usize, WorldFault>
+    requires once { IsOnce (hosts_of seats.now) }
+    ensures { MatchResult result (λ at. (s : NcpState) × Sits host at s seats.now) (λ f. IsAway host f seats.now) }
+{
+    let Some(at) = place(seats, likely, host) else {
         return Err(WorldFault::Carrier(CarrierFault::NoSuch));
     };
     if seats[at].program.is_none() {
