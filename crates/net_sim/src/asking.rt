@@ -117,15 +117,17 @@ fn write_asked(
     let mut called = called_by(alloc, host, place, &request)?;
     called.append(&mut called_in(alloc, host, place, &deeds.asked)?)?;
     let told = told_by(alloc, host, place, notices)?;
-    book.write(Page {
-        crossings: Vec::new(alloc),
-        asked: Some((host, request)),
-        called,
-        told,
-        by: Some(host),
-        ran: deeds.asked,
-        reports: deeds.reports,
-    })
+    book.write(
+        &[],
+        Page {
+            asked: Some((host, request)),
+            called,
+            told,
+            by: Some(host),
+            ran: deeds.asked,
+            reports: deeds.reports,
+        },
+    )
 }
 
 /// Writes down what a host's services did.
@@ -138,7 +140,7 @@ fn write_deeds(
     ensures done { OnOk result (book.new ≡ all_reported deeds.reports.items (all_asked host deeds.asked.items book.old)) }
     ensures kept { OnErr result (book.new ≡ book.old) }
 {
-    write_crossing(alloc, book, host, Vec::new(alloc), Vec::new(alloc), deeds)
+    write_crossing(alloc, book, host, &[], Vec::new(alloc), deeds)
 }
 
 impl ServiceSeat {

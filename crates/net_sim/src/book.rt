@@ -1,10 +1,11 @@
 //! What a world writes down.
 
-ghost use Rattle.std.specs.Prelude.{◌≡◌, ◌+◌, OnErr, OnOk, length, reverse};
-ghost use Rattle.net_sim.specs.Book.{opening_kept};
+ghost use Rattle.std.specs.Prelude.{◌≡◌, ◌+◌, ◌++◌, OnErr, OnOk, length, reverse, take};
+ghost use Rattle.net_sim.specs.Book.{all_crossed, opening_kept};
 ghost use Rattle.net_sim.specs.Inside.Lives.{written};
 
 use crate::bit_log::BitLog;
+use crate::hosting::copy_of;
 use crate::life::Life;
 use crate::lives::Lives;
 use host_services::Reported;
@@ -35,11 +36,9 @@ pub struct Called {
     pub peer: HostAddr,
 }
 
-/// What happened in one step, in this order.
+/// What happened in one step after something crossed, in this order.
 #[derive(Drop)]
 pub(crate) struct Page {
-    /// What crossed in it.
-    pub(crate) crossings: Vec<Crossing>,
     /// What a user asked for.
     pub(crate) asked: Option<(HostAddr, Request)>,
     /// Which contacts were asked for.
@@ -59,7 +58,7 @@ pub(crate) struct Page {
 /// the oldest first.
 ///
 /// What is written at one time is written whole or not at all: where memory runs out in the lives, they are taken back to what they
-/// were, and for all else there is room before anything is written.
+/// were, and so is what crossed. For all else there is room before anything is written.
 #[derive(Drop)]
 pub struct Book {
     crossings: Vec<Crossing>,
@@ -76,6 +75,30 @@ impl Model for Book {
     ghost Value = { Kept };
 
     ghost view = { λ b. record { book = record { crossings = reverse b.crossings.items; notices = b.notices.items; contacts = b.contacts.items; reports = b.reports.items; lives = b.lives.lives }; handed = b.lives.handed } };
+}
+
+/// Copies of what crossed are put behind what had crossed before, one after another.
+fn push_copies(all: &mut Vec<Crossing>, news: &[Crossing]) -> Result<(), AllocError>
+    ensures done { OnOk result (all.new.items ≡ all.old.items ++ news.now) }
+    ensures before { take (length all.old.items) all.new.items ≡ all.old.items }
+{
+    for crossing in news {
+        all.push(copy_of(crossing)?)?;
+    }
+    Ok(())
+}
+
+/// Copies of what crossed are put behind what had crossed before, or memory runs out, and none is.
+fn add_copies(all: &mut Vec<Crossing>, news: &[Crossing]) -> Result<(), AllocError>
+    ensures done { OnOk result (all.new.items ≡ all.old.items ++ news.now) }
+    ensures kept { OnErr result (all.new.items ≡ all.old.items) }
+{
+    let before = all.len();
+    if push_copies(all, news).is_err() {
+        all.truncate(before);
+        return Err(AllocError);
+    }
+    Ok(())
 }
 
 impl Book {
@@ -100,10 +123,10 @@ impl Book {
     }
 
     /// How many crossings there will be once these are written, too.
-    pub(crate) fn place_after(&self, crossed: &Vec<Crossing>) -> usize
-        ensures { result ≡ length self.now.book.crossings + length crossed.now.items }
+    pub(crate) fn place_after(&self, news: &[Crossing]) -> usize
+        ensures { result ≡ length self.now.book.crossings + length news.now }
     {
-        self.crossings.len() + crossed.len()
+        self.crossings.len() + news.len()
     }
 
     /// What users were told.
@@ -141,24 +164,40 @@ impl Book {
         self.lives.handed()
     }
 
-    /// Writes down what happened in one step.
-    pub(crate) fn write(&mut self, page: Page) -> Result<(), AllocError>
-        ensures done { OnOk result (self.new ≡ written page.crossings.items page.asked page.called.items page.told.items page.by page.ran.items page.reports.items self.old) }
+    /// Writes down what crossed, of which no user was told.
+    pub(crate) fn cross(&mut self, news: &[Crossing]) -> Result<(), AllocError>
+        ensures done { OnOk result (self.new ≡ all_crossed (reverse news.now) self.old) }
         ensures kept { OnErr result (self.new ≡ self.old) }
     {
-        self.crossings.reserve(page.crossings.len())?;
+        let count = self.crossings.len();
+        add_copies(&mut self.crossings, news)?;
+        if self.lives.cross_only(news).is_err() {
+            self.crossings.truncate(count);
+            return Err(AllocError);
+        }
+        Ok(())
+    }
+
+    /// Writes down what crossed, and what happened then.
+    pub(crate) fn write(&mut self, news: &[Crossing], page: Page) -> Result<(), AllocError>
+        ensures done { OnOk result (self.new ≡ written news.now page.asked page.called.items page.told.items page.by page.ran.items page.reports.items self.old) }
+        ensures kept { OnErr result (self.new ≡ self.old) }
+    {
         self.contacts.reserve(page.called.len())?;
         self.notices.reserve(page.told.len())?;
         self.reports.reserve(page.reports.len())?;
-        self.lives.follow(&page)?;
+        let before = self.crossings.len();
+        add_copies(&mut self.crossings, news)?;
+        if self.lives.follow(news, &page).is_err() {
+            self.crossings.truncate(before);
+            return Err(AllocError);
+        }
         let Page {
-            mut crossings,
             mut called,
             mut told,
             mut reports,
             ..
         } = page;
-        self.crossings.append(&mut crossings)?;
         self.contacts.append(&mut called)?;
         self.notices.append(&mut told)?;
         self.reports.append(&mut reports)?;

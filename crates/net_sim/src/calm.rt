@@ -61,7 +61,7 @@ impl<C: Carrier> World<C> {
         let seats = self.seats().len();
         for at in 0..seats {
             if let Some(host) = up_here(self.seats(), at) {
-                let answer = self.take_turn(host);
+                let answer = self.take_turn(at, host);
                 if stops(&answer) {
                     return answer;
                 }
@@ -70,24 +70,24 @@ impl<C: Carrier> World<C> {
         Ok(())
     }
 
-    /// A host takes what came for it, and then says what it has to say.
-    fn take_turn(&mut self, host: HostAddr) -> Result<(), WorldFault>
+    /// A host takes what came for it, and then says what it has to say. Its seat is likely here.
+    fn take_turn(&mut self, at: usize, host: HostAddr) -> Result<(), WorldFault>
         ensures { CalmTurn (shown (record { seen = C.seen; offers = C.offers; takes = C.takes; steps = C.steps; rounds = C.rounds })) host self.old result self.new }
     {
-        let answer = self.take_all(host);
+        let answer = self.take_all(at, host);
         if stops(&answer) {
             return answer;
         }
-        self.offer_all(host)
+        self.offer_all(at, host)
     }
 
-    /// A host takes until nothing crosses by it, or 16 times.
-    fn take_all(&mut self, host: HostAddr) -> Result<(), WorldFault>
+    /// A host takes until nothing crosses by it, or 16 times. Its seat is likely here.
+    fn take_all(&mut self, at: usize, host: HostAddr) -> Result<(), WorldFault>
         ensures { Repeats (shown (record { seen = C.seen; offers = C.offers; takes = C.takes; steps = C.steps; rounds = C.rounds })) (Take host) 16 self.old result self.new }
     {
         for _ in 0..TAKINGS {
             let before = self.book().crossings().len();
-            let answer = self.step(Event::Take(host));
+            let answer = self.take_near(at, host);
             if stops(&answer) {
                 return answer;
             }
@@ -98,13 +98,13 @@ impl<C: Carrier> World<C> {
         Ok(())
     }
 
-    /// A host offers until nothing crosses by it, or 32 times.
-    fn offer_all(&mut self, host: HostAddr) -> Result<(), WorldFault>
+    /// A host offers until nothing crosses by it, or 32 times. Its seat is likely here.
+    fn offer_all(&mut self, at: usize, host: HostAddr) -> Result<(), WorldFault>
         ensures { Repeats (shown (record { seen = C.seen; offers = C.offers; takes = C.takes; steps = C.steps; rounds = C.rounds })) (Offer host) 32 self.old result self.new }
     {
         for _ in 0..OFFERS {
             let before = self.book().crossings().len();
-            let answer = self.step(Event::Offer(host));
+            let answer = self.offer_near(at, host);
             if stops(&answer) {
                 return answer;
             }

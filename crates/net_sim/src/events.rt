@@ -8,7 +8,10 @@ ghost use Rattle.net_sim.specs.World.{EventGives, Net, Quiet, Offer, Take, Ask, 
 
 use crate::asking::is_addressed;
 use crate::book::Book;
-use crate::parts::{ask_at, change, go_out, hear, next_out, server_at, type_at, up_at, user_at};
+use crate::hosting::likely_place;
+use crate::parts::{
+    ask_at, change, go_out, hear, next_out, server_at, type_at, up_at, up_near, user_at,
+};
 use crate::seat::{Seat, ServiceSeat};
 use crate::{Event, WorldFault};
 use host_services::TypedLine;
@@ -53,13 +56,14 @@ pub(crate) fn pass<C: Carrier>(
     Ok(())
 }
 
-/// A host's next message goes to the network.
+/// A host's next message goes to the network. Its seat is looked for at a likely place first.
 pub(crate) fn offer<C: Carrier>(
     alloc: Global,
     carrier: &mut C,
     seats: &mut [Seat],
     services: &mut [ServiceSeat],
     book: &mut Book,
+    likely: usize,
     host: HostAddr,
 ) -> Result<(), WorldFault>
     requires once { IsOnce (hosts_of seats.old) }
@@ -67,7 +71,7 @@ pub(crate) fn offer<C: Carrier>(
     requires order { hosts_served services.old ≡ hosts_of seats.old }
     ensures { EventGives (shown (record { seen = C.seen; offers = C.offers; takes = C.takes; steps = C.steps; rounds = C.rounds })) (running carrier.old seats.old services.old book.old) (Offer host) result (world_ended carrier.new seats.new services.new book.new result) }
 {
-    let at = up_at(seats, host)?;
+    let at = up_near(seats, likely, host)?;
     let Some(message) = next_out(seats, at)? else {
         return Ok(());
     };
@@ -78,13 +82,14 @@ pub(crate) fn offer<C: Carrier>(
     go_out(alloc, seats, services, at, book, &carrier.log()[before..])
 }
 
-/// A host takes what came for it.
+/// A host takes what came for it. Its seat is looked for at a likely place first.
 pub(crate) fn take<C: Carrier>(
     alloc: Global,
     carrier: &mut C,
     seats: &mut [Seat],
     services: &mut [ServiceSeat],
     book: &mut Book,
+    likely: usize,
     host: HostAddr,
 ) -> Result<(), WorldFault>
     requires once { IsOnce (hosts_of seats.old) }
@@ -92,7 +97,7 @@ pub(crate) fn take<C: Carrier>(
     requires order { hosts_served services.old ≡ hosts_of seats.old }
     ensures { EventGives (shown (record { seen = C.seen; offers = C.offers; takes = C.takes; steps = C.steps; rounds = C.rounds })) (running carrier.old seats.old services.old book.old) (Take host) result (world_ended carrier.new seats.new services.new book.new result) }
 {
-    let at = up_at(seats, host)?;
+    let at = up_near(seats, likely, host)?;
     let before = carrier.log().len();
     match carrier.take_in(host) {
         Ok(Some(inbound)) => hear(
@@ -213,8 +218,14 @@ pub(crate) fn follow<C: Carrier>(
     match event {
         Event::Net(event) => happen(alloc, carrier, seats, services, book, *event),
         Event::Quiet => pass(carrier, seats, services, book),
-        Event::Offer(host) => offer(alloc, carrier, seats, services, book, *host),
-        Event::Take(host) => take(alloc, carrier, seats, services, book, *host),
+        Event::Offer(host) => {
+            let likely = likely_place(seats, *host);
+            offer(alloc, carrier, seats, services, book, likely, *host)
+        }
+        Event::Take(host) => {
+            let likely = likely_place(seats, *host);
+            take(alloc, carrier, seats, services, book, likely, *host)
+        }
         Event::Ask(host, request) => ask(alloc, carrier, seats, services, book, *host, request),
         Event::Server { host, listen, base } => begin_server(
             alloc, carrier, seats, services, book, *host, *listen, *base,

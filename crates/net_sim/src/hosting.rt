@@ -1,15 +1,16 @@
 //! What the hosts do with what the carrier gives, and what is written down of it.
 
-ghost use Rattle.std.specs.Prelude.{◌≡◌, ◌<◌, true, false, IfOk, OnOk, OnErr, map, reverse, length, slice_index_or};
+ghost use Rattle.std.specs.Prelude.{◌≡◌, ◌<◌, Some, true, false, IfOk, IfSome, OnOk, OnErr, map, reverse, length, slice_index_or};
 ghost use Rattle.std.specs.Bool.{OnTrue};
 ghost use Rattle.std.specs.List.{position};
 ghost use Rattle.leader1822.specs.Host.{same_host};
 ghost use Rattle.net_sim.specs.Book.{all_asked, all_told, all_crossed, all_reported};
 ghost use Rattle.net_sim.specs.Inside.Lives.{told_at};
-ghost use Rattle.net_sim.specs.Inside.Parts.{IsDone, IsOnce, hosts_of};
+ghost use Rattle.net_sim.specs.Inside.Parts.{IsDone, IsOnce, IsSettled, hosts_of};
 ghost use Rattle.net_sim.specs.World as world;
 ghost use Rattle.net_sim.specs.World.{Seat};
 ghost use Rattle.sockets.specs.Accepting.{accepted};
+ghost use Rattle.sockets.specs.Pairs.{NcpState};
 ghost use Rattle.sockets.specs.Sending.{offered};
 
 use crate::asking::called_in;
@@ -22,7 +23,7 @@ use std::alloc::{AllocError, Global};
 
 /// Where a host's seat stands in a network whose IMPs are numbered from 1 on and have as many hosts each. It promises nothing: in
 /// another network another host may sit there, or none.
-fn likely_place(seats: &[Seat], host: HostAddr) -> usize {
+pub(crate) fn likely_place(seats: &[Seat], host: HostAddr) -> usize {
     let Some(last) = seats.last() else {
         return 0;
     };
@@ -49,20 +50,19 @@ fn first_place(seats: &[Seat], host: HostAddr) -> Option<usize>
     seats.iter().position(|seat| host == seat.host)
 }
 
-/// The place of a host's seat. The likely place is looked at before the others.
-pub(crate) fn place(seats: &[Seat], host: HostAddr) -> Option<usize>
+/// The place of a host's seat. A likely place is looked at before the others.
+pub(crate) fn place(seats: &[Seat], likely: usize, host: HostAddr) -> Option<usize>
     requires once { IsOnce (hosts_of seats.now) }
     ensures { result ≡ position (λ s. same_host host s.host) seats.now }
 {
-    let at = likely_place(seats, host);
-    if sits_at(seats, at, host) {
-        return Some(at);
+    if sits_at(seats, likely, host) {
+        return Some(likely);
     }
     first_place(seats, host)
 }
 
 /// A copy of something that crossed.
-fn copy_of(crossing: &Crossing) -> Result<Crossing, AllocError>
+pub(crate) fn copy_of(crossing: &Crossing) -> Result<Crossing, AllocError>
     ensures { IfOk result (λ copy. copy ≡ crossing.now) }
 {
     let copy = match crossing {
@@ -73,17 +73,6 @@ fn copy_of(crossing: &Crossing) -> Result<Crossing, AllocError>
         Crossing::Up(host) => Crossing::Up(*host),
     };
     Ok(copy)
-}
-
-/// Copies of what crossed.
-pub(crate) fn copies(alloc: Global, crossings: &[Crossing]) -> Result<Vec<Crossing>, AllocError>
-    ensures { IfOk result (λ all. all.items ≡ crossings.now) }
-{
-    let mut all = Vec::new(alloc);
-    for crossing in crossings {
-        all.push(copy_of(crossing)?)?;
-    }
-    Ok(all)
 }
 
 /// What a host's user was told, with the number of crossings.
@@ -128,61 +117,42 @@ pub(crate) fn write_crossing(
     alloc: Global,
     book: &mut Book,
     host: HostAddr,
-    crossed: Vec<Crossing>,
+    news: &[Crossing],
     notices: Vec<Notice>,
     deeds: Deeds,
 ) -> Result<(), AllocError>
-    ensures done { OnOk result (book.new ≡ all_reported deeds.reports.items (all_asked host deeds.asked.items (all_told host notices.items (all_crossed (reverse crossed.items) book.old)))) }
+    ensures done { OnOk result (book.new ≡ all_reported deeds.reports.items (all_asked host deeds.asked.items (all_told host notices.items (all_crossed (reverse news.now) book.old)))) }
     ensures kept { OnErr result (book.new ≡ book.old) }
 {
-    let place = book.place_after(&crossed);
+    let place = book.place_after(news);
     let told = told_by(alloc, host, place, notices)?;
     let called = called_in(alloc, host, place, &deeds.asked)?;
-    book.write(Page {
-        crossings: crossed,
-        asked: None,
-        called,
-        told,
-        by: Some(host),
-        ran: deeds.asked,
-        reports: deeds.reports,
-    })
-}
-
-/// Writes down what crossed, of which no user was told.
-#[tactic(auto, using(crate::proofs::Books::InOrder::written_alone))]
-pub(crate) fn write_changes(
-    alloc: Global,
-    book: &mut Book,
-    crossed: Vec<Crossing>,
-) -> Result<(), AllocError>
-    ensures done { OnOk result (book.new ≡ all_crossed (reverse crossed.items) book.old) }
-    ensures kept { OnErr result (book.new ≡ book.old) }
-{
-    book.write(Page {
-        crossings: crossed,
-        asked: None,
-        called: Vec::new(alloc),
-        told: Vec::new(alloc),
-        by: None,
-        ran: Vec::new(alloc),
-        reports: Vec::new(alloc),
-    })
+    book.write(
+        news,
+        Page {
+            asked: None,
+            called,
+            told,
+            by: Some(host),
+            ran: deeds.asked,
+            reports: deeds.reports,
+        },
+    )
 }
 
 impl ServiceSeat {
     /// The program of the host has told this of what crossed: the services have their turns, and all is written down. Returns
     /// the program.
-    fn settle(
+    fn tell(
         &mut self,
         alloc: Global,
         book: &mut Book,
-        crossed: Vec<Crossing>,
+        news: &[Crossing],
         program: Ncp,
         notices: Vec<Notice>,
     ) -> Result<Ncp, AllocError>
         ensures host { self.new.host ≡ self.old.host }
-        ensures done { IfOk result (λ after. IsDone self.old.host (world.turn_of self.old.host (length book.old.book.notices) self.old.services (program, notices.items)) (all_told self.old.host notices.items (all_crossed (reverse crossed.items) book.old)) after self.new.services book.new) }
+        ensures done { IfOk result (λ after. IsDone self.old.host (world.turn_of self.old.host (length book.old.book.notices) self.old.services (program, notices.items)) (all_told self.old.host notices.items (all_crossed (reverse news.now) book.old)) after self.new.services book.new) }
         ensures kept { OnErr result (book.new ≡ book.old) }
     {
         let before = book.notices().len();
@@ -195,46 +165,74 @@ impl ServiceSeat {
             &notices,
         )?;
         let (program, deeds) = desk.into_parts();
-        write_crossing(alloc, book, self.host, crossed, notices, deeds)?;
+        write_crossing(alloc, book, self.host, news, notices, deeds)?;
         Ok(program)
     }
 
-    /// The program of the host takes what came for it. Returns the program.
+    /// The program in a seat of the host has told this of what crossed. Where that is something, the services have their turns.
+    /// All is written down.
+    fn settle(
+        &mut self,
+        alloc: Global,
+        seat: &mut Seat,
+        book: &mut Book,
+        news: &[Crossing],
+        notices: Vec<Notice>,
+    ) -> Result<(), AllocError>
+        ensures done { OnOk result ((s : NcpState) → seat.old.program ≡ Some s → IsSettled self.old.host seat.old.host (world.turn_of self.old.host (length book.old.book.notices) self.old.services (s, notices.items)) (all_told self.old.host notices.items (all_crossed (reverse news.now) book.old)) seat.new self.new book.new) }
+        ensures kept { OnErr result (book.new ≡ book.old) }
+    {
+        if notices.is_empty() {
+            return book.cross(news);
+        }
+        let Some(program) = seat.program.take() else {
+            return Ok(());
+        };
+        let program = self.tell(alloc, book, news, program, notices)?;
+        seat.program = Some(program);
+        Ok(())
+    }
+
+    /// The program in a seat of the host takes what came for it.
     pub(crate) fn hear(
         &mut self,
         alloc: Global,
+        seat: &mut Seat,
         book: &mut Book,
-        crossed: Vec<Crossing>,
-        mut program: Ncp,
+        news: &[Crossing],
         inbound: Inbound,
-    ) -> Result<Ncp, AllocError>
-        requires live { program.spent ≡ false }
-        ensures host { self.new.host ≡ self.old.host }
-        ensures done { IfOk result (λ after. IsDone self.old.host (world.turn_of self.old.host (length book.old.book.notices) self.old.services (accepted program inbound (length book.old.book.crossings))) (all_told self.old.host (accepted program inbound (length book.old.book.crossings)).1 (all_crossed (reverse crossed.items) book.old)) after self.new.services book.new) }
+    ) -> Result<(), AllocError>
+        requires live { IfSome seat.old.program (λ p. p.spent ≡ false) }
+        ensures done { OnOk result ((s : NcpState) → seat.old.program ≡ Some s → IsSettled self.old.host seat.old.host (world.turn_of self.old.host (length book.old.book.notices) self.old.services (accepted s inbound (length book.old.book.crossings))) (all_told self.old.host (accepted s inbound (length book.old.book.crossings)).1 (all_crossed (reverse news.now) book.old)) seat.new self.new book.new) }
         ensures kept { OnErr result (book.new ≡ book.old) }
     {
+        let Some(program) = &mut seat.program else {
+            return Ok(());
+        };
         let Ok(notices) = program.accept(inbound, book.crossings().len()) else {
             return Err(AllocError);
         };
-        self.settle(alloc, book, crossed, program, notices)
+        self.settle(alloc, seat, book, news, notices)
     }
 
-    /// The program of the host is told that its next message went out. Returns the program.
+    /// The program in a seat of the host is told that its next message went out.
     pub(crate) fn go_out(
         &mut self,
         alloc: Global,
+        seat: &mut Seat,
         book: &mut Book,
-        crossed: Vec<Crossing>,
-        mut program: Ncp,
-    ) -> Result<Ncp, AllocError>
-        requires live { program.spent ≡ false }
-        ensures host { self.new.host ≡ self.old.host }
-        ensures done { IfOk result (λ after. IsDone self.old.host (world.turn_of self.old.host (length book.old.book.notices) self.old.services (offered program (length book.old.book.crossings))) (all_told self.old.host (offered program (length book.old.book.crossings)).1 (all_crossed (reverse crossed.items) book.old)) after self.new.services book.new) }
+        news: &[Crossing],
+    ) -> Result<(), AllocError>
+        requires live { IfSome seat.old.program (λ p. p.spent ≡ false) }
+        ensures done { OnOk result ((s : NcpState) → seat.old.program ≡ Some s → IsSettled self.old.host seat.old.host (world.turn_of self.old.host (length book.old.book.notices) self.old.services (offered s (length book.old.book.crossings))) (all_told self.old.host (offered s (length book.old.book.crossings)).1 (all_crossed (reverse news.now) book.old)) seat.new self.new book.new) }
         ensures kept { OnErr result (book.new ≡ book.old) }
     {
+        let Some(program) = &mut seat.program else {
+            return Ok(());
+        };
         let Ok(notices) = program.offered(book.crossings().len()) else {
             return Err(AllocError);
         };
-        self.settle(alloc, book, crossed, program, notices)
+        self.settle(alloc, seat, book, news, notices)
     }
 }

@@ -1,11 +1,13 @@
 //! What each thing that happens does to all lives.
 
+ghost use Rattle.std.specs.Bool.{OnFalse, OnTrue};
 ghost use Rattle.std.specs.Prelude.{◌≡◌, ℕ, Bool, List, OnErr, OnOk};
 ghost use Rattle.net_sim.specs.Book as book;
 ghost use Rattle.net_sim.specs.Book.{lives_at, where_it, handed_to};
 ghost use Rattle.net_sim.specs.Inside.Counts.{AreWithin, IsWithin};
 ghost use Rattle.net_sim.specs.Inside.Endings.{ends};
 ghost use Rattle.net_sim.specs.Inside.Lives as all;
+ghost use Rattle.net_sim.specs.Inside.Lives.{LivesState};
 ghost use Rattle.net_sim.specs.Inside.Open.{AreKept, Holds};
 ghost use Rattle.net_sim.specs.Inside.Undo.{all_undone, GoesBack};
 
@@ -157,6 +159,28 @@ fn hand(
         }
     }
     Ok(())
+}
+
+/// Whether a host stops by what crossed. Any other crossing leaves the lives as they are.
+fn is_stop(crossing: &Crossing) -> bool
+    ensures { OnFalse result ((l : LivesState) → all.crossed crossing.now l ≡ l) }
+{
+    match crossing {
+        Crossing::Down(_) => true,
+        Crossing::Out(_) | Crossing::In(_) | Crossing::Answer(..) | Crossing::Up(_) => false,
+    }
+}
+
+/// Whether no host stops by all of this, so that the lives stay as they are.
+fn none_stops(news: &[Crossing]) -> bool
+    ensures { OnTrue result ((l : LivesState) → all.all_crossed news.now l ≡ l) }
+{
+    for crossing in news {
+        if is_stop(crossing) {
+            return false;
+        }
+    }
+    true
 }
 
 impl Lives {
@@ -443,11 +467,16 @@ impl Lives {
 
     /// All of this happened, in this order: crossings, what a user asked for, what users were told, and what the services of
     /// a host asked for then.
-    fn go_through(&mut self, page: &Page, done: &mut Vec<Undo>) -> Result<(), AllocError>
-        ensures done { OnOk result (self.new ≡ all.followed page.now.crossings.items page.now.asked page.now.told.items page.now.by page.now.ran.items self.old) }
+    fn go_through(
+        &mut self,
+        news: &[Crossing],
+        page: &Page,
+        done: &mut Vec<Undo>,
+    ) -> Result<(), AllocError>
+        ensures done { OnOk result (self.new ≡ all.followed news.now page.now.asked page.now.told.items page.now.by page.now.ran.items self.old) }
         ensures back { GoesBack done.old.items self.old done.new.items self.new }
     {
-        self.cross_all(&page.crossings, done)?;
+        self.cross_all(news, done)?;
         if let Some((host, request)) = &page.asked {
             self.ask(*host, request, done)?;
         }
@@ -466,13 +495,29 @@ impl Lives {
         self.open.forget();
     }
 
+    /// All of these crossed and nothing else happened, or memory runs out, and then the lives are what they were.
+    pub(crate) fn cross_only(&mut self, news: &[Crossing]) -> Result<(), AllocError>
+        ensures done { OnOk result (self.new ≡ all.all_crossed news.now self.old) }
+        ensures kept { OnErr result (self.new ≡ self.old) }
+    {
+        if none_stops(news) {
+            return Ok(());
+        }
+        let mut undo = Vec::new(self.alloc);
+        let crossed = self.cross_all(news, &mut undo);
+        if crossed.is_err() {
+            self.go_back(undo);
+        }
+        crossed
+    }
+
     /// All of this happened, or memory runs out, and then the lives are what they were.
-    pub(crate) fn follow(&mut self, page: &Page) -> Result<(), AllocError>
-        ensures done { OnOk result (self.new ≡ all.followed page.now.crossings.items page.now.asked page.now.told.items page.now.by page.now.ran.items self.old) }
+    pub(crate) fn follow(&mut self, news: &[Crossing], page: &Page) -> Result<(), AllocError>
+        ensures done { OnOk result (self.new ≡ all.followed news.now page.now.asked page.now.told.items page.now.by page.now.ran.items self.old) }
         ensures kept { OnErr result (self.new ≡ self.old) }
     {
         let mut done = Vec::new(self.alloc);
-        let followed = self.go_through(page, &mut done);
+        let followed = self.go_through(news, page, &mut done);
         if followed.is_err() {
             self.go_back(done);
         }

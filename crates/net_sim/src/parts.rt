@@ -19,7 +19,7 @@ ghost use Rattle.sockets.specs.declared.request.Request.TheVariants as requests;
 
 use crate::WorldFault;
 use crate::book::Book;
-use crate::hosting::{copies, place, write_changes};
+use crate::hosting::{likely_place, place};
 use crate::seat::{Seat, ServiceSeat, empty_all, turn_all};
 use host_services::TypedLine;
 use leader1822::{CarrierFault, Crossing, HostAddr, HostMessage, Inbound};
@@ -31,7 +31,15 @@ pub(crate) fn up_at(seats: &[Seat], host: HostAddr) -> Result<usize, WorldFault>
     requires once { IsOnce (hosts_of seats.now) }
     ensures { MatchResult result (λ at. (s : NcpState) × Sits host at s seats.now) (λ f. IsAway host f seats.now) }
 {
-    let Some(at) = place(seats, host) else {
+    up_near(seats, likely_place(seats, host), host)
+}
+
+/// The same, where a likely place of the host's seat is known. It is looked at before the others.
+pub(crate) fn up_near(seats: &[Seat], likely: usize, host: HostAddr) -> Result<usize, WorldFault>
+    requires once { IsOnce (hosts_of seats.now) }
+    ensures { MatchResult result (λ at. (s : NcpState) × Sits host at s seats.now) (λ f. IsAway host f seats.now) }
+{
+    let Some(at) = place(seats, likely, host) else {
         return Err(WorldFault::Carrier(CarrierFault::NoSuch));
     };
     if seats[at].program.is_none() {
@@ -56,16 +64,9 @@ pub(crate) fn hear(
     ensures done { (h : Host) (s : NcpState) (x : ServicesState) → Sits h at s seats.old → Serves h at x services.old → OnOk result (AreDone h (turn_of h (length book.old.book.notices) x (accepted s inbound (length book.old.book.crossings))) seats.old services.old (all_told h (accepted s inbound (length book.old.book.crossings)).1 (all_crossed (reverse news.now) book.old)) seats.new services.new book.new) }
     ensures kept { IfErr result (λ f. (f ≡ world.Program problem.OutOfMemory) × (book.new ≡ book.old)) }
 {
-    let Ok(crossed) = copies(alloc, news) else {
+    let Ok(()) = services[at].hear(alloc, &mut seats[at], book, news, inbound) else {
         return Err(WorldFault::Program(NcpFault::OutOfMemory));
     };
-    let Some(program) = seats[at].program.take() else {
-        return Ok(());
-    };
-    let Ok(program) = services[at].hear(alloc, book, crossed, program, inbound) else {
-        return Err(WorldFault::Program(NcpFault::OutOfMemory));
-    };
-    seats[at].program = Some(program);
     Ok(())
 }
 
@@ -99,21 +100,14 @@ pub(crate) fn go_out(
     ensures done { (h : Host) (s : NcpState) (x : ServicesState) → Sits h at s seats.old → Serves h at x services.old → OnOk result (AreDone h (turn_of h (length book.old.book.notices) x (sending.offered s (length book.old.book.crossings))) seats.old services.old (all_told h (sending.offered s (length book.old.book.crossings)).1 (all_crossed (reverse news.now) book.old)) seats.new services.new book.new) }
     ensures kept { IfErr result (λ f. (f ≡ world.Program problem.OutOfMemory) × (book.new ≡ book.old)) }
 {
-    let Ok(crossed) = copies(alloc, news) else {
+    let Ok(()) = services[at].go_out(alloc, &mut seats[at], book, news) else {
         return Err(WorldFault::Program(NcpFault::OutOfMemory));
     };
-    let Some(program) = seats[at].program.take() else {
-        return Ok(());
-    };
-    let Ok(program) = services[at].go_out(alloc, book, crossed, program) else {
-        return Err(WorldFault::Program(NcpFault::OutOfMemory));
-    };
-    seats[at].program = Some(program);
     Ok(())
 }
 
 /// Hosts stop and start. The last of the log, from a place on, has just crossed.
-#[tactic(auto, using(crate::proofs::Books::InOrder::turned_reversed, crate::proofs::Books::InOrder::emptied_reversed, crate::proofs::Books::InOrder::written_alone))]
+#[tactic(auto, using(crate::proofs::Books::InOrder::turned_reversed, crate::proofs::Books::InOrder::emptied_reversed))]
 pub(crate) fn change(
     alloc: Global,
     seats: &mut [Seat],
@@ -126,10 +120,7 @@ pub(crate) fn change(
     ensures told { OnOk result (book.new ≡ all_crossed (reverse news.now) book.old) }
     ensures kept { IfErr result (λ f. (f ≡ world.Program problem.OutOfMemory) × (book.new ≡ book.old)) }
 {
-    let Ok(crossed) = copies(alloc, news) else {
-        return Err(WorldFault::Program(NcpFault::OutOfMemory));
-    };
-    let Ok(()) = write_changes(alloc, book, crossed) else {
+    let Ok(()) = book.cross(news) else {
         return Err(WorldFault::Program(NcpFault::OutOfMemory));
     };
     turn_all(alloc, seats, news);

@@ -9,11 +9,11 @@ ghost use Rattle.net_sim.specs.Handed.{AreUnhanded};
 ghost use Rattle.net_sim.specs.Inside.Parts as parts;
 ghost use Rattle.net_sim.specs.Inside.Parts.{IsOnce, hosts_of};
 ghost use Rattle.net_sim.specs.World as world;
-ghost use Rattle.net_sim.specs.World.{opening_world, StepGives, RunGives};
+ghost use Rattle.net_sim.specs.World.{opening_world, StepGives, RunGives, Offer, Take};
 
 use crate::bit_log::BitLog;
 use crate::book::Book;
-use crate::events::{follow, is_named};
+use crate::events::{follow, is_named, offer, take};
 use crate::seat::{Seat, ServiceSeat, opening_seats, opening_services};
 use crate::{Event, WorldFault};
 use leader1822::{Carrier, CarrierFault, HostAddr};
@@ -152,6 +152,50 @@ impl<C: Carrier> World<C> {
         let _ = self.carrier.log();
         self.stopped = runs_out(&done);
         done
+    }
+
+    /// A host takes what came for it, as in [`World::step`]. Its seat is looked for at a likely place first.
+    pub(crate) fn take_near(&mut self, likely: usize, host: HostAddr) -> Result<(), WorldFault>
+        ensures { StepGives (shown (record { seen = C.seen; offers = C.offers; takes = C.takes; steps = C.steps; rounds = C.rounds })) self.old (Take host) result self.new }
+    {
+        if self.stopped {
+            return Err(WorldFault::Carrier(CarrierFault::Stopped));
+        }
+        let taken = take(
+            self.alloc,
+            &mut self.carrier,
+            &mut self.seats,
+            &mut self.services,
+            &mut self.book,
+            likely,
+            host,
+        );
+        // for the proof alone, as in `follow`
+        let _ = self.carrier.log();
+        self.stopped = runs_out(&taken);
+        taken
+    }
+
+    /// A host's next message goes to the network, as in [`World::step`]. Its seat is looked for at a likely place first.
+    pub(crate) fn offer_near(&mut self, likely: usize, host: HostAddr) -> Result<(), WorldFault>
+        ensures { StepGives (shown (record { seen = C.seen; offers = C.offers; takes = C.takes; steps = C.steps; rounds = C.rounds })) self.old (Offer host) result self.new }
+    {
+        if self.stopped {
+            return Err(WorldFault::Carrier(CarrierFault::Stopped));
+        }
+        let sent = offer(
+            self.alloc,
+            &mut self.carrier,
+            &mut self.seats,
+            &mut self.services,
+            &mut self.book,
+            likely,
+            host,
+        );
+        // for the proof alone, as in `follow`
+        let _ = self.carrier.log();
+        self.stopped = runs_out(&sent);
+        sent
     }
 }
 

@@ -179,3 +179,11 @@ written_alone cs k =
     written_crossed cs [] k
     ∙ same_kept after.book.crossings after.book.crossings (after.book.notices ++ []) after.book.notices (after.book.contacts ++ []) after.book.contacts (after.book.reports ++ []) after.book.reports (of_kept after) refl
     (append-nil after.book.notices) (append-nil after.book.contacts) (append-nil after.book.reports)
+
+-- the same, as what stands in a book then
+pub crossed_so : (cs : List Crossing) (k : Kept) (before after : List Crossing) (ns : List Told) (us : List Called) (ps : List Reported) (l : LivesState) → k.book.crossings ≡ reverse before → after ≡ before ++ cs
+    → ns ≡ k.book.notices → us ≡ k.book.contacts → ps ≡ k.book.reports → l ≡ all.all_crossed cs (of_kept k)
+    → ◌≡◌ {A = Kept} (record { book = record { crossings = reverse after; notices = ns; contacts = us; reports = ps; lives = l.lives }; handed = l.handed }) (all_crossed (reverse cs) k)
+crossed_so cs k before after ns us ps l was more n u p f =
+    written_so cs None [] [] None [] [] k before after ns us ps l was more (n ∙ sym (append-nil k.book.notices)) (u ∙ sym (append-nil k.book.contacts)) (p ∙ sym (append-nil k.book.reports)) f
+    ∙ written_alone cs k

@@ -1,12 +1,16 @@
 -- What the services of a host did in a call, put together from its steps.
-use Rattle.std.proofs.Common.{◌≡◌, ℕ, zero, suc, List, [], ◌∷◌, Option, Some, None, slice_index_or, slice_set, refl, ap, sym, subst, ◌∙◌}
-use Rattle.std.proofs.lemmas.List.{get_or-set_same}
+use Rattle.std.proofs.Common.{◌≡◌, ℕ, zero, suc, List, [], ◌∷◌, Option, Some, None, Result, Ok, Err, OnOk, slice_index_or, slice_set, refl, ap, sym, subst, ◌∙◌}
+use Rattle.std.proofs.lemmas.List.{append-nil, get_or-set_same}
 use Rattle.leader1822.specs.Host.{Host}
+use Rattle.host_pairs.specs.declared.notice.Notice.{Notice}
 use Rattle.host_services.specs.Services.{ServiceDeskState, ServicesState}
-use Rattle.net_sim.specs.Book.{Kept, Reported, all_asked, all_reported}
-use Rattle.net_sim.specs.Inside.Parts.{AreDone, IsDone, Serves, Sits}
-use Rattle.net_sim.specs.World.{ServiceSeat, Seat}
+use Rattle.host_services.specs.Turns.{services_told}
+use Rattle.net_sim.specs.Book.{Kept, Reported, all_asked, all_reported, all_told}
+use Rattle.net_sim.specs.Inside.Parts.{AreDone, IsDone, IsSettled, Serves, Sits}
+use Rattle.net_sim.specs.World.{ServiceSeat, Seat, turn_of}
+use Rattle.sockets.specs.Calls.{Turns}
 use Rattle.sockets.specs.Pairs.{NcpState}
+use Rattle.sockets.specs.declared.fault.NcpFault.{NcpFault}
 use Rattle.sockets.specs.declared.request.Request.{Request}
 
 pub done_of : (h : Host) (t : ServicesState × ServiceDeskState) (s : ServicesState) (d : ServiceDeskState) (before k1 : Kept) (p : NcpState) (asked : List Request) (reports : List Reported) → t ≡ (s, d) → p ≡ d.program → asked ≡ d.asked
@@ -77,3 +81,85 @@ same_number a b e = ap or_a e where
   or_a : Option ℕ → ℕ
   or_a None = a
   or_a (Some x) = x
+
+-- ---- a call at one seat
+
+abbrev seat_of_host : Host → NcpState → Seat
+seat_of_host g s = record { host = g; program = Some s }
+
+abbrev services_of_host : Host → ServicesState → ServiceSeat
+services_of_host h x = record { host = h; services = x }
+
+-- after the services had their turns
+pub settled_of : (h g : Host) (t : ServicesState × ServiceDeskState) (before k1 : Kept) (p : NcpState) (seat : Seat) (y : ServiceSeat) → IsDone h t before p y.services k1 → y.host ≡ h → seat ≡ record { host = g; program = Some p }
+    → IsSettled h g t before seat y k1
+settled_of h g t before k1 p seat y d host is = record {
+  seat_is = is ∙ ap (λ (s : NcpState). seat_of_host g s) d.program_is;
+  services_are = ap (λ (x : Host). services_of_host x y.services) host ∙ ap (λ (x : ServicesState). services_of_host h x) d.services_are;
+  kept_is = d.kept_is;
+}
+
+-- services that are told nothing do nothing
+told_none : (h g : Host) (n : ℕ) (x : ServicesState) (s : NcpState) (k k1 : Kept) (seat : Seat) (y : ServiceSeat) → seat ≡ record { host = g; program = Some s } → y ≡ record { host = h; services = x } → k1 ≡ k
+    → IsSettled h g (turn_of h n x (s, [])) k seat y k1
+unfolding services_told
+told_none h g n x s k k1 seat y is has same = record {
+  seat_is = is;
+  services_are = has;
+  kept_is = same ∙ ap (λ (rs : List Reported). with_reports rs) (sym (append-nil k.book.reports));
+} where
+  with_reports : List Reported → Kept
+  with_reports rs = record k { book = record k.book { reports = rs } }
+
+pub nothing_told : (h g : Host) (n : ℕ) (x : ServicesState) (s : NcpState) (ns : List Notice) (k k1 : Kept) (seat : Seat) (y : ServiceSeat) → ns ≡ [] → seat ≡ record { host = g; program = Some s } → y ≡ record { host = h; services = x } → k1 ≡ k
+    → IsSettled h g (turn_of h n x (s, ns)) (all_told h ns k) seat y k1
+nothing_told h g n x s ns k k1 seat y none is has same =
+    subst (λ (ms : List Notice). IsSettled h g (turn_of h n x (s, ms)) (all_told h ms k) seat y k1) (sym none) (told_none h g n x s k k1 seat y is has same)
+
+-- the same, of what was written down
+pub nothing_settled : {E : Type 0} (r : Result (Unit {0}) E) (h g : Host) (n : ℕ) (x : ServicesState) (old : Option NcpState) (ns : List Notice) (k k1 : Kept) (seat : Seat) (y : ServiceSeat) → ns ≡ [] → seat ≡ record { host = g; program = old }
+    → y ≡ record { host = h; services = x } → OnOk r (k1 ≡ k) → OnOk r ((s : NcpState) → old ≡ Some s → IsSettled h g (turn_of h n x (s, ns)) (all_told h ns k) seat y k1)
+nothing_settled (Ok tt) h g n x old ns k k1 seat y none is has same = λ s e. nothing_told h g n x s ns k k1 seat y none (is ∙ ap (λ (o : Option NcpState). seat_that g o) e) has same where
+  seat_that : Host → Option NcpState → Seat
+  seat_that f o = record { host = f; program = o }
+nothing_settled (Err e) h g n x old ns k k1 seat y none is has same = tt
+
+-- after a program was taken out of its seat, and the services had their turns
+pub tended_settled : (h g : Host) (n : ℕ) (x : ServicesState) (old : Option NcpState) (taken s p : NcpState) (ns : List Notice) (before k1 : Kept) (seat : Seat) (y : ServiceSeat) → old ≡ Some taken → old ≡ Some s
+    → IsDone h (turn_of h n x (taken, ns)) before p y.services k1 → y.host ≡ h → seat ≡ record { host = g; program = Some p } → IsSettled h g (turn_of h n x (s, ns)) before seat y k1
+tended_settled h g n x old taken s p ns before k1 seat y had is d host put =
+    let same : taken ≡ s = same_some taken s (sym had ∙ is) in
+    settled_of h g (turn_of h n x (s, ns)) before k1 p seat y (subst (λ (t : NcpState). IsDone h (turn_of h n x (t, ns)) before p y.services k1) same d) host put
+
+-- what a call gives where memory doesn't run out
+pub given_by : {X : Type 0} (turn : NcpState × List Notice) (r : Result X NcpFault) (new : NcpState) (x : X) (notices : X → List Notice) → r ≡ Ok x → Turns notices turn r new → turn ≡ (new, notices x)
+given_by {X} turn r new x notices is gives = subst (λ (q : Result X NcpFault). Turns notices turn q new) is gives
+
+-- what the program was told is what its call gives
+pub turned_so : {E : Type 0} (r : Result (Unit {0}) E) (h g : Host) (n : ℕ) (x : ServicesState) (old mid : Option NcpState) (was p : NcpState) (ns : List Notice) (turn : NcpState → NcpState × List Notice) (k k1 : Kept) (seat : Seat) (y : ServiceSeat)
+    → old ≡ Some was → turn was ≡ (p, ns) → mid ≡ Some p → OnOk r ((s : NcpState) → mid ≡ Some s → IsSettled h g (turn_of h n x (s, ns)) (all_told h ns k) seat y k1)
+    → OnOk r ((s : NcpState) → old ≡ Some s → IsSettled h g (turn_of h n x (turn s)) (all_told h (turn s).1 k) seat y k1)
+turned_so (Ok tt) h g n x old mid was p ns turn k k1 seat y had gives has settled = λ s e.
+    let same : was ≡ s = same_some was s (sym had ∙ e) in
+    subst (λ (t : NcpState × List Notice). IsSettled h g (turn_of h n x t) (all_told h t.1 k) seat y k1) (sym gives ∙ ap turn same) (settled p has)
+turned_so (Err e) h g n x old mid was p ns turn k k1 seat y had gives has settled = tt
+
+-- the same at the places of a host's seat and its services
+pub settled_done : (h : Host) (place : ℕ) (s : NcpState) (x : ServicesState) (seats : List Seat) (all : List ServiceSeat) (o seat : Seat) (w y : ServiceSeat) (k1 : Kept)
+    (turn : Host → ServicesState → NcpState → ServicesState × ServiceDeskState) (before : Host → NcpState → Kept)
+    → Sits h place s seats → Serves h place x all
+    → ((u : NcpState) → (slice_index_or seats place o).program ≡ Some u → IsSettled (slice_index_or all place w).host (slice_index_or seats place o).host (turn (slice_index_or all place w).host (slice_index_or all place w).services u) (before (slice_index_or all place w).host u) seat y k1)
+    → AreDone h (turn h x s) seats all (before h s) (slice_set seats place seat) (slice_set all place y) k1
+settled_done h place s x seats all o seat w y k1 turn before sits serves settled =
+    let d : IsSettled (slice_index_or all place w).host (slice_index_or seats place o).host (turn (slice_index_or all place w).host (slice_index_or all place w).services s) (before (slice_index_or all place w).host s) seat y k1 =
+    settled s (ap (λ (z : Seat). z.program) (sits.is o)) in
+    let old : slice_index_or all place w ≡ record { host = h; services = x } = serves.is w in
+    let mine : (slice_index_or seats place o).host ≡ h = ap (λ (z : Seat). z.host) (sits.is o) in
+    let served : IsSettled h (slice_index_or seats place o).host (turn h x s) (before h s) seat y k1 =
+    subst (λ (z : ServiceSeat). IsSettled z.host (slice_index_or seats place o).host (turn z.host z.services s) (before z.host s) seat y k1) old d in
+    let here : IsSettled h h (turn h x s) (before h s) seat y k1 = subst (λ (g : Host). IsSettled h g (turn h x s) (before h s) seat y k1) mine served in
+    record {
+      seats_are = ap (λ (z : Seat). slice_set seats place z) here.seat_is ∙ sits.set (Some (turn h x s).1.program);
+      services_are = ap (λ (z : ServiceSeat). slice_set all place z) here.services_are ∙ serves.set (turn h x s).0;
+      kept_is = here.kept_is;
+    }

@@ -57,7 +57,13 @@ pub record IsDone (h : Host) (t : ServicesState × ServiceDeskState) (before : K
   pub services_are : after ≡ t.0
   pub kept_is : kept ≡ done_by h t.1 before
 
--- the same, of the hosts in their places
+-- the same, of a host in its seat. The seat and the services are of these hosts
+pub record IsSettled (h g : Host) (t : ServicesState × ServiceDeskState) (before : Kept) (seat : Seat) (services : ServiceSeat) (kept : Kept) : Type 0 where
+  pub seat_is : seat ≡ record { host = g; program = Some t.1.program }
+  pub services_are : services ≡ record { host = h; services = t.0 }
+  pub kept_is : kept ≡ done_by h t.1 before
+
+-- and of all hosts in their places
 pub record AreDone (h : Host) (t : ServicesState × ServiceDeskState) (seats : List Seat) (all : List ServiceSeat) (before : Kept) (seats_after : List Seat) (all_after : List ServiceSeat) (kept : Kept) : Type 0 where
   pub seats_are : seats_after ≡ seated h (Some t.1.program) seats
   pub services_are : all_after ≡ serviced h t.0 all

@@ -5,4 +5,4 @@ use Rattle.net_sim.proofs.hosting.place.Goals as goal
 pub returns-then-sits_at : goal.returns-then-sits_at
 returns-then-sits_at c =
     let there : _ = c.if-sits_at.ensures in
-    sym (placed c.args.host c.args.seats.now c.likely_place-at.result c.requires.once there.0 there.1)
+    sym (placed c.args.host c.args.seats.now c.args.likely c.requires.once there.0 there.1)

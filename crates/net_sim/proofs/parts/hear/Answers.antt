@@ -5,10 +5,10 @@ use Rattle.host_services.specs.Services.{ServicesState}
 use Rattle.sockets.specs.Accepting.{accepted}
 use Rattle.net_sim.specs.Book.{all_crossed, all_told}
 use Rattle.net_sim.specs.World.{turn_of}
-use Rattle.net_sim.proofs.Hosts.Doing.{call_done}
+use Rattle.net_sim.proofs.Hosts.Doing.{settled_done}
 use Rattle.net_sim.proofs.parts.hear.Goals as goal
 
 pub returns-clause-done : goal.returns-clause-done
 returns-clause-done c = λ h s x sits serves.
-    call_done h c.args.at s c.in-Some.program c.in-Ok-hear.program x c.take.new.self c.args.seats.now c.args.services.now c.index-seats-at.result c.index-seats-at-2.result c.index-services-at.result c.hear.new.self c.hear.new.book
-    (λ (g : Host) (z : ServicesState) (u : NcpState). turn_of g (length c.args.book.now.book.notices) z (accepted u c.args.inbound (length c.args.book.now.book.crossings))) (λ (g : Host) (u : NcpState). all_told g (accepted u c.args.inbound (length c.args.book.now.book.crossings)).1 (all_crossed (reverse c.args.news.now) c.args.book.now)) sits serves (search rules) (search rules) (search rules)
+    settled_done h c.args.at s x c.args.seats.now c.args.services.now c.index-seats-at.result c.hear.new.seat c.index-services-at.result c.hear.new.self c.hear.new.book
+    (λ (g : Host) (z : ServicesState) (u : NcpState). turn_of g (length c.args.book.now.book.notices) z (accepted u c.args.inbound (length c.args.book.now.book.crossings))) (λ (g : Host) (u : NcpState). all_told g (accepted u c.args.inbound (length c.args.book.now.book.crossings)).1 (all_crossed (reverse c.args.news.now) c.args.book.now)) sits serves (search rules)

@@ -5,7 +5,7 @@ use Rattle.leader1822.specs.Host.{same_host}
 use Rattle.net_sim.specs.Inside.Parts.{NoSeat, NoProgram}
 use Rattle.net_sim.specs.World.{Seat}
 use Rattle.net_sim.proofs.Hosts.SeatLemmas.{sits, some_program, no_program}
-use Rattle.net_sim.proofs.parts.up_at.Goals as goal
+use Rattle.net_sim.proofs.parts.up_near.Goals as goal
 
 pub returns-in_default : goal.returns-in_default
 returns-in_default c = NoSeat refl (none_found (λ (s : Seat). same_host c.args.host s.host) c.args.seats.now (search rules))

@@ -1,0 +1,15 @@
+use Rattle.std.proofs.Common.{◌≡◌, ℕ, rules, length, reverse, Some, ap, sym, ◌∙◌}
+use Rattle.std.proofs.lemmas.List.{length-reverse}
+use Rattle.sockets.specs.Sending.{offered}
+use Rattle.sockets.specs.Pairs.{NcpState}
+use Rattle.net_sim.specs.Book.{all_crossed}
+use Rattle.net_sim.proofs.Hosts.Doing.{given_by, turned_so}
+use Rattle.net_sim.proofs.seat.ServiceSeat.go_out.Goals as goal
+
+pub returns-clause-done : goal.returns-clause-done
+returns-clause-done c =
+    let place : length c.crossings.result.now ≡ length c.args.book.now.book.crossings = search (rules, length-reverse c.args.book.now.book.crossings) in
+    turned_so c.settle.result c.args.self.now.host c.args.seat.now.host (length c.args.book.now.book.notices) c.args.self.now.services c.args.seat.now.program (Some c.offered.new.self) c.in-Some.program c.offered.new.self c.in-Ok.notices.items
+    (λ (s : NcpState). offered s (length c.args.book.now.book.crossings)) (all_crossed (reverse c.args.news.now) c.args.book.now) c.settle.new.book c.settle.new.seat c.settle.new.self (search rules)
+    (ap (λ (n : ℕ). offered c.in-Some.program n) (sym place)
+    ∙ given_by (offered c.in-Some.program (length c.crossings.result.now)) c.offered.result c.offered.new.self c.in-Ok.notices (λ v. v.items) (search rules) c.offered.ensures.turn) (search rules) c.settle.ensures.done
