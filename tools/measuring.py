@@ -1,6 +1,7 @@
 """What the measurements of tools/measure share: the processor time and the memory of a run, and the inputs that they run."""
 
 import os
+import re
 import subprocess
 import sys
 
@@ -21,6 +22,17 @@ def best_of_all(programs, source, rounds):
     """The best processor time of each of these programs, run in turn."""
     runs = [[processor_time([program], source) for program in programs] for _ in range(rounds)]
     return [min(times) for times in zip(*runs)]
+
+
+def instructions(program, source):
+    """How many instructions a run has, in millions, by callgrind of Valgrind. No load changes that."""
+    words = ["valgrind", "--tool=callgrind", "--callgrind-out-file=/dev/null", program]
+    with open(source, "rb") as octets:
+        ran = subprocess.run(words, stdin=octets, stdout=subprocess.DEVNULL, stderr=subprocess.PIPE)
+    found = re.search(rb"Collected : (\d+)", ran.stderr)
+    if not found:
+        sys.exit(f"callgrind counted nothing:\n{ran.stderr.decode()}")
+    return int(found[1]) / 1e6
 
 
 def most_memory(program, source, *options):

@@ -24,14 +24,13 @@ gate.
 
 import argparse
 import random
-import re
 import statistics
 import subprocess
 import sys
 import tempfile
 
 from imp_rules import MOST_IMPS
-from measuring import best_of_all, most_memory, processor_time, written
+from measuring import best_of_all, instructions, most_memory, processor_time, written
 from parts import proved_program
 from subnet_rules import Subnet
 
@@ -136,17 +135,6 @@ def ended(program, source):
     with open(source, "rb") as octets:
         ran = subprocess.run([program], stdin=octets, capture_output=True)
     return ran.returncode, ran.stdout
-
-
-def instructions(program, source):
-    """How many instructions a run has, in millions."""
-    words = ["valgrind", "--tool=callgrind", "--callgrind-out-file=/dev/null", program]
-    with open(source, "rb") as octets:
-        ran = subprocess.run(words, stdin=octets, stdout=subprocess.DEVNULL, stderr=subprocess.PIPE)
-    found = re.search(rb"Collected : (\d+)", ran.stderr)
-    if not found:
-        sys.exit(f"measure subnet: callgrind counted nothing:\n{ran.stderr.decode()}")
-    return int(found[1]) / 1e6
 
 
 def alone(program, source, rounds):
