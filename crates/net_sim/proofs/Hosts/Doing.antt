@@ -91,7 +91,7 @@ abbrev services_of_host : Host → ServicesState → ServiceSeat
 services_of_host h x = record { host = h; services = x }
 
 -- after the services had their turns
-pub settled_of : (h g : Host) (t : ServicesState × ServiceDeskState) (before k1 : Kept) (p : NcpState) (seat : Seat) (y : ServiceSeat) → IsDone h t before p y.services k1 → y.host ≡ h → seat ≡ record { host = g; program = Some p }
+settled_of : (h g : Host) (t : ServicesState × ServiceDeskState) (before k1 : Kept) (p : NcpState) (seat : Seat) (y : ServiceSeat) → IsDone h t before p y.services k1 → y.host ≡ h → seat ≡ record { host = g; program = Some p }
     → IsSettled h g t before seat y k1
 settled_of h g t before k1 p seat y d host is = record {
   seat_is = is ∙ ap (λ (s : NcpState). seat_of_host g s) d.program_is;
