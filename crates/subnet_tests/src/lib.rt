@@ -12,4 +12,6 @@ mod acts;
 #[cfg(test)]
 mod imps;
 #[cfg(test)]
+mod resting;
+#[cfg(test)]
 mod subnets;
