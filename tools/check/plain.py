@@ -1,10 +1,10 @@
-#!/usr/bin/env python3
-"""Builds the plain program and compares what it prints with what is stored: tools/plain/compare [--beside FILE INPUT..]
+"""A plain program in Rust, written from the rules without proofs, prints what is stored (half a minute): ./check plain [--beside FILE INPUT..]
 
-The inputs are those of examples/ and cases/, with their options. With --beside, it is also run on further inputs beside another
-program, such as a proved one, whose output and status it has to have. The status is 0 if nothing differs. What the plain program
-leaves out is counted apart: options that it doesn't have, and the documents of topologies that are refused or that it doesn't
-read. It wants `rustc`.
+`tools/plain` is there so that the proved program can be compared with what one writes who proves nothing (docs/PERFORMANCE.md). It is
+an independent program, too: this builds it with `rustc` and compares its output with what is stored of examples/ and cases/, with
+their options. With --beside, it is also run on further inputs beside another program, such as the proved one, whose output and
+status it has to have. What the plain program leaves out is counted apart: options that it doesn't have, and the documents of
+topologies that are refused or that it doesn't read. It is not part of the gate.
 """
 
 import os
@@ -13,12 +13,8 @@ import sys
 import tempfile
 from collections import Counter
 
-sys.dont_write_bytecode = True
-HERE = os.path.dirname(os.path.realpath(__file__))
-ROOT = os.path.dirname(os.path.dirname(HERE))
-sys.path.insert(0, f"{ROOT}/tools")
-
-from cases import cases_below  # noqa: E402
+from cases import cases_below
+from parts import ROOT
 
 LEFT_OUT = ("--log", "--trace", "--audit")
 
@@ -51,10 +47,11 @@ def beside(program, other, paths):
         yield path, "same" if ended(program, [], octets) == ended(other, [], octets) else "differs"
 
 
-def main(words):
+def main():
+    words = sys.argv[1:]
     with tempfile.TemporaryDirectory() as folder:
         program = f"{folder}/plain"
-        subprocess.run(["rustc", "-O", "--edition", "2021", f"{HERE}/main.rs", "-o", program], check=True)
+        subprocess.run(["rustc", "-O", "--edition", "2021", f"{ROOT}/tools/plain/main.rs", "-o", program], check=True)
         told = [*stored(program)]
         if words[:1] == ["--beside"]:
             told += beside(program, words[1], words[2:])
@@ -64,9 +61,6 @@ def main(words):
     for name, count in Counter(name.split("-row-")[0] for name, how in told if how == "left out").items():
         print(f"left out: {name}" + (f", {count} rows" if count > 1 else ""))
     counts = [sum(how == it for _, how in told) for it in ("same", "differs", "left out")]
-    print("compare: {} the same, {} differ, {} left out".format(*counts))
+    print("check plain: {} the same, {} differ, {} left out".format(*counts))
     return 1 if counts[1] else 0
 
-
-if __name__ == "__main__":
-    sys.exit(main(sys.argv[1:]))
