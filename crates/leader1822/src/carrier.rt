@@ -1,6 +1,6 @@
 //! What a network is to its hosts.
 
-ghost use Rattle.std.specs.Prelude.{◌≡◌, Result, Option, reverse, true};
+ghost use Rattle.std.specs.Prelude.{◌≡◌, Result, Option, reverse, true, false};
 ghost use Rattle.leader1822.specs.Host.{Host};
 ghost use Rattle.leader1822.specs.Mailboxes.{IsRun};
 ghost use Rattle.leader1822.specs.Calls.{Seen, InOrder, ShowsOffer, ShowsTake, ShowsStep, ShowsRound};
@@ -101,7 +101,8 @@ pub trait Carrier: Drop {
     /// Whether it is known that the network rests: a quiet round leaves it as it is, and so does a taking of any host, which
     /// brings nothing. A carrier may answer `false` though it rests. This takes no memory.
     fn rests(&self) -> bool
-        ensures { result ≡ true → Rests rounds takes self.now };
+        ensures running { result ≡ true → (seen self.now).stopped ≡ false }
+        ensures unchanged { result ≡ true → Rests rounds takes self.now };
 
     /// All crossings so far, oldest first. They are a run of the mailboxes.
     fn log(&self) -> &[Crossing]
