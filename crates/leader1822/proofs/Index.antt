@@ -30,7 +30,7 @@ use Rattle.leader1822.proofs.SoundCalls.{first_is, taken_sound}
 
 -- ---- what the map tells
 
-some_pending : (ts : List (List Bool)) (ks : List Answer) → is_some (pending_of ts ks) ≡ (has_any ts || has_any ks)
+pub some_pending : (ts : List (List Bool)) (ks : List Answer) → is_some (pending_of ts ks) ≡ (has_any ts || has_any ks)
 some_pending (t ∷ ts) ks = refl
 some_pending [] (k ∷ ks) = refl
 some_pending [] [] = refl

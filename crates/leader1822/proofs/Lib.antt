@@ -13,6 +13,7 @@ pub mod Sound
 pub mod SoundEvents
 pub mod SoundCalls
 pub mod Index
+pub mod Resting
 pub mod Giving
 pub mod ToldDead
 pub mod WorkedBoxes

@@ -8,3 +8,4 @@ pub mod Leader
 pub mod Mailboxes
 pub mod Messages
 pub mod Printed
+pub mod Rest

@@ -1,9 +1,10 @@
 //! What a network is to its hosts.
 
-ghost use Rattle.std.specs.Prelude.{◌≡◌, Result, Option, reverse};
+ghost use Rattle.std.specs.Prelude.{◌≡◌, Result, Option, reverse, true, false};
 ghost use Rattle.leader1822.specs.Host.{Host};
 ghost use Rattle.leader1822.specs.Mailboxes.{IsRun};
 ghost use Rattle.leader1822.specs.Calls.{Seen, InOrder, ShowsOffer, ShowsTake, ShowsStep, ShowsRound};
+ghost use Rattle.leader1822.specs.Rest.{Rests};
 ghost use Rattle.leader1822.specs.declared.carrier.CarrierFault.{CarrierFault};
 ghost use Rattle.leader1822.specs.declared.crossing.Inbound.{Inbound};
 ghost use Rattle.leader1822.specs.declared.event.NetEvent.{NetEvent};
@@ -96,6 +97,12 @@ pub trait Carrier: Drop {
     fn quiet_round(&mut self) -> Result<(), CarrierFault>
         ensures relation { rounds self.old result self.new }
         ensures shown { ShowsRound (seen self.old) result (seen self.new) };
+
+    /// Whether it is known that the network rests: a quiet round leaves it as it is, and so does a taking of any host, which
+    /// brings nothing. A carrier may answer `false` though it rests. This takes no memory.
+    fn rests(&self) -> bool
+        ensures running { result ≡ true → (seen self.now).stopped ≡ false }
+        ensures unchanged { result ≡ true → Rests rounds takes self.now };
 
     /// All crossings so far, oldest first. They are a run of the mailboxes.
     fn log(&self) -> &[Crossing]

@@ -2,7 +2,7 @@
 
 ghost use Rattle.std.specs.Prelude.{◌≡◌, ◌++◌, [], ◌∷◌, not, true, false, reverse, OnOk, OnErr, IfOk, IsSome, None, filter, length};
 ghost use Rattle.std.specs.FinMap as map;
-ghost use Rattle.leader1822.specs.Host.{InOrder, is_host, same_host};
+ghost use Rattle.leader1822.specs.Host.{Host, InOrder, is_host, same_host};
 ghost use Rattle.leader1822.specs.Boxes as boxes;
 ghost use Rattle.leader1822.specs.Boxes.{queued_if, told_dead};
 ghost use Rattle.leader1822.specs.Inside.Held.{IsIndexed, IsKept, is_message, is_unanswered, put, answer_if, cleared, flows_dead, held_admitted, held_offered, held_taken, held_given_up, held_stopped, held_started};
@@ -166,6 +166,15 @@ impl Contents {
         ensures { result ≡ boxes.is_unsettled self.now.boxes host.now }
     {
         self.flows.has_from(*host)
+    }
+
+    /// Whether nothing waits for any host.
+    pub(crate) fn is_empty(&self) -> bool
+        requires kept { IsKept self.now }
+        requires running { self.now.boxes.stopped ≡ false }
+        ensures { result ≡ true → (h : Host) → boxes.next_for self.now.boxes h ≡ None }
+    {
+        self.flows.is_empty()
     }
 
     // ---- refusing

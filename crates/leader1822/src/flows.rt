@@ -48,6 +48,13 @@ impl Flows {
         }
     }
 
+    /// Whether nothing waits of any flow.
+    pub(crate) fn is_empty(&self) -> bool
+        ensures { result ≡ true → self.now ≡ map.empty }
+    {
+        self.flows.is_empty()
+    }
+
     /// What waits of a flow.
     pub(crate) fn get(&self, flow: &Flow) -> Option<Pending>
         ensures { result ≡ map.get self.now flow.now }

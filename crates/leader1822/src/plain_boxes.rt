@@ -189,6 +189,11 @@ impl Carrier for PlainBoxes {
         Ok(())
     }
 
+    /// Nothing is in transit here, so the network rests while nothing waits for any host. It is always known.
+    fn rests(&self) -> bool {
+        !self.contents.has_stopped() && self.contents.is_empty()
+    }
+
     fn log(&self) -> &[Crossing] {
         self.contents.log()
     }

@@ -198,6 +198,8 @@ enum Act {
     AnswerAt(Who, usize),
     /// The host at this place of those that are down is looked at.
     DownAt(usize),
+    /// Whether the network is known to rest.
+    Rests,
 }
 
 /// What an act gives.
@@ -219,6 +221,8 @@ enum Want {
     Waiting(usize, usize),
     /// It is this host.
     Is(Who),
+    /// The network rests, or it doesn't.
+    AtRest(bool),
 }
 
 /// What an act gave.
@@ -240,6 +244,8 @@ enum Outcome {
     Waiting(usize, usize),
     /// It is this host.
     Is(HostAddr),
+    /// The network rests, or it doesn't.
+    AtRest(bool),
 }
 
 /// The outcome that is wanted.
@@ -253,6 +259,7 @@ fn outcome_of(want: Want) -> Outcome {
         Want::Seen(hosts, crossings) => Outcome::Seen(hosts, crossings),
         Want::Waiting(messages, answers) => Outcome::Waiting(messages, answers),
         Want::Is(who) => Outcome::Is(host_of(who)),
+        Want::AtRest(rests) => Outcome::AtRest(rests),
     }
 }
 
@@ -342,6 +349,7 @@ fn acted(alloc: Global, boxes: &mut PlainBoxes, act: Act) -> Result<Outcome, Bit
         Act::MessageAt(who, place) => found(boxes.message_at(&host_of(who), place)),
         Act::AnswerAt(who, place) => told(boxes.answer_at(&host_of(who), place)),
         Act::DownAt(place) => named(boxes.down().get(place)),
+        Act::Rests => Outcome::AtRest(boxes.rests()),
     })
 }
 
@@ -447,6 +455,29 @@ const NOBODY: [(Act, Want); 4] = [
 #[test]
 fn a_host_that_is_not_there(rt: HostRuntime) {
     assert_eq!(rt; fitting(rt.alloc(), &NOBODY), Ok(4));
+}
+
+/// Boxes rest while nothing waits for any host: no message, and no answer.
+const AT_REST: [(Act, Want); 11] = [
+    (Act::Rests, Want::AtRest(true)),
+    (Act::Offer(Way::Forth(5)), Want::Done),
+    (Act::Rests, Want::AtRest(false)),
+    (Act::Take(Who::Beyond), Want::Message(Way::Forth(5))),
+    (Act::Rests, Want::AtRest(false)),
+    (
+        Act::Take(Who::Here),
+        Want::Answered(Answer::Rfnm, Way::Forth(5)),
+    ),
+    (Act::Rests, Want::AtRest(true)),
+    (Act::Offer(Way::Forth(5)), Want::Done),
+    (Act::Down(Who::Here), Want::Done),
+    (Act::Down(Who::Beyond), Want::Done),
+    (Act::Rests, Want::AtRest(true)),
+];
+
+#[test]
+fn boxes_rest_while_nothing_waits(rt: HostRuntime) {
+    assert_eq!(rt; fitting(rt.alloc(), &AT_REST), Ok(11));
 }
 
 /// Answers of four messages wait in their order.

@@ -1,8 +1,8 @@
 //! A calm: quiet rounds, and after each of them every host that is up takes what came for it and says what it has to say.
 
-ghost use Rattle.std.specs.Prelude.{◌≡◌, ◌<◌, length, if◌then◌else◌, is_some, slice_get, None, Some};
+ghost use Rattle.std.specs.Prelude.{◌≡◌, ◌<◌, ℕ, true, false, length, if◌then◌else◌, is_some, slice_get, None, Some};
 ghost use Rattle.net_sim.specs.Carriers.{shown};
-ghost use Rattle.net_sim.specs.Inside.Calm.{CalmTurn, Round};
+ghost use Rattle.net_sim.specs.Inside.Calm.{CalmTurn, CarrierRests, IsSilent, IsSilentAt, Round};
 ghost use Rattle.net_sim.specs.World as world;
 ghost use Rattle.net_sim.specs.World.{CalmGives, Repeats, Offer, Take};
 
@@ -29,10 +29,42 @@ fn up_here(seats: &[Seat], at: usize) -> Option<HostAddr>
     Some(seat.host)
 }
 
+/// Whether each host that is up has nothing to say.
+fn all_silent(seats: &[Seat]) -> bool
+    ensures { result ≡ true → (at : ℕ) → at < length seats.now → IsSilentAt seats.now at }
+{
+    let count = seats.len();
+    for at in 0..count {
+        if !is_silent_at(seats, at) {
+            return false;
+        }
+    }
+    true
+}
+
+/// Whether the host whose seat is here is down, or has nothing to say.
+fn is_silent_at(seats: &[Seat], at: usize) -> bool
+    requires { at < length seats.now }
+    ensures { result ≡ true → IsSilentAt seats.now at }
+{
+    is_silent(&seats[at])
+}
+
+/// Whether a host is down, or has nothing to say.
+fn is_silent(seat: &Seat) -> bool
+    ensures { result ≡ true → IsSilent seat.now }
+{
+    let Some(program) = &seat.program else {
+        return true;
+    };
+    matches!(program.next_out(), Ok(None))
+}
+
 impl<C: Carrier> World<C> {
     /// So many times: a quiet round of the network, and then each host that is up has its turn, in order of IMP and host. It
     /// takes until nothing waits for it, or 16 times; then it offers until it has nothing to say or is refused, or 32 times.
-    /// It continues after refusals. It needs memory where [`World::step`] does.
+    /// It continues after refusals. It needs memory where [`World::step`] does. Rounds that would change nothing are not made once that
+    /// is known.
     ///
     /// Errors: memory runs out, which ends the calm, and `Stopped` after that.
     pub fn calm(&mut self, rounds: u32) -> Result<(), WorldFault>
@@ -42,12 +74,32 @@ impl<C: Carrier> World<C> {
             return Err(WorldFault::Carrier(CarrierFault::Stopped));
         }
         for _ in 0..rounds {
+            let before = self.book().crossings().len();
             let answer = self.pass_round();
             if stops(&answer) {
                 return answer;
             }
+            if self.has_calmed(before) {
+                return Ok(());
+            }
         }
         Ok(())
+    }
+
+    /// Whether another round would change nothing: nothing has crossed since the book had so many crossings, the network is known
+    /// to rest, and no host that is up has anything to say.
+    fn has_calmed(&self, before: usize) -> bool
+        ensures running { result ≡ true → self.now.stopped ≡ false }
+        ensures carrier { result ≡ true → CarrierRests (shown (record { seen = C.seen; offers = C.offers; takes = C.takes; steps = C.steps; rounds = C.rounds })) self.now.carrier }
+        ensures silent { result ≡ true → (at : ℕ) → at < length self.now.seats → IsSilentAt self.now.seats at }
+    {
+        if self.book().crossings().len() > before {
+            return false;
+        }
+        if !self.carrier_rests() {
+            return false;
+        }
+        all_silent(self.seats())
     }
 
     /// One quiet round of the network, and then each host that is up has its turn.

@@ -1,11 +1,12 @@
 //! Hosts with their programs over a carrier.
 
-ghost use Rattle.std.specs.Prelude.{◌≡◌, false, List, [], IfOk, OnOk, All};
+ghost use Rattle.std.specs.Prelude.{◌≡◌, true, false, List, [], IfOk, OnOk, All};
 ghost use Rattle.leader1822.specs.Calls.{InOrder};
 ghost use Rattle.leader1822.specs.Host.{Host, IsAddress};
 ghost use Rattle.net_sim.specs.Carriers.{shown};
 ghost use Rattle.net_sim.specs.Clean.{IsLawful};
 ghost use Rattle.net_sim.specs.Handed.{AreUnhanded};
+ghost use Rattle.net_sim.specs.Inside.Calm.{CarrierRests};
 ghost use Rattle.net_sim.specs.Inside.Parts as parts;
 ghost use Rattle.net_sim.specs.Inside.Parts.{IsOnce, hosts_of};
 ghost use Rattle.net_sim.specs.World as world;
@@ -100,6 +101,17 @@ impl<C: Carrier> World<C> {
         ensures { result ≡ self.now.stopped }
     {
         self.stopped
+    }
+
+    /// Whether it is known that the carrier rests. A world that has stopped doesn't ask.
+    pub(crate) fn carrier_rests(&self) -> bool
+        ensures running { result ≡ true → self.now.stopped ≡ false }
+        ensures carrier { result ≡ true → CarrierRests (shown (record { seen = C.seen; offers = C.offers; takes = C.takes; steps = C.steps; rounds = C.rounds })) self.now.carrier }
+    {
+        if self.stopped {
+            return false;
+        }
+        self.carrier.rests()
     }
 
     /// One event happens, or is refused.

@@ -1,9 +1,10 @@
 -- A calm goes on, and ends.
-use Rattle.std.proofs.Common.{◌≡◌, ℕ, suc, ◌+◌, ◌-◌, ◌<◌, ◌≤◌, List, [], ◌∷◌, ◌++◌, Option, Some, None, Result, Ok, Err, IfErr, drop, length, get_or, reverse, refl, sym, ap, subst, ◌∙◌, arith, inr}
+use Rattle.std.proofs.Common.{◌≡◌, ℕ, zero, suc, Bool, true, false, ◌||◌, if◌then◌else◌, ◌+◌, ◌-◌, ◌<◌, ◌≤◌, List, [], ◌∷◌, ◌++◌, Option, Some, None, Result, Ok, Err, IfErr, drop, length, get_or, reverse, refl, sym, ap, subst, ◌∙◌, arith, inr}
 use Rattle.std.proofs.lemmas.Bool.{false≢true}
 use Rattle.std.proofs.lemmas.List.{append_assoc, append-nil, drop_all, drop_more, reverse-append}
 use Rattle.std.specs.Io.KnownBytes.{Appends}
-use Rattle.leader1822.specs.Calls.{Seen}
+use Rattle.leader1822.specs.Calls.{Seen, is_halt, is_memory}
+use Rattle.leader1822.specs.Rest.{BringsNothing, Rests, TakesNothing}
 use Rattle.leader1822.specs.Host.{Host}
 use Rattle.leader1822.specs.declared.CarrierFault.{CarrierFault}
 use Rattle.leader1822.specs.declared.Inbound.{Inbound}
@@ -192,3 +193,45 @@ passed_ends calls detail first now next times i outcome fault.CannotWrite old_lo
     unknown = refl;
   },
 )
+
+-- ---- a carrier that rests
+
+goes_on : (f : CarrierFault) (halts wants : Bool) → halts ≡ false → wants ≡ false → ◌≡◌ {A = Result (Unit {0}) CarrierFault} (Ok tt) (if halts || wants then Err f else Ok tt)
+goes_on f true wants e n = absurd (false≢true (sym e))
+goes_on f false true e n = absurd (false≢true (sym n))
+goes_on f false false e n = refl
+
+host_rests : {C : Type 0} (calls : Calls C) (h : Host) (c : C) → TakesNothing calls.takes c h → Takings calls h 16 c (Ok tt) c
+host_rests {C} calls h c t = by t.answer t.nothing t.unchanged where
+  by : (answer : Result (Option Inbound) CarrierFault) → BringsNothing answer → calls.takes c h answer c → Takings calls h 16 c (Ok tt) c
+  by (Ok None) nothing same = (Ok None, c, same, (refl, refl))
+  by (Ok (Some i)) nothing same = absurd nothing
+  by (Err f) nothing same = (Err f, c, same, (goes_on f (is_halt f) (is_memory f) nothing.0 nothing.1, refl))
+
+hosts_rest : {C : Type 0} (calls : Calls C) (hosts : List Host) (c : C) → ((h : Host) → TakesNothing calls.takes c h) → AllTake calls hosts c (Ok tt) c
+hosts_rest calls [] c none = (refl, refl)
+hosts_rest calls (h ∷ hosts) c none = (Ok tt, c, host_rests calls h c (none h), hosts_rest calls hosts c none)
+
+rounds_rest : {C : Type 0} (calls : Calls C) (times : ℕ) (c : C) → Rests calls.rounds calls.takes c → Rounds calls times c (Ok tt) c
+rounds_rest calls zero c rest = (refl, refl)
+rounds_rest calls (suc times) c rest =
+    (Ok tt, c, (Ok tt, c, (Ok tt, rest.round, refl), hosts_rest calls (calls.seen c).hosts c rest.takings), rounds_rest calls times c rest)
+
+-- the rounds that are left would change nothing, and show nothing
+pub rest_passed : {C : Type 0} (calls : Calls C) (detail : Detail) (first now : C) (times i : ℕ) (a b : Option (List ℕ)) → Passed calls detail first times i now a b → Rests calls.rounds calls.takes now
+    → EventEnds calls detail first (event.Calm times) (Ok tt) now a b
+rest_passed calls detail first now times i a b before rest =
+    let few = before.few in
+    let all : i + (times - i) ≡ times = omega (arith, few) in
+    record {
+      shown = shown_crossings before.crossings ++ [];
+      is_shown = record {
+        outcome = Ok tt;
+        gives = subst (λ n. Rounds calls n first (Ok tt) now) all (before.goes (times - i) (Ok tt) now (rounds_rest calls (times - i) now rest));
+        goes_on = tt;
+        crossings = before.crossings;
+        grown = before.grown;
+        lines = refl;
+      };
+      written = subst (λ shown. Appends a b (output detail shown)) (sym (append-nil (shown_crossings before.crossings))) before.written;
+    }

@@ -14,7 +14,8 @@ use leader1822::{Carrier, CarrierFault, HostAddr};
 /// How often a host takes in one round at most.
 const TAKINGS: u8 = 16;
 
-/// Lets so many rounds pass, and prints after each what crossed in it. Refusals are not printed.
+/// Lets so many rounds pass, and prints after each what crossed in it. Refusals are not printed. Where the network rests, the
+/// rounds that are left would change nothing and print nothing, and are not made.
 pub(crate) fn replay_calm<C: Carrier, W: Output>(
     carrier: &mut C,
     rounds: u32,
@@ -26,6 +27,9 @@ pub(crate) fn replay_calm<C: Carrier, W: Output>(
     ensures failed { TellsCannotWrite result (W.failed writer.new) }
 {
     for _ in 0..rounds {
+        if carrier.rests() {
+            return Ok(());
+        }
         let booked = carrier.log().len();
         let outcome = pass_round(carrier);
         print_outcome(carrier.log(), booked, outcome, detail, writer)?;

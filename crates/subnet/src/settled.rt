@@ -3,14 +3,16 @@
 ghost use Rattle.std.specs.Prelude.{◌≡◌, ◌<◌, ℕ, length, true, Some};
 ghost use Rattle.std.specs.List.{list_all};
 ghost use Rattle.leader1822.specs.declared.event.Direction.{Direction};
+ghost use Rattle.subnet.specs.Net.{imp_at};
 ghost use Rattle.subnet.specs.Events as events;
+ghost use Rattle.subnet.specs.Inside.Resting.{TakesNone, TakesNoneAt, is_away};
 ghost use Rattle.subnet.specs.Inside.Settled as settled;
 ghost use Rattle.subnet.specs.Inside.Settled.{IsHeardOn, is_silent, stores_nothing};
 
 use crate::parts::Parts;
 use crate::wire::Wire;
 use imp_node::Imp;
-use leader1822::Direction;
+use leader1822::{Direction, HostAddr};
 
 impl Parts {
     /// Whether no frame is on a line, no IMP stores a packet, and what each IMP would tell its neighbours they heard last. A
@@ -20,6 +22,45 @@ impl Parts {
         ensures { result ≡ true → events.quiet_round self.now ≡ self.now }
     {
         all_silent(self.lines.all()) && all_store_nothing(&self.imps) && self.all_have_heard()
+    }
+
+    /// Whether a taking of any host of the network is refused, or gives nothing and changes nothing.
+    pub(crate) fn all_take_nothing(&self) -> bool
+        ensures { result ≡ true → (i : ℕ) → i < length self.now.hosts → TakesNoneAt self.now i }
+    {
+        let hosts = self.hosts.all().len();
+        for at in 0..hosts {
+            if !self.takes_nothing_at(at) {
+                return false;
+            }
+        }
+        true
+    }
+
+    /// Whether this is so of the host at this place.
+    fn takes_nothing_at(&self, at: usize) -> bool
+        requires { at < length self.now.hosts }
+        ensures { result ≡ true → TakesNoneAt self.now at }
+    {
+        self.takes_nothing(&self.hosts.all()[at])
+    }
+
+    /// Whether this host is down, or its IMP is, or nothing waits for it and no packet waits in its IMP.
+    #[tactic(auto, using(crate::proofs::Calls::Restful::away_takes, crate::proofs::Calls::Restful::empty_takes))]
+    fn takes_nothing(&self, host: &HostAddr) -> bool
+        ensures { result ≡ true → TakesNone self.now host.now }
+    {
+        self.is_away(host) || self.has_nothing_for(host)
+    }
+
+    /// Whether a host of an IMP is down, or the IMP is.
+    fn is_away(&self, host: &HostAddr) -> bool
+        ensures { result ≡ is_away (imp_at self.now.imps host.now.imp) host.now.host }
+    {
+        match self.imp(host.imp()) {
+            Some(imp) => !imp.is_up(host.host()),
+            None => true,
+        }
     }
 
     /// Whether the IMPs at both ends of each line have heard last what they would be told there.

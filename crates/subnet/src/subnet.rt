@@ -2,6 +2,7 @@
 
 ghost use Rattle.std.specs.Prelude.{◌≡◌, ◌+◌, ◌<◌, ◌≤◌, ◌&&◌, true, false, reverse, None, Ok, All, IfSome, IfOk, length, slice_index_or};
 ghost use Rattle.leader1822.specs.Host.{most_imps};
+ghost use Rattle.leader1822.specs.Rest.{Rests};
 ghost use Rattle.subnet.specs.Inside.Calling.{AreLive, SameLog, runs_out};
 ghost use Rattle.subnet.specs.Inside.Remembering.{is_refused};
 ghost use Rattle.subnet.specs.Routed.{IsHostMessage};
@@ -155,6 +156,20 @@ impl Subnet {
         outcome
     }
 
+    /// Whether it is remembered that a quiet round changes nothing, and no host would get anything.
+    fn is_at_rest(&self) -> bool
+        ensures running { result ≡ true → self.now.stopped ≡ false }
+        ensures unchanged { result ≡ true → Rests SubnetRound SubnetTake self.now }
+    {
+        if self.stopped {
+            return false;
+        }
+        if !self.rests {
+            return false;
+        }
+        self.parts.all_take_nothing()
+    }
+
     /// A round in which what is in transit moves on. A subnet that rests is left as it is.
     #[tactic(auto, using(crate::proofs::Calls::Working::round_done, crate::proofs::Calls::Working::rested_round))]
     fn round(&mut self) -> Result<(), CarrierFault>
@@ -228,6 +243,12 @@ impl Carrier for Subnet {
     #[tactic(auto, using(crate::proofs::Calls::Working::round_shown))]
     fn quiet_round(&mut self) -> Result<(), CarrierFault> {
         self.round()
+    }
+
+    /// It is known from the first quiet round on that finds no frame on a line, no packet in an IMP and no distances to tell,
+    /// until something is done in the network, and only while nothing waits for any host that is up.
+    fn rests(&self) -> bool {
+        self.is_at_rest()
     }
 
     fn log(&self) -> &[Crossing] {

@@ -61,6 +61,8 @@ enum Act {
     Rounds(u8),
     /// Whether something of the flow's message with this number is alive.
     IsAlive(Who, Number),
+    /// Whether the network is known to rest.
+    Rests,
 }
 
 /// The IMPs of the rows, by their numbers.
@@ -171,6 +173,8 @@ enum Want {
     Given(Who, u8, usize, u8),
     /// Something is alive, or nothing is.
     Alive(bool),
+    /// The network is known to rest, or it isn't.
+    AtRest(bool),
 }
 
 /// What came of an act.
@@ -188,6 +192,8 @@ enum Outcome {
     Given(Flow, usize, u8),
     /// Something is alive, or nothing is.
     Alive(bool),
+    /// The network is known to rest, or it isn't.
+    AtRest(bool),
 }
 
 /// The outcome that is wanted.
@@ -199,6 +205,7 @@ fn outcome_of(want: Want) -> Outcome {
         Want::Answered(kind, who) => Outcome::Answered(kind, flow_to(who, 5)),
         Want::Given(who, link, bits, octet) => Outcome::Given(flow_to(who, link), bits, octet),
         Want::Alive(alive) => Outcome::Alive(alive),
+        Want::AtRest(rests) => Outcome::AtRest(rests),
     }
 }
 
@@ -256,6 +263,7 @@ fn acted(alloc: Global, subnet: &mut Subnet, act: Act) -> Outcome {
         Act::Step(event) => done(subnet.step(event_of(event))),
         Act::Rounds(count) => done(rounds(subnet, count)),
         Act::IsAlive(who, number) => Outcome::Alive(subnet.alive(&flow_to(who, 5), number)),
+        Act::Rests => Outcome::AtRest(subnet.rests()),
     }
 }
 
@@ -754,4 +762,41 @@ fn come_round(alloc: Global) -> Result<[usize; 3], AllocError> {
 #[test]
 fn a_number_comes_round_after_all_others(rt: HostRuntime) {
     assert_eq!(rt; come_round(rt.alloc()), Ok([14, 65_535, 5]));
+}
+
+/// The network rests once its IMPs have told their distances, and no longer when a message goes out: not while its packet is on a
+/// line, nor while it waits for its host, nor while its RFNM waits for the source. An event that is refused leaves it at rest, and a
+/// host that is down takes nothing.
+const AT_REST: [Row; 22] = [
+    (Act::Rests, Want::AtRest(false)),
+    (Act::Rounds(8), Want::Done),
+    (Act::Rests, Want::AtRest(true)),
+    (Act::Take(Who::Far), Want::Nothing),
+    (Act::Rests, Want::AtRest(true)),
+    (Act::Offer(Who::Far, 5, 8, 0xA5), Want::Done),
+    (Act::Rests, Want::AtRest(false)),
+    (Act::Rounds(8), Want::Done),
+    (Act::Rests, Want::AtRest(false)),
+    (Act::Take(Who::Far), Want::Given(Who::Far, 5, 8, 0xA5)),
+    (Act::Rests, Want::AtRest(false)),
+    (Act::Rounds(8), Want::Done),
+    (Act::Rests, Want::AtRest(false)),
+    (Act::Take(Who::Here), Want::Answered(Answer::Rfnm, Who::Far)),
+    (Act::Rounds(1), Want::Done),
+    (Act::Rests, Want::AtRest(true)),
+    (Act::Step(Event::HostDown(Who::Beside)), Want::Done),
+    (Act::Rests, Want::AtRest(false)),
+    (Act::Rounds(1), Want::Done),
+    (Act::Rests, Want::AtRest(true)),
+    (
+        Act::Step(Event::HostDown(Who::Beside)),
+        Want::Refused(CarrierFault::IsDown),
+    ),
+    (Act::Rests, Want::AtRest(true)),
+];
+
+#[test]
+fn a_network_rests_until_something_happens_in_it(rt: HostRuntime) {
+    let log = "out 0/1 0/3 5 8\nin 0/1 0/3 5 8\nanswer rfnm 0/1 0/3 5\ndown 1/1\n";
+    assert_eq!(rt; played(rt.alloc(), &AT_REST, log), Ok((22, true)));
 }

@@ -73,6 +73,10 @@ impl Carrier for TracedSubnet {
         self.subnet.quiet_round()
     }
 
+    fn rests(&self) -> bool {
+        self.subnet.rests()
+    }
+
     fn log(&self) -> &[Crossing] {
         self.subnet.log()
     }

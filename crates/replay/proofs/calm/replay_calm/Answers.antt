@@ -2,7 +2,7 @@ use Rattle.std.proofs.Common.{◌≡◌, Err, rules, subst, sym}
 use Rattle.replay.specs.Steps.{EventEnds}
 use Rattle.script.specs.declared.event.RawEvent.TheVariants as event
 use Rattle.replay.specs.Replay.{Calls}
-use Rattle.replay.proofs.Passing.{all_passed, one_passed, passed_ends}
+use Rattle.replay.proofs.Passing.{all_passed, one_passed, passed_ends, rest_passed}
 use Rattle.replay.proofs.calm.replay_calm.Goals as goal
 
 pub loop-preserved : goal.loop-preserved
@@ -22,6 +22,11 @@ returns-in_err-print_outcome-clause-ends g c =
     (passed_ends calls c.args.detail c.args.carrier.now c.loop.carrier c.pass_round-outcome.new.carrier c.args.rounds c.loop.counter c.pass_round-outcome.result c.in_err-print_outcome.field-0.0 c.log-booked.result.now c.log.result.now
     (g.W.Output.contents c.args.writer.now) (g.W.Output.contents c.loop.writer) (g.W.Output.contents c.print_outcome.new.writer) c.loop-test.true c.loop.invariant.0 c.pass_round-outcome.ensures.round c.pass_round-outcome.ensures.grew
     c.log-booked.ensures.value c.log.ensures.value c.in_err-print_outcome.ensures.ends)
+
+pub returns-then-rests-clause-ends : goal.returns-then-rests-clause-ends
+returns-then-rests-clause-ends g c =
+    let calls : Calls g.row.C.Denot = record { seen = g.C.Carrier.seen; offers = g.C.Carrier.offers; takes = g.C.Carrier.takes; steps = g.C.Carrier.steps; rounds = g.C.Carrier.rounds } in
+    rest_passed calls c.args.detail c.args.carrier.now c.loop.carrier c.args.rounds c.loop.counter (g.W.Output.contents c.args.writer.now) (g.W.Output.contents c.loop.writer) c.loop.invariant.0 (c.rests.ensures.unchanged c.if-rests.true)
 
 pub returns-clause-ends : goal.returns-clause-ends
 returns-clause-ends g c =

@@ -1,0 +1,71 @@
+-- Plain boxes rest while their map by flow is empty.
+use Rattle.std.proofs.Common.{◌≡◌, Bool, true, false, ◌||◌, List, [], ◌∷◌, Option, Some, None, IsSome, is_some, Ok, Err, refl, ap, sym, ◌∙◌}
+use Rattle.std.specs.FinMap.{empty, get, get-empty}
+use Rattle.leader1822.specs.Host.{Host, is_host}
+use Rattle.leader1822.specs.Flow.{flow_cmp}
+use Rattle.leader1822.specs.Rest.{Rests, TakesNothing}
+use Rattle.leader1822.specs.Boxes.{Boxes, BoxesRound, BoxesTake, WaitingAnswer, for_host, first_of_list, host_refusal, next_for, answer_first}
+use Rattle.leader1822.specs.Inside.Held.{Flows, Held, IsIndexed, IsKept}
+use Rattle.leader1822.specs.Inside.Soundness.{texts_of, kinds_of, texts_for, kinds_for, AreTo, AreToldTo, Matches}
+use Rattle.leader1822.specs.declared.address.Flow.{Flow}
+use Rattle.leader1822.specs.declared.carrier.CarrierFault.{CarrierFault}
+use Rattle.leader1822.specs.declared.carrier.CarrierFault.TheVariants as fault
+use Rattle.leader1822.specs.declared.message.HostMessage.{HostMessage}
+use Rattle.leader1822.proofs.Lists.{same_host-true, same_flow-refl}
+use Rattle.leader1822.proofs.Waiting.{has_any}
+use Rattle.leader1822.proofs.Index.{some_pending}
+
+or_some : (a b : Bool) → a ≡ true → (a || b) ≡ true
+or_some true b e = refl
+or_some false b e = absurd (cc)
+
+or_last : (a b : Bool) → b ≡ true → (a || b) ≡ true
+or_last true b e = refl
+or_last false b e = e
+
+-- of a flow that isn't in the map nothing waits
+none_of : (c : Held) (f : Flow) → IsIndexed c → c.flows ≡ empty → (has_any (texts_for c.boxes f) || has_any (kinds_for c.boxes f)) ≡ true → ⊥
+none_of c f i none some =
+    let there : is_some (get c.flows f) ≡ true = ap is_some (i.each f) ∙ some_pending (texts_for c.boxes f) (kinds_for c.boxes f) ∙ some in
+    let away : get c.flows f ≡ None = ap (λ (fs : Flows). get fs f) none ∙ get-empty flow_cmp f in
+    let c : false ≡ true = ap is_some (sym away) ∙ there in cc
+
+no_message : (c : Held) (h : Host) (q : List HostMessage) → IsIndexed c → c.flows ≡ empty → AreTo h q → for_host c.boxes.messages h ≡ q → first_of_list q ≡ None
+no_message c h [] i none to is = refl
+no_message c h (m ∷ q) i none to is =
+    let f = m.flow in
+    let there : f.destination ≡ h = sym (same_host-true h f.destination to.0) in
+    let waits : has_any (texts_of f (m ∷ q)) ≡ true = rw (same_flow-refl f) refl in
+    let text : has_any (texts_for c.boxes f) ≡ true = ap (λ (x : Host). has_any (texts_of f (for_host c.boxes.messages x))) there ∙ ap (λ (ms : List HostMessage). has_any (texts_of f ms)) is ∙ waits in
+    absurd (none_of c f i none (or_some (has_any (texts_for c.boxes f)) (has_any (kinds_for c.boxes f)) text))
+
+no_answer : (c : Held) (h : Host) (q : List WaitingAnswer) → IsIndexed c → c.flows ≡ empty → AreToldTo h q → for_host c.boxes.answers h ≡ q → first_of_list q ≡ None
+no_answer c h [] i none to is = refl
+no_answer c h (a ∷ q) i none to is =
+    let f = a.1 in
+    let there : f.source ≡ h = sym (same_host-true h f.source to.0) in
+    let waits : has_any (kinds_of f (a ∷ q)) ≡ true = rw (same_flow-refl f) refl in
+    let kind : has_any (kinds_for c.boxes f) ≡ true = ap (λ (x : Host). has_any (kinds_of f (for_host c.boxes.answers x))) there ∙ ap (λ (xs : List WaitingAnswer). has_any (kinds_of f xs)) is ∙ waits in
+    absurd (none_of c f i none (or_last (has_any (texts_for c.boxes f)) (has_any (kinds_for c.boxes f)) kind))
+
+-- where the map is empty, nothing waits for any host
+pub none_waits : (c : Held) (h : Host) → IsKept c → c.boxes.stopped ≡ false → c.flows ≡ empty → next_for c.boxes h ≡ None
+none_waits c h k goes none =
+    let i : IsIndexed c = k.indexed goes in
+    let m : Matches c.boxes = k.sound.matches goes in
+    ap (λ (o : Option WaitingAnswer). answer_first o (first_of_list (for_host c.boxes.messages h))) (no_answer c h (for_host c.boxes.answers h) i none (m.told h) refl)
+    ∙ ap (λ (o : Option HostMessage). answer_first None o) (no_message c h (for_host c.boxes.messages h) i none (m.sent h) refl)
+
+taking : (b : Boxes) (h : Host) → b.stopped ≡ false → next_for b h ≡ None → TakesNothing BoxesTake b h
+taking b h goes none = by (is_host b.hosts h) refl (is_host b.down h) refl where
+  by : (there : Bool) → is_host b.hosts h ≡ there → (down : Bool) → is_host b.down h ≡ down → TakesNothing BoxesTake b h
+  by false t down d = record { answer = Err fault.NoSuch; nothing = (refl, refl); unchanged = (rw (goes, t) refl, refl) }
+  by true t true d = record { answer = Err fault.IsDown; nothing = (refl, refl); unchanged = (rw (goes, t, d) refl, refl) }
+  by true t false d = record { answer = Ok None; nothing = tt; unchanged = (rw (goes, t, d) refl, (sym none, refl)) }
+
+-- where nothing waits for any host, they rest
+pub boxes_rest : (b : Boxes) → b.stopped ≡ false → ((h : Host) → next_for b h ≡ None) → Rests BoxesRound BoxesTake b
+boxes_rest b goes none = record {
+  round = (goes, refl);
+  takings = λ h. taking b h goes (none h);
+}

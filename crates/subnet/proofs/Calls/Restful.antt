@@ -1,0 +1,93 @@
+-- A subnet that rests: no quiet round and no taking changes anything.
+use Rattle.std.proofs.Common.{◌≡◌, ℕ, ◌+◌, ◌<◌, zero, suc, Bool, true, false, not, ◌||◌, ◌==◌, List, [], ◌∷◌, length, slice_get, Option, Some, None, Result, Ok, Err, if◌then◌else◌, refl, ap, sym, subst, ◌∙◌, inl, inr, arith}
+use Rattle.std.proofs.lemmas.Bool.{eqb-true}
+use Rattle.std.proofs.lemmas.Bool.Decides.{nat_tests}
+use Rattle.leader1822.specs.Calls.{is_halt, is_memory}
+use Rattle.leader1822.specs.Rest.{Rests, TakesNothing}
+use Rattle.leader1822.specs.Host.{Host, same_host, is_host}
+use Rattle.leader1822.specs.declared.carrier.CarrierFault.{CarrierFault}
+use Rattle.leader1822.specs.declared.carrier.CarrierFault.TheVariants as fault
+use Rattle.leader1822.proofs.lemmas.{same_host-true}
+use Rattle.imp_node.specs.State.{State, host_at, is_there, is_up}
+use Rattle.imp_node.specs.Taking.{taking_has_room, to_host_refusal}
+use Rattle.subnet.specs.Net.{Net, imp_at}
+use Rattle.subnet.specs.Calls.{Kept, Fails, refusal_of, take_grows}
+use Rattle.subnet.specs.Events.{at_up, first_of, take_refusal, taken_by_host, take_in, quiet_round}
+use Rattle.subnet.specs.Working.{SubnetRound, SubnetTake}
+use Rattle.subnet.specs.Inside.Resting.{IsRefused, HasNothing, TakesNone, TakesNoneAt, is_away}
+use Rattle.subnet.proofs.Calls.Working.{nothing_given, rested_round}
+
+-- ---- a host that is down
+
+host_refused : (there up : Bool) (others : Option CarrierFault) → not up ≡ true → IsRefused (if not there then Some fault.NoSuch else (if not up then Some fault.IsDown else others))
+host_refused false up others away = record { fault = fault.NoSuch; is = refl; no_halt = refl; no_memory = refl }
+host_refused true true others away = absurd (cc)
+host_refused true false others away = record { fault = fault.IsDown; is = refl; no_halt = refl; no_memory = refl }
+
+at_refused : (h : ℕ) (o : Option State) → is_away o h ≡ true → IsRefused (at_up o (λ s. to_host_refusal s h))
+at_refused h None away = record { fault = fault.IsDown; is = refl; no_halt = refl; no_memory = refl }
+at_refused h (Some s) away = host_refused (is_there s h) (is_up s h) (if taking_has_room (host_at s h).answers (host_at s h).queue s then None else Some fault.NoRoom) away
+
+first_refused : (test : Bool) (others : Option CarrierFault) → IsRefused others → IsRefused (first_of test fault.NoSuch others)
+first_refused true others r = record { fault = fault.NoSuch; is = refl; no_halt = refl; no_memory = refl }
+first_refused false others r = r
+
+pub away_takes : (n : Net) (h : Host) → is_away (imp_at n.imps h.imp) h.host ≡ true → TakesNone n h
+away_takes n h away = inl (first_refused (not (is_host n.hosts h)) (at_up (imp_at n.imps h.imp) (λ s. to_host_refusal s h.host)) (at_refused h.host (imp_at n.imps h.imp) away))
+
+-- ---- a host for which nothing waits
+
+pub empty_takes : (n : Net) (h : Host) → take_refusal n h ≡ None → taken_by_host n h ≡ None → take_in n h ≡ n → TakesNone n h
+empty_takes n h accepted nothing unchanged = inr (record { accepted = accepted; nothing = nothing; unchanged = unchanged })
+
+-- ---- all hosts
+
+-- the host at one place more
+one_by : (b : Bool) (n : Net) (k i : ℕ) → (i == k) ≡ b → ((j : ℕ) → j < k → TakesNoneAt n j) → TakesNoneAt n k → i < k + 1 → TakesNoneAt n i
+one_by true n k i is earlier here below = let same : i ≡ k = eqb-true i k is in subst (TakesNoneAt n) (sym same) here
+one_by false n k i is earlier here below = earlier i (grind (arith, nat_tests, is, below))
+
+pub one_more : (n : Net) (k : ℕ) (b : Bool) → b ≡ true → ((j : ℕ) → j < k → TakesNoneAt n j) → (b ≡ true → TakesNoneAt n k) → (i : ℕ) → i < k + 1 → TakesNoneAt n i
+one_more n k b said earlier here = λ i below. one_by (i == k) n k i refl earlier (here said) below
+
+-- where a host stands among these
+record Place (hosts : List Host) (h : Host) : Type 0 where
+  pub place : ℕ
+  pub within : place < length hosts
+  pub got : slice_get hosts place ≡ Some h
+
+place_of : (hosts : List Host) (h : Host) → is_host hosts h ≡ true → Place hosts h
+place_of [] h there = absurd (cc)
+place_of (g ∷ hosts) h there = by (same_host h g) refl there (place_of hosts h) where
+  by : (b : Bool) → same_host h g ≡ b → (same_host h g || is_host hosts h) ≡ true → (is_host hosts h ≡ true → Place hosts h) → Place (g ∷ hosts) h
+  by true same t others = record { place = 0; within = omega arith; got = ap (λ (x : Host). Some x) (sym (same_host-true h g same)) }
+  by false same t others =
+      let p : Place hosts h = others (rw same at t) in
+      let within = p.within in
+      record { place = suc p.place; within = omega (arith, within); got = p.got }
+
+takes_none : (k : Kept) (h : Host) → k.stopped ≡ false → TakesNone k.net h → TakesNothing SubnetTake k h
+takes_none k h goes (inl r) = record {
+  answer = Err r.fault;
+  nothing = (r.no_halt, r.no_memory);
+  unchanged = subst (λ (b : Bool). Fails (refusal_of k (λ n. take_refusal n h)) (take_grows k.net h) b r.fault k k) (sym r.no_memory) (ap (λ (s : Bool). first_of s fault.Stopped (take_refusal k.net h)) goes ∙ r.is, refl);
+}
+takes_none k h goes (inr e) = record { answer = Ok None; nothing = tt; unchanged = nothing_given k h goes e.accepted e.nothing e.unchanged }
+
+no_such : (k : Kept) (h : Host) → k.stopped ≡ false → is_host k.net.hosts h ≡ false → TakesNothing SubnetTake k h
+no_such k h goes away =
+    takes_none k h goes (inl (record {
+      fault = fault.NoSuch;
+      is = ap (λ (b : Bool). first_of (not b) fault.NoSuch (at_up (imp_at k.net.imps h.imp) (λ s. to_host_refusal s h.host))) away;
+      no_halt = refl;
+      no_memory = refl;
+    }))
+
+pub subnet_rests : (k : Kept) → k.stopped ≡ false → quiet_round k.net ≡ k.net → ((i : ℕ) → i < length k.net.hosts → TakesNoneAt k.net i) → Rests SubnetRound SubnetTake k
+subnet_rests k goes rests none = record {
+  round = rested_round k goes rests;
+  takings = λ h. by h (is_host k.net.hosts h) refl;
+} where
+  by : (h : Host) (b : Bool) → is_host k.net.hosts h ≡ b → TakesNothing SubnetTake k h
+  by h true there = let p : Place k.net.hosts h = place_of k.net.hosts h there in takes_none k h goes (none p.place p.within h p.got)
+  by h false away = no_such k h goes away

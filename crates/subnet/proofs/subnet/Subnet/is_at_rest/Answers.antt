@@ -1,0 +1,13 @@
+use Rattle.std.proofs.Common.{◌≡◌, true, false, subst, rules}
+use Rattle.leader1822.specs.Rest.{Rests}
+use Rattle.subnet.specs.Calls.{Kept}
+use Rattle.subnet.specs.Working.{SubnetRound, SubnetTake}
+use Rattle.subnet.proofs.Calls.Restful.{subnet_rests}
+use Rattle.subnet.proofs.subnet.Subnet.is_at_rest.Goals as goal
+
+pub returns-clause-unchanged : goal.returns-clause-unchanged
+returns-clause-unchanged c = λ e.
+    let k : Kept = record { net = c.self.inside.parts; stopped = c.self.inside.stopped } in
+    let goes : c.self.inside.stopped ≡ false = search rules in
+    let resting : c.self.inside.rests ≡ true = search rules in
+    subst (Rests SubnetRound SubnetTake) c.self.view_is (subnet_rests k goes (c.self.invariant.resting resting) (c.all_take_nothing.ensures e))
