@@ -21,7 +21,7 @@ use Rattle.imp_node.specs.declared.waiting.Message.{Message}
 use Rattle.imp_node.specs.declared.waiting.Told.{Told}
 use Rattle.imp_node.specs.State.{State, ImpTurn, host_at, port_at, down_port}
 use Rattle.imp_node.specs.Arrival.{ignored, taken_frame, frame_taken, vector_heard, from_line}
-use Rattle.imp_node.specs.Lines.{on_port, resent_from, resend, told_from, route}
+use Rattle.imp_node.specs.Lines.{on_port, resent_by, resent_from, resend, told_from, route}
 use Rattle.imp_node.specs.Pump.{pump, pumped}
 use Rattle.imp_node.specs.Resting.{IsKnown, Ignores, is_at_rest}
 use Rattle.imp_node.specs.Room.{busy_channels, stored_count}
@@ -45,7 +45,7 @@ rests frames s [] none = ap (leaving (record s { store = [] })) (append-nil fram
 rests frames s (p ∷ ps) none = absurd (omega (arith, none))
 
 -- where no packet waits, the pump does nothing
-pump_with : (frames : List Outgoing) (s : State) → length s.store ≡ 0 → pump frames s ≡ leaving s frames
+pub pump_with : (frames : List Outgoing) (s : State) → length s.store ≡ 0 → pump frames s ≡ leaving s frames
 pump_with frames s none = rests frames s s.store none
 
 pub pump_rests : (s : State) → length s.store ≡ 0 → pump [] s ≡ ignored s
@@ -66,6 +66,10 @@ frames_none e c (channel ∷ rest) none = none_by e c channel.bit channel.packet
 port_none : (up : Bool) (k : ℕ) (frames : List Frame) → frames ≡ [] → (if up then map (on_port k) frames else []) ≡ []
 port_none true k frames none = ap (λ (frames : List Frame). map (on_port k) frames) none
 port_none false k frames none = refl
+
+-- a port without a busy channel sends nothing again
+pub none_resent : (k : ℕ) (port : Port) → length (packets_in port.line.sending) ≡ 0 → resent_by k port ≡ []
+none_resent k port none = port_none port.up k (resent port.line) (frames_none port.line 0 port.line.sending none)
 
 -- ports without a busy channel send nothing again
 none_sent : (k : ℕ) (ports : List Port) → sum_by busy_channels ports ≡ 0 → resent_from k ports ≡ []

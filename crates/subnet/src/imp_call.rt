@@ -131,6 +131,7 @@ fn arrive_at(place: &mut Option<Imp>, port: u8, frame: Frame) -> Result<Vec<Outg
 }
 
 /// Hands an empty list of frames back to the IMP of this number, if it is up.
+#[inline]
 pub(crate) fn reuse(imps: &mut [Option<Imp>], imp: u8, spare: Vec<Outgoing>)
     requires { spare.items ≡ [] }
     ensures { imps.new ≡ imps.old }
