@@ -143,10 +143,11 @@ impl Line {
     }
 
     /// Whether no channel is free, so that `submit` would put no packet in. This takes no memory.
+    #[tactic(auto, using(crate::proofs::Calls::full_told))]
     pub fn is_full(&self) -> bool
         ensures { result ≡ is_none (position is_free self.now.sending) }
     {
-        lowest_free(&self.channels).is_none()
+        self.busy == CHANNELS
     }
 
     /// Starts anew, as the line's other end must too, and gives back the packets of the busy channels in
