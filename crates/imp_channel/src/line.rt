@@ -211,9 +211,10 @@ impl Line {
         self.busy
     }
 
-    /// Takes the acknowledgement bit of each channel. They matter to a busy one alone.
+    /// Takes the acknowledgement bit of each channel. They matter to a busy one alone. It is all that `receive` does with a frame that
+    /// brings no packet.
     #[tactic(auto, using(crate::proofs::Calls::none_acknowledged))]
-    fn acknowledge(&mut self, acks: &[bool; ACKS])
+    pub fn acknowledge(&mut self, acks: &[bool; ACKS])
         ensures { self.new ≡ record self.old { sending = all_acknowledged acks.now self.old.sending } }
     {
         if self.busy == 0 || have_bits(&self.channels, acks) {
