@@ -1,8 +1,12 @@
 -- What the calls of an end need of its definitions.
-use Rattle.std.proofs.Common.{arith, Bool, false, zero, suc, IsSome, subst, ◌≡◌, ℕ, ◌+◌, ◌<◌, List, ◌∷◌, ◌++◌, length, get_or, set, drop, true, is_none, Option, None, Some, refl, sym, ap, ◌∙◌, position, cond, count_by, is_some, []}
+use Rattle.std.specs.Prelude.{nat_lt, not}
+use Rattle.std.specs.List.{prefix_len}
+use Rattle.std.proofs.Common.{arith, inl, inr, ◌≤◌, ◌==◌, Bool, false, zero, suc, IsSome, subst, ◌≡◌, ℕ, ◌+◌, ◌<◌, List, ◌∷◌, ◌++◌, length, get_or, set, drop, true, is_none, Option, None, Some, refl, sym, ap, ◌∙◌, position, cond, count_by, is_some, []}
 use Rattle.std.proofs.lemmas.List.{length-append, append_assoc, drop_more, get_or_read}
 use Rattle.std.proofs.lemmas.List.Quantifiers.{position-Some}
-use Rattle.std.proofs.lemmas.List.Sums.{sum_by-cons, sum_by-set}
+use Rattle.std.proofs.lemmas.Bool.{cases_lt, eq-eqb, eqb-true}
+use Rattle.std.proofs.lemmas.Bool.Decides.{nat_tests}
+use Rattle.std.proofs.lemmas.List.Sums.{sum_by-cons, sum_by-set, count_by-le-length, prefix_len-le-length}
 use Rattle.packetiser.specs.PacketFields.{PacketFields}
 use Rattle.imp_channel.specs.declared.channel.Channel.{Channel}
 use Rattle.imp_channel.specs.declared.frame.Frame.{Frame}
@@ -101,3 +105,57 @@ none_sent e c [] none = refl
 none_sent e c (ch ∷ chs) none =
     let free = none_busy_in ch chs none in
     ap (λ (fs : List Frame). fs ++ frames_from e (c + 1) chs) (free_sends e c ch.bit ch.packet free.0) ∙ none_sent e (c + 1) chs free.1
+
+-- ---- whether all channels are busy
+
+abbrev busy_in : List Channel → ℕ
+busy_in chs = count_by (λ channel. is_some channel.packet) chs
+
+-- how many are busy before the first free one
+abbrev busy_first : List Channel → ℕ
+busy_first chs = prefix_len (λ channel. not (is_free channel)) chs
+
+first_of_all : (o : Option PacketFields) (busy first all : ℕ) → busy ≤ all → (busy ≡ all → first ≡ all) → weight o + busy ≡ suc all → cond (not (is_none o)) (1 + first) 0 ≡ suc all
+first_of_all None busy first all most rest is = absurd (omega (arith, most, is))
+first_of_all (Some p) busy first all most rest is =
+    let first_is : first ≡ all = rest (omega (arith, is)) in
+    omega (arith, first_is)
+
+all_of_first : (o : Option PacketFields) (busy first all : ℕ) → (first ≡ all → busy ≡ all) → cond (not (is_none o)) (1 + first) 0 ≡ suc all → weight o + busy ≡ suc all
+all_of_first None busy first all rest is = absurd (omega (arith, is))
+all_of_first (Some p) busy first all rest is =
+    let busy_is : busy ≡ all = rest (omega (arith, is)) in
+    omega (arith, busy_is)
+
+all_first : (chs : List Channel) → busy_in chs ≡ length chs → busy_first chs ≡ length chs
+all_first [] is = refl
+all_first (ch ∷ chs) is =
+    first_of_all ch.packet (busy_in chs) (busy_first chs) (length chs) (count_by-le-length (λ (channel : Channel). is_some channel.packet) chs) (all_first chs)
+    (sym (sum_by-cons (λ (other : Channel). cond (is_some other.packet) 1 0) ch chs) ∙ is)
+
+all_busy : (chs : List Channel) → busy_first chs ≡ length chs → busy_in chs ≡ length chs
+all_busy [] is = refl
+all_busy (ch ∷ chs) is =
+    sum_by-cons (λ (other : Channel). cond (is_some other.packet) 1 0) ch chs ∙ all_of_first ch.packet (busy_in chs) (busy_first chs) (length chs) (all_busy chs) is
+
+not_all : (tested : Bool) (busy first all : ℕ) → (busy == all) ≡ tested → (busy ≡ all → first ≡ all) → first < all → (busy == all) ≡ false
+not_all true busy first all is rest less =
+    let first_is : first ≡ all = rest (eqb-true busy all is) in
+    absurd (omega (arith, first_is, less))
+not_all false busy first all is rest less = is
+
+told_by : (busy first all : ℕ) → first ≤ all → (busy ≡ all → first ≡ all) → (first ≡ all → busy ≡ all) → (busy == all) ≡ is_none (cond (nat_lt first all) (Some first) None)
+told_by busy first all most there back = elim (cases_lt first all) [
+  | inl less ↦
+      let tested : nat_lt first all ≡ true = grind (arith, nat_tests, less) in
+      let is : (busy == all) ≡ false = not_all (busy == all) busy first all refl there less in
+      rw (tested, is) refl
+  | inr more ↦
+      let tested : nat_lt first all ≡ false = grind (arith, nat_tests, more) in
+      let is : (busy == all) ≡ true = eq-eqb busy all (back (omega (arith, most, more))) in
+      rw (tested, is) refl
+]
+
+-- all channels are busy where as many are as there are
+pub full_told : (chs : List Channel) → (count_by (λ channel. is_some channel.packet) chs == length chs) ≡ is_none (position is_free chs)
+full_told chs = told_by (busy_in chs) (busy_first chs) (length chs) (prefix_len-le-length (λ (channel : Channel). not (is_free channel)) chs) (all_first chs) (all_busy chs)

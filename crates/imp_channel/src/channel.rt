@@ -1,6 +1,6 @@
 //! One channel of a line.
 
-ghost use Rattle.std.specs.Prelude.{◌≡◌, ◌≤◌, ◌++◌, length, count_by, is_some, map, vec_len, vec_capacity, ◌+◌};
+ghost use Rattle.std.specs.Prelude.{◌≡◌, ◌≤◌, ◌++◌, length, count_by, is_some, map, vec_len, vec_capacity, ◌+◌, true};
 ghost use Rattle.imp_channel.specs.Holding.{packets_in};
 ghost use Rattle.imp_channel.specs.Line.{all_acknowledged, acknowledged, opening_channel};
 
@@ -46,6 +46,19 @@ impl Channel {
     {
         self.packet.is_some()
     }
+}
+
+/// Whether each of these acknowledgement bits is the bit of its channel. Such bits free no channel. All are looked at, with no early
+/// end, which is faster where bits mostly free none.
+pub(crate) fn have_bits(channels: &[Channel], acks: &[bool]) -> bool
+    requires { length channels.now ≤ length acks.now }
+    ensures { result ≡ true → all_acknowledged acks.now channels.now ≡ channels.now }
+{
+    let mut same = true;
+    for (c, channel) in channels.iter().enumerate() {
+        same = same & (channel.bit == acks[c]);
+    }
+    same
 }
 
 /// Takes the acknowledgement bit of each channel.

@@ -1,11 +1,11 @@
 //! One end of a line.
 
-ghost use Rattle.std.specs.Prelude.{◌≡◌, ◌<◌, ◌≤◌, ◌+◌, ◌++◌, length, IfOk, IfErr, IsSome, OnOk, OnErr, Ok, Some, None, false, position, count_by, is_some, slice_index_or, slice_set};
-ghost use Rattle.std.specs.Option.{option_copied};
+ghost use Rattle.std.specs.Prelude.{◌≡◌, ◌<◌, ◌≤◌, ◌+◌, ◌++◌, length, IfOk, IfErr, IsSome, OnOk, OnErr, Ok, Some, None, false, position, count_by, is_some, is_none, slice_index_or, slice_set};
+ghost use Rattle.std.specs.Option.{option_copied, option_to_list};
 ghost use Rattle.imp_channel.specs.Holding.{packets_in};
 ghost use Rattle.imp_channel.specs.Line.{IsRefusal, is_free, frames_of, opening_channel, opening_end, frame_of, submitted, resent, acknowledgement, routes_frame, channel_at, is_foreign, has_expected_bit, expected_after, brought, state_after, all_acknowledged, answer_to, is_fresh_answer};
 
-use crate::channel::{acknowledge_all, count_packets, reset_all};
+use crate::channel::{acknowledge_all, count_packets, have_bits, reset_all};
 use crate::{ACKS, CHANNELS, Carried, Channel, Content, Frame, SubmitFault};
 use packetiser::Packet;
 use routing::Vector;
@@ -126,6 +126,30 @@ impl Line {
         Ok(frames)
     }
 
+    /// The frame of a channel once more; `None` where the channel is free. Only the packet's copy needs memory.
+    pub fn again(&self, channel: u8) -> Result<Option<Frame>, AllocError>
+        requires { channel < ACKS }
+        ensures ok { IfOk result (λ frame. option_to_list frame ≡ frames_of self.now channel (channel_at self.now channel).bit (channel_at self.now channel).packet) }
+        ensures memory { OnErr result (IsSome (channel_at self.now channel).packet) }
+    {
+        let sending = &self.channels[channel as usize];
+        match &sending.packet {
+            Some(packet) => {
+                let carried = Carried::new(channel, sending.bit, packet.clone()?);
+                Ok(Some(self.frame(Content::Packet(carried))))
+            }
+            None => Ok(None),
+        }
+    }
+
+    /// Whether no channel is free, so that `submit` would put no packet in. This takes no memory.
+    #[tactic(auto, using(crate::proofs::Calls::full_told))]
+    pub fn is_full(&self) -> bool
+        ensures { result ≡ is_none (position is_free self.now.sending) }
+    {
+        self.busy == CHANNELS
+    }
+
     /// Starts anew, as the line's other end must too, and gives back the packets of the busy channels in
     /// channel order. Memory is needed only where a channel is busy, and without it nothing has changed.
     #[tactic(auto, using(crate::proofs::Calls::packets_counted))]
@@ -182,16 +206,18 @@ impl Line {
     pub fn busy_channels(&self) -> usize
         ensures count { result ≡ length (packets_in self.now.sending) }
         ensures most { result ≤ CHANNELS }
+        ensures all { length self.now.sending ≡ CHANNELS }
     {
         self.busy
     }
 
-    /// Takes the acknowledgement bit of each channel. They matter to a busy one alone.
+    /// Takes the acknowledgement bit of each channel. They matter to a busy one alone. It is all that `receive` does with a frame that
+    /// brings no packet.
     #[tactic(auto, using(crate::proofs::Calls::none_acknowledged))]
-    fn acknowledge(&mut self, acks: &[bool; ACKS])
+    pub fn acknowledge(&mut self, acks: &[bool; ACKS])
         ensures { self.new ≡ record self.old { sending = all_acknowledged acks.now self.old.sending } }
     {
-        if self.busy == 0 {
+        if self.busy == 0 || have_bits(&self.channels, acks) {
             return;
         }
         acknowledge_all(&mut self.channels, acks);

@@ -3,6 +3,7 @@ pub mod HeldByCalls
 pub mod SideLemmas
 pub mod SidesOfCalls
 pub mod Sound
+pub mod Pumping
 pub mod Queried
 pub mod Firsts
 pub mod Reading

@@ -21,8 +21,9 @@ use Rattle.imp_node.specs.declared.waiting.Message.{Message}
 use Rattle.imp_node.specs.declared.waiting.Told.{Told}
 use Rattle.imp_node.specs.State.{State, ImpTurn, host_at, port_at, down_port}
 use Rattle.imp_node.specs.Arrival.{ignored, taken_frame, frame_taken, vector_heard, from_line}
-use Rattle.imp_node.specs.Lines.{on_port, resent_from, resend, told_from, route}
+use Rattle.imp_node.specs.Lines.{on_port, resent_by, resent_from, resend, told_from, route}
 use Rattle.imp_node.specs.Pump.{pump, pumped}
+use Rattle.imp_node.specs.Inside.Arriving.{with_acks}
 use Rattle.imp_node.specs.Resting.{IsKnown, Ignores, is_at_rest}
 use Rattle.imp_node.specs.Room.{busy_channels, stored_count}
 use Rattle.imp_node.specs.Queries.{holds_packet}
@@ -45,7 +46,7 @@ rests frames s [] none = ap (leaving (record s { store = [] })) (append-nil fram
 rests frames s (p ∷ ps) none = absurd (omega (arith, none))
 
 -- where no packet waits, the pump does nothing
-pump_with : (frames : List Outgoing) (s : State) → length s.store ≡ 0 → pump frames s ≡ leaving s frames
+pub pump_with : (frames : List Outgoing) (s : State) → length s.store ≡ 0 → pump frames s ≡ leaving s frames
 pump_with frames s none = rests frames s s.store none
 
 pub pump_rests : (s : State) → length s.store ≡ 0 → pump [] s ≡ ignored s
@@ -66,6 +67,10 @@ frames_none e c (channel ∷ rest) none = none_by e c channel.bit channel.packet
 port_none : (up : Bool) (k : ℕ) (frames : List Frame) → frames ≡ [] → (if up then map (on_port k) frames else []) ≡ []
 port_none true k frames none = ap (λ (frames : List Frame). map (on_port k) frames) none
 port_none false k frames none = refl
+
+-- a port without a busy channel sends nothing again
+pub none_resent : (k : ℕ) (port : Port) → length (packets_in port.line.sending) ≡ 0 → resent_by k port ≡ []
+none_resent k port none = port_none port.up k (resent port.line) (frames_none port.line 0 port.line.sending none)
 
 -- ports without a busy channel send nothing again
 none_sent : (k : ℕ) (ports : List Port) → sum_by busy_channels ports ≡ 0 → resent_from k ports ≡ []
@@ -172,6 +177,25 @@ by_up true s k acks brings ignores = known_again s k acks brings (idle_of s k (i
 
 pub ignoring_rests : (s : State) (k : ℕ) (f : Frame) → Ignores s k f → from_line s k f ≡ ignored s
 ignoring_rests s k f ignores = by_up (port_at s.ports k).up s k f.acks f.content ignores
+
+-- ---- a frame of which only acknowledgement bits matter
+
+pub quiet_down : (s : State) (k : ℕ) (f : Frame) → (port_at s.ports k).up ≡ false → from_line s k f ≡ ignored s
+quiet_down s k f down = ap (λ (up : Bool). if up then taken_frame (answer_to (port_at s.ports k).line f) k f s else ignored s) down
+
+known_taken : (s : State) (k : ℕ) (acks : List Bool) (brings : Content) → length s.store ≡ 0 → IsKnown s k brings
+    → taken_frame (answer_to (port_at s.ports k).line (record { acks = acks; content = brings })) k (record { acks = acks; content = brings }) s ≡ ignored (with_acks k acks s)
+known_taken s k acks (content.Packet carried) waits known = absurd known
+known_taken s k acks content.Nothing waits known = pump_rests (with_acks k acks s) waits
+known_taken s k acks (content.Routes distances) waits known =
+    let routes : set s.routes.heard k (Some distances) ≡ s.routes.heard = ap (set s.routes.heard k) (sym known) ∙ set-get_or s.routes.heard k None in
+    ap (λ (heard : List (Option (List ℕ))). pump [] (record (with_acks k acks s) { routes = record { own = s.routes.own; heard = heard } })) routes
+    ∙ pump_rests (with_acks k acks s) waits
+
+pub quiet_taken : (s : State) (k : ℕ) (f : Frame) → (port_at s.ports k).up ≡ true → (length s.store == 0) ≡ true → IsKnown s k f.content → from_line s k f ≡ ignored (with_acks k f.acks s)
+quiet_taken s k f up waits known =
+    ap (λ (up : Bool). if up then taken_frame (answer_to (port_at s.ports k).line f) k f s else ignored s) up
+    ∙ known_taken s k f.acks f.content (eqb-true (length s.store) 0 waits) known
 
 -- ---- a taking
 

@@ -1,5 +1,5 @@
 -- Looking through all that an IMP holds.
-use Rattle.std.proofs.Common.{◌≡◌, ℕ, zero, suc, ◌<◌, ◌≤◌, Bool, true, false, ◌||◌, List, [], ◌∷◌, ◌++◌, length, drop, slice_get, option_map, All, Some, None, refl, ap, sym, ◌∙◌, arith}
+use Rattle.std.proofs.Common.{◌≡◌, ℕ, zero, suc, ◌<◌, ◌≤◌, Bool, true, false, ◌||◌, ◌&&◌, List, [], ◌∷◌, ◌++◌, length, drop, slice_get, option_map, All, Some, None, refl, ap, sym, ◌∙◌, arith}
 use Rattle.std.specs.List.{list_any, flat_map}
 use Rattle.std.proofs.lemmas.List.{drop_all}
 use Rattle.std.proofs.lemmas.List.Folds.{list_any-append}
@@ -25,11 +25,26 @@ any_flat : {X A : Type 0} (p : A → Bool) (f : X → List A) (xs : List X) → 
 any_flat p f [] = refl
 any_flat p f (x ∷ xs) = list_any-append p (f x) (flat_map f xs) ∙ ap (λ (b : Bool). list_any p (f x) || b) (any_flat p f xs)
 
+none_in : (q : Sought) (ps : List PacketFields) → length ps ≡ 0 → list_any (packet_is q) ps ≡ false
+none_in q [] none = refl
+none_in q (p ∷ ps) none = absurd (omega (arith, none))
+
+-- the number may be compared before the flow
+pub number_first : (a b : Bool) → (a && b) ≡ (b && a)
+number_first true true = refl
+number_first true false = refl
+number_first false true = refl
+number_first false false = refl
+
 pub any_in_channels : (q : Sought) (chs : List Channel) → list_any (packet_is q) (channels.packets_in chs) ≡ list_any (λ channel. list_any (packet_is q) (channels.packet_of channel.packet)) chs
 any_in_channels q [] = refl
 any_in_channels q (ch ∷ chs) =
     list_any-append (packet_is q) (channels.packet_of ch.packet) (channels.packets_in chs)
     ∙ ap (λ (b : Bool). list_any (packet_is q) (channels.packet_of ch.packet) || b) (any_in_channels q chs)
+
+-- nothing is found where nothing is
+pub none_in_channels : (q : Sought) (chs : List Channel) → length (channels.packets_in chs) ≡ 0 → list_any (packet_is q) (channels.packets_in chs) ≡ false
+none_in_channels q chs none = none_in q (channels.packets_in chs) none
 
 pub any_in_ports : (q : Sought) (ports : List Port) → list_any (packet_is q) (packets_in_channels ports) ≡ list_any (λ port. list_any (packet_is q) (channels.packets_in port.line.sending)) ports
 any_in_ports q ports = any_flat (packet_is q) (λ port. channels.packets_in port.line.sending) ports

@@ -25,3 +25,7 @@ is_at_rest s k = length s.store == 0 && busy_channels (port_at s.ports k) == 0
 -- anything, and where what the frame brings is known
 abbrev pub Ignores : State → ℕ → Frame → Type 0
 Ignores s k f = (port_at s.ports k).up ≡ true → (is_at_rest s k ≡ true) × IsKnown s k f.content
+
+-- nothing is sent for a frame at an end that is down, nor where no packet waits for a channel and what the frame brings is known
+abbrev pub IsQuiet : State → ℕ → Frame → Type 0
+IsQuiet s k f = (port_at s.ports k).up ≡ true → ((length s.store == 0) ≡ true) × IsKnown s k f.content

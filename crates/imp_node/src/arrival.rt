@@ -40,6 +40,7 @@ impl Imp {
     /// Errors: `NoSuch` for a port that isn't there. `OutOfMemory` only where a frame is sent, and then the
     /// IMP is spent.
     #[tactic(auto, using(crate::proofs::Spending::from_line_spent))]
+    #[inline]
     pub fn from_line(&mut self, port: u8, frame: Frame) -> Result<Vec<Outgoing>, CarrierFault>
         requires { self.old.spent ≡ false }
         ensures turn { Turned (arrivals.from_line_refusal self.old port) (from_line_grows self.old port frame) (λ frames. Takes (arrivals.from_line self.old port frame) self.new frames.items) self.old self.new result }
@@ -159,6 +160,7 @@ impl Imp {
     }
 
     /// The acknowledgement that goes back at once.
+    #[inline(always)]
     fn acknowledge(&mut self, port: u8) -> Result<Vec<Outgoing>, AllocError>
         requires { port < length self.old.ports }
         ensures frames { IfOk result (λ frames. frames.items ≡ acknowledged port self.old) }

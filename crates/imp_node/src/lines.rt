@@ -1,16 +1,18 @@
 //! Calls on the ends of lines: what is sent again, the distances that are told, and ends that go down and up.
 
-ghost use Rattle.std.specs.Prelude.{◌≡◌, ◌==◌, ◌<◌, ◌++◌, ◌∷◌, [], true, false, length, map, nat_lt, slice_set, IfOk, OnOk, OnErr};
+ghost use Rattle.std.specs.Prelude.{◌≡◌, ◌==◌, ◌<◌, ◌++◌, ◌∷◌, [], true, false, length, map, nat_lt, slice_set, IfOk, OnOk, OnErr, IsSome};
 ghost use Rattle.imp_channel.specs.Holding.{packets_in};
-ghost use Rattle.imp_channel.specs.Line.{resent, opening_end};
+ghost use Rattle.imp_channel.specs.Line.{resent, opening_end, frames_of, channel_at};
+ghost use Rattle.imp_channel.specs.declared.frame.TheConstants.{ACKS};
 ghost use Rattle.routing.specs.RouteTable.{vector_of, loses};
 ghost use Rattle.imp_node.specs.State.{port_at, down_port, with_port};
 ghost use Rattle.imp_node.specs.Lines as lines;
+ghost use Rattle.imp_node.specs.Lines.{on_port};
 ghost use Rattle.imp_node.specs.Turns.{Turned, Takes, sends, resend_grows, route_grows, end_down_grows, end_up_grows};
 
 use crate::port::Port;
 use crate::{Imp, Outgoing};
-use imp_channel::Frame;
+use imp_channel::{CHANNELS, Frame, Line};
 use leader1822::CarrierFault;
 use routing::Vector;
 use std::alloc::{AllocError, Global};
@@ -36,7 +38,7 @@ impl Imp {
         ensures memory { OnErr result (resend_grows self.old ≡ true) }
     {
         let spare = self.spare.take(self.alloc);
-        let frames = resent_from(self.alloc, spare, &self.ports)?;
+        let frames = resent_from(spare, &self.ports)?;
         self.pump(frames)
     }
 
@@ -184,36 +186,49 @@ fn reset_port(
 }
 
 /// The frames of all busy channels of live ports again, in order of ports and channels, put on an empty list.
-fn resent_from(
-    alloc: Global,
-    mut frames: Vec<Outgoing>,
-    ports: &[Port],
-) -> Result<Vec<Outgoing>, AllocError>
+fn resent_from(mut frames: Vec<Outgoing>, ports: &[Port]) -> Result<Vec<Outgoing>, AllocError>
     requires few { length ports.now < 256 }
     requires none { frames.items ≡ [] }
     ensures ok { IfOk result (λ frames. frames.items ≡ lines.resent_from 0 ports.now) }
     ensures memory { OnErr result (0 < length (lines.resent_from 0 ports.now)) }
 {
     for (at, port) in ports.iter().enumerate() {
-        push_resent(alloc, &mut frames, at as u8, port)?;
+        push_resent(&mut frames, at as u8, port)?;
     }
     Ok(frames)
 }
 
 /// Puts the frames of a port's busy channels behind the others, if it is live.
-fn push_resent(
-    alloc: Global,
-    frames: &mut Vec<Outgoing>,
-    at: u8,
-    port: &Port,
-) -> Result<(), AllocError>
+#[tactic(auto, using(crate::proofs::Sending::again_more, crate::proofs::Sending::resent_some))]
+fn push_resent(frames: &mut Vec<Outgoing>, at: u8, port: &Port) -> Result<(), AllocError>
     ensures ok { OnOk result (frames.new.items ≡ frames.old.items ++ lines.resent_by at port.now) }
     ensures memory { OnErr result (0 < length (lines.resent_by at port.now)) }
 {
-    if port.up {
-        for frame in port.line.resend(alloc)? {
-            frames.push(Outgoing { port: at, frame })?;
-        }
+    if !port.up {
+        return Ok(());
+    }
+    if port.line.busy_channels() == 0 {
+        return Ok(());
+    }
+    for channel in 0..CHANNELS as u8 {
+        push_again(frames, at, &port.line, channel)?;
+    }
+    Ok(())
+}
+
+/// Puts the frame of a channel behind the others, if the channel is busy.
+fn push_again(
+    frames: &mut Vec<Outgoing>,
+    at: u8,
+    line: &Line,
+    channel: u8,
+) -> Result<(), AllocError>
+    requires { channel < ACKS }
+    ensures ok { OnOk result (frames.new.items ≡ frames.old.items ++ map (on_port at) (frames_of line.now channel (channel_at line.now channel).bit (channel_at line.now channel).packet)) }
+    ensures memory { OnErr result (IsSome (channel_at line.now channel).packet) }
+{
+    if let Some(frame) = line.again(channel)? {
+        frames.push(Outgoing { port: at, frame })?;
     }
     Ok(())
 }

@@ -1,6 +1,6 @@
 //! Waiting packets go out on lines.
 
-ghost use Rattle.std.specs.Prelude.{◌≡◌, ◌<◌, ◌++◌, length, IfOk, OnOk, OnErr};
+ghost use Rattle.std.specs.Prelude.{◌≡◌, ◌<◌, ◌++◌, length, true, None, IfOk, OnOk, OnErr};
 ghost use Rattle.std.specs.Option.{option_to_list};
 ghost use Rattle.imp_channel.specs.Line.{submitted};
 ghost use Rattle.routing.specs.RouteTable.{next_of};
@@ -75,8 +75,22 @@ fn send(
     }
 }
 
+/// Whether a packet has a route's line without a free channel, and so goes on waiting.
+#[tactic(auto, using(crate::proofs::Pumping::stays))]
+fn is_stuck(routes: &RouteTable, ports: &[Port], packet: &Packet) -> bool
+    requires { length routes.now.heard ≡ length ports.now }
+    ensures { result ≡ true → packet_sent ports.now packet.now (next_of routes.now (target packet.now)) ≡ sent_on ports.now 0 packet.now None }
+{
+    match routes.next(target(packet)) {
+        Some(at) => ports[at].line.is_full(),
+        None => false,
+    }
+}
+
 /// Each waiting packet in order goes out, goes on waiting or is dropped. The frames go behind those that
 /// are there.
+#[tactic(auto, using(crate::proofs::Pumping::skipped_ports, crate::proofs::Pumping::skipped_waits, crate::proofs::Pumping::skipped_frames))]
+#[inline(never)]
 pub(crate) fn pump(
     routes: &RouteTable,
     ports: &mut [Port],
@@ -92,12 +106,16 @@ pub(crate) fn pump(
 {
     let mut at = 0;
     'packets: while at < store.len() {
-        let packet = store.remove(at);
-        if let Some(packet) = send(routes, ports, packet, frames)? {
-            if store.insert(at, packet).is_err() {
-                unreachable!();
-            }
+        if is_stuck(routes, ports, &store[at]) {
             at += 1;
+        } else {
+            let packet = store.remove(at);
+            if let Some(packet) = send(routes, ports, packet, frames)? {
+                if store.insert(at, packet).is_err() {
+                    unreachable!();
+                }
+                at += 1;
+            }
         }
     }
     Ok(())

@@ -1,14 +1,15 @@
 //! Calls that would give nothing and change nothing, and so need not be made.
 
-ghost use Rattle.std.specs.Prelude.{◌≡◌, ◌↔◌, ◌<◌, length, None, Some, true, slice_index_or};
+ghost use Rattle.std.specs.Prelude.{◌≡◌, ◌↔◌, ◌<◌, ◌==◌, length, None, Some, true, false, slice_index_or};
 ghost use Rattle.routing.specs.RouteTable.{vector_of};
 ghost use Rattle.imp_node.specs.Arrival.{from_line, ignored};
 ghost use Rattle.imp_node.specs.Resting as resting;
 ghost use Rattle.imp_node.specs.State.{port_at};
+ghost use Rattle.imp_node.specs.Inside.Arriving.{with_acks};
 ghost use Rattle.imp_node.specs.Taking.{to_host, to_host_refusal, next_for};
 
 use crate::Imp;
-use imp_channel::{Content, Frame};
+use imp_channel::{ACKS, Content, Frame};
 use routing::Vector;
 
 impl Imp {
@@ -46,6 +47,42 @@ impl Imp {
         ensures unchanged { result ≡ true → from_line self.now port frame.now ≡ ignored self.now }
     {
         !self.is_live(port) || (self.is_at_rest(port) && self.knows(port, &frame.content))
+    }
+
+    /// Takes a frame for which nothing is to be sent, and answers whether this is one: the end at the port is down, and ignores it; or
+    /// no packet waits in the store, and the frame brings nothing, or the distances that were heard there last, so that only its
+    /// acknowledgement bits matter. Any other frame is left, and nothing changes. This takes no memory.
+    #[tactic(auto, using(crate::proofs::RestingLemmas::quiet_down, crate::proofs::RestingLemmas::quiet_taken))]
+    pub fn takes(&mut self, port: u8, frame: &Frame) -> bool
+        ensures answer { (result ≡ true) ↔ resting.IsQuiet self.old port frame.now }
+        ensures taken { result ≡ true → from_line self.old port frame.now ≡ ignored self.new }
+        ensures left { result ≡ false → self.new ≡ self.old }
+        ensures live { self.new.spent ≡ self.old.spent }
+    {
+        if !self.is_live(port) {
+            return true;
+        }
+        if !self.is_quiet(port, frame) {
+            return false;
+        }
+        self.acknowledge_at(port, &frame.acks);
+        true
+    }
+
+    /// Whether no packet waits for a channel, and what a frame brings is known at this port.
+    fn is_quiet(&self, port: u8, frame: &Frame) -> bool
+        requires { port < length self.now.ports }
+        ensures { (result ≡ true) ↔ (((length self.now.store == 0) ≡ true) × resting.IsKnown self.now port frame.now.content) }
+    {
+        self.store.is_empty() && self.knows(port, &frame.content)
+    }
+
+    /// The acknowledgement bits of a frame free channels of the port where it comes in.
+    fn acknowledge_at(&mut self, port: u8, acks: &[bool; ACKS])
+        requires { port < length self.old.ports }
+        ensures { self.new ≡ with_acks port acks.now self.old }
+    {
+        self.ports[port as usize].line.acknowledge(acks);
     }
 
     /// Whether no packet waits for a channel, and none waits at this port for its acknowledgement.

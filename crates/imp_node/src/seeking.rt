@@ -28,12 +28,14 @@ pub enum Sought {
 }
 
 impl Sought {
-    /// Whether a message or packet of this flow and number is sought, if it travels to the destination or not.
+    /// Whether a message or packet of this flow and number is sought, if it travels to the destination or not. Numbers are compared
+    /// first, since most differ.
+    #[tactic(auto, using(crate::proofs::Searching::number_first))]
     pub(crate) fn is_sought(&self, request: bool, flow: &Flow, number: Number) -> bool
         ensures { result ≡ is_sought self.now request flow.now number }
     {
         match self {
-            Sought::Message(wanted, of) => *wanted == *flow && number == *of,
+            Sought::Message(wanted, of) => number == *of && *wanted == *flow,
             Sought::Between(from, to) => {
                 request
                     && flow.source.imp() == from.number()
@@ -82,11 +84,14 @@ impl Sought {
         channels.iter().any(|channel| self.is_in_channel(channel))
     }
 
-    /// Whether a packet in the channels of a line's end is sought.
-    #[tactic(auto, using(crate::proofs::Searching::any_in_channels))]
+    /// Whether a packet in the channels of a line's end is sought. None is where no channel is busy.
+    #[tactic(auto, using(crate::proofs::Searching::any_in_channels, crate::proofs::Searching::none_in_channels))]
     fn is_on_line(&self, line: &Line) -> bool
         ensures { result ≡ list_any (packet_is self.now) (held.packets_in line.now.sending) }
     {
+        if line.busy_channels() == 0 {
+            return false;
+        }
         self.is_in_channels(line.channels())
     }
 

@@ -22,11 +22,15 @@ use std::alloc::{AllocError, Global};
 
 impl Imp {
     /// Every call ends so: waiting packets go out. The frames of the call itself go first.
+    #[tactic(auto, using(crate::proofs::RestingLemmas::pump_with))]
+    #[inline]
     pub(crate) fn pump(&mut self, mut frames: Vec<Outgoing>) -> Result<Vec<Outgoing>, AllocError>
         ensures ok { IfOk result (λ out. Takes (pumps.pump frames.items self.old) self.new out.items) }
         ensures memory { OnErr result (sends (pumps.pump frames.items self.old) ≡ true) }
     {
-        pump(&self.routes, &mut self.ports, &mut self.store, &mut frames)?;
+        if !self.store.is_empty() {
+            pump(&self.routes, &mut self.ports, &mut self.store, &mut frames)?;
+        }
         Ok(frames)
     }
 

@@ -1,6 +1,6 @@
 //! Calls of one IMP, as data.
 
-ghost use Rattle.std.specs.Prelude.{◌≡◌, [], ◌<◌, length, false, OnOk, IfSome};
+ghost use Rattle.std.specs.Prelude.{◌≡◌, [], ◌<◌, length, true, false, OnOk, IfSome};
 ghost use Rattle.imp_node.specs.Turns.{Turned, Takes};
 ghost use Rattle.subnet.specs.Events.{at_up};
 ghost use Rattle.subnet.specs.Calls.{grows_at};
@@ -130,7 +130,38 @@ fn arrive_at(place: &mut Option<Imp>, port: u8, frame: Frame) -> Result<Vec<Outg
     }
 }
 
+/// A frame comes in at a port of the IMP of this number, if nothing is to be sent for it, or no IMP is up there. It answers whether
+/// it came in; else nothing changes.
+pub(crate) fn takes_at_imp(imps: &mut [Option<Imp>], imp: u8, port: u8, frame: &Frame) -> bool
+    requires { AreLive imps.old }
+    ensures taken { result ≡ true → imps.new ≡ imps_by imps.old imp (imp_at imps.old imp) (call_turn (call.Arrive port frame.now)) }
+    ensures silent { result ≡ true → frames_by (imp_at imps.old imp) (call_turn (call.Arrive port frame.now)) ≡ [] }
+    ensures left { result ≡ false → imps.new ≡ imps.old }
+    ensures live { AreLive imps.new }
+{
+    let at = imp as usize;
+    if at >= imps.len() {
+        return true;
+    }
+    takes_at(&mut imps[at], port, frame)
+}
+
+/// The same at the IMP of a place.
+fn takes_at(place: &mut Option<Imp>, port: u8, frame: &Frame) -> bool
+    requires { IfSome place.old (λ s. s.spent ≡ false) }
+    ensures taken { result ≡ true → place.new ≡ imp_by place.old (call_turn (call.Arrive port frame.now)) }
+    ensures silent { result ≡ true → frames_by place.old (call_turn (call.Arrive port frame.now)) ≡ [] }
+    ensures left { result ≡ false → place.new ≡ place.old }
+    ensures live { IfSome place.new (λ s. s.spent ≡ false) }
+{
+    match place {
+        Some(imp) => imp.takes(port, frame),
+        None => true,
+    }
+}
+
 /// Hands an empty list of frames back to the IMP of this number, if it is up.
+#[inline]
 pub(crate) fn reuse(imps: &mut [Option<Imp>], imp: u8, spare: Vec<Outgoing>)
     requires { spare.items ≡ [] }
     ensures { imps.new ≡ imps.old }

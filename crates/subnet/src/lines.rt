@@ -129,6 +129,7 @@ impl Lines {
     }
 
     /// The frame at a place of a directed line is lost.
+    #[inline(always)]
     pub(crate) fn lose(&mut self, line: usize, direction: Direction, place: usize)
         requires line { line < length self.old }
         requires place { place < length (frames_on direction (wire_at self.old line)) }
@@ -142,6 +143,7 @@ impl Lines {
     ///
     /// Errors: memory runs out, and nothing else.
     #[tactic(auto, using(crate::proofs::Calls::Putting::none_left))]
+    #[inline]
     pub(crate) fn put_all(
         &mut self,
         imp: u8,
@@ -160,6 +162,7 @@ impl Lines {
     }
 
     /// An IMP puts a frame on the line at one of its ports.
+    #[inline(always)]
     pub(crate) fn put_one(&mut self, imp: u8, outgoing: Outgoing) -> Result<(), AllocError>
         ensures ok { OnOk result (self.new ≡ put_one self.old imp outgoing) }
         ensures count { length self.new ≡ length self.old }

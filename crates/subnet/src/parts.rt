@@ -156,6 +156,7 @@ impl Parts {
     }
 
     /// The frame at a place of a directed line is lost.
+    #[inline(always)]
     pub(crate) fn lose(&mut self, line: usize, direction: Direction, place: usize)
         requires line { line < length self.old.lines }
         requires place { place < length (frames_on direction (wire_at self.old.lines line)) }
@@ -202,6 +203,7 @@ impl Parts {
     /// Puts the frames that an IMP's call answered on lines. Their list goes back to the IMP.
     ///
     /// Errors: memory runs out, and nothing else.
+    #[inline]
     pub(crate) fn put(&mut self, imp: u8, frames: Vec<Outgoing>) -> Result<(), AllocError>
         ensures ok { OnOk result (self.new ≡ record self.old { lines = put_all self.old.lines imp frames.items }) }
         ensures imps { self.new.imps ≡ self.old.imps }

@@ -9,7 +9,7 @@ ghost use Rattle.subnet.specs.Calls.{grows_at, round_grows, delivered_grows};
 ghost use Rattle.subnet.specs.Inside.Calling.{AreLive, SameLog, carried_first, call_turn, call_grows};
 ghost use Rattle.subnet.specs.declared.imp_call.ImpCall.TheVariants as call;
 
-use crate::imp_call::ImpCall;
+use crate::imp_call::{ImpCall, takes_at_imp};
 use crate::parts::{Parts, runs_out};
 use imp_channel::Frame;
 use leader1822::Direction;
@@ -179,11 +179,10 @@ impl Parts {
         Ok(())
     }
 
-    /// The oldest frame of a directed line arrives at the far end, unless that would change nothing. It isn't copied: an empty
-    /// frame stands in its place until that is dropped.
+    /// The oldest frame of a directed line arrives at the far end.
     ///
     /// Errors: memory runs out, and nothing else.
-    #[tactic(auto, using(crate::proofs::Calls::Taken::not_handed, crate::proofs::Calls::Taken::taken_lives, crate::proofs::Calls::Taken::taken_keeps))]
+    #[tactic(auto, using(crate::proofs::Calls::Taken::handed_quietly))]
     fn hand_over(&mut self, line: usize, direction: Direction) -> Result<(), AllocError>
         requires live { AreLive self.old.imps }
         requires there { line < length self.old.lines }
@@ -193,28 +192,49 @@ impl Parts {
         ensures memory { OnErr result (delivered_grows self.old line direction (slice_get (frames_on direction (wire_at self.old.lines line)) 0) ≡ true) }
         ensures keeps { SameLog self.old self.new }
     {
-        if self.ignores_first(line, direction) {
+        if self.takes_first(line, direction) {
             return Ok(());
         }
+        self.hand_on(line, direction)
+    }
+
+    /// The oldest frame of a directed line arrives at the far end, if nothing is to be sent for it. It stays on its line, and is not
+    /// taken off it. The call answers whether it arrived; else nothing changes.
+    #[tactic(auto, using(crate::proofs::Calls::Taken::taken_quietly, crate::proofs::Calls::Delivering::none_brought))]
+    fn takes_first(&mut self, line: usize, direction: Direction) -> bool
+        requires live { AreLive self.old.imps }
+        requires there { line < length self.old.lines }
+        ensures taken { result ≡ true → self.new ≡ events.deliver self.old line direction 0 }
+        ensures left { result ≡ false → self.new ≡ self.old }
+        ensures live { AreLive self.new.imps }
+        ensures keeps { SameLog self.old self.new }
+    {
+        let imp = self.far_end(line, direction);
+        let port = self.far_port(line, direction);
+        match self.lines.all()[line].frames(direction).get(0) {
+            Some(frame) => takes_at_imp(&mut self.imps, imp, port, frame),
+            None => true,
+        }
+    }
+
+    /// The oldest frame of a directed line arrives at the far end. It isn't copied: an empty frame stands in its place until that is
+    /// dropped.
+    ///
+    /// Errors: memory runs out, and nothing else.
+    #[tactic(auto, using(crate::proofs::Calls::Taken::taken_lives, crate::proofs::Calls::Taken::taken_keeps))]
+    fn hand_on(&mut self, line: usize, direction: Direction) -> Result<(), AllocError>
+        requires live { AreLive self.old.imps }
+        requires there { line < length self.old.lines }
+        requires some { 0 < length (frames_on direction (wire_at self.old.lines line)) }
+        ensures ok { OnOk result (events.drop_frame self.new line direction 0 ≡ carried_first line direction self.old) }
+        ensures live { OnOk result (AreLive self.new.imps) }
+        ensures memory { OnErr result (delivered_grows self.old line direction (slice_get (frames_on direction (wire_at self.old.lines line)) 0) ≡ true) }
+        ensures keeps { SameLog self.old self.new }
+    {
         let imp = self.far_end(line, direction);
         let port = self.far_port(line, direction);
         let frame = self.take_first(line, direction);
         self.attempt_arrival(imp, port, frame)
-    }
-
-    /// Whether the oldest frame of a directed line would change nothing where it arrives: the IMP there is down, or ignores it.
-    #[tactic(auto, using(crate::proofs::Calls::Taken::none_at_first, crate::proofs::Calls::Taken::first_ignored))]
-    fn ignores_first(&self, line: usize, direction: Direction) -> bool
-        requires { line < length self.now.lines }
-        ensures { result ≡ true → events.deliver self.now line direction 0 ≡ self.now }
-    {
-        let Some(imp) = self.imp(self.far_end(line, direction)) else {
-            return true;
-        };
-        match self.lines.all()[line].frames(direction).get(0) {
-            Some(frame) => imp.ignores(self.far_port(line, direction), frame),
-            None => true,
-        }
     }
 
     /// A frame comes in at a port of the IMP of this number, if it is up and has that port, and the IMP's frames go on lines.

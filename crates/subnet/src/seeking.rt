@@ -57,13 +57,14 @@ impl Sought {
         imps.iter().any(|place| self.is_at(place))
     }
 
-    /// Whether this packet is sought.
+    /// Whether this packet is sought. Numbers are compared first, since most differ.
+    #[tactic(auto, using(crate::proofs::Calls::Carrying::number_first))]
     fn is_packet(&self, packet: &Packet) -> bool
         ensures { result ≡ packet_is self.now packet.now }
     {
         let flow = packet.flow();
         match self {
-            Sought::Message(wanted, number) => *wanted == flow && packet.number() == *number,
+            Sought::Message(wanted, number) => packet.number() == *number && *wanted == flow,
             Sought::Between(from, to) => {
                 is_request(packet.kind())
                     && flow.source.imp() == from.number()
@@ -84,10 +85,14 @@ impl Sought {
         }
     }
 
-    /// Whether one of these frames carries what is sought.
+    /// Whether one of these frames carries what is sought. On most lines there is none.
+    #[tactic(auto, using(crate::proofs::Calls::Carrying::none_under_way))]
     fn is_under_way(&self, frames: &VecDeque<Frame>) -> bool
         ensures { result ≡ list_any (frame_has self.now) frames.now.items }
     {
+        if frames.is_empty() {
+            return false;
+        }
         frames.iter().any(|frame| self.is_carried(frame))
     }
 

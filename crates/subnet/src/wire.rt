@@ -128,6 +128,7 @@ impl Wire {
     }
 
     /// The frame at a place of those that go one way is lost.
+    #[inline(always)]
     pub(crate) fn lose(&mut self, direction: Direction, place: usize)
         requires { place < length (frames_on direction self.old) }
         ensures { self.new ≡ dropping direction place self.old }
@@ -142,6 +143,7 @@ impl Wire {
     /// lost.
     ///
     /// Errors: memory runs out, and nothing else.
+    #[inline(always)]
     pub(crate) fn put(&mut self, imp: u8, frame: Frame) -> Result<(), AllocError>
         ensures ok { OnOk result (self.new ≡ with_frame imp frame self.old) }
         ensures a { self.new.a ≡ self.old.a }
@@ -188,6 +190,7 @@ fn take_first(frames: &mut VecDeque<Frame>) -> Frame
 }
 
 /// Takes the frame at a place out.
+#[inline(always)]
 fn lose(frames: &mut VecDeque<Frame>, place: usize)
     requires { place < length frames.old.items }
     ensures { frames.new.items ≡ net.without_at place frames.old.items }
@@ -200,6 +203,7 @@ fn lose(frames: &mut VecDeque<Frame>, place: usize)
 }
 
 /// Puts a frame behind the others, if there is a place for it.
+#[inline(always)]
 fn follow(frames: &mut VecDeque<Frame>, frame: Frame) -> Result<(), AllocError>
     ensures { OnOk result (frames.new.items ≡ followed_by frames.old.items frame) }
 {

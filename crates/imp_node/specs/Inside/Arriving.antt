@@ -13,11 +13,16 @@ use Rattle.packetiser.specs.declared.packet.PacketKind.TheVariants as kind
 use Rattle.imp_channel.specs.declared.fault.ChannelFault.{ChannelFault}
 use Rattle.imp_channel.specs.declared.line.Received.{Received}
 use Rattle.imp_channel.specs.declared.line.Received.TheVariants as received
-use Rattle.imp_node.specs.State.{State}
+use Rattle.imp_channel.specs.Line.{all_acknowledged}
+use Rattle.imp_node.specs.State.{State, port_at, with_port}
 use Rattle.imp_node.specs.Room.{queue_has_room}
 use Rattle.imp_node.specs.Flows.{noted, message_queued, answer_packet}
 use Rattle.imp_node.specs.Pump.{stored}
 use Rattle.imp_node.specs.Arrival.{Arrival, Passing, Old, Undeliverable, Replying, Piece, NoSlot, Whole, Unmarked, Answering, arrival, arrival_has_room}
+
+-- acknowledgement bits came in at a port
+abbrev pub with_acks : ℕ → List Bool → State → State
+with_acks k acks s = with_port s k (record (port_at s.ports k) { line = record (port_at s.ports k).line { sending = all_acknowledged acks (port_at s.ports k).line.sending } })
 
 -- a frame counts as lost where it brings a fresh packet for which there is no room
 abbrev pub lost_by : Result Received ChannelFault → State → Bool

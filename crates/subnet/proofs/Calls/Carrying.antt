@@ -1,5 +1,5 @@
 -- Looking through live frames.
-use Rattle.std.proofs.Common.{◌≡◌, Bool, true, false, ◌||◌, List, [], ◌∷◌, ◌++◌, refl, ap, ◌∙◌}
+use Rattle.std.proofs.Common.{◌≡◌, Bool, true, false, ◌||◌, ◌&&◌, List, [], ◌∷◌, ◌++◌, length, refl, ap, ◌∙◌, arith}
 use Rattle.std.specs.List.{list_any}
 use Rattle.imp_channel.specs.Holding.{carried_by}
 use Rattle.imp_channel.specs.declared.frame.Frame.{Frame}
@@ -7,6 +7,18 @@ use Rattle.subnet.specs.declared.seeking.Sought.{Sought}
 use Rattle.subnet.specs.Alive.{packets_on, carries}
 use Rattle.subnet.specs.Net.{Wire}
 use Rattle.subnet.specs.Inside.Seeking.{packet_is, frame_has}
+
+-- the number may be compared before the flow
+pub number_first : (a b : Bool) → (a && b) ≡ (b && a)
+number_first true true = refl
+number_first true false = refl
+number_first false true = refl
+number_first false false = refl
+
+-- nothing is under way where no frame is
+pub none_under_way : (q : Sought) (frames : List Frame) → length frames ≡ 0 → list_any (frame_has q) frames ≡ false
+none_under_way q [] none = refl
+none_under_way q (f ∷ frames) none = absurd (omega (arith, none))
 
 or_assoc : (a b c : Bool) → (a || (b || c)) ≡ ((a || b) || c)
 or_assoc true b c = refl

@@ -5,16 +5,14 @@ use Rattle.leader1822.specs.declared.event.Direction.{Direction}
 use Rattle.leader1822.specs.declared.event.Direction.TheVariants as way
 use Rattle.imp_channel.specs.declared.frame.Frame.{Frame}
 use Rattle.imp_node.specs.declared.outgoing.Outgoing.{Outgoing}
-use Rattle.imp_node.specs.Arrival.{from_line, ignored}
 use Rattle.imp_node.specs.State.{State, ImpTurn}
 use Rattle.subnet.specs.Net.{Net, Wire, line_places, imp_at, wire_at, ends_at, line_from, frames_on, far_end, port_of, followed_by, with_frame, put_on, put_one, put_all, with_turn, without_at, dropping}
-use Rattle.subnet.specs.Events.{at_imp, delivered, deliver, drop_frame}
+use Rattle.subnet.specs.Events.{at_imp, deliver, drop_frame}
 use Rattle.subnet.specs.Calls.{grows_at, delivered_grows}
 use Rattle.subnet.specs.declared.imp_call.ImpCall.TheVariants as call
-use Rattle.subnet.specs.Inside.Calling.{call_turn, call_grows, carried_first, AreLive, SameLog}
+use Rattle.subnet.specs.Inside.Calling.{call_turn, call_grows, carried_first, imps_by, frames_by, AreLive, SameLog}
 use Rattle.subnet.specs.Inside.Taking.{hollow, hollowed, frame_taken}
 use Rattle.subnet.proofs.Calls.Delivering.{brought, bring_grows_on}
-use Rattle.subnet.proofs.Calls.Resting.{rests_at}
 
 -- ---- one line
 
@@ -148,24 +146,19 @@ pub handed_grows : {T E : Type 0} (r : Result T E) (n old : Net) (l i p : ℕ) (
 handed_grows r n old l i p d f is there far port grows =
     bring_grows_on r n l d 0 i p f there far port (subst (λ (m : Net). OnErr r (grows_at (imp_at m.imps i) (call_grows (call.Arrive p f)) ≡ true)) is grows)
 
-pub not_handed : (n : Net) (l : ℕ) (d : Direction) → deliver n l d 0 ≡ n → drop_frame n l d 0 ≡ carried_first l d n
-not_handed n l d same = ap (λ (m : Net). drop_frame m l d 0) (sym same)
+-- ---- a frame for which nothing is sent
 
--- ---- a frame that would change nothing
+quiet_at : (n : Net) (i : ℕ) (o : Option State) (turn : State → ImpTurn) → frames_by o turn ≡ [] → record n { imps = imps_by n.imps i o turn } ≡ at_imp o i turn n
+quiet_at n i None turn silent = refl
+quiet_at n i (Some s) turn silent = ap (λ (frames : List Outgoing). record n { imps = set n.imps i (Some (turn s).state); lines = put_all n.lines i frames }) (sym silent)
 
-by_frame : (n : Net) (l : ℕ) (d : Direction) (o : Option Frame) → imp_at n.imps (far_end d (wire_at n.lines l)) ≡ None → delivered n l d o ≡ n
-by_frame n l d None down = refl
-by_frame n l d (Some f) down = ap (λ (o : Option State). at_imp o (far_end d (wire_at n.lines l)) (λ s. from_line s (port_of n.lines (far_end d (wire_at n.lines l)) l) f) n) down
+pub taken_quietly : (n new : Net) (l i p : ℕ) (d : Direction) (f : Frame) → slice_get (frames_on d (wire_at n.lines l)) 0 ≡ Some f → i ≡ far_end d (wire_at n.lines l) → p ≡ port_of n.lines (far_end d (wire_at n.lines l)) l
+    → new ≡ record n { imps = imps_by n.imps i (imp_at n.imps i) (call_turn (call.Arrive p f)) } → frames_by (imp_at n.imps i) (call_turn (call.Arrive p f)) ≡ [] → new ≡ deliver n l d 0
+taken_quietly n new l i p d f there far port is silent =
+    brought n new l d 0 i p f there far (port ∙ ap (λ (j : ℕ). port_of n.lines j l) (sym far)) (is ∙ quiet_at n i (imp_at n.imps i) (call_turn (call.Arrive p f)) silent)
 
-pub none_at_first : (n : Net) (l : ℕ) (d : Direction) → imp_at n.imps (far_end d (wire_at n.lines l)) ≡ None → deliver n l d 0 ≡ n
-none_at_first n l d down = by_frame n l d (slice_get (frames_on d (wire_at n.lines l)) 0) down
-
-pub first_ignored : (n : Net) (l p : ℕ) (d : Direction) (s : State) (f : Frame) → imp_at n.imps (far_end d (wire_at n.lines l)) ≡ Some s → p ≡ port_of n.lines (far_end d (wire_at n.lines l)) l
-    → slice_get (frames_on d (wire_at n.lines l)) 0 ≡ Some f → from_line s p f ≡ ignored s → deliver n l d 0 ≡ n
-first_ignored n l p d s f is port there ignores =
-    let far : ℕ = far_end d (wire_at n.lines l) in
-    ap (delivered n l d) there
-    ∙ rests_at n far (imp_at n.imps far) s (λ s. from_line s (port_of n.lines far l) f) refl is (ap (λ (q : ℕ). from_line s q f) (sym port) ∙ ignores)
+pub handed_quietly : (n new : Net) (l : ℕ) (d : Direction) → new ≡ deliver n l d 0 → drop_frame new l d 0 ≡ carried_first l d n
+handed_quietly n new l d is = ap (λ (m : Net). drop_frame m l d 0) is
 
 pub taken_lives : (n m : Net) (l : ℕ) (d : Direction) → m ≡ frame_taken n l d → AreLive n.imps → AreLive m.imps
 taken_lives n m l d is live = subst (λ (x : Net). AreLive x.imps) (sym is) live

@@ -1,10 +1,11 @@
-use Rattle.std.proofs.Common.{Result, Ok, Err, OnErr}
-use Rattle.imp_node.proofs.Sending.{resent_some}
+use Rattle.std.proofs.Common.{◌≡◌, List, ◌++◌, length, sym, ap, ◌∙◌}
+use Rattle.std.proofs.lemmas.List.{append-nil}
+use Rattle.imp_channel.specs.Holding.{packets_in}
+use Rattle.imp_node.specs.declared.outgoing.Outgoing.{Outgoing}
+use Rattle.imp_node.proofs.RestingLemmas.{none_resent}
 use Rattle.imp_node.proofs.lines.push_resent.Goals as goal
 
-on_err : {T E : Type 0} (r : Result T E) (P : Type 0) → P → OnErr r P
-on_err (Ok x) P holds = tt
-on_err (Err e) P holds = holds
-
-pub returns-in_err-frame-items-clause-memory : goal.returns-in_err-frame-items-clause-memory
-returns-in_err-frame-items-clause-memory c = on_err _ _ (resent_some c.args.at c.args.port.now c.if-port.true c.in_err-frame-items.ensures.memory)
+pub returns-then-busy_channels-eq0-clause-ok : goal.returns-then-busy_channels-eq0-clause-ok
+returns-then-busy_channels-eq0-clause-ok c =
+    let none : length (packets_in c.args.port.now.line.sending) ≡ 0 = sym c.busy_channels.ensures.count ∙ c.if-busy_channels-eq0.true in
+    sym (ap (λ (frames : List Outgoing). c.args.frames.now.items ++ frames) (none_resent c.args.at c.args.port.now none) ∙ append-nil c.args.frames.now.items)

@@ -1,7 +1,7 @@
 use Rattle.std.proofs.Common.{ℕ, ap, sym, ◌∙◌}
 use Rattle.subnet.specs.Net.{port_of}
 use Rattle.subnet.proofs.Calls.Taken.{handed_ok, handed_grows}
-use Rattle.subnet.proofs.parts.Parts.hand_over.Goals as goal
+use Rattle.subnet.proofs.parts.Parts.hand_on.Goals as goal
 
 pub returns-clause-ok : goal.returns-clause-ok
 returns-clause-ok c =
