@@ -64,17 +64,6 @@ impl Entry {
             && self.sendable() > 0
     }
 
-    /// Whether something may go out now. Most ends have no bits that wait, or wait for a grant, so that is looked at first.
-    #[tactic(auto, using(crate::proofs::ParcelLemmas::no_turn))]
-    fn may_send(&self, busy: &[u8]) -> bool
-        ensures { result ≡ parcels.may_send busy.now self.now }
-    {
-        if !self.has_turn() {
-            return false;
-        }
-        self.has_all(busy)
-    }
-
     /// Whether something may go out now on this link. The link is looked at first, since each end has one of its own.
     #[tactic(auto, using(crate::proofs::ParcelLemmas::on_its_link))]
     pub(crate) fn may_send_on(&self, busy: &[u8], link: u8) -> bool
@@ -97,17 +86,20 @@ fn lowest_link(entries: &[Entry], busy: &[u8]) -> Option<u8>
 }
 
 impl Entry {
-    /// Its link, if it may send now and the link is lower than this one; else this one. Most ends stand behind one with a lower
-    /// link, so that is looked at first.
-    #[tactic(auto, using(crate::proofs::SendingLemmas::kept_lower))]
+    /// Its link, if it may send now and the link is lower than this one; else this one. Most ends have no bits that wait, or wait for a
+    /// grant, so that is looked at first, and all else only where the link is lower.
+    #[tactic(auto, using(crate::proofs::ParcelLemmas::no_turn, crate::proofs::SendingLemmas::kept_lower))]
     fn lower_link(&self, busy: &[u8], lowest: Option<u8>) -> Option<u8>
         ensures { result ≡ (if parcels.may_send busy.now self.now then Some (parcels.lower (parcels.link_of self.now.link) lowest) else lowest) }
     {
+        if !self.has_turn() {
+            return lowest;
+        }
         let link = self.link_number();
         if !is_lower(link, lowest) {
             return lowest;
         }
-        if self.may_send(busy) {
+        if self.has_all(busy) {
             Some(link)
         } else {
             lowest
