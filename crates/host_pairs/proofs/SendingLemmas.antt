@@ -1,5 +1,5 @@
 -- The lowest of links, found from the front.
-use Rattle.std.proofs.Common.{◌≡◌, ℕ, ◌*◌, ◌≤◌, true, Bool, suc, length, take, ◌++◌, List, [], ◌∷◌, Option, Some, None, refl, ap, arith}
+use Rattle.std.proofs.Common.{◌≡◌, ℕ, ◌*◌, ◌≤◌, true, false, Bool, if◌then◌else◌, suc, length, take, filter, ◌++◌, List, [], ◌∷◌, Option, Some, None, refl, ap, sym, arith}
 use Rattle.ncp_control.specs.Command.{is_alone, spelling}
 use Rattle.ncp_control.specs.Packing.{packed_count, spellings}
 use Rattle.ncp_control.specs.declared.command.Command.{Command}
@@ -11,7 +11,8 @@ use Rattle.std.proofs.lemmas.List.{length-take, take_all}
 use Rattle.std.specs.Int.{w16, to_be_bytes}
 use Rattle.host_pairs.specs.Control.{control_text}
 use Rattle.host_pairs.specs.Data.{data_text}
-use Rattle.host_pairs.specs.Parcels.{lower}
+use Rattle.host_pairs.specs.Parcels.{link_of, lower, lowest_link, may_send}
+use Rattle.host_pairs.specs.declared.entry.Entry.{Entry}
 
 -- the lower of a link that was found and of one behind it
 abbrev pub lower_of : Option ℕ → Option ℕ → Option ℕ
@@ -23,6 +24,21 @@ pub lower_more : (found : Option ℕ) (link : ℕ) (later : Option ℕ) → lowe
 lower_more None link later = refl
 lower_more (Some other) link None = ap (λ (n : ℕ). Some n) (omega arith)
 lower_more (Some other) link (Some last) = ap (λ (n : ℕ). Some n) (omega arith)
+
+-- a link that isn't lower than the one that was found leaves it
+pub kept_lower : (b : Bool) (found : Option ℕ) (link : ℕ) → Some (lower link found) ≡ found → found ≡ (if b then Some (lower link found) else found)
+kept_lower true found link e = sym e
+kept_lower false found link e = refl
+
+lower_by : (busy : List ℕ) (e : Entry) (es : List Entry) (found : Option ℕ) (b : Bool) → may_send busy e ≡ b
+    → lower_of (if may_send busy e then Some (lower (link_of e.link) found) else found) (lowest_link (filter (may_send busy) es)) ≡ lower_of found (lowest_link (filter (may_send busy) (e ∷ es)))
+lower_by busy e es found true is = rw is (lower_more found (link_of e.link) (lowest_link (filter (may_send busy) es)))
+lower_by busy e es found false is = rw is refl
+
+-- one end more
+pub lower_step : (busy : List ℕ) (e : Entry) (es : List Entry) (found : Option ℕ)
+    → lower_of (if may_send busy e then Some (lower (link_of e.link) found) else found) (lowest_link (filter (may_send busy) es)) ≡ lower_of found (lowest_link (filter (may_send busy) (e ∷ es)))
+lower_step busy e es found = lower_by busy e es found (may_send busy e) refl
 
 -- with no link behind
 pub lower_end : (found : Option ℕ) → lower_of found None ≡ found

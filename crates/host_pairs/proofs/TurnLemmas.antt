@@ -7,7 +7,8 @@ use Rattle.leader1822.specs.Host.{Host}
 use Rattle.leader1822.specs.declared.crossing.Answer.TheVariants as answer
 use Rattle.host_pairs.specs.Entries.{is_due, must_close, closed_when, cls_of}
 use Rattle.host_pairs.specs.Phases.{is_ready, rfnm_phase}
-use Rattle.host_pairs.specs.Turn.{TurnState, answered_turn, freed, is_quiet, settled_turn}
+use Rattle.host_pairs.specs.Desk.{command_queued, desk_of}
+use Rattle.host_pairs.specs.Turn.{TurnState, answered_turn, freed, is_quiet, settled_turn, with_desk}
 use Rattle.host_pairs.specs.declared.entry.Entry.{Entry}
 use Rattle.host_pairs.specs.declared.notice.Notice.{Notice}
 use Rattle.host_pairs.specs.declared.phase.Phase.{Phase}
@@ -17,6 +18,10 @@ use Rattle.host_pairs.proofs.OpeningLemmas.{both, none_of, not_is}
 -- what is told first is all that is told
 pub told_first : (told notices : List Notice) → (length told == 0) ≡ true → told ++ notices ≡ notices
 told_first told notices e = ap (λ (xs : List Notice). xs ++ notices) (none_of told e)
+
+-- a command that is queued at the desk is queued in the pair, and nothing is told
+pub queued_turn : (t : TurnState) (c : Command) → record t { pair = record t.pair { queue = t.pair.queue ++ c ∷ [] } } ≡ with_desk t (command_queued c (desk_of t.pair t.listening))
+queued_turn t c = sym (ap (λ (ns : List Notice). record { pair = record t.pair { queue = t.pair.queue ++ c ∷ [] }; listening = t.listening; notices = ns }) (append-nil t.notices))
 
 none_step : (busy : List ℕ) (e : Entry) (es : List Entry) → (list_any (must_close busy) es ≡ false → filter (must_close busy) es ≡ []) → (b : Bool) → must_close busy e ≡ b
     → list_any (must_close busy) (e ∷ es) ≡ false → filter (must_close busy) (e ∷ es) ≡ []

@@ -3,6 +3,7 @@ pub use Rattle.host_pairs.proofs.ControlLemmas.{control_read, header_covers}
 pub use Rattle.host_pairs.proofs.EntryLemmas.{none_found, one_changed, one_found}
 pub use Rattle.host_pairs.proofs.GoingLemmas.{all_gone_queue}
 pub use Rattle.host_pairs.proofs.GoneLemmas.{none_left}
+pub use Rattle.host_pairs.proofs.ListenerLemmas.{beyond_last}
 pub use Rattle.host_pairs.proofs.NoticeLemmas.{about_if, answer_told, parcel_kept, text_told}
 pub use Rattle.host_pairs.proofs.OpeningLemmas.{both, not_is, opening_is}
 pub use Rattle.host_pairs.proofs.ParcelLemmas

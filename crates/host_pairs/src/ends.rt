@@ -1,6 +1,6 @@
 //! The ends of a pair's connections, found and changed.
 
-ghost use Rattle.std.specs.Prelude.{◌≡◌, ◌<◌, OnErr, length, ◌++◌, OnOk, map, filter, position, find, not, MatchOption, Some, None, slice_index_or};
+ghost use Rattle.std.specs.Prelude.{◌≡◌, ◌<◌, ℕ, Bool, true, false, OnErr, length, ◌++◌, OnOk, map, filter, position, find, not, MatchOption, Some, None, slice_index_or};
 ghost use Rattle.std.specs.List.{flat_map, list_any};
 ghost use Rattle.host_pairs.specs.declared.entry.Entry.{Entry};
 ghost use Rattle.host_pairs.specs.Commands.{asked_on_link, asked_with_size, granted, given_back, returned};
@@ -92,14 +92,48 @@ fn has_receiver_on(entries: &[Entry], link: u8) -> bool
     entries.iter().any(|e| e.receives_on(link))
 }
 
-/// The number of the lowest link that no receiving end has.
-fn free_number(entries: &[Entry]) -> Option<u8>
-    ensures { result ≡ free_link entries.now }
+/// The links behind the first of these, if an end receives on that one; else these.
+#[tactic(auto, using(crate::proofs::LinkLemmas::first_passed))]
+fn passed_over<'a>(links: &'a [u8], entry: &Entry) -> &'a [u8]
+    ensures { (is_free : ℕ → Bool) → ((link : ℕ) → receives_on link entry.now ≡ true → is_free link ≡ false) → find is_free result.now ≡ find is_free links.now }
 {
-    CONNECTION_LINKS
+    let Some((first, rest)) = links.split_first() else {
+        return links;
+    };
+    if entry.receives_on(*first) {
+        rest
+    } else {
+        links
+    }
+}
+
+/// These links without the first ones that have a receiving end each, as far as the ends stand in order of their links.
+fn behind_ends<'a>(links: &'a [u8], entries: &[Entry]) -> &'a [u8]
+    ensures { find (λ link. not (list_any (receives_on link) entries.now)) result.now ≡ find (λ link. not (list_any (receives_on link) entries.now)) links.now }
+{
+    let mut rest = links;
+    for entry in entries {
+        rest = passed_over(rest, entry);
+    }
+    rest
+}
+
+/// The first of these links that no receiving end has.
+fn first_free(links: &[u8], entries: &[Entry]) -> Option<u8>
+    ensures { result ≡ find (λ link. not (list_any (receives_on link) entries.now)) links.now }
+{
+    links
         .iter()
         .copied()
         .find(|link| !has_receiver_on(entries, *link))
+}
+
+/// The number of the lowest link that no receiving end has. Ends mostly stand in order of their links, and those that do are passed
+/// over at once.
+fn free_number(entries: &[Entry]) -> Option<u8>
+    ensures { result ≡ free_link entries.now }
+{
+    first_free(behind_ends(&CONNECTION_LINKS, entries), entries)
 }
 
 /// The lowest link that no receiving end has.

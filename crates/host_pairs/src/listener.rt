@@ -1,6 +1,9 @@
 //! Sockets that listen: each waits for anybody's request.
 
-ghost use Rattle.std.specs.Prelude.{◌≡◌, ◌++◌, ◌∷◌, [], OnOk};
+ghost use Rattle.std.specs.Prelude.{◌≡◌, ◌++◌, ◌∷◌, [], OnOk, false};
+ghost use Rattle.std.specs.BTreeSet.{contains};
+ghost use Rattle.std.specs.Bool.{OnTrue};
+ghost use Rattle.std.specs.Ordering.{nat_cmp};
 ghost use Rattle.host_pairs.specs.Desk.{listener_on, listens_on, without_listener};
 
 use ncp_control::ByteSize;
@@ -79,11 +82,25 @@ pub(crate) fn listener_on(listening: &Listeners, socket: u32) -> Option<Listener
     first_on(&listening.listening, socket)
 }
 
-/// Whether a socket listens.
+/// Whether a socket listens. Sockets often come in order of their numbers, so one that is greater than all is not searched for.
 pub fn listens_on(listening: &Listeners, socket: u32) -> bool
     ensures { result ≡ listens_on socket listening.now }
 {
+    if is_beyond(&listening.sockets, socket) {
+        return false;
+    }
     listening.sockets.contains(&socket)
+}
+
+/// Whether a number is greater than all of these.
+#[tactic(auto, using(crate::proofs::ListenerLemmas::beyond_last))]
+fn is_beyond(sockets: &BTreeSet<u32>, socket: u32) -> bool
+    ensures { OnTrue result (contains nat_cmp sockets.now socket ≡ false) }
+{
+    match sockets.last() {
+        Some(last) => *last < socket,
+        None => false,
+    }
 }
 
 /// A socket no longer listens.

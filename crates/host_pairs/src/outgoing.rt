@@ -2,6 +2,7 @@
 //! within the allocation).
 
 ghost use Rattle.std.specs.Prelude.{◌≡◌, ◌==◌, ◌&&◌, not, if◌then◌else◌, length, MatchOption, IfSome, Some, None, List, filter, find, is_some, position, slice_index_or};
+ghost use Rattle.std.specs.Bool.{OnFalse, OnTrue};
 ghost use Rattle.host_pairs.specs.Outgoing.{HasRoom, IsThere, parcel_of};
 ghost use Rattle.host_pairs.specs.Parcels as parcels;
 ghost use Rattle.host_pairs.specs.Parcels.{may_send_on};
@@ -63,17 +64,6 @@ impl Entry {
             && self.sendable() > 0
     }
 
-    /// Whether something may go out now. Most ends have no bits that wait, or wait for a grant, so that is looked at first.
-    #[tactic(auto, using(crate::proofs::ParcelLemmas::no_turn))]
-    fn may_send(&self, busy: &[u8]) -> bool
-        ensures { result ≡ parcels.may_send busy.now self.now }
-    {
-        if !self.has_turn() {
-            return false;
-        }
-        self.has_all(busy)
-    }
-
     /// Whether something may go out now on this link. The link is looked at first, since each end has one of its own.
     #[tactic(auto, using(crate::proofs::ParcelLemmas::on_its_link))]
     pub(crate) fn may_send_on(&self, busy: &[u8], link: u8) -> bool
@@ -84,26 +74,47 @@ impl Entry {
 }
 
 /// The lowest link of the ends that may send now.
-#[tactic(auto, using(crate::proofs::SendingLemmas::lower_more, crate::proofs::SendingLemmas::lower_end))]
+#[tactic(auto, using(crate::proofs::SendingLemmas::lower_step, crate::proofs::SendingLemmas::lower_end))]
 fn lowest_link(entries: &[Entry], busy: &[u8]) -> Option<u8>
     ensures { result ≡ parcels.lowest_link (filter (parcels.may_send busy.now) entries.now) }
 {
     let mut lowest = None;
     for entry in entries {
-        if entry.may_send(busy) {
-            lowest = Some(lower(entry.link_number(), lowest));
-        }
+        lowest = entry.lower_link(busy, lowest);
     }
     lowest
 }
 
-/// The lower of two links.
-fn lower(link: u8, other: Option<u8>) -> u8
-    ensures { result ≡ parcels.lower link other }
+impl Entry {
+    /// Its link, if it may send now and the link is lower than this one; else this one. Most ends have no bits that wait, or wait for a
+    /// grant, so that is looked at first, and all else only where the link is lower.
+    #[tactic(auto, using(crate::proofs::ParcelLemmas::no_turn, crate::proofs::SendingLemmas::kept_lower))]
+    fn lower_link(&self, busy: &[u8], lowest: Option<u8>) -> Option<u8>
+        ensures { result ≡ (if parcels.may_send busy.now self.now then Some (parcels.lower (parcels.link_of self.now.link) lowest) else lowest) }
+    {
+        if !self.has_turn() {
+            return lowest;
+        }
+        let link = self.link_number();
+        if !is_lower(link, lowest) {
+            return lowest;
+        }
+        if self.has_all(busy) {
+            Some(link)
+        } else {
+            lowest
+        }
+    }
+}
+
+/// Whether a link is lower than another one, or there is no other.
+fn is_lower(link: u8, other: Option<u8>) -> bool
+    ensures lower { OnTrue result (parcels.lower link other ≡ link) }
+    ensures kept { OnFalse result (Some (parcels.lower link other) ≡ other) }
 {
     match other {
-        Some(other) => link.min(other),
-        None => link,
+        Some(other) => link < other,
+        None => true,
     }
 }
 

@@ -5,7 +5,9 @@ ghost use Rattle.std.specs.Prelude.{◌≡◌, ◌<◌, OnErr, length, ◌++◌,
 ghost use Rattle.host_pairs.specs.Turn as turns;
 ghost use Rattle.host_pairs.specs.Commands.{desk_taken};
 ghost use Rattle.host_pairs.specs.Data.{data_taken};
-ghost use Rattle.host_pairs.specs.Desk.{desk_of};
+ghost use Rattle.host_pairs.specs.Desk.{command_queued, desk_of, desk_told};
+ghost use Rattle.host_pairs.specs.declared.notice.Notice.TheVariants as notice;
+ghost use Rattle.ncp_control.specs.declared.command.Command.TheVariants as command;
 
 use crate::Notice;
 use crate::desk::Desk;
@@ -86,7 +88,40 @@ impl Turn {
         self.notices.append(&mut notices)
     }
 
-    /// A command about connections is taken, while the pair is opened.
+    /// The peer asks for an octet back: an ERP waits to go out.
+    #[tactic(auto, using(crate::proofs::TurnLemmas::queued_turn))]
+    fn echo(&mut self, octet: u8) -> Result<(), AllocError>
+        ensures state { OnOk result (self.new ≡ turns.with_desk self.old (command_queued (command.Erp octet) (desk_of self.old.pair self.old.listening))) }
+        ensures memory { OnErr result (0 < newly_said self.old (turns.with_desk self.old (command_queued (command.Erp octet) (desk_of self.old.pair self.old.listening)))) }
+    {
+        self.pair.queue.push(Command::Erp { octet })
+    }
+
+    /// An octet came back.
+    fn hear_echo(&mut self, peer: HostAddr, octet: u8) -> Result<(), AllocError>
+        ensures state { OnOk result (self.new ≡ turns.with_desk self.old (desk_told (notice.Echoed peer octet ∷ []) (desk_of self.old.pair self.old.listening))) }
+        ensures memory { OnErr result (0 < newly_said self.old (turns.with_desk self.old (desk_told (notice.Echoed peer octet ∷ []) (desk_of self.old.pair self.old.listening)))) }
+    {
+        self.tell(Notice::Echoed { peer, octet })
+    }
+
+    /// A command is taken among the pair's connections.
+    fn hear_at_desk(
+        &mut self,
+        alloc: Global,
+        peer: HostAddr,
+        stamp: usize,
+        command: Command,
+    ) -> Result<(), AllocError>
+        ensures state { OnOk result (self.new ≡ turns.with_desk self.old (desk_taken peer self.old.pair.busy stamp command (desk_of self.old.pair self.old.listening))) }
+        ensures memory { OnErr result (0 < newly_said self.old (turns.with_desk self.old (desk_taken peer self.old.pair.busy stamp command (desk_of self.old.pair self.old.listening)))) }
+    {
+        let mut desk = self.desk(alloc);
+        desk.take(alloc, peer, &self.pair.busy, stamp, command)?;
+        self.restore(desk)
+    }
+
+    /// A command about connections is taken, while the pair is opened. An ECO and an ERP are no matter of any of them.
     fn hear(
         &mut self,
         alloc: Global,
@@ -100,9 +135,11 @@ impl Turn {
         if !self.pair.phase.is_ready() {
             return Ok(());
         }
-        let mut desk = self.desk(alloc);
-        desk.take(alloc, peer, &self.pair.busy, stamp, command)?;
-        self.restore(desk)
+        match command {
+            Command::Eco { octet } => self.echo(octet),
+            Command::Erp { octet } => self.hear_echo(peer, octet),
+            other => self.hear_at_desk(alloc, peer, stamp, other),
+        }
     }
 
     /// A message of data is taken, while the pair is opened.

@@ -17,10 +17,9 @@ pub(crate) fn append_sockets(
 ) -> Result<(), AllocError>
     ensures { OnOk result (octets.new.items ≡ octets.old.items ++ (code ∷ to_be_bytes w32 first ++ to_be_bytes w32 second)) }
 {
-    octets.push(code)?;
-    octets.extend_from_slice(&first.to_be_bytes())?;
-    octets.extend_from_slice(&second.to_be_bytes())?;
-    Ok(())
+    let [a, b, c, d] = first.to_be_bytes();
+    let [e, f, g, h] = second.to_be_bytes();
+    octets.extend_from_slice(&[code, a, b, c, d, e, f, g, h])
 }
 
 /// Puts a code, two sockets and a last octet at the end.
@@ -33,9 +32,9 @@ pub(crate) fn append_request(
 ) -> Result<(), AllocError>
     ensures { OnOk result (octets.new.items ≡ octets.old.items ++ (code ∷ to_be_bytes w32 own ++ to_be_bytes w32 foreign ++ last ∷ [])) }
 {
-    append_sockets(octets, code, own, foreign)?;
-    octets.push(last)?;
-    Ok(())
+    let [a, b, c, d] = own.to_be_bytes();
+    let [e, f, g, h] = foreign.to_be_bytes();
+    octets.extend_from_slice(&[code, a, b, c, d, e, f, g, h, last])
 }
 
 /// Puts a code, a link and counts of messages and bits at the end.
@@ -48,10 +47,9 @@ pub(crate) fn append_counts(
 ) -> Result<(), AllocError>
     ensures { OnOk result (octets.new.items ≡ octets.old.items ++ (code ∷ link ∷ to_be_bytes w16 messages ++ to_be_bytes w32 bits)) }
 {
-    octets.extend_from_slice(&[code, link])?;
-    octets.extend_from_slice(&messages.to_be_bytes())?;
-    octets.extend_from_slice(&bits.to_be_bytes())?;
-    Ok(())
+    let [high, low] = messages.to_be_bytes();
+    let [a, b, c, d] = bits.to_be_bytes();
+    octets.extend_from_slice(&[code, link, high, low, a, b, c, d])
 }
 
 /// Puts the octets of an ERR at the end.

@@ -1,5 +1,8 @@
 -- Sockets with an end, and peers that are changed.
-use Rattle.std.proofs.Common.{◌≡◌, ℕ, ◌==◌, ◌&&◌, ◌||◌, ◌++◌, Bool, true, false, List, [], ◌∷◌, find, None, refl, nat_lt}
+use Rattle.std.proofs.Common.{◌≡◌, ℕ, ◌<◌, ◌==◌, ◌&&◌, ◌||◌, ◌++◌, Bool, true, false, List, [], ◌∷◌, find, None, refl, nat_lt}
+use Rattle.std.specs.BTreeSet.{BTreeSet, IsUpperBound, contains}
+use Rattle.std.specs.Ordering.{nat_cmp}
+use Rattle.host_pairs.proofs.lemmas.{beyond_last}
 use Rattle.leader1822.specs.Host.{Host, same_host, address_octet}
 use Rattle.ncp_control.specs.declared.command.Command.{Command}
 use Rattle.host_pairs.specs.Asked.{requested}
@@ -19,6 +22,10 @@ neither false b h = (refl, h)
 and_no : (b : Bool) → (b && false) ≡ false
 and_no true = refl
 and_no false = refl
+
+-- a number that is greater than the greatest one is none of them
+pub beyond_all : (numbers : BTreeSet ℕ) (last n : ℕ) → IsUpperBound nat_cmp numbers last → last < n → contains nat_cmp numbers n ≡ false
+beyond_all numbers last n greatest lt = beyond_last numbers last n greatest lt
 
 -- ---- no end on a socket
 

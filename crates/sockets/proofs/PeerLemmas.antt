@@ -1,5 +1,5 @@
 -- Peers in order: where a host stands among them.
-use Rattle.std.proofs.Common.{◌≡◌, ℕ, ◌<◌, ◌≤◌, ◌-◌, Bool, true, false, not, ◌&&◌, ◌==◌, List, [], ◌∷◌, length, find, Option, Some, None, slice_set, slice_index_or, refl, ap, sym, subst, ◌∙◌, arith, suc, zero, nat_lt, eq-eqb}
+use Rattle.std.proofs.Common.{◌≡◌, ℕ, ◌<◌, ◌≤◌, ◌-◌, ◌++◌, Bool, true, false, not, ◌&&◌, ◌==◌, List, [], ◌∷◌, length, find, Option, Some, None, Result, Ok, Err, OnOk, slice_set, slice_index_or, refl, ap, sym, subst, ◌∙◌, arith, suc, zero, nat_lt, eq-eqb}
 use Rattle.std.specs.List.{count_by}
 use Rattle.std.proofs.lemmas.List.Sums.{length-filter, count_by-le-length}
 use Rattle.std.specs.List.{insert, remove}
@@ -7,12 +7,16 @@ use Rattle.std.specs.List.Sorted.{IsPartitionPoint, IsPartitionedBy}
 use Rattle.std.proofs.lemmas.Bool.{eqb-true, ltb-true, ltb-false}
 use Rattle.leader1822.specs.Host.{Host, IsAddress, same_host, address_octet}
 use Rattle.leader1822.proofs.lemmas.{same_host-refl}
+use Rattle.std.specs.declared.alloc.AllocError.{AllocError}
+use Rattle.ncp_control.specs.declared.command.Command.{Command}
+use Rattle.host_pairs.specs.Asked.{commanded, requested, with_end, with_more_bits}
+use Rattle.host_pairs.specs.Commands.{granted}
 use Rattle.host_pairs.specs.Pair.{PairState, is_opening}
 use Rattle.host_pairs.specs.Phases.{is_closed, is_ready}
 use Rattle.host_pairs.specs.Turn.{freed, is_quiet}
 use Rattle.host_pairs.specs.declared.phase.Phase.{Phase}
 use Rattle.host_pairs.specs.declared.phase.Phase.TheVariants as phase
-use Rattle.host_pairs.specs.Entries.{is_mine_on}
+use Rattle.host_pairs.specs.Entries.{changed_first, is_mine_on}
 use Rattle.host_pairs.specs.declared.entry.Entry.{Entry}
 use Rattle.sockets.specs.Memory.{newly_known}
 use Rattle.sockets.specs.Pairs.{NcpState, owner_of, pair_in, pair_with, placed, without_peer, with_pair}
@@ -364,3 +368,87 @@ freed_there h link at p ps qs found stands quiet is =
     let pair : pair_with h ps ≡ p.pair = ap (λ (o : Option Peer). pair_in o) (found p) ∙ ap (λ (q : Peer). q.pair) (sym stands) in
     let put : qs ≡ placed (record { host = h; pair = freed link p.pair }) ps = is p ∙ ap (λ (q : Peer). placed (record { host = h; pair = freed link q.pair }) ps) (sym stands) in
     rw (pair, quiet_stays link p.pair quiet) put
+
+-- ---- a command that waits where the pair stands
+
+not_none : (n : ℕ) (b : Bool) → (suc n == 0) ≡ b → b ≡ false
+not_none n true e = absurd (omega (arith, eqb-true (suc n) 0 e))
+not_none n false e = refl
+
+more_commands : (c : Command) (cs : List Command) → (length (cs ++ c ∷ []) == 0) ≡ false
+more_commands c [] = refl
+more_commands c (d ∷ cs) = not_none (length (cs ++ c ∷ [])) (suc (length (cs ++ c ∷ [])) == 0) refl
+
+and_last : (b : Bool) → (b && false) ≡ false
+and_last true = refl
+and_last false = refl
+
+command_stays : (c : Command) (q : PairState) → is_opening (commanded c q) ≡ false
+command_stays c q = rw (more_commands c q.queue) (and_last _)
+
+changed_at : (h : Host) (change : PairState → PairState) (at : ℕ) (d : Peer) (ps qs : List Peer) → ((q : PairState) → is_opening (change q) ≡ false)
+    → ((d : Peer) → find (λ (p : Peer). same_host h p.host) ps ≡ Some (slice_index_or ps at d))
+    → qs ≡ placed (record { host = h; pair = change (slice_index_or ps at d).pair }) ps → qs ≡ with_pair h (change (pair_with h ps)) ps
+changed_at h change at d ps qs stays found put =
+    let pair : pair_with h ps ≡ (slice_index_or ps at d).pair = ap (λ (o : Option Peer). pair_in o) (found d) in
+    rw (pair, stays (slice_index_or ps at d).pair) put
+
+changed_there : (h : Host) (change : PairState → PairState) (at : ℕ) (ps qs : List Peer) (done : Result (Unit {0}) AllocError) → ((q : PairState) → is_opening (change q) ≡ false)
+    → at < length ps → ((d : Peer) → find (λ (p : Peer). same_host h p.host) ps ≡ Some (slice_index_or ps at d))
+    → OnOk done ((d : Peer) → qs ≡ placed (record { host = h; pair = change (slice_index_or ps at d).pair }) ps)
+    → OnOk done (qs ≡ with_pair h (change (pair_with h ps)) ps)
+changed_there h change at ps qs (Err e) stays there found is = tt
+changed_there h change at [] qs (Ok x) stays there found is = absurd (omega (arith, there))
+changed_there h change at (p ∷ ps) qs (Ok x) stays there found is = changed_at h change at p (p ∷ ps) qs stays found (is p)
+
+pub commanded_there : (h : Host) (c : Command) (at : ℕ) (ps qs : List Peer) (done : Result (Unit {0}) AllocError) → at < length ps
+    → ((d : Peer) → find (λ (p : Peer). same_host h p.host) ps ≡ Some (slice_index_or ps at d))
+    → OnOk done ((d : Peer) → qs ≡ placed (record { host = h; pair = commanded c (slice_index_or ps at d).pair }) ps)
+    → OnOk done (qs ≡ with_pair h (commanded c (pair_with h ps)) ps)
+commanded_there h c at ps qs done there found is = changed_there h (commanded c) at ps qs done (command_stays c) there found is
+
+request_stays : (e : Entry) (c : Command) (q : PairState) → is_opening (requested e c q) ≡ false
+request_stays e c q = rw (more_commands c q.queue) (and_last _)
+
+-- and so with a new end and its request
+pub requested_there : (h : Host) (e : Entry) (c : Command) (at : ℕ) (ps qs : List Peer) (done : Result (Unit {0}) AllocError) → at < length ps
+    → ((d : Peer) → find (λ (p : Peer). same_host h p.host) ps ≡ Some (slice_index_or ps at d))
+    → OnOk done ((d : Peer) → qs ≡ placed (record { host = h; pair = requested e c (slice_index_or ps at d).pair }) ps)
+    → OnOk done (qs ≡ with_pair h (requested e c (pair_with h ps)) ps)
+requested_there h e c at ps qs done there found is = changed_there h (requested e c) at ps qs done (request_stays e c) there found is
+
+grant_stays : (s messages bits : ℕ) (c : Command) (q : PairState) → is_opening (commanded c (with_end s (granted messages bits) q)) ≡ false
+grant_stays s messages bits c q = rw (more_commands c q.queue) (and_last _)
+
+-- and so with more that is granted
+pub granted_there : (h : Host) (s messages bits : ℕ) (c : Command) (at : ℕ) (ps qs : List Peer) (done : Result (Unit {0}) AllocError) → at < length ps
+    → ((d : Peer) → find (λ (p : Peer). same_host h p.host) ps ≡ Some (slice_index_or ps at d))
+    → OnOk done ((d : Peer) → qs ≡ placed (record { host = h; pair = commanded c (with_end s (granted messages bits) (slice_index_or ps at d).pair) }) ps)
+    → OnOk done (qs ≡ with_pair h (commanded c (with_end s (granted messages bits) (pair_with h ps))) ps)
+granted_there h s messages bits c at ps qs done there found is =
+    changed_there h (λ (q : PairState). commanded c (with_end s (granted messages bits) q)) at ps qs done (grant_stays s messages bits c) there found is
+
+-- ---- bits that wait where the pair stands
+
+as_many_by : (test : Entry → Bool) (change : Entry → Entry) (e : Entry) (es : List Entry) → length (changed_first test change es) ≡ length es → (b : Bool) → test e ≡ b
+    → length (changed_first test change (e ∷ es)) ≡ length (e ∷ es)
+as_many_by test change e es rest true is = rw is refl
+as_many_by test change e es rest false is = rw is (ap suc rest)
+
+as_many : (test : Entry → Bool) (change : Entry → Entry) (es : List Entry) → length (changed_first test change es) ≡ length es
+as_many test change [] = refl
+as_many test change (e ∷ es) = as_many_by test change e es (as_many test change es) (test e) refl
+
+bits_stay : (s : ℕ) (bits : List Bool) (q : PairState) → is_opening q ≡ false → is_opening (with_end s (with_more_bits bits) q) ≡ false
+bits_stay s bits q other = rw (as_many (is_mine_on s) (with_more_bits bits) q.entries) other
+
+pub added_there : (h : Host) (s : ℕ) (bits : List Bool) (at : ℕ) (p : Peer) (ps qs : List Peer) (done : Result (Unit {0}) AllocError)
+    → ((d : Peer) → find (λ (p : Peer). same_host h p.host) ps ≡ Some (slice_index_or ps at d)) → p ≡ slice_index_or ps at p → is_opening p.pair ≡ false
+    → OnOk done ((d : Peer) → qs ≡ placed (record { host = h; pair = with_end s (with_more_bits bits) (slice_index_or ps at d).pair }) ps)
+    → OnOk done (qs ≡ with_pair h (with_end s (with_more_bits bits) (pair_with h ps)) ps)
+added_there h s bits at p ps qs (Err e) found stands other is = tt
+added_there h s bits at p ps qs (Ok x) found stands other is =
+    let pair : pair_with h ps ≡ p.pair = ap (λ (o : Option Peer). pair_in o) (found p) ∙ ap (λ (q : Peer). q.pair) (sym stands) in
+    let put : qs ≡ placed (record { host = h; pair = with_end s (with_more_bits bits) p.pair }) ps =
+    is p ∙ ap (λ (q : Peer). placed (record { host = h; pair = with_end s (with_more_bits bits) q.pair }) ps) (sym stands) in
+    rw (pair, bits_stay s bits p.pair other) put

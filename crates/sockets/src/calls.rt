@@ -1,10 +1,11 @@
 //! What a user may ask of the network control program (NIC 8246 leaves the calls to each host; RTS, STR, CLS,
 //! ALL, GVB, INR, INS, ECO and RST go out by them).
 
-ghost use Rattle.std.specs.Prelude.{◌≡◌, ◌+◌, ◌<◌, ◌++◌, ◌∷◌, [], false, IfErr, IfOk, None, OnErr, OnOk, Some, length};
+ghost use Rattle.std.specs.Prelude.{◌≡◌, ◌+◌, ◌<◌, ◌++◌, ◌∷◌, [], false, IfErr, IfOk, None, OnErr, OnOk, Some, length, true};
 ghost use Rattle.ncp_control.specs.Command.{is_alone};
 ghost use Rattle.sockets.specs.Calls.{IsRefused, IsServed};
 ghost use Rattle.host_pairs.specs.Commands.{granted};
+ghost use Rattle.host_pairs.specs.Phases.{is_ready};
 ghost use Rattle.sockets.specs.Memory.{newly_kept, newly_known, queued_by_closing};
 ghost use Rattle.sockets.specs.Others.{owner_host};
 ghost use Rattle.sockets.specs.Pairs.{owner_of, pair_with};
@@ -45,13 +46,12 @@ impl Ncp {
     #[tactic(auto, using(crate::proofs::OwnedLemmas::known_but))]
     fn request(&mut self, peer: HostAddr, entry: Entry, command: Command) -> Result<(), AllocError>
         requires joint { is_alone command ≡ false }
+        requires ready { is_ready (pair_with peer self.old.peers).phase ≡ true }
         ensures { OnOk result (self.new ≡ with_peer self.old peer (asked.requested entry command)) }
     {
         let own = entry.own;
         let owned = self.peers.take_owned();
-        let mut pair = self.peers.take(self.alloc, peer);
-        pair.request(entry, command)?;
-        self.peers.put(peer, pair)?;
+        self.peers.request(peer, entry, command)?;
         self.peers.learn(self.alloc, owned, own)
     }
 
@@ -60,9 +60,7 @@ impl Ncp {
         requires joint { is_alone command ≡ false }
         ensures { OnOk result (self.new ≡ with_peer self.old peer (asked.commanded command)) }
     {
-        let mut pair = self.peers.take(self.alloc, peer);
-        pair.command(command)?;
-        self.peers.put(peer, pair)
+        self.peers.command(self.alloc, peer, command)
     }
 
     /// Bits of a socket wait to be sent to a peer.
@@ -70,6 +68,9 @@ impl Ncp {
         ensures state { OnOk result (self.new ≡ with_peer self.old peer (with_end socket (with_more_bits bits.now))) }
         ensures memory { OnErr result (0 < length bits.now + newly_known self.old (with_peer self.old peer (with_end socket (with_more_bits bits.now)))) }
     {
+        if let Some(done) = self.peers.add_bits(peer, socket, bits) {
+            return done;
+        }
         let mut pair = self.peers.take(self.alloc, peer);
         pair.add_bits(socket, bits)?;
         self.peers.put(peer, pair)
@@ -87,9 +88,9 @@ impl Ncp {
         requires joint { is_alone command ≡ false }
         ensures { OnOk result (self.new ≡ with_peer self.old peer (λ q. asked.commanded command (with_end socket (granted messages bits) q))) }
     {
-        let mut pair = self.peers.take(self.alloc, peer);
-        pair.grant(socket, messages, bits, command)?;
-        self.peers.put(peer, pair)
+        let alloc = self.alloc;
+        self.peers
+            .grant(alloc, peer, socket, messages, bits, command)
     }
 
     /// The connection of a socket with a peer closes, at once or when it is drained.

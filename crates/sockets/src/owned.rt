@@ -47,6 +47,17 @@ fn owned_by(alloc: Global, peers: &[Peer]) -> Result<BTreeSet<u32>, AllocError>
     Ok(sockets)
 }
 
+/// Whether a number is greater than all of these. Sockets often come in order of their numbers, and then none is searched for.
+#[tactic(auto, using(crate::proofs::OwnedLemmas::beyond_all))]
+fn is_beyond(sockets: &BTreeSet<u32>, socket: u32) -> bool
+    ensures { OnTrue result (contains nat_cmp sockets.now socket ≡ false) }
+{
+    match sockets.last() {
+        Some(last) => *last < socket,
+        None => false,
+    }
+}
+
 /// One socket more.
 fn with_socket(mut sockets: BTreeSet<u32>, own: u32) -> Result<BTreeSet<u32>, AllocError>
     ensures { IfOk result (λ more. (socket : ℕ) → contains nat_cmp more socket ≡ false → (contains nat_cmp sockets socket ≡ false) × ((own == socket) ≡ false)) }
@@ -61,7 +72,7 @@ impl Owned {
         ensures { OnTrue result ((peers : List Peer) → AreKnown self.now peers → some_own socket peers ≡ false) }
     {
         match self {
-            Owned::Known(sockets) => !sockets.contains(&socket),
+            Owned::Known(sockets) => is_beyond(sockets, socket) || !sockets.contains(&socket),
             Owned::Unknown | Owned::Asked => false,
         }
     }

@@ -1,12 +1,16 @@
 //! What a host knows of the others.
 
-ghost use Rattle.std.specs.Prelude.{◌≡◌, ◌<◌, ◌≤◌, [], OnOk, OnErr, MatchResult, MatchOption, IfSome, Some, None, length, find, is_some, map, position, true, false, nat_lt, slice_set, slice_index_or};
+ghost use Rattle.std.specs.Prelude.{◌≡◌, ◌<◌, ◌≤◌, [], OnOk, OnErr, MatchResult, MatchOption, IfSome, IfNone, Some, None, length, find, is_some, map, position, true, false, nat_lt, slice_set, slice_index_or};
 ghost use Rattle.std.specs.Bool.{OnTrue, OnFalse};
 ghost use Rattle.std.specs.List as lists;
 ghost use Rattle.std.specs.List.Sorted.{IsPartitionPoint};
 ghost use Rattle.leader1822.specs.Host.{address_octet, same_host};
+ghost use Rattle.ncp_control.specs.Command.{is_alone};
+ghost use Rattle.host_pairs.specs.Asked.{commanded, requested, with_end, with_more_bits};
+ghost use Rattle.host_pairs.specs.Commands.{granted};
 ghost use Rattle.host_pairs.specs.Outgoing.{HasRoom, IsThere, parcel_of};
 ghost use Rattle.host_pairs.specs.Pair.{PairState, opening_pair};
+ghost use Rattle.host_pairs.specs.Phases.{is_ready};
 ghost use Rattle.host_pairs.specs.Turn.{freed, is_quiet};
 ghost use Rattle.sockets.specs.Owned.{AreKnown, AreKnownBut, some_own};
 ghost use Rattle.sockets.specs.Pairs.{owner_of, pair_with, with_pair, placed, without_peer};
@@ -18,8 +22,10 @@ ghost use Rattle.sockets.specs.declared.peer.Peer.{Peer};
 use crate::due::Due;
 use crate::owned::Owned;
 use crate::peer::Peer;
+use bit_messages::Bits;
 use host_pairs::{Entry, Outgoing, Pair, own_place};
 use leader1822::HostAddr;
+use ncp_control::Command;
 use std::alloc::{AllocError, Global};
 use std::marker::Model;
 use std::mem;
@@ -179,6 +185,102 @@ impl Peers {
         true
     }
 
+    /// A command waits to go out to a peer, whose pair is changed where it stands.
+    pub fn command(
+        &mut self,
+        alloc: Global,
+        host: HostAddr,
+        command: Command,
+    ) -> Result<(), AllocError>
+        requires joint { is_alone command ≡ false }
+        ensures { OnOk result (self.new ≡ with_pair host (commanded command (pair_with host self.old)) self.old) }
+    {
+        match place(&self.peers, self.recent, host) {
+            Ok(at) => {
+                self.recent = at;
+                self.owned = Owned::Unknown;
+                command_at(&mut self.peers, &mut self.due, at, host, command)
+            }
+            Err(_) => {
+                let mut pair = Pair::new(alloc);
+                pair.command(command)?;
+                self.put(host, pair)
+            }
+        }
+    }
+
+    /// A new end with a peer, and its request, where the pair stands.
+    #[tactic(auto, using(crate::proofs::PeerLemmas::requested_there))]
+    pub fn request(
+        &mut self,
+        host: HostAddr,
+        entry: Entry,
+        command: Command,
+    ) -> Result<(), AllocError>
+        requires joint { is_alone command ≡ false }
+        requires ready { is_ready (pair_with host self.old).phase ≡ true }
+        ensures { OnOk result (self.new ≡ with_pair host (requested entry command (pair_with host self.old)) self.old) }
+    {
+        let Ok(at) = place(&self.peers, self.recent, host) else {
+            unreachable!();
+        };
+        self.recent = at;
+        self.owned = Owned::Unknown;
+        request_at(&mut self.peers, &mut self.due, at, host, entry, command)
+    }
+
+    /// A peer is granted more, and its pair is changed where it stands.
+    pub fn grant(
+        &mut self,
+        alloc: Global,
+        host: HostAddr,
+        socket: u32,
+        messages: u16,
+        bits: u32,
+        command: Command,
+    ) -> Result<(), AllocError>
+        requires joint { is_alone command ≡ false }
+        ensures { OnOk result (self.new ≡ with_pair host (commanded command (with_end socket (granted messages bits) (pair_with host self.old))) self.old) }
+    {
+        match place(&self.peers, self.recent, host) {
+            Ok(at) => {
+                self.recent = at;
+                self.owned = Owned::Unknown;
+                let (peers, due) = (&mut self.peers, &mut self.due);
+                grant_at(peers, due, at, host, socket, messages, bits, command)
+            }
+            Err(_) => {
+                let mut pair = Pair::new(alloc);
+                pair.grant(socket, messages, bits, command)?;
+                self.put(host, pair)
+            }
+        }
+    }
+
+    /// Bits of a socket wait to be sent to a peer, where its pair stands; `None` where the peer isn't known or its pair is as at the
+    /// opening, and then nothing changes.
+    #[tactic(auto, using(crate::proofs::PeerLemmas::added_there))]
+    pub fn add_bits(
+        &mut self,
+        host: HostAddr,
+        socket: u32,
+        bits: &Bits,
+    ) -> Option<Result<(), AllocError>>
+        ensures added { IfSome result (λ done. OnOk done (self.new ≡ with_pair host (with_end socket (with_more_bits bits.now) (pair_with host self.old)) self.old)) }
+        ensures memory { IfSome result (λ done. OnErr done (0 < length bits.now)) }
+        ensures kept { IfNone result (self.new ≡ self.old) }
+    {
+        let Ok(at) = place(&self.peers, self.recent, host) else {
+            return None;
+        };
+        if self.peers[at].pair.is_opening() {
+            return None;
+        }
+        self.recent = at;
+        self.owned = Owned::Unknown;
+        Some(bits_at(&mut self.peers, &mut self.due, at, host, socket, bits))
+    }
+
     /// Puts what is known of a peer in. One with a pair as at the opening isn't kept.
     pub fn put(&mut self, host: HostAddr, pair: Pair) -> Result<(), AllocError>
         ensures state { OnOk result (self.new ≡ with_pair host pair self.old) }
@@ -262,6 +364,115 @@ fn free_at(peers: &mut Vec<Peer>, due: &mut Vec<Due>, at: usize, host: HostAddr,
     peer.host = host;
     peer.pair.free(link);
     due[at] = Due::of(&peer.pair);
+}
+
+/// A command waits to go out to the host at a place.
+#[tactic(auto, using(crate::proofs::DueLemmas::same_length))]
+fn command_at(
+    peers: &mut Vec<Peer>,
+    due: &mut Vec<Due>,
+    at: usize,
+    host: HostAddr,
+    command: Command,
+) -> Result<(), AllocError>
+    requires joint { is_alone command ≡ false }
+    requires there { at < length peers.old.items }
+    requires stands { (pair : PairState) → slice_set peers.old.items at (record { host = host; pair = pair }) ≡ placed (record { host = host; pair = pair }) peers.old.items }
+    requires order { AreInOrder peers.old.items }
+    requires due { GoNext due.old.items peers.old.items }
+    ensures queued { OnOk result ((d : Peer) → peers.new.items ≡ placed (record { host = host; pair = commanded command (slice_index_or peers.old.items at d).pair }) peers.old.items) }
+    ensures order { AreInOrder peers.new.items }
+    ensures due { GoNext due.new.items peers.new.items }
+{
+    let peer = &mut peers[at];
+    peer.host = host;
+    let done = peer.pair.command(command);
+    let next = Due::of(&peer.pair);
+    due[at] = next;
+    done
+}
+
+/// A new end with the host at a place, and its request.
+#[tactic(auto, using(crate::proofs::DueLemmas::same_length))]
+fn request_at(
+    peers: &mut Vec<Peer>,
+    due: &mut Vec<Due>,
+    at: usize,
+    host: HostAddr,
+    entry: Entry,
+    command: Command,
+) -> Result<(), AllocError>
+    requires joint { is_alone command ≡ false }
+    requires there { at < length peers.old.items }
+    requires stands { (pair : PairState) → slice_set peers.old.items at (record { host = host; pair = pair }) ≡ placed (record { host = host; pair = pair }) peers.old.items }
+    requires order { AreInOrder peers.old.items }
+    requires due { GoNext due.old.items peers.old.items }
+    ensures requested { OnOk result ((d : Peer) → peers.new.items ≡ placed (record { host = host; pair = requested entry command (slice_index_or peers.old.items at d).pair }) peers.old.items) }
+    ensures order { AreInOrder peers.new.items }
+    ensures due { GoNext due.new.items peers.new.items }
+{
+    let peer = &mut peers[at];
+    peer.host = host;
+    let done = peer.pair.request(entry, command);
+    let after = Due::of(&peer.pair);
+    due[at] = after;
+    done
+}
+
+/// The host at a place is granted more.
+#[tactic(auto, using(crate::proofs::DueLemmas::same_length))]
+fn grant_at(
+    peers: &mut Vec<Peer>,
+    due: &mut Vec<Due>,
+    at: usize,
+    host: HostAddr,
+    socket: u32,
+    messages: u16,
+    bits: u32,
+    command: Command,
+) -> Result<(), AllocError>
+    requires joint { is_alone command ≡ false }
+    requires there { at < length peers.old.items }
+    requires stands { (pair : PairState) → slice_set peers.old.items at (record { host = host; pair = pair }) ≡ placed (record { host = host; pair = pair }) peers.old.items }
+    requires order { AreInOrder peers.old.items }
+    requires due { GoNext due.old.items peers.old.items }
+    ensures granted { OnOk result ((d : Peer) → peers.new.items ≡ placed (record { host = host; pair = commanded command (with_end socket (granted messages bits) (slice_index_or peers.old.items at d).pair) }) peers.old.items) }
+    ensures order { AreInOrder peers.new.items }
+    ensures due { GoNext due.new.items peers.new.items }
+{
+    let peer = &mut peers[at];
+    peer.host = host;
+    let done = peer.pair.grant(socket, messages, bits, command);
+    let granted = Due::of(&peer.pair);
+    due[at] = granted;
+    done
+}
+
+/// Bits of a socket wait to be sent to the host at a place.
+#[tactic(auto, using(crate::proofs::DueLemmas::same_length))]
+fn bits_at(
+    peers: &mut Vec<Peer>,
+    due: &mut Vec<Due>,
+    at: usize,
+    host: HostAddr,
+    socket: u32,
+    bits: &Bits,
+) -> Result<(), AllocError>
+    requires there { at < length peers.old.items }
+    requires stands { (pair : PairState) → slice_set peers.old.items at (record { host = host; pair = pair }) ≡ placed (record { host = host; pair = pair }) peers.old.items }
+    requires order { AreInOrder peers.old.items }
+    requires due { GoNext due.old.items peers.old.items }
+    ensures added { OnOk result ((d : Peer) → peers.new.items ≡ placed (record { host = host; pair = with_end socket (with_more_bits bits.now) (slice_index_or peers.old.items at d).pair }) peers.old.items) }
+    ensures memory { OnErr result (0 < length bits.now) }
+    ensures order { AreInOrder peers.new.items }
+    ensures due { GoNext due.new.items peers.new.items }
+{
+    let peer = &mut peers[at];
+    peer.host = host;
+    let done = peer.pair.add_bits(socket, bits);
+    let waiting = Due::of(&peer.pair);
+    due[at] = waiting;
+    done
 }
 
 /// Puts a host among the peers, or in the place of what stood there of it.

@@ -1,6 +1,6 @@
 //! Why a request of the user is refused.
 
-ghost use Rattle.std.specs.Prelude.{◌≡◌, MatchResult, Option, Some, None, is_some, ℕ, IfOk, false};
+ghost use Rattle.std.specs.Prelude.{◌≡◌, MatchResult, Option, Some, None, is_some, ℕ, IfOk, false, true};
 ghost use Rattle.sockets.specs.Others.{owner_host};
 ghost use Rattle.sockets.specs.Pairs.{pair_with, owner_of};
 ghost use Rattle.sockets.specs.Peers.{AreInOrder};
@@ -92,14 +92,17 @@ impl Ncp {
     }
 
     /// Whether a socket is used, or has an end with this foreign socket.
-    #[tactic(auto, using(crate::proofs::OwnedLemmas::no_end))]
+    #[tactic(auto, using(crate::proofs::OwnedLemmas::no_end, crate::proofs::OwnedLemmas::no_owner))]
     fn is_taken(&self, peer: HostAddr, own: u32, foreign: u32) -> bool
         ensures { result ≡ requests.is_taken self.now peer own foreign }
     {
-        if self.is_used(own) {
+        if listens_on(&self.listening, own) {
             return true;
         }
-        !self.peers.lacks(own) && has_end(self.entries(peer), own, foreign)
+        if self.peers.lacks(own) {
+            return false;
+        }
+        self.peers.owner(own).is_some() || has_end(self.entries(peer), own, foreign)
     }
 
     /// A socket that may listen, with a size that isn't 0.
@@ -120,7 +123,8 @@ impl Ncp {
         foreign: u32,
         size: u8,
     ) -> Result<(SendSocket, ReceiveSocket, ByteSize), NcpFault>
-        ensures { MatchResult result (λ checked. (requests.open_send_refusal self.now peer own foreign size ≡ None) × (checked ≡ (own, foreign, size))) (λ f. requests.open_send_refusal self.now peer own foreign size ≡ Some f) }
+        ensures ready { IfOk result (λ checked. is_ready (pair_with peer self.now.peers).phase ≡ true) }
+        ensures checked { MatchResult result (λ checked. (requests.open_send_refusal self.now peer own foreign size ≡ None) × (checked ≡ (own, foreign, size))) (λ f. requests.open_send_refusal self.now peer own foreign size ≡ Some f) }
     {
         if !self.is_ready(peer) {
             return Err(NcpFault::NotContacted);
@@ -144,7 +148,8 @@ impl Ncp {
         own: u32,
         foreign: u32,
     ) -> Result<(ReceiveSocket, SendSocket, ConnectionLink), NcpFault>
-        ensures { MatchResult result (λ checked. (requests.open_receive_refusal self.now peer own foreign ≡ None) × (checked.0 ≡ own) × (checked.1 ≡ foreign) × (free_link (pair_with peer self.now.peers).entries ≡ Some checked.2)) (λ f. requests.open_receive_refusal self.now peer own foreign ≡ Some f) }
+        ensures ready { IfOk result (λ checked. is_ready (pair_with peer self.now.peers).phase ≡ true) }
+        ensures checked { MatchResult result (λ checked. (requests.open_receive_refusal self.now peer own foreign ≡ None) × (checked.0 ≡ own) × (checked.1 ≡ foreign) × (free_link (pair_with peer self.now.peers).entries ≡ Some checked.2)) (λ f. requests.open_receive_refusal self.now peer own foreign ≡ Some f) }
     {
         if !self.is_ready(peer) {
             return Err(NcpFault::NotContacted);
