@@ -1,5 +1,5 @@
 -- Words of one and of two digits, and hosts, whose numbers have one digit.
-use Rattle.std.proofs.Common.{◌≡◌, ◌≢◌, ℕ, ◌+◌, ◌-◌, ◌*◌, ◌<◌, ◌≤◌, ◌==◌, ◌⊎◌, inl, inr, false, List, [], ◌∷◌, ◌++◌, Option, get_or, take, drop, length, refl, sym, ap, ◌∙◌, subst, arith, lit<}
+use Rattle.std.proofs.Common.{◌≡◌, ◌≢◌, ℕ, ◌+◌, ◌-◌, ◌*◌, ◌^◌, ◌<◌, ◌≤◌, ◌==◌, ◌⊎◌, inl, inr, false, List, [], ◌∷◌, ◌++◌, Option, get_or, take, drop, length, refl, sym, ap, ◌∙◌, subst, arith, lit<}
 use Rattle.std.proofs.lemmas.Bool.Decides.{nat_tests}
 use Rattle.std.proofs.lemmas.Fmt.{decimal_is_IsNumeral, decimal_digit}
 use Rattle.std.proofs.lemmas.List.{take_more}
@@ -47,10 +47,10 @@ digit_read c range =
     let whole : c ≡ 48 + (c - 48) = omega (arith, range) in
     ap (λ x. x ∷ []) whole ∙ sym (decimal_digit (c - 48) (omega (arith, range)))
 
-digits_in : (ds : List ℕ) (n : ℕ) → n < 256 → ds ≡ decimal n → AllDigits 10 ds
+digits_in : (ds : List ℕ) (n : ℕ) → n < 2 ^ 32 → ds ≡ decimal n → AllDigits 10 ds
 digits_in ds n small e = subst (AllDigits 10) (sym e) (decimal_is_IsNumeral n (omega arith)).0.1
 
-pub no_digit : (c : ℕ) → (IsInRange 48 57 c → ⊥) → (n : ℕ) → n < 256 → c ∷ [] ≢ decimal n
+pub no_digit : (c : ℕ) → (IsInRange 48 57 c → ⊥) → (n : ℕ) → n < 2 ^ 32 → c ∷ [] ≢ decimal n
 no_digit c out n small e = out (digit_from_value c (digits_in (c ∷ []) n small e).0)
 
 pub two_read : (t o : ℕ) → IsInRange 49 57 t → IsInRange 48 57 o → t ∷ o ∷ [] ≡ decimal ((t - 48) * 10 + (o - 48))
@@ -65,7 +65,7 @@ above t o right range = grind (arith, nat_tests)
 
 pub no_two : (t o : ℕ) → (IsInRange 49 57 t → IsInRange 48 57 o → ⊥) → (n : ℕ) → n < 256 → t ∷ o ∷ [] ≢ decimal n
 no_two t o out n small e =
-    let digits = digits_in (t ∷ o ∷ []) n small e in
+    let digits = digits_in (t ∷ o ∷ []) n (omega (arith, small)) e in
     let tens : IsInRange 48 57 t = digit_from_value t digits.0 in
     let ones : IsInRange 48 57 o = digit_from_value o digits.1.0 in
     let right : begins_wrong (t ∷ o ∷ []) ≡ false = ap begins_wrong e ∙ begins_wrong-decimal n (omega arith) in

@@ -74,6 +74,9 @@ pub fn read_number(word: &[u8], most: u32) -> Option<u32>
 pub fn plain_number(word: &[u8]) -> Option<u32>
     ensures { ReadsAs decimal (λ n. n < 2 ^ 32) word.now result }
 {
+    if word.len() == 1 {
+        return Some(u32::from(read_digit(word[0])?));
+    }
     if begins_wrong(word) {
         None
     } else {
@@ -127,7 +130,8 @@ pub(crate) fn read_octet(word: &[u8]) -> Option<u8>
 /// The number that one digit spells.
 #[inline]
 fn read_digit(digit: u8) -> Option<u8>
-    ensures { ReadsAs decimal (λ n. n < 256) (digit ∷ []) result }
+    ensures octet { ReadsAs decimal (λ n. n < 256) (digit ∷ []) result }
+    ensures wide { ReadsAs decimal (λ n. n < 2 ^ 32) (digit ∷ []) result }
 {
     if digit < b'0' || digit > b'9' {
         return None;

@@ -12,7 +12,7 @@ returns-then-word-lt2 c = elim c.then-word-lt2.branch [
 pub returns-in_err-host : goal.returns-in_err-host
 returns-in_err-host c =
     rw c.from_residual.ensures (no_host_digit c.args.word.now (get_or c.args.word.now 0 0) (drop 2 c.args.word.now)
-    (cut_behind c.args.word.now (drop 2 c.args.word.now) (omega (arith, c.if-word-lt2.false)) c.if-word-ne47.false refl) c.in_err-host.ensures)
+    (cut_behind c.args.word.now (drop 2 c.args.word.now) (omega (arith, c.if-word-lt2.false)) c.if-word-ne47.false refl) c.in_err-host.ensures.octet)
 
 pub returns-in_err-imp : goal.returns-in_err-imp
 returns-in_err-imp c =
@@ -23,4 +23,4 @@ pub returns : goal.returns
 returns c =
     host_behind c.args.word.now (get_or c.args.word.now 0 0) c.split_at.result.1.now c.in_ok-host.host c.in_ok-imp.imp c.new.result
     (cut_behind c.args.word.now c.split_at.result.1.now (omega (arith, c.if-word-lt2.false)) c.if-word-ne47.false c.split_at.ensures.back)
-    c.in_ok-host.ensures.0 c.in_ok-imp.ensures.0 c.in_ok-host.ensures.1 c.in_ok-imp.ensures.1 c.new.ensures
+    c.in_ok-host.ensures.octet.0 c.in_ok-imp.ensures.0 c.in_ok-host.ensures.octet.1 c.in_ok-imp.ensures.1 c.new.ensures
