@@ -7,6 +7,7 @@ pub mod Numbers
 pub mod OneReading
 mod Parts
 pub mod Places
+pub mod Short
 pub mod Texts
 pub mod Words
 pub mod lemmas

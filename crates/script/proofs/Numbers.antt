@@ -23,7 +23,7 @@ right_first [] h = absurd (omega (arith, h))
 right_first (c ∷ cs) h = grind (arith, nat_tests)
 
 -- what `decimal` writes begins like a number
-begins_wrong-decimal : (n : ℕ) → n < 2 ^ 64 → begins_wrong (decimal n) ≡ false
+pub begins_wrong-decimal : (n : ℕ) → n < 2 ^ 64 → begins_wrong (decimal n) ≡ false
 begins_wrong-decimal zero h = rw (decimal_digit 0 (lit< tt)) refl
 begins_wrong-decimal (suc n) h = right_first (decimal (suc n)) (first_decimal (suc n) (omega arith) h)
 
@@ -53,7 +53,7 @@ bad_is_none bs bad n small e =
     absurd (omega (arith, numeral.1, large))
 
 -- digits that begin like a number spell the number that is written so
-spelled_as : (bs : List ℕ) (n : ℕ) → begins_wrong bs ≡ false → AllDigits 10 bs → n ≡ digits_value 10 bs → n < 2 ^ 32 → bs ≡ decimal n
+pub spelled_as : (bs : List ℕ) (n : ℕ) → begins_wrong bs ≡ false → AllDigits 10 bs → n ≡ digits_value 10 bs → n < 2 ^ 32 → bs ≡ decimal n
 spelled_as bs n right digits is small =
     sym (decimal-digits_value own bs digits (some_octet bs right) (zero_is_wrong bs right) (omega (arith, is))) ∙ ap decimal (sym is)
 

@@ -9,18 +9,18 @@ use crate::events::{cut_twice, read_three};
 use crate::word::{cut, plain_number, read_direction, read_host, read_imp};
 use leader1822::{Direction, ImpNumber, NetEvent};
 
-/// What happens inside a network by a line, from its first word and what follows it.
+/// What happens inside a network by a line, from its first word and what follows it. Frames come first, as the most frequent.
 pub fn read_net(word: &[u8], rest: &[u8]) -> Option<NetEvent>
     requires { All (λ x. (x == 32) ≡ false) word.now }
     ensures { ReadsAs net_spelling IsNetEvent (word.now ++ 32 ∷ rest.now) result }
 {
+    if let Some(event) = read_line_event(word, rest) {
+        return Some(event);
+    }
     if let Some(event) = read_host_event(word, rest) {
         return Some(event);
     }
-    if let Some(event) = read_imp_event(word, rest) {
-        return Some(event);
-    }
-    read_line_event(word, rest)
+    read_imp_event(word, rest)
 }
 
 /// The event that a line names by a host or a flow.

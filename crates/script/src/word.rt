@@ -1,12 +1,12 @@
 //! The words of a line: numbers, hosts and bits.
 
-ghost use Rattle.std.specs.Prelude.{◌≡◌, ◌≢◌, ℕ, ◌<◌, ◌≤◌, ◌==◌, ◌^◌, false, List, ◌∷◌, ◌++◌, length, ◌*◌, take, Ok, MatchOption, IfOk, IfErr, IsTrue, ◌↔◌};
+ghost use Rattle.std.specs.Prelude.{◌≡◌, ◌≢◌, ℕ, ◌<◌, ◌≤◌, ◌==◌, ◌^◌, false, List, ◌∷◌, ◌++◌, [], length, ◌*◌, take, slice_index, Ok, MatchOption, IfOk, IfErr, IsTrue, ◌↔◌};
 ghost use Rattle.std.specs.List.{All};
 ghost use Rattle.std.specs.Fmt.{decimal};
 ghost use Rattle.std.specs.Str.Parse.{AllDigits, digits_value};
 ghost use Rattle.bit_messages.specs.Octets.{bits_of};
 ghost use Rattle.leader1822.specs.Printed.{host_text};
-ghost use Rattle.script.specs.Steps.{begins_wrong, IsDirection};
+ghost use Rattle.script.specs.Steps.{begins_wrong, IsDirection, Lacks};
 ghost use Rattle.script.specs.Spelling.{ReadsAs, IsHost, IsImp, IsHex, direction_text, octets_text};
 
 use crate::hexadecimal::read_octets;
@@ -18,8 +18,40 @@ use std::alloc::{AllocError, Global};
 pub fn cut(text: &[u8], separator: u8) -> Option<(&[u8], &[u8])>
     ensures { MatchOption result (All (λ x. (x == separator) ≡ false) text.now) (λ parts. (text.now ≡ parts.0.now ++ separator ∷ parts.1.now) × All (λ x. (x == separator) ≡ false) parts.0.now) }
 {
-    let at = text.iter().position(|octet| *octet == separator)?;
+    let at = place_of(text, separator);
+    if at == text.len() {
+        return None;
+    }
     Some((&text[..at], &text[at + 1..]))
+}
+
+/// The place of the first separator, or the number of octets where there is none. Four octets are looked at in each turn, since
+/// all that is read is searched so.
+fn place_of(text: &[u8], separator: u8) -> usize
+    ensures inside { result ≤ length text.now }
+    ensures lacks { Lacks separator (take result text.now) }
+    ensures found { result < length text.now → slice_index text.now result ≡ separator }
+{
+    let mut at = 0;
+    'fours: while text.len() - at >= 4 {
+        if text[at] == separator {
+            return at;
+        }
+        if text[at + 1] == separator {
+            return at + 1;
+        }
+        if text[at + 2] == separator {
+            return at + 2;
+        }
+        if text[at + 3] == separator {
+            return at + 3;
+        }
+        at += 4;
+    }
+    'rest: while at < text.len() && text[at] != separator {
+        at += 1;
+    }
+    at
 }
 
 /// Whether a word is this one. Where their lengths differ, no octet is looked at.
@@ -42,6 +74,9 @@ pub fn read_number(word: &[u8], most: u32) -> Option<u32>
 pub fn plain_number(word: &[u8]) -> Option<u32>
     ensures { ReadsAs decimal (λ n. n < 2 ^ 32) word.now result }
 {
+    if word.len() == 1 {
+        return Some(u32::from(read_digit(word[0])?));
+    }
     if begins_wrong(word) {
         None
     } else {
@@ -82,8 +117,37 @@ fn begins_wrong(word: &[u8]) -> bool
 pub(crate) fn read_octet(word: &[u8]) -> Option<u8>
     ensures { ReadsAs decimal (λ n. n < 256) word.now result }
 {
+    if word.len() == 1 {
+        return read_digit(word[0]);
+    }
+    if word.len() == 2 {
+        return read_two_digits(word[0], word[1]);
+    }
     let number = read_number(word, 255)?;
     u8::try_from(number).ok()
+}
+
+/// The number that one digit spells.
+#[inline]
+fn read_digit(digit: u8) -> Option<u8>
+    ensures octet { ReadsAs decimal (λ n. n < 256) (digit ∷ []) result }
+    ensures wide { ReadsAs decimal (λ n. n < 2 ^ 32) (digit ∷ []) result }
+{
+    if digit < b'0' || digit > b'9' {
+        return None;
+    }
+    Some(digit - b'0')
+}
+
+/// The number that two digits spell.
+#[inline]
+fn read_two_digits(tens: u8, ones: u8) -> Option<u8>
+    ensures { ReadsAs decimal (λ n. n < 256) (tens ∷ ones ∷ []) result }
+{
+    if tens < b'1' || tens > b'9' || ones < b'0' || ones > b'9' {
+        return None;
+    }
+    Some((tens - b'0') * 10 + (ones - b'0'))
 }
 
 /// The IMP that a word spells by its number, 1 to 63.
@@ -106,12 +170,17 @@ pub(crate) fn read_direction(word: &[u8]) -> Option<Direction>
     }
 }
 
-/// The host that a word spells as `host/imp`.
+/// The host that a word spells as `host/imp`. The number of each host has one digit.
 pub fn read_host(word: &[u8]) -> Option<HostAddr>
     ensures { ReadsAs host_text IsHost word.now result }
 {
-    let (host, imp) = cut(word, b'/')?;
-    HostAddr::new(read_octet(host)?, read_octet(imp)?)
+    if word.len() < 2 || word[1] != b'/' {
+        return None;
+    }
+    let host = read_digit(word[0])?;
+    let (_, imp) = word.split_at(2);
+    let imp = read_octet(imp)?;
+    HostAddr::new(host, imp)
 }
 
 /// The text of `count` bits whose octets a word spells, as [`read_bits`] reads them.
