@@ -1,6 +1,6 @@
 //! What a host's user asks for, and what is written down of it.
 
-ghost use Rattle.std.specs.Prelude.{◌≡◌, false, None, Some, Err, IfOk, IfSome, OnOk, OnErr, MatchResult, length};
+ghost use Rattle.std.specs.Prelude.{◌≡◌, ◌++◌, false, None, Some, Err, IfOk, IfSome, OnOk, OnErr, MatchResult, length, take};
 ghost use Rattle.std.specs.List.{flat_map};
 ghost use Rattle.host_services.specs.Services.{opening_desk};
 ghost use Rattle.host_services.specs.Turns.{server_begun, user_begun};
@@ -61,20 +61,21 @@ pub(crate) fn is_addressed(request: &Request)
     }
 }
 
-/// The contact that a request is, if it is one.
-fn called_by(
-    alloc: Global,
+/// The contact that a request is, if it is one, is put behind those that were asked for before.
+pub(crate) fn add_called(
+    all: &mut Vec<Called>,
     host: HostAddr,
     place: usize,
     request: &Request,
-) -> Result<Vec<Called>, AllocError>
-    ensures { IfOk result (λ called. called.items ≡ contacts_asked host place request.now) }
+) -> Result<(), AllocError>
+    ensures done { OnOk result (all.new.items ≡ all.old.items ++ contacts_asked host place request.now) }
+    ensures before { take (length all.old.items) all.new.items ≡ all.old.items }
+    ensures kept { OnErr result (all.new.items ≡ all.old.items) }
 {
-    let mut called = Vec::new(alloc);
     match request {
         Request::Contact { peer } => {
             let peer = *peer;
-            called.push(Called { host, place, peer })?;
+            all.push(Called { host, place, peer })?;
         }
         Request::Listen { .. }
         | Request::OpenSend { .. }
@@ -86,7 +87,7 @@ fn called_by(
         | Request::Close { .. }
         | Request::Echo { .. } => {}
     }
-    Ok(called)
+    Ok(())
 }
 
 /// The contacts among these requests.
@@ -100,7 +101,7 @@ pub(crate) fn called_in(
 {
     let mut called = Vec::new(alloc);
     for request in requests {
-        called.append(&mut called_by(alloc, host, place, request)?)?;
+        add_called(&mut called, host, place, request)?;
     }
     Ok(called)
 }
@@ -118,7 +119,8 @@ fn write_asked(
     ensures kept { OnErr result (book.new ≡ book.old) }
 {
     let place = book.crossings().len();
-    let mut called = called_by(alloc, host, place, &request)?;
+    let mut called = Vec::new(alloc);
+    add_called(&mut called, host, place, &request)?;
     called.append(&mut called_in(alloc, host, place, &deeds.asked)?)?;
     let told = told_by(alloc, host, place, notices)?;
     book.write(

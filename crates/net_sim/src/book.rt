@@ -1,9 +1,10 @@
 //! What a world writes down.
 
 ghost use Rattle.std.specs.Prelude.{◌≡◌, ◌+◌, ◌++◌, OnErr, OnOk, length, map, reverse, take};
-ghost use Rattle.net_sim.specs.Book.{all_crossed, all_told, asked, contacts_asked, opening_kept};
+ghost use Rattle.net_sim.specs.Book.{all_crossed, all_told, asked, opening_kept};
 ghost use Rattle.net_sim.specs.Inside.Lives.{told_at, written};
 
+use crate::asking::add_called;
 use crate::bit_log::BitLog;
 use crate::hosting::copy_of;
 use crate::life::Life;
@@ -135,35 +136,6 @@ fn add_told(
     if push_told(all, host, place, notices).is_err() {
         all.truncate(before);
         return Err(AllocError);
-    }
-    Ok(())
-}
-
-/// The contact that a request is, if it is one, is put behind those that were asked for before.
-fn add_called(
-    all: &mut Vec<Called>,
-    host: HostAddr,
-    place: usize,
-    request: &Request,
-) -> Result<(), AllocError>
-    ensures done { OnOk result (all.new.items ≡ all.old.items ++ contacts_asked host place request.now) }
-    ensures before { take (length all.old.items) all.new.items ≡ all.old.items }
-    ensures kept { OnErr result (all.new.items ≡ all.old.items) }
-{
-    match request {
-        Request::Contact { peer } => {
-            let peer = *peer;
-            all.push(Called { host, place, peer })?;
-        }
-        Request::Listen { .. }
-        | Request::OpenSend { .. }
-        | Request::OpenReceive { .. }
-        | Request::Send { .. }
-        | Request::Grant { .. }
-        | Request::AskBack { .. }
-        | Request::Interrupt { .. }
-        | Request::Close { .. }
-        | Request::Echo { .. } => {}
     }
     Ok(())
 }

@@ -1,4 +1,4 @@
-use Rattle.std.proofs.Common.{rules, length, Err, ap}
+use Rattle.std.proofs.Common.{length, Err, ap}
 use Rattle.sockets.specs.Requests.{served, served_notices}
 use Rattle.sockets.specs.Pairs.{NcpState}
 use Rattle.leader1822.specs.Host.{Host}
