@@ -1,6 +1,8 @@
 -- What a service may hear of, as it stands beside the service, and what several services may hear of at most.
 use Rattle.std.specs.Prelude.{◌≡◌, ◌≤◌, Bool, true, if◌then◌else◌, min, max, List, [], ◌∷◌, ◌++◌}
-use Rattle.host_services.specs.Services.{Service}
+use Rattle.host_pairs.specs.declared.notice.Notice.{Notice}
+use Rattle.host_services.specs.Services.{Service, ServiceDeskState}
+use Rattle.host_services.specs.Turns.{notice_heard}
 use Rattle.host_services.specs.declared.hearing.Ear.{Ear}
 use Rattle.host_services.specs.declared.hearing.Ear.TheVariants as ear
 use Rattle.host_services.specs.declared.hearing.Scope.{Scope}
@@ -39,3 +41,7 @@ widened s (ear.Ends receive send) = record s { low = min s.low (min receive send
 abbrev pub all_in : List (List Service) → List Service
 all_in [] = []
 all_in (b ∷ blocks) = b ++ all_in blocks
+
+-- a notice does nothing to these services
+abbrev pub AreDeaf : List Service → Notice → Type 0
+AreDeaf services n = (d : ServiceDeskState) → notice_heard n services d ≡ (services, d)

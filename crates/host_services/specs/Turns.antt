@@ -1,6 +1,6 @@
 -- The turns of a host's services: each is told of a notice, in the order of their events, and what it asks for is asked of the
 -- host's control program before the next one has its turn.
-use Rattle.std.specs.Prelude.{ℕ, List, [], ◌∷◌, ◌++◌, Option, Some, None}
+use Rattle.std.specs.Prelude.{ℕ, ◌+◌, List, [], ◌∷◌, ◌++◌, length, Option, Some, None}
 use Rattle.std.specs.List.{fold}
 use Rattle.std.specs.Option.{option_or}
 use Rattle.leader1822.specs.Host.{Host}
@@ -135,6 +135,10 @@ services_left t = (record { running = t.0; typing = t.1.typing }, t.1)
 -- a host is told all this
 unfoldable pub services_told : List Notice → ServicesState → ServiceDeskState → ServicesState × ServiceDeskState
 services_told notices s d = services_left (all_heard notices s.running (typing_on s.typing d))
+
+-- services that hear none of this: they are counted, and nothing else happens
+abbrev pub passed_by : List Notice → ServicesState → ServiceDeskState → ServicesState × ServiceDeskState
+passed_by notices s d = (s, record d { notices = d.notices + length notices; typing = s.typing })
 
 -- ---- new services
 

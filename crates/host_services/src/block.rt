@@ -1,7 +1,8 @@
 //! Some services of a host that began one after another, and are passed by together.
 
 ghost use Rattle.std.specs.Prelude.{◌≡◌, ◌++◌, ◌∷◌, [], IfOk, OnOk, map};
-ghost use Rattle.host_services.specs.Ears.{ear_of};
+ghost use Rattle.std.specs.Bool.{OnFalse};
+ghost use Rattle.host_services.specs.Ears.{AreDeaf, ear_of};
 ghost use Rattle.host_services.specs.Turns as turns;
 
 use crate::Service;
@@ -103,6 +104,13 @@ impl Block {
         self.services.push_reserved(service);
         self.scope = Scope::of(&self.ears);
         Ok(())
+    }
+
+    /// Whether a notice may do something to one of its services.
+    pub(crate) fn hears(&self, notice: &Notice) -> bool
+        ensures { OnFalse result (AreDeaf self.now notice.now) }
+    {
+        self.scope.hears(notice)
     }
 
     /// Its services are told of a notice, one after another, unless none of them hears it.

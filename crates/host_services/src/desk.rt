@@ -166,15 +166,16 @@ impl ServiceDesk {
         ensures fault { IfOk result (λ fault. fault ≡ refusal self.old.program request) }
         ensures desk { OnOk result (self.new ≡ turns.tried self.old request) }
     {
-        if let Some(fault) = self.program.refusal(&request) {
-            return Ok(Some(fault));
-        }
         if self.program.is_spent() {
             return Err(AllocError);
         }
         let copy = copy_of(&request)?;
-        if self.program.ask(copy).is_err() {
-            return Err(AllocError);
+        if let Err(fault) = self.program.ask(copy) {
+            // a refusal leaves the program as it was, and want of memory leaves it spent
+            if self.program.is_spent() {
+                return Err(AllocError);
+            }
+            return Ok(Some(fault));
         }
         self.asked.push(request)?;
         Ok(None)

@@ -1,8 +1,9 @@
 //! The services of a host.
 
 ghost use Rattle.std.specs.Prelude.{◌≡◌, ◌<◌, ◌++◌, ◌∷◌, [], IfOk, OnErr, OnOk, length};
-ghost use Rattle.host_services.specs.Ears.{all_in};
-ghost use Rattle.host_services.specs.Services.{no_services};
+ghost use Rattle.std.specs.Bool.{OnFalse};
+ghost use Rattle.host_services.specs.Ears.{AreDeaf, all_in};
+ghost use Rattle.host_services.specs.Services.{ServiceDeskState, no_services};
 ghost use Rattle.host_services.specs.Turns as turns;
 ghost use Rattle.icp.specs.declared.outcome.Failure.TheVariants as failure;
 ghost use Rattle.icp.specs.declared.outcome.Outcome.TheVariants as outcome;
@@ -68,6 +69,18 @@ fn tell_each(
     tell_blocks(alloc, full, desk, notice)?;
     last.tell(alloc, desk, notice)?;
     Ok(())
+}
+
+/// Whether a notice may do something to a service of these blocks.
+fn any_hears(blocks: &[Block], notice: &Notice) -> bool
+    ensures { OnFalse result (AreDeaf (all_in blocks.now) notice.now) }
+{
+    for block in blocks {
+        if block.hears(notice) {
+            return true;
+        }
+    }
+    false
 }
 
 /// They are told of several notices, one after another.
@@ -136,6 +149,26 @@ impl Services {
     {
         self.make_room()?;
         self.last.push(service)
+    }
+
+    /// Whether a notice may do something to one of them.
+    #[tactic(auto, using(crate::proofs::BlockLemmas::both_deaf))]
+    fn hear(&self, notice: &Notice) -> bool
+        ensures { OnFalse result (AreDeaf self.now.running notice.now) }
+    {
+        any_hears(&self.full, notice) || self.last.hears(notice)
+    }
+
+    /// Whether one of these notices may do something to one of them. Where none does, they needn't be told.
+    pub fn hear_any(&self, notices: &[Notice]) -> bool
+        ensures { OnFalse result ((d : ServiceDeskState) → turns.services_told notices.now self.now d ≡ turns.passed_by notices.now self.now d) }
+    {
+        for notice in notices {
+            if self.hear(notice) {
+                return true;
+            }
+        }
+        false
     }
 
     /// They are told of these notices of their host, one after another. What they ask for is asked at once.

@@ -1,21 +1,25 @@
 //! What a host's user asks for, and what is written down of it.
 
-ghost use Rattle.std.specs.Prelude.{◌≡◌, false, None, IfOk, OnOk, OnErr, length};
+ghost use Rattle.std.specs.Prelude.{◌≡◌, ◌++◌, false, None, Some, Err, IfOk, IfSome, OnOk, OnErr, MatchResult, length, take};
 ghost use Rattle.std.specs.List.{flat_map};
 ghost use Rattle.host_services.specs.Services.{opening_desk};
 ghost use Rattle.host_services.specs.Turns.{server_begun, user_begun};
 ghost use Rattle.net_sim.specs.Book.{all_asked, all_reported, all_told, asked, contacts_asked};
-ghost use Rattle.net_sim.specs.Inside.Parts.{IsDone};
+ghost use Rattle.net_sim.specs.Inside.Parts.{IsDone, IsSettled};
 ghost use Rattle.net_sim.specs.Timeline.{IsAddressed, IsAsked};
 ghost use Rattle.net_sim.specs.World as world;
+ghost use Rattle.sockets.specs.Pairs.{NcpState};
 ghost use Rattle.sockets.specs.Requests.{refusal, served, served_notices};
+ghost use Rattle.sockets.specs.declared.fault.NcpFault.{NcpFault};
+ghost use Rattle.sockets.specs.declared.fault.NcpFault.TheVariants as problem;
 
+use crate::WorldFault;
 use crate::book::{Book, Called, Page};
 use crate::hosting::{tend, told_by, write_crossing};
-use crate::seat::ServiceSeat;
+use crate::seat::{Seat, ServiceSeat};
 use host_services::{Deeds, ServiceDesk, copy_of};
 use leader1822::HostAddr;
-use sockets::{Ncp, Notice, Request};
+use sockets::{Ncp, NcpFault, Notice, Request};
 use std::alloc::{AllocError, Global};
 
 /// A request names its peer by an address, and has numbers in their ranges, as the types of both have it.
@@ -57,20 +61,21 @@ pub(crate) fn is_addressed(request: &Request)
     }
 }
 
-/// The contact that a request is, if it is one.
-fn called_by(
-    alloc: Global,
+/// The contact that a request is, if it is one, is put behind those that were asked for before.
+pub(crate) fn add_called(
+    all: &mut Vec<Called>,
     host: HostAddr,
     place: usize,
     request: &Request,
-) -> Result<Vec<Called>, AllocError>
-    ensures { IfOk result (λ called. called.items ≡ contacts_asked host place request.now) }
+) -> Result<(), AllocError>
+    ensures done { OnOk result (all.new.items ≡ all.old.items ++ contacts_asked host place request.now) }
+    ensures before { take (length all.old.items) all.new.items ≡ all.old.items }
+    ensures kept { OnErr result (all.new.items ≡ all.old.items) }
 {
-    let mut called = Vec::new(alloc);
     match request {
         Request::Contact { peer } => {
             let peer = *peer;
-            called.push(Called { host, place, peer })?;
+            all.push(Called { host, place, peer })?;
         }
         Request::Listen { .. }
         | Request::OpenSend { .. }
@@ -82,7 +87,7 @@ fn called_by(
         | Request::Close { .. }
         | Request::Echo { .. } => {}
     }
-    Ok(called)
+    Ok(())
 }
 
 /// The contacts among these requests.
@@ -96,7 +101,7 @@ pub(crate) fn called_in(
 {
     let mut called = Vec::new(alloc);
     for request in requests {
-        called.append(&mut called_by(alloc, host, place, request)?)?;
+        add_called(&mut called, host, place, request)?;
     }
     Ok(called)
 }
@@ -114,7 +119,8 @@ fn write_asked(
     ensures kept { OnErr result (book.new ≡ book.old) }
 {
     let place = book.crossings().len();
-    let mut called = called_by(alloc, host, place, &request)?;
+    let mut called = Vec::new(alloc);
+    add_called(&mut called, host, place, &request)?;
     called.append(&mut called_in(alloc, host, place, &deeds.asked)?)?;
     let told = told_by(alloc, host, place, notices)?;
     book.write(
@@ -143,24 +149,40 @@ fn write_deeds(
     write_crossing(alloc, book, host, &[], Vec::new(alloc), deeds)
 }
 
+/// The program in a seat is asked for something, which it refuses or serves. Returns what it tells.
+fn asked_of(seat: &mut Seat, request: &Request) -> Result<Vec<Notice>, WorldFault>
+    requires live { IfSome seat.old.program (λ p. p.spent ≡ false) }
+    ensures refused { (s : NcpState) (f : NcpFault) → seat.old.program ≡ Some s → refusal s request.now ≡ Some f → (result ≡ Err (world.Program f)) × (seat.new ≡ seat.old) }
+    ensures served { (s : NcpState) → seat.old.program ≡ Some s → refusal s request.now ≡ None → MatchResult result (λ notices. (seat.new ≡ record { host = seat.old.host; program = Some (served s request.now) }) × (notices.items ≡ served_notices s request.now)) (λ f. f ≡ world.Program problem.OutOfMemory) }
+{
+    let Some(program) = &mut seat.program else {
+        return Err(WorldFault::Program(NcpFault::OutOfMemory));
+    };
+    let Ok(copy) = copy_of(request) else {
+        let refusal = program.refusal(request);
+        return Err(WorldFault::Program(refusal.unwrap_or(NcpFault::OutOfMemory)));
+    };
+    match program.ask(copy) {
+        Ok(notices) => Ok(notices),
+        Err(fault) => Err(WorldFault::Program(fault)),
+    }
+}
+
 impl ServiceSeat {
-    /// The user of the host asks for something that isn't refused. Returns the program.
-    pub(crate) fn serve(
+    /// The program of the host has served what its user asked for, and has told this: the services have their turns, and all is
+    /// written down. Returns the program.
+    fn attend(
         &mut self,
         alloc: Global,
         book: &mut Book,
-        mut program: Ncp,
+        program: Ncp,
         request: &Request,
+        notices: Vec<Notice>,
     ) -> Result<Ncp, AllocError>
-        requires live { program.spent ≡ false }
-        requires served { refusal program request.now ≡ None }
         ensures host { self.new.host ≡ self.old.host }
-        ensures done { IfOk result (λ after. IsDone self.old.host (world.turn_of self.old.host (length book.old.book.notices) self.old.services (served program request.now, served_notices program request.now)) (all_told self.old.host (served_notices program request.now) (asked self.old.host request.now book.old)) after self.new.services book.new) }
+        ensures done { IfOk result (λ after. IsDone self.old.host (world.turn_of self.old.host (length book.old.book.notices) self.old.services (program, notices.items)) (all_told self.old.host notices.items (asked self.old.host request.now book.old)) after self.new.services book.new) }
         ensures kept { OnErr result (book.new ≡ book.old) }
     {
-        let Ok(notices) = program.ask(copy_of(request)?) else {
-            return Err(AllocError);
-        };
         let before = book.notices().len();
         let desk = tend(
             alloc,
@@ -173,6 +195,49 @@ impl ServiceSeat {
         let (program, deeds) = desk.into_parts();
         write_asked(alloc, book, self.host, copy_of(request)?, notices, deeds)?;
         Ok(program)
+    }
+
+    /// The program in a seat of the host has served what its user asked for, and has told this. Where that is something, the
+    /// services have their turns. All is written down.
+    fn answer(
+        &mut self,
+        alloc: Global,
+        seat: &mut Seat,
+        book: &mut Book,
+        request: &Request,
+        notices: Vec<Notice>,
+    ) -> Result<(), AllocError>
+        ensures done { OnOk result ((s : NcpState) → seat.old.program ≡ Some s → IsSettled self.old.host seat.old.host (world.turn_of self.old.host (length book.old.book.notices) self.old.services (s, notices.items)) (all_told self.old.host notices.items (asked self.old.host request.now book.old)) seat.new self.new book.new) }
+        ensures kept { OnErr result (book.new ≡ book.old) }
+    {
+        if notices.is_empty() {
+            return book.ask(self.host, request);
+        }
+        let Some(program) = seat.program.take() else {
+            return Ok(());
+        };
+        let program = self.attend(alloc, book, program, request, notices)?;
+        seat.program = Some(program);
+        Ok(())
+    }
+
+    /// The user of the host asks the program in a seat of it for something. What is refused changes nothing.
+    pub(crate) fn ask(
+        &mut self,
+        alloc: Global,
+        seat: &mut Seat,
+        book: &mut Book,
+        request: &Request,
+    ) -> Result<(), WorldFault>
+        requires live { IfSome seat.old.program (λ p. p.spent ≡ false) }
+        ensures refused { (s : NcpState) (f : NcpFault) → seat.old.program ≡ Some s → refusal s request.now ≡ Some f → (result ≡ Err (world.Program f)) × ((seat.new ≡ seat.old) × ((self.new ≡ self.old) × (book.new ≡ book.old))) }
+        ensures served { (s : NcpState) → seat.old.program ≡ Some s → refusal s request.now ≡ None → MatchResult result (λ _. IsSettled self.old.host seat.old.host (world.turn_of self.old.host (length book.old.book.notices) self.old.services (served s request.now, served_notices s request.now)) (all_told self.old.host (served_notices s request.now) (asked self.old.host request.now book.old)) seat.new self.new book.new) (λ f. (f ≡ world.Program problem.OutOfMemory) × (book.new ≡ book.old)) }
+    {
+        let notices = asked_of(seat, request)?;
+        let Ok(()) = self.answer(alloc, seat, book, request, notices) else {
+            return Err(WorldFault::Program(NcpFault::OutOfMemory));
+        };
+        Ok(())
     }
 
     /// A server begins on the host. Returns the program.

@@ -1,9 +1,10 @@
 //! What a world writes down.
 
-ghost use Rattle.std.specs.Prelude.{◌≡◌, ◌+◌, ◌++◌, OnErr, OnOk, length, reverse, take};
-ghost use Rattle.net_sim.specs.Book.{all_crossed, opening_kept};
-ghost use Rattle.net_sim.specs.Inside.Lives.{written};
+ghost use Rattle.std.specs.Prelude.{◌≡◌, ◌+◌, ◌++◌, OnErr, OnOk, length, map, reverse, take};
+ghost use Rattle.net_sim.specs.Book.{all_crossed, all_told, asked, opening_kept};
+ghost use Rattle.net_sim.specs.Inside.Lives.{told_at, written};
 
+use crate::asking::add_called;
 use crate::bit_log::BitLog;
 use crate::hosting::copy_of;
 use crate::life::Life;
@@ -101,6 +102,44 @@ fn add_copies(all: &mut Vec<Crossing>, news: &[Crossing]) -> Result<(), AllocErr
     Ok(())
 }
 
+/// What a host's user was told is put behind what users were told before, one after another, with the number of crossings.
+fn push_told(
+    all: &mut Vec<Told>,
+    host: HostAddr,
+    place: usize,
+    notices: Vec<Notice>,
+) -> Result<(), AllocError>
+    ensures done { OnOk result (all.new.items ≡ all.old.items ++ map (told_at host place) notices.items) }
+    ensures before { take (length all.old.items) all.new.items ≡ all.old.items }
+{
+    for notice in notices {
+        all.push(Told {
+            host,
+            place,
+            notice,
+        })?;
+    }
+    Ok(())
+}
+
+/// The same, or memory runs out, and none of it is.
+fn add_told(
+    all: &mut Vec<Told>,
+    host: HostAddr,
+    place: usize,
+    notices: Vec<Notice>,
+) -> Result<(), AllocError>
+    ensures done { OnOk result (all.new.items ≡ all.old.items ++ map (told_at host place) notices.items) }
+    ensures kept { OnErr result (all.new.items ≡ all.old.items) }
+{
+    let before = all.len();
+    if push_told(all, host, place, notices).is_err() {
+        all.truncate(before);
+        return Err(AllocError);
+    }
+    Ok(())
+}
+
 impl Book {
     /// A book in which nothing has happened.
     pub(crate) fn new(alloc: Global) -> Book
@@ -173,6 +212,47 @@ impl Book {
         add_copies(&mut self.crossings, news)?;
         if self.lives.cross_only(news).is_err() {
             self.crossings.truncate(count);
+            return Err(AllocError);
+        }
+        Ok(())
+    }
+
+    /// Writes down what the user of a host asked for, of which it was told nothing.
+    pub(crate) fn ask(&mut self, host: HostAddr, request: &Request) -> Result<(), AllocError>
+        ensures done { OnOk result (self.new ≡ asked host request.now self.old) }
+        ensures kept { OnErr result (self.new ≡ self.old) }
+    {
+        let count = self.contacts.len();
+        let place = self.crossings.len();
+        add_called(&mut self.contacts, host, place, request)?;
+        if self.lives.ask_only(host, request).is_err() {
+            self.contacts.truncate(count);
+            return Err(AllocError);
+        }
+        Ok(())
+    }
+
+    /// Writes down what crossed, and what the user of a host was told of it.
+    pub(crate) fn tell(
+        &mut self,
+        host: HostAddr,
+        news: &[Crossing],
+        notices: Vec<Notice>,
+    ) -> Result<(), AllocError>
+        ensures done { OnOk result (self.new ≡ all_told host notices.items (all_crossed (reverse news.now) self.old)) }
+        ensures kept { OnErr result (self.new ≡ self.old) }
+    {
+        let crossed = self.crossings.len();
+        let told = self.notices.len();
+        add_copies(&mut self.crossings, news)?;
+        let place = self.crossings.len();
+        if add_told(&mut self.notices, host, place, notices).is_err() {
+            self.crossings.truncate(crossed);
+            return Err(AllocError);
+        }
+        if self.lives.hear(news, &self.notices[told..]).is_err() {
+            self.notices.truncate(told);
+            self.crossings.truncate(crossed);
             return Err(AllocError);
         }
         Ok(())

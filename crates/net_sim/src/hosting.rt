@@ -185,6 +185,9 @@ impl ServiceSeat {
         if notices.is_empty() {
             return book.cross(news);
         }
+        if !self.services.hear_any(&notices) {
+            return book.tell(self.host, news, notices);
+        }
         let Some(program) = seat.program.take() else {
             return Ok(());
         };

@@ -1,7 +1,7 @@
 //! What each thing that happens does to all lives.
 
 ghost use Rattle.std.specs.Bool.{OnFalse, OnTrue};
-ghost use Rattle.std.specs.Prelude.{◌≡◌, ℕ, Bool, List, OnErr, OnOk};
+ghost use Rattle.std.specs.Prelude.{◌≡◌, ℕ, Bool, List, [], OnErr, OnOk};
 ghost use Rattle.net_sim.specs.Book as book;
 ghost use Rattle.net_sim.specs.Book.{lives_at, where_it, handed_to};
 ghost use Rattle.net_sim.specs.Inside.Counts.{AreWithin, IsWithin};
@@ -22,6 +22,7 @@ use leader1822::{Crossing, HostAddr};
 use sockets::{Notice, Request};
 use std::alloc::{AllocError, Global};
 use std::marker::Model;
+use std::mem;
 
 /// The lives, and what was handed over to be sent in each.
 ///
@@ -34,6 +35,7 @@ pub(crate) struct Lives {
     handed: Vec<BitLog>,
     open: Open,
     changes: Tally,
+    undo: Vec<Undo>,
     alloc: Global,
 }
 
@@ -193,6 +195,7 @@ impl Lives {
             handed: Vec::new(alloc),
             open: Open::new(alloc),
             changes: Tally::new(alloc),
+            undo: Vec::new(alloc),
             alloc,
         }
     }
@@ -495,6 +498,48 @@ impl Lives {
         self.open.forget();
     }
 
+    /// An empty list for what is done. It has the room that an earlier one had.
+    fn empty_list(&mut self) -> Vec<Undo>
+        ensures state { self.new ≡ self.old }
+        ensures list { result.items ≡ [] }
+    {
+        let mut list = mem::replace(&mut self.undo, Vec::new(self.alloc));
+        list.clear();
+        list
+    }
+
+    /// All that was done stays, or it is taken back where memory ran out.
+    fn conclude(
+        &mut self,
+        outcome: Result<(), AllocError>,
+        done: Vec<Undo>,
+    ) -> Result<(), AllocError>
+        ensures answer { result ≡ outcome }
+        ensures done { OnOk outcome (self.new ≡ self.old) }
+        ensures kept { OnErr outcome (self.new ≡ all_undone done.items self.old) }
+    {
+        if outcome.is_err() {
+            self.go_back(done);
+            return outcome;
+        }
+        self.undo = done;
+        outcome
+    }
+
+    /// All of these crossed, and then users were told all this.
+    fn cross_and_tell(
+        &mut self,
+        news: &[Crossing],
+        told: &[Told],
+        done: &mut Vec<Undo>,
+    ) -> Result<(), AllocError>
+        ensures done { OnOk result (self.new ≡ all.all_told told.now (all.all_crossed news.now self.old)) }
+        ensures back { GoesBack done.old.items self.old done.new.items self.new }
+    {
+        self.cross_all(news, done)?;
+        self.tell_all(told, done)
+    }
+
     /// All of these crossed and nothing else happened, or memory runs out, and then the lives are what they were.
     pub(crate) fn cross_only(&mut self, news: &[Crossing]) -> Result<(), AllocError>
         ensures done { OnOk result (self.new ≡ all.all_crossed news.now self.old) }
@@ -503,12 +548,29 @@ impl Lives {
         if none_stops(news) {
             return Ok(());
         }
-        let mut undo = Vec::new(self.alloc);
+        let mut undo = self.empty_list();
         let crossed = self.cross_all(news, &mut undo);
-        if crossed.is_err() {
-            self.go_back(undo);
-        }
-        crossed
+        self.conclude(crossed, undo)
+    }
+
+    /// The user of a host asked for this and nothing else happened, or memory runs out, and then the lives are what they were.
+    pub(crate) fn ask_only(&mut self, host: HostAddr, request: &Request) -> Result<(), AllocError>
+        ensures done { OnOk result (self.new ≡ all.asked host request.now self.old) }
+        ensures kept { OnErr result (self.new ≡ self.old) }
+    {
+        let mut undo = self.empty_list();
+        let asked = self.ask(host, request, &mut undo);
+        self.conclude(asked, undo)
+    }
+
+    /// All of these crossed and then users were told all this, or memory runs out, and then the lives are what they were.
+    pub(crate) fn hear(&mut self, news: &[Crossing], told: &[Told]) -> Result<(), AllocError>
+        ensures done { OnOk result (self.new ≡ all.all_told told.now (all.all_crossed news.now self.old)) }
+        ensures kept { OnErr result (self.new ≡ self.old) }
+    {
+        let mut undo = self.empty_list();
+        let heard = self.cross_and_tell(news, told, &mut undo);
+        self.conclude(heard, undo)
     }
 
     /// All of this happened, or memory runs out, and then the lives are what they were.
@@ -516,12 +578,9 @@ impl Lives {
         ensures done { OnOk result (self.new ≡ all.followed news.now page.now.asked page.now.told.items page.now.by page.now.ran.items self.old) }
         ensures kept { OnErr result (self.new ≡ self.old) }
     {
-        let mut done = Vec::new(self.alloc);
+        let mut done = self.empty_list();
         let followed = self.go_through(news, page, &mut done);
-        if followed.is_err() {
-            self.go_back(done);
-        }
-        followed
+        self.conclude(followed, done)
     }
 
     /// The lives, in the order of opening.

@@ -143,20 +143,7 @@ pub(crate) fn ask_at(
     ensures refused { (h : Host) (s : NcpState) (f : NcpFault) → Sits h at s seats.old → refusal s request.now ≡ Some f → (result ≡ Err (world.Program f)) × ((seats.new ≡ seats.old) × ((services.new ≡ services.old) × (book.new ≡ book.old))) }
     ensures served { (h : Host) (s : NcpState) (x : ServicesState) → Sits h at s seats.old → Serves h at x services.old → refusal s request.now ≡ None → MatchResult result (λ _. AreDone h (turn_of h (length book.old.book.notices) x (served s request.now, served_notices s request.now)) seats.old services.old (all_told h (served_notices s request.now) (asked h request.now book.old)) seats.new services.new book.new) (λ f. (f ≡ world.Program problem.OutOfMemory) × (book.new ≡ book.old)) }
 {
-    let Some(program) = &seats[at].program else {
-        return Ok(());
-    };
-    if let Some(fault) = program.refusal(request) {
-        return Err(WorldFault::Program(fault));
-    }
-    let Some(program) = seats[at].program.take() else {
-        return Ok(());
-    };
-    let Ok(program) = services[at].serve(alloc, book, program, request) else {
-        return Err(WorldFault::Program(NcpFault::OutOfMemory));
-    };
-    seats[at].program = Some(program);
-    Ok(())
+    services[at].ask(alloc, &mut seats[at], book, request)
 }
 
 /// Why a host's program would refuse to send a line.

@@ -11,7 +11,6 @@ use Rattle.net_sim.specs.Inside.Audit.{Found, FoundTwo, messages_hold, partners_
 use Rattle.net_sim.specs.Safe.{SafePartners, before}
 use Rattle.net_sim.specs.declared.auditing.findings.Finding.{Finding}
 use Rattle.net_sim.specs.declared.auditing.findings.Finding.TheVariants as finding
-use Rattle.net_sim.specs.declared.auditing.said.Audit.{Audit}
 use Rattle.net_sim.specs.declared.auditing.said.Audit.TheVariants as audit
 use Rattle.net_sim.specs.declared.auditing.said.Part.TheVariants as part
 use Rattle.net_sim.proofs.Audits.Elements.{contains_got}

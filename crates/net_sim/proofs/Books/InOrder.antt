@@ -1,7 +1,8 @@
 -- Crossings oldest first, and newest first.
-use Rattle.std.proofs.Common.{◌≡◌, ℕ, ◌+◌, Option, List, [], ◌∷◌, ◌++◌, Some, None, length, map, reverse, refl, ap, sym, ◌∙◌, arith}
+use Rattle.std.proofs.Common.{◌≡◌, ℕ, ◌+◌, Option, List, [], ◌∷◌, ◌++◌, Some, None, length, map, take, drop, ◌-◌, reverse, refl, ap, sym, ◌∙◌, arith}
 use Rattle.std.specs.List.{flat_map}
-use Rattle.std.proofs.lemmas.List.{reverse-append, length-append, length-reverse, append-nil, append_assoc}
+use Rattle.std.proofs.lemmas.List.{reverse-append, length-append, length-reverse, append-nil, append_assoc, take_all}
+use Rattle.std.proofs.Math.Seq.{drop-append_seam}
 use Rattle.leader1822.specs.declared.crossing.Crossing.{Crossing}
 use Rattle.net_sim.specs.Inside.Seats.{emptied_in_order, turned_in_order}
 use Rattle.host_pairs.specs.declared.notice.Notice.{Notice}
@@ -187,3 +188,30 @@ pub crossed_so : (cs : List Crossing) (k : Kept) (before after : List Crossing) 
 crossed_so cs k before after ns us ps l was more n u p f =
     written_so cs None [] [] None [] [] k before after ns us ps l was more (n ∙ sym (append-nil k.book.notices)) (u ∙ sym (append-nil k.book.contacts)) (p ∙ sym (append-nil k.book.reports)) f
     ∙ written_alone cs k
+
+-- ---- what a host's user asked for, and what it was told, as what stands in a book then
+
+pub asked_so : (h : Host) (r : Request) (k : Kept) (before : List Crossing) (place : ℕ) (ns : List Told) (us : List Called) (ps : List Reported) (l : LivesState) → k.book.crossings ≡ reverse before → place ≡ length before
+    → ns ≡ k.book.notices → us ≡ k.book.contacts ++ contacts_asked h place r → ps ≡ k.book.reports → l ≡ all.asked h r (of_kept k)
+    → ◌≡◌ {A = Kept} (record { book = record { crossings = reverse before; notices = ns; contacts = us; reports = ps; lives = l.lives }; handed = l.handed }) (asked h r k)
+asked_so h r k before place ns us ps l was is n u p f =
+    let many : place ≡ length k.book.crossings = is ∙ sym (length-reverse before) ∙ ap (λ (xs : List Crossing). length xs) (sym was) in
+    let calls : List Called = k.book.contacts ++ contacts_asked h (length k.book.crossings) r in
+    same_kept (reverse before) k.book.crossings ns k.book.notices us calls ps k.book.reports l (sym was) n (u ∙ ap (λ (m : ℕ). k.book.contacts ++ contacts_asked h m r) many) p
+    ∙ ap (λ (m : LivesState). let after : Kept = record { book = record { crossings = k.book.crossings; notices = k.book.notices; contacts = calls; reports = k.book.reports; lives = m.lives }; handed = m.handed } in after) f
+
+pub told_so : (h : Host) (cs : List Crossing) (ns : List Notice) (k : Kept) (before after : List Crossing) (place n : ℕ) (ts seen : List Told) (us : List Called) (ps : List Reported) (l : LivesState) → k.book.crossings ≡ reverse before
+    → after ≡ before ++ cs → place ≡ length after → ts ≡ k.book.notices ++ map (told_at h place) ns → us ≡ k.book.contacts → ps ≡ k.book.reports → n ≡ length k.book.notices → seen ≡ ts
+    → l ≡ all.all_told (take (length seen - n) (drop n seen)) (all.all_crossed cs (of_kept k))
+    → ◌≡◌ {A = Kept} (record { book = record { crossings = reverse after; notices = ts; contacts = us; reports = ps; lives = l.lives }; handed = l.handed }) (all_told h ns (all_crossed (reverse cs) k))
+told_so h cs ns k before after place n ts seen us ps l was more is t u p many same f =
+    let news : List Told = map (told_at h place) ns in
+    let places : place ≡ length k.book.crossings + length cs =
+    is ∙ ap (λ (xs : List Crossing). length xs) more ∙ length-append before cs ∙ ap (λ (m : ℕ). m + length cs) (sym (length-reverse before) ∙ ap (λ (xs : List Crossing). length xs) (sym was)) in
+    let all_seen : seen ≡ k.book.notices ++ news = same ∙ t in
+    let cut : drop n seen ≡ news = ap (λ (m : ℕ). drop m seen) many ∙ ap (λ (xs : List Told). drop (length k.book.notices) xs) all_seen ∙ drop-append_seam k.book.notices news in
+    let long : length seen ≡ length k.book.notices + length news = ap (λ (xs : List Told). length xs) all_seen ∙ length-append k.book.notices news in
+    let last : take (length seen - n) (drop n seen) ≡ news = ap (λ (xs : List Told). take (length seen - n) xs) cut ∙ take_all (length seen - n) news (omega (arith, long, many)) in
+    written_so cs None [] news None [] [] k before after ts us ps l was more t (u ∙ sym (append-nil k.book.contacts)) (p ∙ sym (append-nil k.book.reports))
+    (f ∙ ap (λ (xs : List Told). all.all_told xs (all.all_crossed cs (of_kept k))) last)
+    ∙ written_before h place cs ns k places

@@ -1,13 +1,13 @@
 -- What the services of a host did in a call, put together from its steps.
-use Rattle.std.proofs.Common.{◌≡◌, ℕ, zero, suc, List, [], ◌∷◌, Option, Some, None, Result, Ok, Err, OnOk, slice_index_or, slice_set, refl, ap, sym, subst, ◌∙◌}
-use Rattle.std.proofs.lemmas.List.{append-nil, get_or-set_same}
+use Rattle.std.proofs.Common.{◌≡◌, ℕ, zero, suc, List, [], ◌∷◌, Option, Some, None, Result, Ok, Err, MatchResult, OnOk, slice_index_or, slice_set, refl, ap, sym, subst, ◌∙◌}
+use Rattle.std.proofs.lemmas.List.{append-nil, get_or-set_same, set-get_or}
 use Rattle.leader1822.specs.Host.{Host}
 use Rattle.host_pairs.specs.declared.notice.Notice.{Notice}
-use Rattle.host_services.specs.Services.{ServiceDeskState, ServicesState}
-use Rattle.host_services.specs.Turns.{services_told}
+use Rattle.host_services.specs.Services.{ServiceDeskState, ServicesState, opening_desk}
+use Rattle.host_services.specs.Turns.{passed_by, services_told}
 use Rattle.net_sim.specs.Book.{Kept, Reported, all_asked, all_reported, all_told}
 use Rattle.net_sim.specs.Inside.Parts.{AreDone, IsDone, IsSettled, Serves, Sits}
-use Rattle.net_sim.specs.World.{ServiceSeat, Seat, turn_of}
+use Rattle.net_sim.specs.World.{ServiceSeat, Seat, WorldFault, turn_of}
 use Rattle.sockets.specs.Calls.{Turns}
 use Rattle.sockets.specs.Pairs.{NcpState}
 use Rattle.sockets.specs.declared.fault.NcpFault.{NcpFault}
@@ -124,6 +124,27 @@ nothing_settled (Ok tt) h g n x old ns k k1 seat y none is has same = λ s e. no
   seat_that f o = record { host = f; program = o }
 nothing_settled (Err e) h g n x old ns k k1 seat y none is has same = tt
 
+-- services that hear none of it do nothing either
+deaf_told : (h g : Host) (n : ℕ) (x : ServicesState) (s : NcpState) (ns : List Notice) (k k1 : Kept) (seat : Seat) (y : ServiceSeat) → ((d : ServiceDeskState) → services_told ns x d ≡ passed_by ns x d)
+    → seat ≡ record { host = g; program = Some s } → y ≡ record { host = h; services = x } → k1 ≡ k → IsSettled h g (turn_of h n x (s, ns)) k seat y k1
+deaf_told h g n x s ns k k1 seat y deaf is has same =
+    let passed : IsSettled h g (passed_by ns x (opening_desk h n s)) k seat y k1 = record {
+      seat_is = is;
+      services_are = has;
+      kept_is = same ∙ ap (λ (rs : List Reported). with_reports rs) (sym (append-nil k.book.reports));
+    } in
+    subst (λ (t : ServicesState × ServiceDeskState). IsSettled h g t k seat y k1) (sym (deaf (opening_desk h n s))) passed where
+      with_reports : List Reported → Kept
+      with_reports rs = record k { book = record k.book { reports = rs } }
+
+pub deaf_settled : {E : Type 0} (r : Result (Unit {0}) E) (h g : Host) (n : ℕ) (x : ServicesState) (old : Option NcpState) (ns : List Notice) (k k1 : Kept) (seat : Seat) (y : ServiceSeat)
+    → ((d : ServiceDeskState) → services_told ns x d ≡ passed_by ns x d) → seat ≡ record { host = g; program = old } → y ≡ record { host = h; services = x } → OnOk r (k1 ≡ k)
+    → OnOk r ((s : NcpState) → old ≡ Some s → IsSettled h g (turn_of h n x (s, ns)) k seat y k1)
+deaf_settled (Ok tt) h g n x old ns k k1 seat y deaf is has same = λ s e. deaf_told h g n x s ns k k1 seat y deaf (is ∙ ap (λ (o : Option NcpState). seat_that g o) e) has same where
+  seat_that : Host → Option NcpState → Seat
+  seat_that f o = record { host = f; program = o }
+deaf_settled (Err e) h g n x old ns k k1 seat y deaf is has same = tt
+
 -- after a program was taken out of its seat, and the services had their turns
 pub tended_settled : (h g : Host) (n : ℕ) (x : ServicesState) (old : Option NcpState) (taken s p : NcpState) (ns : List Notice) (before k1 : Kept) (seat : Seat) (y : ServiceSeat) → old ≡ Some taken → old ≡ Some s
     → IsDone h (turn_of h n x (taken, ns)) before p y.services k1 → y.host ≡ h → seat ≡ record { host = g; program = Some p } → IsSettled h g (turn_of h n x (s, ns)) before seat y k1
@@ -144,15 +165,27 @@ turned_so (Ok tt) h g n x old mid was p ns turn k k1 seat y had gives has settle
     subst (λ (t : NcpState × List Notice). IsSettled h g (turn_of h n x t) (all_told h t.1 k) seat y k1) (sym gives ∙ ap turn same) (settled p has)
 turned_so (Err e) h g n x old mid was p ns turn k k1 seat y had gives has settled = tt
 
+-- a program that served a request stays in its seat, and the services had their turns
+pub answered_so : (h g : Host) (n : ℕ) (x : ServicesState) (mid : Seat) (p : NcpState) (ns ms : List Notice) (k k1 : Kept) (seat : Seat) (y : ServiceSeat) → mid ≡ record { host = g; program = Some p } → ns ≡ ms
+    → ((s : NcpState) → mid.program ≡ Some s → IsSettled h mid.host (turn_of h n x (s, ns)) (all_told h ns k) seat y k1) → IsSettled h g (turn_of h n x (p, ms)) (all_told h ms k) seat y k1
+answered_so h g n x mid p ns ms k k1 seat y is same settled =
+    let d : IsSettled h mid.host (turn_of h n x (p, ns)) (all_told h ns k) seat y k1 = settled p (ap (λ (z : Seat). z.program) is) in
+    let here : IsSettled h g (turn_of h n x (p, ns)) (all_told h ns k) seat y k1 = subst (λ (f : Host). IsSettled h f (turn_of h n x (p, ns)) (all_told h ns k) seat y k1) (ap (λ (z : Seat). z.host) is) d in
+    subst (λ (os : List Notice). IsSettled h g (turn_of h n x (p, os)) (all_told h os k) seat y k1) same here
+
+-- what is refused changes nothing, at the places of a host's seat and its services
+pub refused_at : {E : Type 0} (place : ℕ) (seats : List Seat) (all : List ServiceSeat) (o seat : Seat) (w y : ServiceSeat) (k k1 : Kept) (r q : Result (Unit {0}) E)
+    → (r ≡ q) × ((seat ≡ slice_index_or seats place o) × ((y ≡ slice_index_or all place w) × (k1 ≡ k))) → (r ≡ q) × ((slice_set seats place seat ≡ seats) × ((slice_set all place y ≡ all) × (k1 ≡ k)))
+refused_at place seats all o seat w y k k1 r q e =
+    (e.0, (ap (λ (z : Seat). slice_set seats place z) e.1.0 ∙ set-get_or seats place o, (ap (λ (z : ServiceSeat). slice_set all place z) e.1.1.0 ∙ set-get_or all place w, e.1.1.1)))
+
 -- the same at the places of a host's seat and its services
-pub settled_done : (h : Host) (place : ℕ) (s : NcpState) (x : ServicesState) (seats : List Seat) (all : List ServiceSeat) (o seat : Seat) (w y : ServiceSeat) (k1 : Kept)
+pub settled_here : (h : Host) (place : ℕ) (s : NcpState) (x : ServicesState) (seats : List Seat) (all : List ServiceSeat) (o seat : Seat) (w y : ServiceSeat) (k1 : Kept)
     (turn : Host → ServicesState → NcpState → ServicesState × ServiceDeskState) (before : Host → NcpState → Kept)
     → Sits h place s seats → Serves h place x all
-    → ((u : NcpState) → (slice_index_or seats place o).program ≡ Some u → IsSettled (slice_index_or all place w).host (slice_index_or seats place o).host (turn (slice_index_or all place w).host (slice_index_or all place w).services u) (before (slice_index_or all place w).host u) seat y k1)
+    → IsSettled (slice_index_or all place w).host (slice_index_or seats place o).host (turn (slice_index_or all place w).host (slice_index_or all place w).services s) (before (slice_index_or all place w).host s) seat y k1
     → AreDone h (turn h x s) seats all (before h s) (slice_set seats place seat) (slice_set all place y) k1
-settled_done h place s x seats all o seat w y k1 turn before sits serves settled =
-    let d : IsSettled (slice_index_or all place w).host (slice_index_or seats place o).host (turn (slice_index_or all place w).host (slice_index_or all place w).services s) (before (slice_index_or all place w).host s) seat y k1 =
-    settled s (ap (λ (z : Seat). z.program) (sits.is o)) in
+settled_here h place s x seats all o seat w y k1 turn before sits serves d =
     let old : slice_index_or all place w ≡ record { host = h; services = x } = serves.is w in
     let mine : (slice_index_or seats place o).host ≡ h = ap (λ (z : Seat). z.host) (sits.is o) in
     let served : IsSettled h (slice_index_or seats place o).host (turn h x s) (before h s) seat y k1 =
@@ -163,3 +196,20 @@ settled_done h place s x seats all o seat w y k1 turn before sits serves settled
       services_are = ap (λ (z : ServiceSeat). slice_set all place z) here.services_are ∙ serves.set (turn h x s).0;
       kept_is = here.kept_is;
     }
+
+pub settled_done : (h : Host) (place : ℕ) (s : NcpState) (x : ServicesState) (seats : List Seat) (all : List ServiceSeat) (o seat : Seat) (w y : ServiceSeat) (k1 : Kept)
+    (turn : Host → ServicesState → NcpState → ServicesState × ServiceDeskState) (before : Host → NcpState → Kept)
+    → Sits h place s seats → Serves h place x all
+    → ((u : NcpState) → (slice_index_or seats place o).program ≡ Some u → IsSettled (slice_index_or all place w).host (slice_index_or seats place o).host (turn (slice_index_or all place w).host (slice_index_or all place w).services u) (before (slice_index_or all place w).host u) seat y k1)
+    → AreDone h (turn h x s) seats all (before h s) (slice_set seats place seat) (slice_set all place y) k1
+settled_done h place s x seats all o seat w y k1 turn before sits serves settled =
+    settled_here h place s x seats all o seat w y k1 turn before sits serves (settled s (ap (λ (z : Seat). z.program) (sits.is o)))
+
+-- a request that isn't refused is served, or memory runs out
+pub asked_done : (P : WorldFault → Type 0) (r : Result (Unit {0}) WorldFault) (h : Host) (place : ℕ) (s : NcpState) (x : ServicesState) (seats : List Seat) (all : List ServiceSeat) (o seat : Seat) (w y : ServiceSeat) (k1 : Kept)
+    (turn : Host → ServicesState → NcpState → ServicesState × ServiceDeskState) (before : Host → NcpState → Kept)
+    → Sits h place s seats → Serves h place x all
+    → MatchResult r (λ _. IsSettled (slice_index_or all place w).host (slice_index_or seats place o).host (turn (slice_index_or all place w).host (slice_index_or all place w).services s) (before (slice_index_or all place w).host s) seat y k1) P
+    → MatchResult r (λ _. AreDone h (turn h x s) seats all (before h s) (slice_set seats place seat) (slice_set all place y) k1) P
+asked_done P (Ok done) h place s x seats all o seat w y k1 turn before sits serves d = settled_here h place s x seats all o seat w y k1 turn before sits serves d
+asked_done P (Err f) h place s x seats all o seat w y k1 turn before sits serves d = d

@@ -1,7 +1,7 @@
 use Rattle.std.proofs.Common.{rules, refl, length, reverse}
 use Rattle.std.proofs.lemmas.List.{nil_from_length}
 use Rattle.net_sim.specs.Book.{all_crossed, all_told}
-use Rattle.net_sim.proofs.Hosts.Doing.{nothing_settled, tended_settled}
+use Rattle.net_sim.proofs.Hosts.Doing.{deaf_settled, nothing_settled, tended_settled}
 use Rattle.net_sim.proofs.seat.ServiceSeat.settle.Goals as goal
 
 pub returns-then-is_empty-clause-done : goal.returns-then-is_empty-clause-done
@@ -9,7 +9,12 @@ returns-then-is_empty-clause-done c =
     nothing_settled c.cross.result c.args.self.now.host c.args.seat.now.host (length c.args.book.now.book.notices) c.args.self.now.services c.args.seat.now.program c.args.notices.items
     (all_crossed (reverse c.args.news.now) c.args.book.now) c.cross.new.self c.args.seat.now c.args.self.now (nil_from_length c.args.notices.items (search rules)) refl refl c.cross.ensures.done
 
+pub returns-then-not-hear_any-clause-done : goal.returns-then-not-hear_any-clause-done
+returns-then-not-hear_any-clause-done c =
+    deaf_settled c.tell.result c.args.self.now.host c.args.seat.now.host (length c.args.book.now.book.notices) c.args.self.now.services c.args.seat.now.program c.args.notices.items
+    (all_told c.args.self.now.host c.args.notices.items (all_crossed (reverse c.args.news.now) c.args.book.now)) c.tell.new.self c.args.seat.now c.args.self.now (search rules) refl refl c.tell.ensures.done
+
 pub returns-clause-done : goal.returns-clause-done
 returns-clause-done c = λ s e.
     tended_settled c.args.self.now.host c.args.seat.now.host (length c.args.book.now.book.notices) c.args.self.now.services c.args.seat.now.program c.in-Some.program s c.in_ok-program.program c.args.notices.items
-    (all_told c.args.self.now.host c.args.notices.items (all_crossed (reverse c.args.news.now) c.args.book.now)) c.tell.new.book _ c.tell.new.self (search rules) e (search rules) (search rules) (search rules)
+    (all_told c.args.self.now.host c.args.notices.items (all_crossed (reverse c.args.news.now) c.args.book.now)) c.tell-2.new.book _ c.tell-2.new.self (search rules) e (search rules) (search rules) (search rules)

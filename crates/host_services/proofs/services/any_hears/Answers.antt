@@ -1,0 +1,7 @@
+use Rattle.std.proofs.Common.{rules}
+use Rattle.host_services.proofs.BlockLemmas.{more_deaf}
+use Rattle.host_services.proofs.services.any_hears.Goals as goal
+
+pub loop-block-preserved : goal.loop-block-preserved
+loop-block-preserved c = λ rest.
+    c.loop-block.invariant (more_deaf c.args.notice.now c.args.blocks.now c.loop-block.block-index c.block-item.result (search rules) (search rules) (search rules) rest)

@@ -1,0 +1,6 @@
+use Rattle.std.proofs.Common.{◌≡◌, ◌++◌, map}
+use Rattle.net_sim.specs.Inside.Lives.{told_at}
+use Rattle.net_sim.proofs.book.push_told.Given as goal
+
+abbrev pub invariant-loop-notice : goal.invariant-loop-notice
+invariant-loop-notice l = l.all.items ≡ l.fn.all.items ++ map (told_at l.host l.place) l.yielded
