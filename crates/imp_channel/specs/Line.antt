@@ -140,6 +140,13 @@ state_after e f =
     then e
     else record { sending = all_acknowledged f.acks e.sending; expected = expected_after e.expected f.content }
 
+abbrev pub is_repeat_answer : Result Received ChannelFault → Bool
+is_repeat_answer (Ok received.Repeat) = true
+is_repeat_answer (Ok (received.Fresh packet)) = false
+is_repeat_answer (Ok received.AckOnly) = false
+is_repeat_answer (Ok (received.Routes distances)) = false
+is_repeat_answer (Err e) = false
+
 abbrev pub is_fresh_answer : Result Received ChannelFault → Bool
 is_fresh_answer (Ok (received.Fresh packet)) = true
 is_fresh_answer (Ok received.AckOnly) = false

@@ -1,7 +1,7 @@
 -- Calls that would give nothing and change nothing.
 use Rattle.std.specs.Prelude.{if◌then◌else◌, not, is_some}
 use Rattle.std.specs.List.{sum_by}
-use Rattle.std.proofs.Common.{◌≡◌, ℕ, ◌+◌, ◌<◌, Bool, true, false, zero, suc, List, [], ◌∷◌, ◌++◌, length, map, get_or, set, nat_lt, ◌==◌, ◌&&◌, Option, Some, None, refl, ap, sym, ◌∙◌, arith}
+use Rattle.std.proofs.Common.{◌≡◌, ℕ, ◌+◌, ◌<◌, Bool, true, false, zero, suc, List, [], ◌∷◌, ◌++◌, length, map, get_or, set, nat_lt, ◌==◌, ◌&&◌, Option, Some, None, Result, Ok, Err, refl, ap, sym, ◌∙◌, arith}
 use Rattle.std.proofs.lemmas.Bool.{eqb-true}
 use Rattle.std.proofs.lemmas.Bool.Decides.{nat_tests}
 use Rattle.std.proofs.lemmas.List.{append-nil, length-append, set-get_or}
@@ -13,18 +13,23 @@ use Rattle.imp_channel.specs.declared.frame.Frame.{Frame}
 use Rattle.imp_channel.specs.Holding.{packet_of, packets_in}
 use Rattle.imp_channel.specs.declared.frame.Content.{Content}
 use Rattle.imp_channel.specs.declared.frame.Content.TheVariants as content
-use Rattle.imp_channel.specs.Line.{End, frames_of, frames_from, resent, differs, acknowledged, all_acknowledged, answer_to}
+use Rattle.imp_channel.specs.declared.fault.ChannelFault.{ChannelFault}
+use Rattle.imp_channel.specs.declared.fault.ChannelFault.TheVariants as channel_fault
+use Rattle.imp_channel.specs.declared.line.Received.{Received}
+use Rattle.imp_channel.specs.declared.line.Received.TheVariants as received
+use Rattle.imp_channel.specs.Line.{End, frames_of, frames_from, resent, differs, acknowledged, all_acknowledged, acknowledgement, is_foreign, has_expected_bit, state_after, answer_to, is_repeat_answer}
 use Rattle.routing.specs.RouteTable.{vector_of}
 use Rattle.imp_node.specs.declared.outgoing.Outgoing.{Outgoing}
 use Rattle.imp_node.specs.declared.port.Port.{Port}
 use Rattle.imp_node.specs.declared.waiting.Message.{Message}
 use Rattle.imp_node.specs.declared.waiting.Told.{Told}
-use Rattle.imp_node.specs.State.{State, ImpTurn, host_at, port_at, down_port}
+use Rattle.imp_node.specs.State.{State, ImpTurn, host_at, port_at, down_port, with_port}
 use Rattle.imp_node.specs.Arrival.{ignored, taken_frame, frame_taken, vector_heard, from_line}
 use Rattle.imp_node.specs.Lines.{on_port, resent_by, resent_from, resend, told_from, route}
 use Rattle.imp_node.specs.Pump.{pump, pumped}
 use Rattle.imp_node.specs.Inside.Arriving.{with_acks}
-use Rattle.imp_node.specs.Resting.{IsKnown, Ignores, is_at_rest}
+use Rattle.imp_node.specs.Arrival as arrivals
+use Rattle.imp_node.specs.Resting.{IsKnown, Ignores, is_repeat, is_at_rest}
 use Rattle.imp_node.specs.Room.{busy_channels, stored_count}
 use Rattle.imp_node.specs.Queries.{holds_packet}
 use Rattle.imp_node.specs.Taking.{first_of, taking_has_room, taken_by, next_for, to_host, to_host_refusal}
@@ -196,6 +201,45 @@ pub quiet_taken : (s : State) (k : ℕ) (f : Frame) → (port_at s.ports k).up �
 quiet_taken s k f up waits known =
     ap (λ (up : Bool). if up then taken_frame (answer_to (port_at s.ports k).line f) k f s else ignored s) up
     ∙ known_taken s k f.acks f.content (eqb-true (length s.store) 0 waits) known
+
+-- ---- a frame that brings a packet which was given before
+
+repeat_told : (r : Result Received ChannelFault) → is_repeat_answer r ≡ true → r ≡ Ok received.Repeat
+repeat_told (Ok received.Repeat) is = refl
+repeat_told (Ok (received.Fresh packet)) is = cc
+repeat_told (Ok received.AckOnly) is = cc
+repeat_told (Ok (received.Routes distances)) is = cc
+repeat_told (Err e) is = cc
+
+by_tests : (foreign has : Bool) (e : End) (acks next : List Bool) (packet : PacketFields) → is_repeat_answer (if foreign then Err channel_fault.NotCanonical else Ok (if has then received.Fresh packet else received.Repeat)) ≡ true
+    → (if foreign then e else record { sending = all_acknowledged acks e.sending; expected = if has then next else e.expected }) ≡ record e { sending = all_acknowledged acks e.sending }
+by_tests true has e acks next packet is = cc
+by_tests false true e acks next packet is = cc
+by_tests false false e acks next packet is = refl
+
+repeat_state : (e : End) (acks : List Bool) (brings : Content) → is_repeat_answer (answer_to e (record { acks = acks; content = brings })) ≡ true → state_after e (record { acks = acks; content = brings }) ≡ record e { sending = all_acknowledged acks e.sending }
+repeat_state e acks (content.Packet carried) is =
+    by_tests (is_foreign (content.Packet carried)) (has_expected_bit e.expected carried) e acks (set e.expected carried.channel (not carried.bit)) carried.packet is
+repeat_state e acks content.Nothing is = cc
+repeat_state e acks (content.Routes distances) is = cc
+
+and_three : (a b c : Bool) → (a && (b && c)) ≡ true → (a ≡ true) × (b ≡ true) × (c ≡ true)
+and_three true true true all = (refl, refl, refl)
+and_three true true false all = cc
+and_three true false c all = cc
+and_three false b c all = cc
+
+pub repeat_taken : (s : State) (k : ℕ) (f : Frame) → is_repeat s k f ≡ true
+    → from_line s k f ≡ leaving (with_acks k f.acks s) (record { port = k; frame = acknowledgement (port_at (with_acks k f.acks s).ports k).line } ∷ [])
+repeat_taken s k f is =
+    let line : End = (port_at s.ports k).line in
+    let all = and_three (port_at s.ports k).up (length s.store == 0) (is_repeat_answer (answer_to line f)) is in
+    let waits : length s.store ≡ 0 = eqb-true (length s.store) 0 all.1 in
+    let same : frame_taken k f s ≡ with_acks k f.acks s = ap (λ (e : End). with_port s k (record (port_at s.ports k) { line = e })) (repeat_state line f.acks f.content all.2) in
+    ap (λ (up : Bool). if up then taken_frame (answer_to line f) k f s else ignored s) all.0
+    ∙ ap (λ (r : Result Received ChannelFault). taken_frame r k f s) (repeat_told (answer_to line f) all.2)
+    ∙ ap (λ (t : State). pump (arrivals.acknowledged k t) t) same
+    ∙ pump_with (arrivals.acknowledged k (with_acks k f.acks s)) (with_acks k f.acks s) waits
 
 -- ---- a taking
 

@@ -3,6 +3,7 @@ use Rattle.std.specs.Prelude.{◌≡◌, ℕ, Bool, true, length, Some, None, is
 use Rattle.imp_channel.specs.declared.frame.Content.{Content}
 use Rattle.imp_channel.specs.declared.frame.Content.TheVariants as content
 use Rattle.imp_channel.specs.declared.frame.Frame.{Frame}
+use Rattle.imp_channel.specs.Line.{answer_to, is_repeat_answer}
 use Rattle.imp_node.specs.Room.{busy_channels}
 use Rattle.imp_node.specs.State.{State, host_at, port_at}
 use Rattle.imp_node.specs.Taking.{next_for}
@@ -25,6 +26,10 @@ is_at_rest s k = length s.store == 0 && busy_channels (port_at s.ports k) == 0
 -- anything, and where what the frame brings is known
 abbrev pub Ignores : State → ℕ → Frame → Type 0
 Ignores s k f = (port_at s.ports k).up ≡ true → (is_at_rest s k ≡ true) × IsKnown s k f.content
+
+-- a frame brings a packet that was given before, and no packet waits for a channel: only the acknowledgement is sent
+abbrev pub is_repeat : State → ℕ → Frame → Bool
+is_repeat s k f = (port_at s.ports k).up && (length s.store == 0 && is_repeat_answer (answer_to (port_at s.ports k).line f))
 
 -- nothing is sent for a frame at an end that is down, nor where no packet waits for a channel and what the frame brings is known
 abbrev pub IsQuiet : State → ℕ → Frame → Type 0

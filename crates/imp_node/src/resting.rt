@@ -1,6 +1,7 @@
 //! Calls that would give nothing and change nothing, and so need not be made.
 
-ghost use Rattle.std.specs.Prelude.{◌≡◌, ◌↔◌, ◌<◌, ◌==◌, length, None, Some, true, false, slice_index_or};
+ghost use Rattle.std.specs.Prelude.{◌≡◌, ◌↔◌, ◌<◌, ◌==◌, ◌∷◌, [], is_some, IfSome, length, None, Some, true, false, slice_index_or};
+ghost use Rattle.imp_channel.specs.Line.{acknowledgement};
 ghost use Rattle.routing.specs.RouteTable.{vector_of};
 ghost use Rattle.imp_node.specs.Arrival.{from_line, ignored};
 ghost use Rattle.imp_node.specs.Resting as resting;
@@ -67,6 +68,39 @@ impl Imp {
         }
         self.acknowledge_at(port, &frame.acks);
         true
+    }
+
+    /// Takes a frame with a packet that was given before, where no packet waits in the store, and answers the acknowledgement that goes
+    /// back on its line. Any other frame is left, the answer is `None`, and nothing changes. This takes no memory.
+    pub fn answers(&mut self, port: u8, frame: &Frame) -> Option<Frame>
+        ensures answer { is_some result ≡ resting.is_repeat self.old port frame.now }
+        ensures taken { IfSome result (λ ack. from_line self.old port frame.now ≡ record { state = self.new; frames = record { port = port; frame = ack } ∷ [] }) }
+        ensures left { result ≡ None → self.new ≡ self.old }
+        ensures live { self.new.spent ≡ self.old.spent }
+    {
+        if !self.is_repeat(port, frame) {
+            return None;
+        }
+        self.acknowledge_at(port, &frame.acks);
+        Some(self.ack_at(port))
+    }
+
+    /// The frame that acknowledges what came in at a port.
+    fn ack_at(&self, port: u8) -> Frame
+        requires { port < length self.now.ports }
+        ensures { result ≡ acknowledgement (port_at self.now.ports port).line }
+    {
+        self.ports[port as usize].line.ack_frame()
+    }
+
+    /// Whether a frame brings a packet that was given before, and no packet waits for a channel.
+    fn is_repeat(&self, port: u8, frame: &Frame) -> bool
+        ensures answer { result ≡ resting.is_repeat self.now port frame.now }
+        ensures there { result ≡ true → port < length self.now.ports }
+    {
+        self.is_live(port)
+            && self.store.is_empty()
+            && self.ports[port as usize].line.is_repeat(frame)
     }
 
     /// Whether no packet waits for a channel, and what a frame brings is known at this port.

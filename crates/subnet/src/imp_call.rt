@@ -1,6 +1,6 @@
 //! Calls of one IMP, as data.
 
-ghost use Rattle.std.specs.Prelude.{◌≡◌, [], ◌<◌, length, true, false, OnOk, IfSome};
+ghost use Rattle.std.specs.Prelude.{◌≡◌, ◌∷◌, [], ◌<◌, length, None, true, false, OnOk, IfSome};
 ghost use Rattle.imp_node.specs.Turns.{Turned, Takes};
 ghost use Rattle.subnet.specs.Events.{at_up};
 ghost use Rattle.subnet.specs.Calls.{grows_at};
@@ -157,6 +157,41 @@ fn takes_at(place: &mut Option<Imp>, port: u8, frame: &Frame) -> bool
     match place {
         Some(imp) => imp.takes(port, frame),
         None => true,
+    }
+}
+
+/// A frame comes in at a port of the IMP of this number, if it brings a packet that was given before and only its acknowledgement is
+/// sent, which is answered. Else nothing changes.
+pub(crate) fn answers_at_imp(
+    imps: &mut [Option<Imp>],
+    imp: u8,
+    port: u8,
+    frame: &Frame,
+) -> Option<Frame>
+    requires { AreLive imps.old }
+    ensures taken { IfSome result (λ ack. imps.new ≡ imps_by imps.old imp (imp_at imps.old imp) (call_turn (call.Arrive port frame.now))) }
+    ensures answer { IfSome result (λ ack. frames_by (imp_at imps.old imp) (call_turn (call.Arrive port frame.now)) ≡ record { port = port; frame = ack } ∷ []) }
+    ensures left { result ≡ None → imps.new ≡ imps.old }
+    ensures live { AreLive imps.new }
+{
+    let at = imp as usize;
+    if at >= imps.len() {
+        return None;
+    }
+    answers_at(&mut imps[at], port, frame)
+}
+
+/// The same at the IMP of a place.
+fn answers_at(place: &mut Option<Imp>, port: u8, frame: &Frame) -> Option<Frame>
+    requires { IfSome place.old (λ s. s.spent ≡ false) }
+    ensures taken { IfSome result (λ ack. place.new ≡ imp_by place.old (call_turn (call.Arrive port frame.now))) }
+    ensures answer { IfSome result (λ ack. frames_by place.old (call_turn (call.Arrive port frame.now)) ≡ record { port = port; frame = ack } ∷ []) }
+    ensures left { result ≡ None → place.new ≡ place.old }
+    ensures live { IfSome place.new (λ s. s.spent ≡ false) }
+{
+    match place {
+        Some(imp) => imp.answers(port, frame),
+        None => None,
     }
 }
 

@@ -1,6 +1,6 @@
 //! Quiet rounds: every IMP tells and sends again, and every frame arrives once.
 
-ghost use Rattle.std.specs.Prelude.{◌≡◌, ◌<◌, length, slice_get, true, false, OnOk, OnErr};
+ghost use Rattle.std.specs.Prelude.{◌≡◌, ◌<◌, length, slice_get, true, false, IfOk, OnOk, OnErr};
 ghost use Rattle.std.specs.List.{range_with_len};
 ghost use Rattle.subnet.specs.Net.{imp_at, wire_at, frames_on};
 ghost use Rattle.subnet.specs.Events as events;
@@ -9,9 +9,10 @@ ghost use Rattle.subnet.specs.Calls.{grows_at, round_grows, delivered_grows};
 ghost use Rattle.subnet.specs.Inside.Calling.{AreLive, SameLog, carried_first, call_turn, call_grows};
 ghost use Rattle.subnet.specs.declared.imp_call.ImpCall.TheVariants as call;
 
-use crate::imp_call::{ImpCall, takes_at_imp};
+use crate::imp_call::{ImpCall, answers_at_imp, takes_at_imp};
 use crate::parts::{Parts, runs_out};
 use imp_channel::Frame;
+use imp_node::Outgoing;
 use leader1822::Direction;
 use std::alloc::AllocError;
 
@@ -195,7 +196,38 @@ impl Parts {
         if self.takes_first(line, direction) {
             return Ok(());
         }
+        if self.answers_first(line, direction)? {
+            return Ok(());
+        }
         self.hand_on(line, direction)
+    }
+
+    /// The oldest frame of a directed line arrives at the far end, if it brings a packet that was given before and only its
+    /// acknowledgement is sent, which goes on the line there. The call answers whether it arrived; else nothing changes.
+    ///
+    /// Errors: memory runs out, and nothing else.
+    #[tactic(auto, using(crate::proofs::Calls::Taken::taken_again, crate::proofs::Calls::Taken::again_wants))]
+    fn answers_first(&mut self, line: usize, direction: Direction) -> Result<bool, AllocError>
+        requires live { AreLive self.old.imps }
+        requires there { line < length self.old.lines }
+        ensures taken { IfOk result (λ done. done ≡ true → self.new ≡ events.deliver self.old line direction 0) }
+        ensures left { IfOk result (λ done. done ≡ false → self.new ≡ self.old) }
+        ensures live { OnOk result (AreLive self.new.imps) }
+        ensures memory { OnErr result (delivered_grows self.old line direction (slice_get (frames_on direction (wire_at self.old.lines line)) 0) ≡ true) }
+        ensures keeps { SameLog self.old self.new }
+    {
+        let imp = self.far_end(line, direction);
+        let port = self.far_port(line, direction);
+        match self.lines.all()[line].frames(direction).get(0) {
+            Some(frame) => match answers_at_imp(&mut self.imps, imp, port, frame) {
+                Some(ack) => {
+                    self.lines.put_one(imp, Outgoing { port, frame: ack })?;
+                    Ok(true)
+                }
+                None => Ok(false),
+            },
+            None => Ok(false),
+        }
     }
 
     /// The oldest frame of a directed line arrives at the far end, if nothing is to be sent for it. It stays on its line, and is not

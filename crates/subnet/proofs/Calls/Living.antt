@@ -1,8 +1,9 @@
 -- A call leaves each IMP that is up with its number, and with memory where it succeeds.
-use Rattle.std.proofs.Common.{◌≡◌, ℕ, ◌<◌, zero, suc, Bool, true, false, List, [], ◌∷◌, get_or, set, length, Option, Some, None, Result, Ok, Err, OnOk, refl, ap, sym, subst, ◌∙◌, arith}
+use Rattle.std.proofs.Common.{◌≡◌, ℕ, ◌<◌, zero, suc, Bool, false, List, [], ◌∷◌, get_or, set, length, Option, Some, None, Result, Ok, Err, OnOk, refl, ap, sym, subst, ◌∙◌, arith}
 use Rattle.std.proofs.lemmas.List.{set-get_or}
 use Rattle.std.specs.Prelude.{IfSome}
 use Rattle.leader1822.specs.declared.carrier.CarrierFault.{CarrierFault}
+use Rattle.imp_channel.specs.declared.frame.Frame.{Frame}
 use Rattle.imp_node.specs.State.{State, ImpTurn, number}
 use Rattle.imp_node.specs.Taking.{to_host, to_host_refusal}
 use Rattle.imp_node.specs.Turns.{to_host_grows}
@@ -36,14 +37,11 @@ live_call (Ok y) imps i x c refusal grows Q live is unspent = live_set imps i x 
 live_call (Err e) imps i x c refusal grows Q live is unspent = tt
 
 -- a call that may be left
-live_left : (b : Bool) (imps : List (Option State)) (i : ℕ) (x : Option State) (c : ImpCall) → AreLive imps → (b ≡ true → x ≡ imp_by (imp_at imps i) (call_turn c)) → (b ≡ false → x ≡ imp_at imps i) → IfSome x (λ s. s.spent ≡ false) → AreLive (set imps i x)
-live_left true imps i x c live taken left unspent = live_set imps i x (call_turn c) (call_own c) live (taken refl) unspent
-live_left false imps i x c live taken left unspent = subst AreLive (sym (ap (set imps i) (left refl) ∙ set-get_or imps i None)) live
-
-pub live_left_read : (b : Bool) (imps : List (Option State)) (i : ℕ) (x d : Option State) (c : ImpCall) → i < length imps → AreLive imps → (b ≡ true → x ≡ imp_by (get_or imps i d) (call_turn c)) → (b ≡ false → x ≡ get_or imps i d) → IfSome x (λ s. s.spent ≡ false) → AreLive (set imps i x)
-live_left_read b imps i x d c within live taken left unspent =
-    let alike : get_or imps i d ≡ imp_at imps i = read_alike imps i d None within in
-    live_left b imps i x c live (λ is. taken is ∙ ap (λ (o : Option State). imp_by o (call_turn c)) alike) (λ is. left is ∙ alike) unspent
+pub live_again_read : (r : Option Frame) (imps : List (Option State)) (i : ℕ) (x d : Option State) (c : ImpCall) → i < length imps → AreLive imps → IfSome r (λ ack. x ≡ imp_by (get_or imps i d) (call_turn c)) → (r ≡ None → x ≡ get_or imps i d) → IfSome x (λ s. s.spent ≡ false) → AreLive (set imps i x)
+live_again_read (Some ack) imps i x d c within live taken left unspent =
+    live_set imps i x (call_turn c) (call_own c) live (taken ∙ ap (λ (o : Option State). imp_by o (call_turn c)) (read_alike imps i d None within)) unspent
+live_again_read None imps i x d c within live taken left unspent =
+    subst AreLive (sym (ap (set imps i) (left refl ∙ read_alike imps i d None within) ∙ set-get_or imps i None)) live
 
 -- a taking
 live_taking : {T : Type 0} (r : Result T CarrierFault) (imps : List (Option State)) (i h : ℕ) (x : Option State) (refusal : Option CarrierFault) (grows : Bool) (P Q : T → Type 0) → AreLive imps → CallEnds refusal grows (λ (y : T). P y × (x ≡ imp_by (imp_at imps i) (λ s. to_host s h)) × Q y) (imp_at imps i) x r → OnOk r (IfSome x (λ s. s.spent ≡ false)) → OnOk r (AreLive (set imps i x))

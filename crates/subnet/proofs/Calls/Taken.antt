@@ -157,6 +157,26 @@ pub taken_quietly : (n new : Net) (l i p : ℕ) (d : Direction) (f : Frame) → 
 taken_quietly n new l i p d f there far port is silent =
     brought n new l d 0 i p f there far (port ∙ ap (λ (j : ℕ). port_of n.lines j l) (sym far)) (is ∙ quiet_at n i (imp_at n.imps i) (call_turn (call.Arrive p f)) silent)
 
+answered_at : (n : Net) (i : ℕ) (o : Option State) (turn : State → ImpTurn) (out : Outgoing) → frames_by o turn ≡ out ∷ [] → record n { imps = imps_by n.imps i o turn; lines = put_one n.lines i out } ≡ at_imp o i turn n
+answered_at n i None turn out sent = cc
+answered_at n i (Some s) turn out sent = ap (λ (frames : List Outgoing). record n { imps = set n.imps i (Some (turn s).state); lines = put_all n.lines i frames }) (sym sent)
+
+pub taken_again : (n new : Net) (l i p : ℕ) (d : Direction) (f ack : Frame) → slice_get (frames_on d (wire_at n.lines l)) 0 ≡ Some f → i ≡ far_end d (wire_at n.lines l) → p ≡ port_of n.lines (far_end d (wire_at n.lines l)) l
+    → new ≡ record n { imps = imps_by n.imps i (imp_at n.imps i) (call_turn (call.Arrive p f)); lines = put_one n.lines i (record { port = p; frame = ack }) }
+    → frames_by (imp_at n.imps i) (call_turn (call.Arrive p f)) ≡ record { port = p; frame = ack } ∷ [] → new ≡ deliver n l d 0
+taken_again n new l i p d f ack there far port is sent =
+    brought n new l d 0 i p f there far (port ∙ ap (λ (j : ℕ). port_of n.lines j l) (sym far)) (is ∙ answered_at n i (imp_at n.imps i) (call_turn (call.Arrive p f)) (record { port = p; frame = ack }) sent)
+
+again_grows : (o : Option State) (p : ℕ) (f : Frame) (out : Outgoing) → frames_by o (call_turn (call.Arrive p f)) ≡ out ∷ [] → grows_at o (call_grows (call.Arrive p f)) ≡ true
+again_grows None p f out sent = cc
+again_grows (Some s) p f out sent = ap (λ (frames : List Outgoing). nat_lt 0 (length frames)) sent
+
+pub again_wants : (n : Net) (l i p : ℕ) (d : Direction) (f ack : Frame) → slice_get (frames_on d (wire_at n.lines l)) 0 ≡ Some f → i ≡ far_end d (wire_at n.lines l) → p ≡ port_of n.lines (far_end d (wire_at n.lines l)) l
+    → frames_by (imp_at n.imps i) (call_turn (call.Arrive p f)) ≡ record { port = p; frame = ack } ∷ [] → delivered_grows n l d (slice_get (frames_on d (wire_at n.lines l)) 0) ≡ true
+again_wants n l i p d f ack there far port sent =
+    let r : Result (Unit {0}) (Unit {0}) = Err tt in
+    bring_grows_on r n l d 0 i p f there far (port ∙ ap (λ (j : ℕ). port_of n.lines j l) (sym far)) (again_grows (imp_at n.imps i) p f (record { port = p; frame = ack }) sent)
+
 pub handed_quietly : (n new : Net) (l : ℕ) (d : Direction) → new ≡ deliver n l d 0 → drop_frame new l d 0 ≡ carried_first l d n
 handed_quietly n new l d is = ap (λ (m : Net). drop_frame m l d 0) is
 

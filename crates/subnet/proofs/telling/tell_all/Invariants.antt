@@ -1,4 +1,4 @@
-use Rattle.std.proofs.Common.{◌≡◌, ◌+◌, drop, length}
+use Rattle.std.proofs.Common.{◌≡◌, drop, length}
 use Rattle.routing.specs.RouteTable.{vector_of}
 use Rattle.imp_node.specs.Lines.{told_from}
 use Rattle.subnet.specs.Net.{put_all}
