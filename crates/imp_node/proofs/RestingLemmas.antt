@@ -29,7 +29,7 @@ use Rattle.imp_node.specs.Lines.{on_port, resent_by, resent_from, resend, told_f
 use Rattle.imp_node.specs.Pump.{pump, pumped}
 use Rattle.imp_node.specs.Inside.Arriving.{with_acks}
 use Rattle.imp_node.specs.Arrival as arrivals
-use Rattle.imp_node.specs.Resting.{IsKnown, Ignores, is_repeat, is_at_rest}
+use Rattle.imp_node.specs.Resting.{IsKnown, is_repeat}
 use Rattle.imp_node.specs.Room.{busy_channels, stored_count}
 use Rattle.imp_node.specs.Queries.{holds_packet}
 use Rattle.imp_node.specs.Taking.{first_of, taking_has_room, taken_by, next_for, to_host, to_host_refusal}
@@ -156,32 +156,6 @@ pub hears_again : (s : State) (k : ℕ) (acks : List Bool) (distances : List ℕ
 hears_again s k acks distances none heard =
     let are : StoresNone s = stores_none s none in
     routes_again (port_at s.ports k).up s k acks distances (record { waits = are.waits; free = port_free s.ports k are.free }) heard
-
--- ---- a frame that brings nothing new
-
-known_again : (s : State) (k : ℕ) (acks : List Bool) (brings : Content) → IsIdle s k → IsKnown s k brings
-    → taken_frame (answer_to (port_at s.ports k).line (record { acks = acks; content = brings })) k (record { acks = acks; content = brings }) s ≡ ignored s
-known_again s k acks (content.Packet carried) idle known = absurd known
-known_again s k acks content.Nothing idle known =
-    ap (λ (ports : List Port). pump [] (record s { ports = ports })) (taken_again s k acks idle) ∙ pump_rests s idle.waits
-known_again s k acks (content.Routes distances) idle known = routes_again true s k acks distances idle (λ up. known)
-
-and_true : (a b : Bool) → (a && b) ≡ true → (a ≡ true) × (b ≡ true)
-and_true true b both = (refl, both)
-and_true false b both = absurd cc
-
-idle_of : (s : State) (k : ℕ) → is_at_rest s k ≡ true → IsIdle s k
-idle_of s k rests =
-    let both = and_true (length s.store == 0) (busy_channels (port_at s.ports k) == 0) rests in
-    record { waits = eqb-true (length s.store) 0 both.0; free = eqb-true (busy_channels (port_at s.ports k)) 0 both.1 }
-
-by_up : (up : Bool) (s : State) (k : ℕ) (acks : List Bool) (brings : Content) → (up ≡ true → (is_at_rest s k ≡ true) × IsKnown s k brings)
-    → (if up then taken_frame (answer_to (port_at s.ports k).line (record { acks = acks; content = brings })) k (record { acks = acks; content = brings }) s else ignored s) ≡ ignored s
-by_up false s k acks brings ignores = refl
-by_up true s k acks brings ignores = known_again s k acks brings (idle_of s k (ignores refl).0) (ignores refl).1
-
-pub ignoring_rests : (s : State) (k : ℕ) (f : Frame) → Ignores s k f → from_line s k f ≡ ignored s
-ignoring_rests s k f ignores = by_up (port_at s.ports k).up s k f.acks f.content ignores
 
 -- ---- a frame of which only acknowledgement bits matter
 

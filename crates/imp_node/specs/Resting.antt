@@ -4,7 +4,6 @@ use Rattle.imp_channel.specs.declared.frame.Content.{Content}
 use Rattle.imp_channel.specs.declared.frame.Content.TheVariants as content
 use Rattle.imp_channel.specs.declared.frame.Frame.{Frame}
 use Rattle.imp_channel.specs.Line.{answer_to, is_repeat_answer}
-use Rattle.imp_node.specs.Room.{busy_channels}
 use Rattle.imp_node.specs.State.{State, host_at, port_at}
 use Rattle.imp_node.specs.Taking.{next_for}
 
@@ -17,15 +16,6 @@ abbrev pub IsKnown : State → ℕ → Content → Type 0
 IsKnown s k (content.Packet carried) = ⊥
 IsKnown s k content.Nothing = Unit {0}
 IsKnown s k (content.Routes distances) = slice_index_or s.routes.heard k None ≡ Some distances
-
--- no packet waits for a channel, and none waits at this port for its acknowledgement
-abbrev pub is_at_rest : State → ℕ → Bool
-is_at_rest s k = length s.store == 0 && busy_channels (port_at s.ports k) == 0
-
--- A frame at an end that is down is ignored. Elsewhere it is where the port is at rest, so that neither the pump nor acknowledgements do
--- anything, and where what the frame brings is known
-abbrev pub Ignores : State → ℕ → Frame → Type 0
-Ignores s k f = (port_at s.ports k).up ≡ true → (is_at_rest s k ≡ true) × IsKnown s k f.content
 
 -- a frame brings a packet that was given before, and no packet waits for a channel: only the acknowledgement is sent
 abbrev pub is_repeat : State → ℕ → Frame → Bool

@@ -40,16 +40,6 @@ impl Imp {
         )
     }
 
-    /// Whether a frame that comes in at a port would be ignored: the end there is down; or no packet waits in the store or in a
-    /// channel of that port, and the frame brings nothing, or the distances that were heard there last. This takes no memory.
-    #[tactic(auto, using(crate::proofs::RestingLemmas::ignoring_rests))]
-    pub fn ignores(&self, port: u8, frame: &Frame) -> bool
-        ensures answer { (result ≡ true) ↔ resting.Ignores self.now port frame.now }
-        ensures unchanged { result ≡ true → from_line self.now port frame.now ≡ ignored self.now }
-    {
-        !self.is_live(port) || (self.is_at_rest(port) && self.knows(port, &frame.content))
-    }
-
     /// Takes a frame for which nothing is to be sent, and answers whether this is one: the end at the port is down, and ignores it; or
     /// no packet waits in the store, and the frame brings nothing, or the distances that were heard there last, so that only its
     /// acknowledgement bits matter. Any other frame is left, and nothing changes. This takes no memory.
@@ -117,14 +107,6 @@ impl Imp {
         ensures { self.new ≡ with_acks port acks.now self.old }
     {
         self.ports[port as usize].line.acknowledge(acks);
-    }
-
-    /// Whether no packet waits for a channel, and none waits at this port for its acknowledgement.
-    fn is_at_rest(&self, port: u8) -> bool
-        requires { port < length self.now.ports }
-        ensures { result ≡ resting.is_at_rest self.now port }
-    {
-        self.store.is_empty() && self.ports[port as usize].line.busy_channels() == 0
     }
 
     /// Whether what a frame brings is known at this port.

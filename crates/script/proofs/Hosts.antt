@@ -1,5 +1,5 @@
 -- Hosts and flows as words.
-use Rattle.std.proofs.Common.{◌≡◌, ◌≢◌, ℕ, ◌<◌, ◌≤◌, ◌==◌, ◌&&◌, nat_le, Bool, true, false, List, ◌∷◌, ◌++◌, Option, Some, None, if◌then◌else◌, sym, ap, ◌∙◌, arith, subst, append_assoc, lit<}
+use Rattle.std.proofs.Common.{◌≡◌, ℕ, ◌<◌, ◌≤◌, ◌==◌, ◌&&◌, nat_le, Bool, true, false, List, ◌∷◌, ◌++◌, Option, Some, None, if◌then◌else◌, sym, ap, ◌∙◌, arith, subst, append_assoc, lit<}
 use Rattle.std.proofs.lemmas.Bool.Decides.{nat_tests}
 use Rattle.std.proofs.lemmas.Fmt.{decimal_injective}
 use Rattle.std.proofs.lemmas.List.Elements.{All-append, All-cons}
@@ -10,7 +10,7 @@ use Rattle.leader1822.specs.declared.address.Flow.{Flow}
 use Rattle.script.specs.Spelling.{ReadsAs, IsHost, IsFlow}
 use Rattle.script.specs.Steps.{ReadsFlow, Lacks}
 use Rattle.script.proofs.Numbers.{All-unmarked_decimal}
-use Rattle.script.proofs.Words.{SameCut, SameThree, same_three, same_cut, not_cut, not_front, not_back}
+use Rattle.script.proofs.Words.{SameCut, SameThree, same_three, same_cut}
 
 pub record HostRange (h : Host) : Type 0 where
   pub host : h.host ≤ 3
@@ -28,24 +28,11 @@ host_unmarked mark h low is =
     let P : ℕ → Type 0 = λ x. (x == mark) ≡ false in
     All-append P (decimal h.host) (47 ∷ decimal h.imp) (All-unmarked_decimal mark h.host (omega arith) (omega arith)) (All-cons P 47 (decimal h.imp) slash (All-unmarked_decimal mark h.imp (omega arith) (omega arith)))
 
--- a word without a slash, or with another number on either side of it, is no host
-pub no_slash : (word : List ℕ) → Lacks 47 word → (h : Host) → IsHost h → word ≢ host_text h
-no_slash word unmarked = not_cut 47 word (λ h. decimal h.host) (λ h. decimal h.imp) IsHost unmarked
-
+-- the number of a host has no slash
 pub front_unmarked : (h : Host) → IsHost h → Lacks 47 (decimal h.host)
 front_unmarked h is =
     let small : h.host ≤ 3 = (host_range h is).host in
     All-unmarked_decimal 47 h.host (omega arith) (omega arith)
-
-pub no_number : (word a b : List ℕ) → word ≡ a ++ 47 ∷ b → Lacks 47 a → ReadsAs decimal (λ n. n < 256) a None → (h : Host) → IsHost h → word ≢ host_text h
-no_number word a b is unmarked none =
-    not_front 47 word a b (λ h. decimal h.host) (λ h. decimal h.imp) IsHost is unmarked front_unmarked
-    (λ h meant e. let small : h.host ≤ 3 = (host_range h meant).host in none h.host (omega arith) e)
-
-pub no_imp_number : (word a b : List ℕ) → word ≡ a ++ 47 ∷ b → Lacks 47 a → ReadsAs decimal (λ n. n < 256) b None → (h : Host) → IsHost h → word ≢ host_text h
-no_imp_number word a b is unmarked none =
-    not_back 47 word a b (λ h. decimal h.host) (λ h. decimal h.imp) IsHost is unmarked front_unmarked
-    (λ h meant e. let small : h.imp ≤ 63 = (host_range h meant).imp in none h.imp (omega arith) e)
 
 some_same : {X : Type 0} {x y : X} → Some x ≡ Some y → x ≡ y
 some_same e = cc

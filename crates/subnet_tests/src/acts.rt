@@ -73,8 +73,10 @@ pub(crate) enum Act {
     IsUp(u8),
     /// Whether nothing is to be done for this host.
     HasNothingFor(u8),
-    /// Whether the frame of the octets beside it would be ignored at this port.
-    Ignores(u8),
+    /// Whether the frame of the octets beside it is taken at this port, as one for which nothing has to be sent.
+    Takes(u8),
+    /// The acknowledgement of the frame of the octets beside it, which was taken at this port before.
+    Answers(u8),
     /// Whether what IMP 2, with so many ports, tells as it opens was heard last at this port.
     HasHeard(u8, u8),
     /// All queries are made about a flow and its message 0.
@@ -234,12 +236,39 @@ fn hear(
     sent(alloc, imp.from_line(port, frame), out)
 }
 
-/// Whether a frame of these octets would be ignored at a port.
-fn ignored(alloc: Global, imp: &Imp, port: u8, octets: &[u8]) -> Result<Outcome, CarrierFault> {
+/// Whether a frame of these octets is taken at a port, as one for which nothing has to be sent.
+fn taken(alloc: Global, imp: &mut Imp, port: u8, octets: &[u8]) -> Result<Outcome, CarrierFault>
+    requires { imp.old.spent ≡ false }
+    ensures { OnOk result (imp.new.spent ≡ false) }
+{
     let Ok(frame) = Frame::read(alloc, octets) else {
         return Err(CarrierFault::OutOfMemory);
     };
-    Ok(Outcome::Is(imp.ignores(port, &frame)))
+    Ok(Outcome::Is(imp.takes(port, &frame)))
+}
+
+/// What goes back for a frame of these octets that was taken at a port before, if only that is to be sent.
+fn answered(
+    alloc: Global,
+    imp: &mut Imp,
+    port: u8,
+    octets: &[u8],
+    out: &mut Vec<u8>,
+) -> Result<Outcome, CarrierFault>
+    requires { imp.old.spent ≡ false }
+    ensures { OnOk result (imp.new.spent ≡ false) }
+{
+    let Ok(frame) = Frame::read(alloc, octets) else {
+        return Err(CarrierFault::OutOfMemory);
+    };
+    let Some(frame) = imp.answers(port, &frame) else {
+        return Ok(Outcome::Is(false));
+    };
+    let mut frames = Vec::new(alloc);
+    if frames.push(Outgoing { port, frame }).is_err() {
+        return Err(CarrierFault::OutOfMemory);
+    }
+    sent(alloc, Ok(frames), out)
 }
 
 /// Whether what IMP 2, with so many ports, tells as it opens was heard last at a port.
@@ -346,7 +375,8 @@ fn outcome_of(
         Act::HostUp(host) => sent(alloc, imp.host_up(host), out),
         Act::IsUp(host) => Ok(Outcome::Up(imp.is_up(host))),
         Act::HasNothingFor(host) => Ok(Outcome::Is(imp.has_nothing_for(host))),
-        Act::Ignores(port) => ignored(alloc, imp, port, octets),
+        Act::Takes(port) => taken(alloc, imp, port, octets),
+        Act::Answers(port) => answered(alloc, imp, port, octets, out),
         Act::HasHeard(port, ports) => heard(alloc, imp, port, ports),
         Act::Look(way) => Ok(Outcome::Seen(looked_up(imp, &flow_of(way)))),
     }
