@@ -16,7 +16,24 @@ from parts import ROOT
 
 EXAMPLE = f"{ROOT}/examples/first-message"
 SECONDS = 4  # so long may a run take here
-ENDLESS = 'carrier = "subnet"\nraw = true\n[[imp]]\nid = 1\nhosts = 1\n%\ncalm 4294967295\n'
+# the packet goes again in each round, since the end that it comes to is down: a calm ends only where the network rests
+ENDLESS = """carrier = "subnet"
+raw = true
+[[imp]]
+id = 1
+hosts = 1
+[[imp]]
+id = 2
+hosts = 1
+[[line]]
+a = 1
+b = 2
+%
+calm 2
+enddown 2 0
+out 0/1 0/2 5 8 FF
+calm 4294967295
+"""
 
 
 class Wrong(Exception):

@@ -149,6 +149,12 @@ fn write_deeds(
     write_crossing(alloc, book, host, &[], Vec::new(alloc), deeds)
 }
 
+/// Whether a copy of a request needs memory. It promises nothing: such a request is only asked about before it is copied, so that
+/// no memory is wanted for one that is refused.
+fn has_text(request: &Request) -> bool {
+    matches!(request, Request::Send { .. })
+}
+
 /// The program in a seat is asked for something, which it refuses or serves. Returns what it tells.
 fn asked_of(seat: &mut Seat, request: &Request) -> Result<Vec<Notice>, WorldFault>
     requires live { IfSome seat.old.program (λ p. p.spent ≡ false) }
@@ -158,6 +164,11 @@ fn asked_of(seat: &mut Seat, request: &Request) -> Result<Vec<Notice>, WorldFaul
     let Some(program) = &mut seat.program else {
         return Err(WorldFault::Program(NcpFault::OutOfMemory));
     };
+    if has_text(request) {
+        if let Some(fault) = program.refusal(request) {
+            return Err(WorldFault::Program(fault));
+        }
+    }
     let Ok(copy) = copy_of(request) else {
         let refusal = program.refusal(request);
         return Err(WorldFault::Program(refusal.unwrap_or(NcpFault::OutOfMemory)));
