@@ -1,6 +1,6 @@
 //! The server's part of an initial connection.
 
-ghost use Rattle.std.specs.Prelude.{◌≡◌, ◌==◌, ◌+◌, ◌<◌, true, false, [], ◌∷◌, length, MatchResult, IfOk, OnErr, Err, Ok, None, Some};
+ghost use Rattle.std.specs.Prelude.{◌≡◌, ◌==◌, ◌+◌, ◌<◌, ◌&&◌, is_some, true, false, [], ◌∷◌, length, MatchResult, IfOk, OnErr, Err, Ok, None, Some};
 ghost use Rattle.icp.specs.Notices as notices;
 ghost use Rattle.icp.specs.Server as servers;
 ghost use Rattle.icp.specs.Outcomes as outcomes;
@@ -142,6 +142,34 @@ impl Server {
         ensures { result ≡ self.now.over }
     {
         self.over
+    }
+
+    /// The socket on which users ask.
+    pub fn listen(&self) -> SendSocket
+        ensures { result ≡ self.now.listen }
+    {
+        self.listen
+    }
+
+    /// The socket on which it serves and receives.
+    pub fn receive(&self) -> ReceiveSocket
+        ensures { result ≡ self.now.receive }
+    {
+        self.receive
+    }
+
+    /// The socket on which it serves and sends.
+    pub fn send(&self) -> SendSocket
+        ensures { result ≡ self.now.send }
+    {
+        self.send
+    }
+
+    /// Whether both ends on which it serves were opened.
+    pub fn is_open(&self) -> bool
+        ensures { result ≡ (is_some self.now.receiving && is_some self.now.sending) }
+    {
+        self.receiving.is_some() && self.sending.is_some()
     }
 
     /// Whether running out of memory has made it useless.

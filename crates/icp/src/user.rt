@@ -1,6 +1,6 @@
 //! The user's part of an initial connection.
 
-ghost use Rattle.std.specs.Prelude.{◌≡◌, ◌+◌, ◌<◌, ◌≤◌, nat_lt, true, false, [], ◌∷◌, ◌++◌, length, take, MatchOption, MatchResult, IfOk, OnErr, Err, Ok, None, Some};
+ghost use Rattle.std.specs.Prelude.{◌≡◌, ◌+◌, ◌<◌, ◌≤◌, ◌&&◌, nat_lt, true, false, [], ◌∷◌, ◌++◌, length, take, MatchOption, MatchResult, IfOk, OnErr, Err, Ok, None, Some};
 ghost use Rattle.icp.specs.Outcomes as outcomes;
 ghost use Rattle.icp.specs.Sockets.{user_fault, socket_of};
 ghost use Rattle.icp.specs.Notices.{arrived_on, brings_bits};
@@ -104,6 +104,34 @@ impl User {
         ensures { result ≡ self.now.over }
     {
         self.over
+    }
+
+    /// Its socket that asks.
+    pub fn own(&self) -> ReceiveSocket
+        ensures { result ≡ self.now.own }
+    {
+        self.own
+    }
+
+    /// The socket on which it is to receive.
+    pub fn receive(&self) -> ReceiveSocket
+        ensures { result ≡ self.now.receive }
+    {
+        self.receive
+    }
+
+    /// The socket on which it is to send.
+    pub fn send(&self) -> SendSocket
+        ensures { result ≡ self.now.send }
+    {
+        self.send
+    }
+
+    /// Whether both connections were opened that are to be used.
+    pub fn is_open(&self) -> bool
+        ensures { result ≡ (self.now.receiving && self.now.sending) }
+    {
+        self.receiving && self.sending
     }
 
     /// Whether running out of memory has made it useless.
