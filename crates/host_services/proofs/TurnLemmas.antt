@@ -1,6 +1,7 @@
 -- The turns of services, one by one.
-use Rattle.std.proofs.Common.{◌≡◌, ℕ, zero, suc, ◌+◌, ◌<◌, List, [], ◌∷◌, ◌++◌, length, take, drop, slice_set, slice_index_or, map, ap, sym, ◌∙◌, arith}
+use Rattle.std.proofs.Common.{◌≡◌, ℕ, zero, suc, ◌+◌, ◌<◌, ◌||◌, Bool, true, false, refl, List, [], ◌∷◌, ◌++◌, length, take, drop, slice_set, slice_index_or, map, ap, sym, ◌∙◌, arith}
 use Rattle.std.proofs.lemmas.List.{get_or-map, length-map, map-append, map-set}
+use Rattle.std.specs.Bool.{OnFalse}
 use Rattle.host_pairs.specs.declared.notice.Notice.{Notice}
 use Rattle.host_services.specs.Ears.{ear_of}
 use Rattle.host_services.specs.Services.{Service, ServiceDeskState}
@@ -42,3 +43,14 @@ ears_set xs es i y e is one =
 pub ears_joined : (xs : List Service) (es : List Ear) (y : Service) (e : Ear) → es ≡ map ear_of xs → e ≡ ear_of y → es ++ e ∷ [] ≡ map ear_of (xs ++ y ∷ [])
 ears_joined xs es y e is one =
     ap (λ (ys : List Ear). ys ++ e ∷ []) is ∙ ap (λ (f : Ear). map ear_of xs ++ f ∷ []) one ∙ sym (map-append ear_of xs (y ∷ []))
+
+put_back : (es : List Ear) (i : ℕ) (o : Ear) → i < length es → slice_set es i (slice_index_or es i o) ≡ es
+put_back [] i o lt = absurd (omega (arith, lt))
+put_back (e ∷ es) zero o lt = refl
+put_back (e ∷ es) (suc i) o lt = ap (λ (fs : List Ear). e ∷ fs) (put_back es i o (omega (arith, lt)))
+
+-- an ear that hasn't changed is put back in its place
+pub ears_same : (es fs : List Ear) (i : ℕ) (o e : Ear) (was now : Bool) → i < length es → OnFalse was (es ≡ fs) → OnFalse now (e ≡ slice_index_or es i o) → OnFalse (was || now) (slice_set es i e ≡ fs)
+ears_same es fs i o e true now lt before here = tt
+ears_same es fs i o e false true lt before here = tt
+ears_same es fs i o e false false lt before here = ap (λ (x : Ear). slice_set es i x) here ∙ put_back es i o lt ∙ before

@@ -2,12 +2,13 @@
 
 ghost use Rattle.std.specs.Prelude.{◌≡◌, ◌++◌, ◌∷◌, [], IfOk, OnOk, map};
 ghost use Rattle.std.specs.Bool.{OnFalse};
-ghost use Rattle.host_services.specs.Ears.{AreDeaf, ear_of};
+ghost use Rattle.host_pairs.specs.declared.notice.Notice.{Notice};
+ghost use Rattle.host_services.specs.Ears.{AreDeaf, ear_of, subject_of};
 ghost use Rattle.host_services.specs.Turns as turns;
 
 use crate::Service;
 use crate::desk::ServiceDesk;
-use crate::hearing::{Ear, Scope};
+use crate::hearing::{Ear, Scope, Subject};
 use sockets::Notice;
 use std::alloc::{AllocError, Global};
 use std::marker::Model;
@@ -37,43 +38,61 @@ impl Model for Block {
     ghost invariant = { λ b. (b.ears.items ≡ map ear_of b.services.items) × AreHeardIn b.scope b.ears.items };
 }
 
-/// A service is told of a notice, unless it can't hear it.
+/// A service is told of a notice, unless it can't hear of what this is about. Returns whether it may hear of other things now.
+#[tactic(auto, using(crate::proofs::HearingLemmas::deaf))]
 fn tell_one(
     alloc: Global,
     service: &mut Service,
     ear: &mut Ear,
     desk: &mut ServiceDesk,
     notice: &Notice,
-) -> Result<(), AllocError>
-    requires { ear.old ≡ ear_of service.old }
+    subject: Subject,
+) -> Result<bool, AllocError>
+    requires ear { ear.old ≡ ear_of service.old }
+    requires subject { subject ≡ subject_of notice.now }
     ensures heard { IfOk result (λ _. turns.heard_by notice.now service.old desk.old ≡ (service.new, desk.new)) }
+    ensures same { IfOk result (λ changed. OnFalse changed (ear.new ≡ ear.old)) }
     ensures ear { ear.new ≡ ear_of service.new }
 {
-    if !ear.hears(notice) {
-        return Ok(());
+    if !ear.hears(subject) {
+        return Ok(false);
     }
     let told = desk.tell(alloc, service, notice);
+    let before = *ear;
     *ear = service.ear();
-    told
+    told?;
+    Ok(before != *ear)
 }
 
-/// Each of these services is told of a notice, one after another.
-#[tactic(auto, using(crate::proofs::TurnLemmas::more_heard, crate::proofs::TurnLemmas::ear_at, crate::proofs::TurnLemmas::ears_long, crate::proofs::TurnLemmas::ears_set))]
+/// Each of these services is told of a notice, one after another. Returns whether one of them may hear of other things now.
+#[tactic(auto, using(crate::proofs::TurnLemmas::ear_at, crate::proofs::TurnLemmas::ears_long, crate::proofs::TurnLemmas::ears_set))]
 fn tell_each(
     alloc: Global,
     services: &mut [Service],
     ears: &mut [Ear],
     desk: &mut ServiceDesk,
     notice: &Notice,
-) -> Result<(), AllocError>
-    requires { ears.old ≡ map ear_of services.old }
+    subject: Subject,
+) -> Result<bool, AllocError>
+    requires ears { ears.old ≡ map ear_of services.old }
+    requires subject { subject ≡ subject_of notice.now }
     ensures heard { IfOk result (λ _. turns.notice_heard notice.now services.old desk.old ≡ (services.new, desk.new)) }
+    ensures same { IfOk result (λ changed. OnFalse changed (ears.new ≡ ears.old)) }
     ensures ears { ears.new ≡ map ear_of services.new }
 {
+    let mut changed = false;
     for at in 0..services.len() {
-        tell_one(alloc, &mut services[at], &mut ears[at], desk, notice)?;
+        let now = tell_one(
+            alloc,
+            &mut services[at],
+            &mut ears[at],
+            desk,
+            notice,
+            subject,
+        )?;
+        changed |= now;
     }
-    Ok(())
+    Ok(changed)
 }
 
 impl Block {
@@ -94,39 +113,68 @@ impl Block {
     }
 
     /// A service is the last now.
-    #[tactic(auto, using(crate::proofs::TurnLemmas::ears_joined))]
+    #[tactic(auto, using(crate::proofs::TurnLemmas::ears_joined, crate::proofs::ScopeLemmas::one_more))]
     pub(crate) fn push(&mut self, service: Service) -> Result<(), AllocError>
         ensures { OnOk result (self.new ≡ self.old ++ service ∷ []) }
     {
         self.services.reserve(1)?;
         self.ears.reserve(1)?;
-        self.ears.push_reserved(service.ear());
+        let ear = service.ear();
+        self.ears.push_reserved(ear);
         self.services.push_reserved(service);
-        self.scope = Scope::of(&self.ears);
+        self.scope.widen(ear);
         Ok(())
     }
 
-    /// Whether a notice may do something to one of its services.
-    pub(crate) fn hears(&self, notice: &Notice) -> bool
-        ensures { OnFalse result (AreDeaf self.now notice.now) }
+    /// Whether a notice about this may do something to one of its services.
+    #[tactic(auto, using(crate::proofs::ScopeLemmas::all_deaf))]
+    pub(crate) fn hears(&self, subject: Subject) -> bool
+        ensures { OnFalse result ((n : Notice) → subject ≡ subject_of n → AreDeaf self.now n) }
     {
-        self.scope.hears(notice)
+        self.scope.hears(subject)
     }
 
-    /// Its services are told of a notice, one after another, unless none of them hears it.
+    /// Its services are told of a notice, one after another.
+    #[inline(never)]
+    fn tell_all(
+        &mut self,
+        alloc: Global,
+        desk: &mut ServiceDesk,
+        notice: &Notice,
+        subject: Subject,
+    ) -> Result<(), AllocError>
+        requires { subject ≡ subject_of notice.now }
+        ensures { IfOk result (λ _. turns.notice_heard notice.now self.old desk.old ≡ (self.new, desk.new)) }
+    {
+        let told = tell_each(
+            alloc,
+            &mut self.services,
+            &mut self.ears,
+            desk,
+            notice,
+            subject,
+        );
+        if !matches!(told, Ok(false)) {
+            self.scope = Scope::of(&self.ears);
+        }
+        told?;
+        Ok(())
+    }
+
+    /// Its services are told of a notice, one after another, unless none of them hears of what this is about.
     pub(crate) fn tell(
         &mut self,
         alloc: Global,
         desk: &mut ServiceDesk,
         notice: &Notice,
+        subject: Subject,
     ) -> Result<(), AllocError>
+        requires { subject ≡ subject_of notice.now }
         ensures { IfOk result (λ _. turns.notice_heard notice.now self.old desk.old ≡ (self.new, desk.new)) }
     {
-        if !self.scope.hears(notice) {
+        if !self.hears(subject) {
             return Ok(());
         }
-        let told = tell_each(alloc, &mut self.services, &mut self.ears, desk, notice);
-        self.scope = Scope::of(&self.ears);
-        told
+        self.tell_all(alloc, desk, notice, subject)
     }
 }

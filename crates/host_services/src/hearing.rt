@@ -1,24 +1,56 @@
 //! Which notices do nothing to a service, so that it needn't have its turn.
 
-ghost use Rattle.std.specs.Prelude.{◌≡◌, ◌≤◌, ℕ, List, None, [], map};
-ghost use Rattle.std.specs.Bool.{OnFalse};
+ghost use Rattle.std.specs.Prelude.{◌≡◌};
 ghost use Rattle.std.specs.List.{fold};
-ghost use Rattle.terminal.specs.Ends.{arrived_on, closed_by};
-ghost use Rattle.host_services.specs.Ears.{AreHeardIn, ear_by, ear_of, widened};
-ghost use Rattle.host_services.specs.Services.{Service, ServiceDeskState};
-ghost use Rattle.host_services.specs.Turns.{heard_by, notice_heard};
+ghost use Rattle.host_services.specs.Ears as heard;
+ghost use Rattle.host_services.specs.Ears.{AreHeardIn, ear_of};
 
 use crate::Service;
 use sockets::Notice;
 
-/// What a service may hear of. It stands beside the service, so that all can be gone through quickly.
+/// What a notice is about, as far as services tell notices apart.
 #[derive(Clone, Copy)]
+pub(crate) enum Subject {
+    /// A connection of this socket was opened or has ended, or bits arrived on it.
+    Socket(u32),
+    /// All connections with a peer are gone.
+    Reset,
+    /// Something else.
+    Other,
+}
+
+impl Subject {
+    /// What this notice is about.
+    pub(crate) fn of(notice: &Notice) -> Subject
+        ensures { result ≡ heard.subject_of notice.now }
+    {
+        match notice {
+            Notice::Opened { socket, .. }
+            | Notice::Ended { socket, .. }
+            | Notice::Arrived { socket, .. } => Subject::Socket(*socket),
+            Notice::PairReset { .. } => Subject::Reset,
+            _ => Subject::Other,
+        }
+    }
+}
+
+/// What a service may hear of. It stands beside the service, so that all can be gone through quickly.
+#[derive(Clone, Copy, PartialEq, Eq)]
 pub(crate) enum Ear {
     /// Nothing any more.
     Nothing,
     /// Every notice.
     Everything,
-    /// What arrives on one socket, and what ends on this and on another one.
+    /// What opens, arrives or ends on three sockets, and that connections are gone.
+    Begins {
+        /// The socket that is asked, or that asks.
+        asks: u32,
+        /// The socket on which it is to receive.
+        receive: u32,
+        /// The socket on which it is to send.
+        send: u32,
+    },
+    /// What opens, arrives or ends on two sockets.
     Ends {
         /// The socket on which it receives.
         receive: u32,
@@ -27,45 +59,60 @@ pub(crate) enum Ear {
     },
 }
 
-/// Whether a notice tells of bits on the first of two sockets, or of the end of a connection of one of them.
-fn is_about(notice: &Notice, receive: u32, send: u32) -> bool
-    ensures arrived { OnFalse result (arrived_on receive notice.now ≡ None) }
-    ensures ended { OnFalse result (closed_by receive send notice.now ≡ []) }
-{
-    match notice {
-        Notice::Arrived { socket, .. } => *socket == receive,
-        Notice::Ended { socket, .. } => *socket == receive || *socket == send,
-        _ => false,
-    }
-}
-
-/// What a server or a user hears.
-fn ear_by(over: bool) -> Ear
-    ensures { result ≡ ear_by over }
-{
-    if over { Ear::Nothing } else { Ear::Everything }
-}
-
 impl Ear {
-    /// Whether a notice may do something to a service with this ear.
-    #[tactic(auto, using(crate::proofs::HearingLemmas::deaf, crate::proofs::HearingLemmas::elsewhere))]
-    pub(crate) fn hears(&self, notice: &Notice) -> bool
-        ensures { OnFalse result ((s : Service) (d : ServiceDeskState) → self.now ≡ ear_of s → heard_by notice.now s d ≡ (s, d)) }
+    /// That of a server or a user: whether it has its outcome, whether both its connections were opened, and its sockets.
+    fn of_three(over: bool, both: bool, asks: u32, receive: u32, send: u32) -> Ear
+        ensures { result ≡ heard.ear_by over both asks receive send }
+    {
+        if over {
+            Ear::Nothing
+        } else if both {
+            Ear::Everything
+        } else {
+            Ear::Begins {
+                asks,
+                receive,
+                send,
+            }
+        }
+    }
+
+    /// Whether it hears of this socket.
+    fn hears_of(&self, socket: u32) -> bool
+        ensures { result ≡ heard.hears_of self.now socket }
     {
         match self {
             Ear::Nothing => false,
             Ear::Everything => true,
-            Ear::Ends { receive, send } => is_about(notice, *receive, *send),
+            Ear::Begins {
+                asks,
+                receive,
+                send,
+            } => socket == *asks || socket == *receive || socket == *send,
+            Ear::Ends { receive, send } => socket == *receive || socket == *send,
+        }
+    }
+
+    /// Whether a notice about this may do something to a service with this ear.
+    pub(crate) fn hears(&self, subject: Subject) -> bool
+        ensures { result ≡ heard.hears self.now subject }
+    {
+        match subject {
+            Subject::Socket(socket) => self.hears_of(socket),
+            Subject::Reset => matches!(self, Ear::Everything | Ear::Begins { .. }),
+            Subject::Other => matches!(self, Ear::Everything),
         }
     }
 }
 
-/// What several services may hear of at most: everything, if one of them may hear everything, and what arrives or ends on sockets
-/// within a range.
+/// What several services may hear of at most: everything, if one of them may hear everything; that connections are gone, if one
+/// may hear of that; and what opens, arrives or ends on sockets within a range.
 #[derive(Clone, Copy)]
 pub(crate) struct Scope {
     /// Whether one of them may hear everything.
     everything: bool,
+    /// Whether one of them may hear that connections are gone.
+    resets: bool,
     /// The lowest socket that another one may hear of.
     low: u32,
     /// The highest.
@@ -77,28 +124,47 @@ impl Scope {
     pub(crate) fn empty() -> Scope {
         Scope {
             everything: false,
+            resets: false,
             low: u32::MAX,
             high: 0,
         }
     }
 
+    /// It is made as wide as it has to be for one socket more.
+    fn add(&mut self, socket: u32)
+        ensures { self.new ≡ heard.with_socket socket self.old }
+    {
+        self.low = self.low.min(socket);
+        self.high = self.high.max(socket);
+    }
+
     /// It is made as wide as it has to be for one ear more.
-    fn widen(&mut self, ear: Ear)
-        ensures { self.new ≡ widened self.old ear }
+    pub(crate) fn widen(&mut self, ear: Ear)
+        ensures { self.new ≡ heard.widened self.old ear }
     {
         match ear {
             Ear::Nothing => {}
             Ear::Everything => self.everything = true,
+            Ear::Begins {
+                asks,
+                receive,
+                send,
+            } => {
+                self.resets = true;
+                self.add(asks);
+                self.add(receive);
+                self.add(send);
+            }
             Ear::Ends { receive, send } => {
-                self.low = self.low.min(receive.min(send));
-                self.high = self.high.max(receive.max(send));
+                self.add(receive);
+                self.add(send);
             }
         }
     }
 
     /// It is made as wide as it has to be for all of these ears.
     fn widen_all(&mut self, ears: &[Ear])
-        ensures { self.new ≡ fold widened self.old ears.now }
+        ensures { self.new ≡ fold heard.widened self.old ears.now }
     {
         for ear in ears {
             self.widen(*ear);
@@ -115,36 +181,43 @@ impl Scope {
         scope
     }
 
-    /// Whether a notice tells of bits on a socket in the range, or of the end of a connection of one.
-    fn is_about(&self, notice: &Notice) -> bool
-        ensures arrived { OnFalse result ((r : ℕ) → self.now.low ≤ r → r ≤ self.now.high → arrived_on r notice.now ≡ None) }
-        ensures ended { OnFalse result ((r t : ℕ) → self.now.low ≤ r → r ≤ self.now.high → self.now.low ≤ t → t ≤ self.now.high → closed_by r t notice.now ≡ []) }
+    /// Whether a notice about this may do something to one of the services with this scope.
+    pub(crate) fn hears(&self, subject: Subject) -> bool
+        ensures { result ≡ heard.is_heard_in self.now subject }
     {
-        match notice {
-            Notice::Arrived { socket, .. } | Notice::Ended { socket, .. } => {
-                self.low <= *socket && *socket <= self.high
-            }
-            _ => false,
+        if self.everything {
+            return true;
         }
-    }
-
-    /// Whether a notice may do something to one of the services with this scope.
-    pub(crate) fn hears(&self, notice: &Notice) -> bool
-        ensures { OnFalse result ((xs : List Service) (d : ServiceDeskState) → AreHeardIn self.now (map ear_of xs) → notice_heard notice.now xs d ≡ (xs, d)) }
-    {
-        self.everything || self.is_about(notice)
+        match subject {
+            Subject::Socket(socket) => self.low <= socket && socket <= self.high,
+            Subject::Reset => self.resets,
+            Subject::Other => false,
+        }
     }
 }
 
 impl Service {
-    /// What it may hear of. Nothing does anything to a server or a user with its outcome, and to an echo service or a terminal only
-    /// what arrives and what ends on its two sockets.
+    /// What it may hear of. Nothing does anything to a server or a user with its outcome. Before that only what opens, arrives and
+    /// ends on its sockets does, and that connections are gone, and to an echo service or a terminal only what arrives and ends on its
+    /// two sockets.
     pub(crate) fn ear(&self) -> Ear
         ensures { result ≡ ear_of self.now }
     {
         match self {
-            Service::Server(server) => ear_by(server.is_over()),
-            Service::User(user) => ear_by(user.is_over()),
+            Service::Server(server) => Ear::of_three(
+                server.is_over(),
+                server.is_open(),
+                server.listen().number(),
+                server.receive().number(),
+                server.send().number(),
+            ),
+            Service::User(user) => Ear::of_three(
+                user.is_over(),
+                user.is_open(),
+                user.own().number(),
+                user.receive().number(),
+                user.send().number(),
+            ),
             Service::Echo(echo) => Ear::Ends {
                 receive: echo.receive().number(),
                 send: echo.send().number(),

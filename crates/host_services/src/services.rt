@@ -2,7 +2,8 @@
 
 ghost use Rattle.std.specs.Prelude.{◌≡◌, ◌<◌, ◌++◌, ◌∷◌, [], IfOk, OnErr, OnOk, length};
 ghost use Rattle.std.specs.Bool.{OnFalse};
-ghost use Rattle.host_services.specs.Ears.{AreDeaf, all_in};
+ghost use Rattle.host_pairs.specs.declared.notice.Notice.{Notice};
+ghost use Rattle.host_services.specs.Ears.{AreDeaf, all_in, subject_of};
 ghost use Rattle.host_services.specs.Services.{ServiceDeskState, no_services};
 ghost use Rattle.host_services.specs.Turns as turns;
 ghost use Rattle.icp.specs.declared.outcome.Failure.TheVariants as failure;
@@ -10,6 +11,7 @@ ghost use Rattle.icp.specs.declared.outcome.Outcome.TheVariants as outcome;
 
 use crate::block::Block;
 use crate::desk::ServiceDesk;
+use crate::hearing::Subject;
 use crate::{Report, Service};
 use icp::{Failure, Outcome, Said, Server, StartFault, User};
 use leader1822::HostAddr;
@@ -47,11 +49,13 @@ fn tell_blocks(
     blocks: &mut [Block],
     desk: &mut ServiceDesk,
     notice: &Notice,
+    subject: Subject,
 ) -> Result<(), AllocError>
+    requires { subject ≡ subject_of notice.now }
     ensures { IfOk result (λ _. turns.notice_heard notice.now (all_in blocks.old) desk.old ≡ (all_in blocks.new, desk.new)) }
 {
     for at in 0..blocks.len() {
-        blocks[at].tell(alloc, desk, notice)?;
+        blocks[at].tell(alloc, desk, notice, subject)?;
     }
     Ok(())
 }
@@ -66,17 +70,18 @@ fn tell_each(
 ) -> Result<(), AllocError>
     ensures { IfOk result (λ _. turns.notice_heard notice.now (all_in full.old ++ last.old) desk.old ≡ (all_in full.new ++ last.new, desk.new)) }
 {
-    tell_blocks(alloc, full, desk, notice)?;
-    last.tell(alloc, desk, notice)?;
+    let subject = Subject::of(notice);
+    tell_blocks(alloc, full, desk, notice, subject)?;
+    last.tell(alloc, desk, notice, subject)?;
     Ok(())
 }
 
-/// Whether a notice may do something to a service of these blocks.
-fn any_hears(blocks: &[Block], notice: &Notice) -> bool
-    ensures { OnFalse result (AreDeaf (all_in blocks.now) notice.now) }
+/// Whether a notice about this may do something to a service of these blocks.
+fn any_hears(blocks: &[Block], subject: Subject) -> bool
+    ensures { OnFalse result ((n : Notice) → subject ≡ subject_of n → AreDeaf (all_in blocks.now) n) }
 {
     for block in blocks {
-        if block.hears(notice) {
+        if block.hears(subject) {
             return true;
         }
     }
@@ -156,7 +161,8 @@ impl Services {
     fn hear(&self, notice: &Notice) -> bool
         ensures { OnFalse result (AreDeaf self.now.running notice.now) }
     {
-        any_hears(&self.full, notice) || self.last.hears(notice)
+        let subject = Subject::of(notice);
+        any_hears(&self.full, subject) || self.last.hears(subject)
     }
 
     /// Whether one of these notices may do something to one of them. Where none does, they needn't be told.
