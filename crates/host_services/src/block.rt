@@ -14,7 +14,7 @@ use std::alloc::{AllocError, Global};
 use std::marker::Model;
 
 /// How many services a block has when it is full.
-const ROOM: usize = 16;
+const ROOM: usize = 32;
 
 /// Some services, in the order in which they began.
 ///
