@@ -54,12 +54,23 @@ fn place_of(text: &[u8], separator: u8) -> usize
     at
 }
 
-/// Whether a word is this one. Where their lengths differ, no octet is looked at.
+/// Whether a word is this one. Where their lengths differ, no octet is looked at. A key is short, and known where a word is compared
+/// with it, so that each of its octets becomes one test there.
 #[inline(always)]
 pub fn is_word(word: &[u8], key: &[u8]) -> bool
     ensures { IsTrue result ↔ (word.now ≡ key.now) }
 {
-    word.len() == key.len() && word == key
+    if word.len() != key.len() {
+        return false;
+    }
+    let mut at = 0;
+    'same: while at < key.len() {
+        if word[at] != key[at] {
+            return false;
+        }
+        at += 1;
+    }
+    true
 }
 
 /// The number up to `most` that a word spells, without sign and leading zeros.
@@ -161,9 +172,9 @@ pub(crate) fn read_imp(word: &[u8]) -> Option<ImpNumber>
 pub(crate) fn read_direction(word: &[u8]) -> Option<Direction>
     ensures { ReadsAs direction_text IsDirection word.now result }
 {
-    if word == b"+".as_slice() {
+    if is_word(word, b"+") {
         Some(Direction::Forward)
-    } else if word == b"-".as_slice() {
+    } else if is_word(word, b"-") {
         Some(Direction::Back)
     } else {
         None
@@ -210,7 +221,7 @@ pub fn read_bits(alloc: Global, count: usize, word: &[u8]) -> Result<Option<Bits
     ensures memory { IfErr result (λ _. IsHex word.now) }
 {
     if count == 0 {
-        return Ok(if word == b"-".as_slice() {
+        return Ok(if is_word(word, b"-") {
             Some(Bits::new(alloc))
         } else {
             None
