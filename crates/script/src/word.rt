@@ -88,30 +88,27 @@ pub fn plain_number(word: &[u8]) -> Option<u32>
     if word.len() == 1 {
         return Some(u32::from(read_digit(word[0])?));
     }
-    if begins_wrong(word) {
+    if word.len() > 10 || begins_wrong(word) {
         None
     } else {
         spelled_number(word)
     }
 }
 
-/// The number of 32 bits that these digits spell, read from the first to the last. `None` where one of them is no digit,
-/// and where the number has more bits.
+/// The number of 32 bits that at most ten digits spell, read from the first to the last. `None` where one of them is no digit, and
+/// where the number has more bits.
 fn spelled_number(word: &[u8]) -> Option<u32>
+    requires { length word.now ≤ 10 }
     ensures { MatchOption result (AllDigits 10 word.now → 2 ^ 32 ≤ digits_value 10 word.now) (λ n. AllDigits 10 word.now × (n ≡ digits_value 10 word.now) × (n < 2 ^ 32)) }
 {
-    let mut number: u32 = 0;
+    let mut number: u64 = 0;
     for octet in word {
         if *octet < b'0' || *octet > b'9' {
             return None;
         }
-        let next = number as u64 * 10 + (*octet - b'0') as u64;
-        if next > u32::MAX as u64 {
-            return None;
-        }
-        number = next as u32;
+        number = number * 10 + (*octet - b'0') as u64;
     }
-    Some(number)
+    u32::try_from(number).ok()
 }
 
 /// Whether the first octet shows that a word is no number.
