@@ -83,6 +83,7 @@ fn read_plain(word: &[u8], rest: &[u8]) -> Option<RawEvent>
 }
 
 /// The first two words, and what stands after them.
+#[inline]
 pub(crate) fn cut_twice(words: &[u8]) -> Option<(&[u8], &[u8], &[u8])>
     ensures { MatchOption result ((a b c : List ℕ) → words.now ≢ a ++ 32 ∷ (b ++ 32 ∷ c)) (λ parts. (words.now ≡ parts.0.now ++ 32 ∷ (parts.1.now ++ 32 ∷ parts.2.now)) × Lacks 32 parts.0.now × Lacks 32 parts.1.now) }
 {

@@ -95,6 +95,7 @@ fn read_line_event(word: &[u8], rest: &[u8]) -> Option<NetEvent>
 }
 
 /// The frame that is spelled `line direction place`.
+#[inline(always)]
 fn read_frame(words: &[u8]) -> Option<(u32, Direction, u32)>
     ensures { ReadsAs frame_text IsFrame words.now result }
 {

@@ -15,6 +15,7 @@ use leader1822::{Direction, HostAddr, ImpNumber, Text};
 use std::alloc::{AllocError, Global};
 
 /// What stands before the first separator, and what stands after it. `None` where there is no separator.
+#[inline]
 pub fn cut(text: &[u8], separator: u8) -> Option<(&[u8], &[u8])>
     ensures { MatchOption result (All (λ x. (x == separator) ≡ false) text.now) (λ parts. (text.now ≡ parts.0.now ++ separator ∷ parts.1.now) × All (λ x. (x == separator) ≡ false) parts.0.now) }
 {
@@ -179,6 +180,7 @@ pub(crate) fn read_direction(word: &[u8]) -> Option<Direction>
 }
 
 /// The host that a word spells as `host/imp`. The number of each host has one digit.
+#[inline]
 pub fn read_host(word: &[u8]) -> Option<HostAddr>
     ensures { ReadsAs host_text IsHost word.now result }
 {
