@@ -192,7 +192,9 @@ fn print_refusal<W: Output>(
         Some(name) => name,
         None => return Err(ReplayFault::OutOfMemory),
     };
-    Ok(writeln!(writer, "refused {name}")?)
+    writer.write_all(b"refused ")?;
+    writer.write_all(name.as_bytes())?;
+    Ok(writer.write_all(b"\n")?)
 }
 
 /// The name of a refusal. `None` where running out of memory has stopped the carrier.
