@@ -7,6 +7,7 @@ ghost use Rattle.replay.specs.Steps.{EventEnds, Grew};
 ghost use Rattle.script.specs.declared.event.RawEvent.TheVariants as script_event;
 
 use crate::events::ReplayFault;
+use crate::line::Line;
 use crate::output::Output;
 use crate::print::{Detail, print_outcome};
 use leader1822::{Carrier, CarrierFault, HostAddr};
@@ -19,6 +20,7 @@ const TAKINGS: u8 = 16;
 pub(crate) fn replay_calm<C: Carrier, W: Output>(
     carrier: &mut C,
     rounds: u32,
+    line: &mut Line,
     detail: Detail,
     writer: &mut W,
 ) -> Result<(), ReplayFault>
@@ -32,7 +34,7 @@ pub(crate) fn replay_calm<C: Carrier, W: Output>(
         }
         let booked = carrier.log().len();
         let outcome = pass_round(carrier);
-        print_outcome(carrier.log(), booked, outcome, detail, writer)?;
+        print_outcome(line, carrier.log(), booked, outcome, detail, writer)?;
     }
     Ok(())
 }

@@ -10,6 +10,7 @@ ghost use Rattle.replay.specs.Steps.{EventEnds};
 ghost use Rattle.script.specs.declared.event.RawEvent.TheVariants as script_event;
 
 use crate::calm::replay_calm;
+use crate::line::Line;
 use crate::output::{Output, WriteFailed};
 use crate::print::{Detail, print_outcome};
 use leader1822::{Carrier, CarrierFault, HostAddr, HostMessage, Inbound, NetEvent};
@@ -109,16 +110,18 @@ fn replay_in_turn<C: Carrier, W: Output>(
     ensures memory { result ≡ Err ReplayFault.OutOfMemory → Writes detail (EndsIn (record { seen = C.seen; offers = C.offers; takes = C.takes; steps = C.steps; rounds = C.rounds }) StopsIn carrier.old events.now carrier.new) (W.contents writer.old) (W.contents writer.new) }
     ensures cannot_write { result ≡ Err ReplayFault.CannotWrite → (shown : List Shown) × EndsIn (record { seen = C.seen; offers = C.offers; takes = C.takes; steps = C.steps; rounds = C.rounds }) MayDo carrier.old events.now carrier.new shown }
 {
+    let mut line = Line::new();
     for event in events {
-        replay_event(carrier, event, detail, writer)?;
+        replay_event(carrier, event, &mut line, detail, writer)?;
     }
     Ok(())
 }
 
-/// Hands one event to the carrier, and prints what it shows.
+/// Hands one event to the carrier, and prints what it shows. Lines are put together in this buffer, of which nothing is kept.
 fn replay_event<C: Carrier, W: Output>(
     carrier: &mut C,
     event: &RawEvent,
+    line: &mut Line,
     detail: Detail,
     writer: &mut W,
 ) -> Result<(), ReplayFault>
@@ -127,10 +130,10 @@ fn replay_event<C: Carrier, W: Output>(
     ensures failed { TellsCannotWrite result (W.failed writer.new) }
 {
     match event {
-        RawEvent::Out(message) => replay_offer(carrier, message.clone()?, detail, writer),
-        RawEvent::Take(host) => replay_taking(carrier, *host, detail, writer),
-        RawEvent::Net(event) => replay_step(carrier, *event, detail, writer),
-        RawEvent::Calm(rounds) => replay_calm(carrier, *rounds, detail, writer),
+        RawEvent::Out(message) => replay_offer(carrier, message.clone()?, line, detail, writer),
+        RawEvent::Take(host) => replay_taking(carrier, *host, line, detail, writer),
+        RawEvent::Net(event) => replay_step(carrier, *event, line, detail, writer),
+        RawEvent::Calm(rounds) => replay_calm(carrier, *rounds, line, detail, writer),
     }
 }
 
@@ -138,6 +141,7 @@ fn replay_event<C: Carrier, W: Output>(
 fn replay_offer<C: Carrier, W: Output>(
     carrier: &mut C,
     message: HostMessage,
+    line: &mut Line,
     detail: Detail,
     writer: &mut W,
 ) -> Result<(), ReplayFault>
@@ -147,13 +151,14 @@ fn replay_offer<C: Carrier, W: Output>(
 {
     let booked = carrier.log().len();
     let outcome = carrier.offer_out(message);
-    print_outcome(carrier.log(), booked, outcome, detail, writer)
+    print_outcome(line, carrier.log(), booked, outcome, detail, writer)
 }
 
 /// Lets a host take, and prints what crossed, or the refusal.
 fn replay_taking<C: Carrier, W: Output>(
     carrier: &mut C,
     host: HostAddr,
+    line: &mut Line,
     detail: Detail,
     writer: &mut W,
 ) -> Result<(), ReplayFault>
@@ -163,7 +168,7 @@ fn replay_taking<C: Carrier, W: Output>(
 {
     let booked = carrier.log().len();
     let outcome = outcome_of(carrier.take_in(host));
-    print_outcome(carrier.log(), booked, outcome, detail, writer)
+    print_outcome(line, carrier.log(), booked, outcome, detail, writer)
 }
 
 /// Whether a taking was refused.
@@ -180,6 +185,7 @@ fn outcome_of(answer: Result<Option<Inbound>, CarrierFault>) -> Result<(), Carri
 fn replay_step<C: Carrier, W: Output>(
     carrier: &mut C,
     event: NetEvent,
+    line: &mut Line,
     detail: Detail,
     writer: &mut W,
 ) -> Result<(), ReplayFault>
@@ -189,5 +195,5 @@ fn replay_step<C: Carrier, W: Output>(
 {
     let booked = carrier.log().len();
     let outcome = carrier.step(event);
-    print_outcome(carrier.log(), booked, outcome, detail, writer)
+    print_outcome(line, carrier.log(), booked, outcome, detail, writer)
 }

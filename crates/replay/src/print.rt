@@ -29,10 +29,12 @@ pub enum Detail {
     Texts,
 }
 
-/// Prints the crossings of a log after its first `booked` ones, and then the refusal, if there is one.
+/// Prints the crossings of a log after its first `booked` ones, and then the refusal, if there is one. Lines are put together in this
+/// buffer, of which nothing is kept.
 ///
 /// Errors: `CannotWrite`; `OutOfMemory` where memory ran out in the event. The crossings are printed first.
 pub(crate) fn print_outcome<W: Output>(
+    line: &mut Line,
     log: &[Crossing],
     booked: usize,
     outcome: Result<(), CarrierFault>,
@@ -44,12 +46,13 @@ pub(crate) fn print_outcome<W: Output>(
     ensures ends { PrintEnds detail (drop booked log.now) outcome result (W.contents writer.old) (W.contents writer.new) }
     ensures failed { TellsCannotWrite result (W.failed writer.new) }
 {
-    print_crossings(log, booked, detail, writer)?;
+    print_crossings(line, log, booked, detail, writer)?;
     print_refusal(outcome, writer)
 }
 
 /// Prints the crossings of a log after its first `booked` ones.
 fn print_crossings<W: Output>(
+    line: &mut Line,
     log: &[Crossing],
     booked: usize,
     detail: Detail,
@@ -62,7 +65,7 @@ fn print_crossings<W: Output>(
 {
     let (_, crossings) = log.split_at(booked);
     for crossing in crossings {
-        print_crossing(crossing, detail, writer)?;
+        print_crossing_in(line, crossing, detail, writer)?;
     }
     Ok(())
 }
@@ -189,7 +192,9 @@ fn print_refusal<W: Output>(
         Some(name) => name,
         None => return Err(ReplayFault::OutOfMemory),
     };
-    Ok(writeln!(writer, "refused {name}")?)
+    writer.write_all(b"refused ")?;
+    writer.write_all(name.as_bytes())?;
+    Ok(writer.write_all(b"\n")?)
 }
 
 /// The name of a refusal. `None` where running out of memory has stopped the carrier.

@@ -4,7 +4,8 @@ use Rattle.std.proofs.lemmas.Bool.{false≢true, or_parts, eq-eqb}
 use Rattle.std.proofs.lemmas.List.Elements.{All-nil, All-cons}
 use Rattle.std.specs.Fmt.{decimal}
 use Rattle.std.specs.List.{list_any}
-use Rattle.std.specs.Cmp.Lexicographic.{pointwise, same_text}
+use Rattle.std.specs.Cmp.Lexicographic.{pointwise}
+use Rattle.std.specs.Prelude.{IsTrue, ◌↔◌}
 use Rattle.std.specs.Str.{bytes_eq}
 use Rattle.leader1822.specs.Host.{Host}
 use Rattle.leader1822.specs.Printed.{host_text, flow_text}
@@ -34,9 +35,9 @@ pub differs : (word key : List ℕ) (slice : List ℕ) (test : Bool) → test �
 differs word key slice test compared is unlike e =
     false≢true (sym unlike ∙ compared ∙ ap (λ xs. pointwise eqb word xs) (is ∙ sym e) ∙ same_octets word)
 
--- and one that is the same
-pub is_key : (word key : List ℕ) (slice : List ℕ) (test : Bool) → test ≡ pointwise eqb word slice → slice ≡ key → test ≡ true → word ≡ key
-is_key word key slice test compared is alike = same_text word slice (sym alike ∙ compared) ∙ is
+-- and one that `is_word` tells apart
+pub other_word : (word key : List ℕ) (test : Bool) → (IsTrue test ↔ (word ≡ key)) → test ≡ false → word ≢ key
+other_word word key test compared unlike e = false≢true (sym unlike ∙ compared.1 e)
 
 -- ---- a keyword, and an operand of its kind
 

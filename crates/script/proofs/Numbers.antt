@@ -1,7 +1,7 @@
 -- Numbers as words: what `decimal` writes, and what `parse` reads of it.
 use Rattle.std.proofs.Common.{◌≡◌, ◌≢◌, ℕ, ◌+◌, ◌-◌, ◌*◌, ◌<◌, ◌≤◌, ◌^◌, ◌==◌, true, false, List, [], ◌∷◌, Option, Some, None, MatchOption, get_or, drop, refl, sym, ap, ◌∙◌, subst, arith, zero, suc, lit<, length}
 use Rattle.std.proofs.lemmas.Bool.Decides.{nat_tests}
-use Rattle.std.proofs.lemmas.Fmt.{decimal_is_IsNumeral, decimal_digit, decimal_injective, decimal-digits_value, first_decimal}
+use Rattle.std.proofs.lemmas.Fmt.{decimal_is_IsNumeral, decimal_digit, decimal_injective, decimal-digits_value, first_decimal, length-decimal-le}
 use Rattle.std.proofs.lemmas.List.{drop_more, drop_all}
 use Rattle.std.proofs.lemmas.Str.{digit_value_digit}
 use Rattle.std.proofs.lemmas.Str.Parse.{IsNumeralModel, numerals_by_value, tells_digits, digit_from_value}
@@ -45,6 +45,12 @@ wrong_is_none bs wrong n small e =
     let right : begins_wrong bs ≡ false = ap begins_wrong e ∙ begins_wrong-decimal n (omega arith) in
     false≢true (sym right ∙ wrong)
 
+-- a word of more than ten octets is no number of 32 bits
+pub long_is_none : (bs : List ℕ) → 10 < length bs → (n : ℕ) → n < 2 ^ 32 → bs ≢ decimal n
+long_is_none bs long n small e =
+    let short : length (decimal n) ≤ 10 = length-decimal-le 10 n (lit< tt) (omega arith) (omega arith) in
+    absurd (omega (arith, ap length e))
+
 -- a word that begins like a number, and spells none by its digits, is no number
 bad_is_none : (bs : List ℕ) → (AllDigits 10 bs → 2 ^ 32 ≤ digits_value 10 bs) → (n : ℕ) → n < 2 ^ 32 → bs ≢ decimal n
 bad_is_none bs bad n small e =
@@ -73,10 +79,6 @@ pub record SoFar (all rest : List ℕ) (n : ℕ) : Type 0 where
 pub begun : (all : List ℕ) → SoFar all all 0
 begun all = record { same = refl; back = λ h. h; on = λ h. h }
 
-grows : (n : ℕ) (ds : List ℕ) → n ≤ digits_value_after 10 n ds
-grows n [] = omega arith
-grows n (c ∷ cs) = omega (arith, grows (n * 10 + digit_value c) cs)
-
 module _ (all : List ℕ) (i n : ℕ) (so_far : SoFar all (drop i all) n) where
   module _ (lt : i < length all) where
     opened : SoFar all (get_or all i 0 ∷ drop (i + 1) all) n
@@ -92,12 +94,6 @@ module _ (all : List ℕ) (i n : ℕ) (so_far : SoFar all (drop i all) n) where
           back = λ rest. opened.back (omega (arith, digit, range), rest);
           on = λ digits. (opened.on digits).1;
         }
-
-    -- one digit too many
-    pub too_large : IsInRange 48 57 (get_or all i 0) → 2 ^ 32 ≤ n * 10 + (get_or all i 0 - 48) → AllDigits 10 all → 2 ^ 32 ≤ digits_value 10 all
-    too_large range large digits =
-        let digit : digit_value (get_or all i 0) + 48 ≡ get_or all i 0 = digit_value_digit (get_or all i 0) range in
-        omega (arith, opened.same, grows (n * 10 + digit_value (get_or all i 0)) (drop (i + 1) all), digit, large)
 
   pub all_read : length all ≤ i → AllDigits 10 all × (n ≡ digits_value 10 all)
   all_read end =

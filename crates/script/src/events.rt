@@ -10,7 +10,7 @@ use crate::event::RawEvent;
 use crate::fault::LineFault;
 use crate::input::{MAX_INPUT, first_line};
 use crate::network::read_net;
-use crate::word::{cut, plain_number, read_count, read_host, read_octet, read_text};
+use crate::word::{cut, is_word, plain_number, read_count, read_host, read_octet, read_text};
 use leader1822::{Flow, HostMessage, Link};
 use std::alloc::{AllocError, Global};
 
@@ -61,7 +61,7 @@ fn read_event(alloc: Global, line: &[u8]) -> Result<Option<RawEvent>, AllocError
     let Some((word, rest)) = cut(line, b' ') else {
         return Ok(None);
     };
-    if word == b"out".as_slice() {
+    if is_word(word, b"out") {
         return Ok(read_message(alloc, rest)?.map(RawEvent::Out));
     }
     Ok(read_plain(word, rest))
@@ -73,16 +73,17 @@ fn read_plain(word: &[u8], rest: &[u8]) -> Option<RawEvent>
     requires not_out { word.now ≢ codes "out" }
     ensures { ReadsAs spelling IsEvent (word.now ++ 32 ∷ rest.now) result }
 {
-    if word == b"take".as_slice() {
+    if is_word(word, b"take") {
         return Some(RawEvent::Take(read_host(rest)?));
     }
-    if word == b"calm".as_slice() {
+    if is_word(word, b"calm") {
         return Some(RawEvent::Calm(plain_number(rest)?));
     }
     Some(RawEvent::Net(read_net(word, rest)?))
 }
 
 /// The first two words, and what stands after them.
+#[inline]
 pub(crate) fn cut_twice(words: &[u8]) -> Option<(&[u8], &[u8], &[u8])>
     ensures { MatchOption result ((a b c : List ℕ) → words.now ≢ a ++ 32 ∷ (b ++ 32 ∷ c)) (λ parts. (words.now ≡ parts.0.now ++ 32 ∷ (parts.1.now ++ 32 ∷ parts.2.now)) × Lacks 32 parts.0.now × Lacks 32 parts.1.now) }
 {

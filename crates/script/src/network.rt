@@ -6,7 +6,7 @@ ghost use Rattle.script.specs.Spelling.{ReadsAs, IsNetEvent, net_spelling};
 ghost use Rattle.script.specs.Steps.{Lacks, IsOfHosts, IsOfImps, IsOfLines, frame_text, IsFrame, pair_text, IsEnd, AreImps};
 
 use crate::events::{cut_twice, read_three};
-use crate::word::{cut, plain_number, read_direction, read_host, read_imp};
+use crate::word::{cut, is_word, plain_number, read_direction, read_host, read_imp};
 use leader1822::{Direction, ImpNumber, NetEvent};
 
 /// What happens inside a network by a line, from its first word and what follows it. Frames come first, as the most frequent.
@@ -28,15 +28,15 @@ fn read_host_event(word: &[u8], rest: &[u8]) -> Option<NetEvent>
     requires { Lacks 32 word.now }
     ensures { ReadsAs net_spelling IsOfHosts (word.now ++ 32 ∷ rest.now) result }
 {
-    if word == b"giveup".as_slice() {
+    if is_word(word, b"giveup") {
         Some(NetEvent::GiveUp(read_three(rest)?))
-    } else if word == b"abandon".as_slice() {
+    } else if is_word(word, b"abandon") {
         Some(NetEvent::Abandon(read_three(rest)?))
-    } else if word == b"ask".as_slice() {
+    } else if is_word(word, b"ask") {
         Some(NetEvent::Ask(read_three(rest)?))
-    } else if word == b"hostdown".as_slice() {
+    } else if is_word(word, b"hostdown") {
         Some(NetEvent::HostDown(read_host(rest)?))
-    } else if word == b"hostup".as_slice() {
+    } else if is_word(word, b"hostup") {
         Some(NetEvent::HostUp(read_host(rest)?))
     } else {
         None
@@ -48,15 +48,15 @@ fn read_imp_event(word: &[u8], rest: &[u8]) -> Option<NetEvent>
     requires { Lacks 32 word.now }
     ensures { ReadsAs net_spelling IsOfImps (word.now ++ 32 ∷ rest.now) result }
 {
-    if word == b"resend".as_slice() {
+    if is_word(word, b"resend") {
         Some(NetEvent::Resend(read_imp(rest)?))
-    } else if word == b"route".as_slice() {
+    } else if is_word(word, b"route") {
         Some(NetEvent::Route(read_imp(rest)?))
-    } else if word == b"impdown".as_slice() {
+    } else if is_word(word, b"impdown") {
         Some(NetEvent::ImpDown(read_imp(rest)?))
-    } else if word == b"impup".as_slice() {
+    } else if is_word(word, b"impup") {
         Some(NetEvent::ImpUp(read_imp(rest)?))
-    } else if word == b"forget".as_slice() {
+    } else if is_word(word, b"forget") {
         let (at, from) = read_two_imps(rest)?;
         Some(NetEvent::Forget { at, from })
     } else {
@@ -69,24 +69,24 @@ fn read_line_event(word: &[u8], rest: &[u8]) -> Option<NetEvent>
     requires { Lacks 32 word.now }
     ensures { ReadsAs net_spelling IsOfLines (word.now ++ 32 ∷ rest.now) result }
 {
-    if word == b"deliver".as_slice() {
+    if is_word(word, b"deliver") {
         let (line, direction, frame) = read_frame(rest)?;
         Some(NetEvent::Deliver {
             line,
             direction,
             frame,
         })
-    } else if word == b"drop".as_slice() {
+    } else if is_word(word, b"drop") {
         let (line, direction, frame) = read_frame(rest)?;
         Some(NetEvent::Drop {
             line,
             direction,
             frame,
         })
-    } else if word == b"enddown".as_slice() {
+    } else if is_word(word, b"enddown") {
         let (imp, line) = read_end(rest)?;
         Some(NetEvent::EndDown { imp, line })
-    } else if word == b"endup".as_slice() {
+    } else if is_word(word, b"endup") {
         let (imp, line) = read_end(rest)?;
         Some(NetEvent::EndUp { imp, line })
     } else {
@@ -95,6 +95,7 @@ fn read_line_event(word: &[u8], rest: &[u8]) -> Option<NetEvent>
 }
 
 /// The frame that is spelled `line direction place`.
+#[inline(always)]
 fn read_frame(words: &[u8]) -> Option<(u32, Direction, u32)>
     ensures { ReadsAs frame_text IsFrame words.now result }
 {

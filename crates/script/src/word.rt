@@ -15,6 +15,7 @@ use leader1822::{Direction, HostAddr, ImpNumber, Text};
 use std::alloc::{AllocError, Global};
 
 /// What stands before the first separator, and what stands after it. `None` where there is no separator.
+#[inline]
 pub fn cut(text: &[u8], separator: u8) -> Option<(&[u8], &[u8])>
     ensures { MatchOption result (All (λ x. (x == separator) ≡ false) text.now) (λ parts. (text.now ≡ parts.0.now ++ separator ∷ parts.1.now) × All (λ x. (x == separator) ≡ false) parts.0.now) }
 {
@@ -54,12 +55,23 @@ fn place_of(text: &[u8], separator: u8) -> usize
     at
 }
 
-/// Whether a word is this one. Where their lengths differ, no octet is looked at.
+/// Whether a word is this one. Where their lengths differ, no octet is looked at. A key is short, and known where a word is compared
+/// with it, so that each of its octets becomes one test there.
 #[inline(always)]
 pub fn is_word(word: &[u8], key: &[u8]) -> bool
     ensures { IsTrue result ↔ (word.now ≡ key.now) }
 {
-    word.len() == key.len() && word == key
+    if word.len() != key.len() {
+        return false;
+    }
+    let mut at = 0;
+    'same: while at < key.len() {
+        if word[at] != key[at] {
+            return false;
+        }
+        at += 1;
+    }
+    true
 }
 
 /// The number up to `most` that a word spells, without sign and leading zeros.
@@ -77,30 +89,27 @@ pub fn plain_number(word: &[u8]) -> Option<u32>
     if word.len() == 1 {
         return Some(u32::from(read_digit(word[0])?));
     }
-    if begins_wrong(word) {
+    if word.len() > 10 || begins_wrong(word) {
         None
     } else {
         spelled_number(word)
     }
 }
 
-/// The number of 32 bits that these digits spell, read from the first to the last. `None` where one of them is no digit,
-/// and where the number has more bits.
+/// The number of 32 bits that at most ten digits spell, read from the first to the last. `None` where one of them is no digit, and
+/// where the number has more bits.
 fn spelled_number(word: &[u8]) -> Option<u32>
+    requires { length word.now ≤ 10 }
     ensures { MatchOption result (AllDigits 10 word.now → 2 ^ 32 ≤ digits_value 10 word.now) (λ n. AllDigits 10 word.now × (n ≡ digits_value 10 word.now) × (n < 2 ^ 32)) }
 {
-    let mut number: u32 = 0;
+    let mut number: u64 = 0;
     for octet in word {
         if *octet < b'0' || *octet > b'9' {
             return None;
         }
-        let next = number as u64 * 10 + (*octet - b'0') as u64;
-        if next > u32::MAX as u64 {
-            return None;
-        }
-        number = next as u32;
+        number = number * 10 + (*octet - b'0') as u64;
     }
-    Some(number)
+    u32::try_from(number).ok()
 }
 
 /// Whether the first octet shows that a word is no number.
@@ -161,9 +170,9 @@ pub(crate) fn read_imp(word: &[u8]) -> Option<ImpNumber>
 pub(crate) fn read_direction(word: &[u8]) -> Option<Direction>
     ensures { ReadsAs direction_text IsDirection word.now result }
 {
-    if word == b"+".as_slice() {
+    if is_word(word, b"+") {
         Some(Direction::Forward)
-    } else if word == b"-".as_slice() {
+    } else if is_word(word, b"-") {
         Some(Direction::Back)
     } else {
         None
@@ -171,6 +180,7 @@ pub(crate) fn read_direction(word: &[u8]) -> Option<Direction>
 }
 
 /// The host that a word spells as `host/imp`. The number of each host has one digit.
+#[inline]
 pub fn read_host(word: &[u8]) -> Option<HostAddr>
     ensures { ReadsAs host_text IsHost word.now result }
 {
@@ -210,7 +220,7 @@ pub fn read_bits(alloc: Global, count: usize, word: &[u8]) -> Result<Option<Bits
     ensures memory { IfErr result (λ _. IsHex word.now) }
 {
     if count == 0 {
-        return Ok(if word == b"-".as_slice() {
+        return Ok(if is_word(word, b"-") {
             Some(Bits::new(alloc))
         } else {
             None
