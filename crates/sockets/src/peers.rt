@@ -30,18 +30,24 @@ use std::alloc::{AllocError, Global};
 use std::marker::Model;
 use std::mem;
 
+/// How many ends are requested in a row before it is learnt which sockets have an end. To learn it costs as much as so many looks at
+/// all ends.
+const MANY: usize = 32;
+
 /// The other hosts that this one has to do with, in order of their address octets. A host that isn't here has
 /// a pair as at the opening.
 ///
 /// Beside each stands what goes to it next, so that the next message is found without a look at the others, and its connections are
 /// looked through once for each change. And so far as it is known which sockets have an end, one without an end is found without a
-/// look at all ends. The place of the peer that was changed last is where one is looked for first.
+/// look at all ends; that is learnt once many ends were requested in a row. The place of the peer that was changed last is where one is
+/// looked for first.
 #[derive(Drop)]
 pub(crate) struct Peers {
     peers: Vec<Peer>,
     due: Vec<Due>,
     recent: usize,
     owned: Owned,
+    in_a_row: usize,
 }
 
 impl Model for Peers {
@@ -68,6 +74,7 @@ impl Peers {
             due: Vec::new(alloc),
             recent: 0,
             owned: Owned::Unknown,
+            in_a_row: 0,
         }
     }
 
@@ -109,7 +116,12 @@ impl Peers {
         requires { AreKnownBut own owned self.old }
         ensures { self.new ≡ self.old }
     {
-        self.owned = owned.learnt(alloc, own, &self.peers)?;
+        if matches!(owned, Owned::Unknown) {
+            self.in_a_row = 0;
+        }
+        self.in_a_row = self.in_a_row.saturating_add(1);
+        let many = self.in_a_row >= MANY;
+        self.owned = owned.learnt(alloc, own, &self.peers, many)?;
         Ok(())
     }
 
