@@ -351,11 +351,9 @@ fn swap(
         Ok(at) => {
             *recent = at;
             due[at] = Due::Nothing;
-            let known = Peer {
-                host,
-                pair: opening,
-            };
-            mem::replace(&mut peers[at], known).pair
+            let peer = &mut peers[at];
+            peer.host = host;
+            mem::replace(&mut peer.pair, opening)
         }
         Err(_) => opening,
     }
@@ -524,7 +522,9 @@ fn put_at(peers: &mut Vec<Peer>, due: &mut Vec<Due>, at: usize, host: HostAddr, 
     ensures due { GoNext due.new.items peers.new.items }
 {
     due[at] = Due::of(&pair);
-    peers[at] = Peer { host, pair };
+    let peer = &mut peers[at];
+    peer.host = host;
+    peer.pair = pair;
 }
 
 /// Puts a host that isn't known among the peers, at this place.
