@@ -1,5 +1,5 @@
 -- The lowest of links, found from the front.
-use Rattle.std.proofs.Common.{◌≡◌, ℕ, ◌*◌, ◌≤◌, true, false, Bool, if◌then◌else◌, suc, length, take, filter, ◌++◌, List, [], ◌∷◌, Option, Some, None, refl, ap, sym, arith}
+use Rattle.std.proofs.Common.{◌≡◌, ℕ, ◌*◌, ◌≤◌, true, false, Bool, if◌then◌else◌, suc, length, take, drop, filter, ◌++◌, List, [], ◌∷◌, Option, Some, None, refl, ap, sym, arith}
 use Rattle.ncp_control.specs.Command.{is_alone, spelling}
 use Rattle.ncp_control.specs.Packing.{packed_count, spellings}
 use Rattle.ncp_control.specs.declared.command.Command.{Command}
@@ -7,7 +7,7 @@ use Rattle.ncp_control.specs.declared.command.Command.TheVariants as command
 use Rattle.ncp_control.proofs.lemmas.{longest_front}
 use Rattle.bit_messages.specs.Octets.{bits_of, octet_bits}
 use Rattle.bit_messages.proofs.lemmas.{bits_of-append, length-bits_of}
-use Rattle.std.proofs.lemmas.List.{length-take, take_all}
+use Rattle.std.proofs.lemmas.List.{length-take, take_all, drop_all}
 use Rattle.std.specs.Int.{w16, to_be_bytes}
 use Rattle.host_pairs.specs.Control.{control_text}
 use Rattle.host_pairs.specs.Data.{data_text}
@@ -73,6 +73,9 @@ message_bits octets = bits_of-append (0 ∷ 8 ∷ to_be_bytes w16 (length octets
 -- all of so many bits or fewer
 pub all_bits : (count : ℕ) (bits : List Bool) → length bits ≤ count → take count bits ≡ bits
 all_bits count bits le = take_all count bits le
+
+pub none_behind : (count : ℕ) (bits : List Bool) → length bits ≤ count → drop count bits ≡ []
+none_behind count bits le = drop_all count bits le
 
 -- ---- commands
 

@@ -15,3 +15,4 @@ pub mod Outgoing
 pub mod Gone
 pub mod About
 pub mod Allowed
+pub mod Inside

@@ -14,6 +14,7 @@ use crate::entry::Entry;
 use crate::outgoing::sending_place;
 use bit_messages::{BitFault, Bits};
 use std::alloc::{AllocError, Global};
+use std::mem;
 
 /// The bits of a range that is there.
 pub(crate) fn part(alloc: Global, bits: &Bits, from: usize, to: usize) -> Result<Bits, AllocError>
@@ -43,32 +44,56 @@ fn behind(alloc: Global, bits: &Bits, count: usize) -> Result<Bits, AllocError>
     part(alloc, bits, count.min(bits.len()), bits.len())
 }
 
+/// Takes the first `count` of these bits away, or all of them. All of them are not copied.
+#[tactic(auto, using(crate::proofs::SendingLemmas::all_bits, crate::proofs::SendingLemmas::none_behind))]
+fn take_front(alloc: Global, bits: &mut Bits, count: usize) -> Result<Bits, AllocError>
+    ensures front { IfOk result (λ front. front ≡ take count bits.old) }
+    ensures rest { OnOk result (bits.new ≡ drop count bits.old) }
+{
+    if bits.len() <= count {
+        return Ok(mem::replace(bits, Bits::new(alloc)));
+    }
+    let front = front(alloc, bits, count)?;
+    *bits = behind(alloc, bits, count)?;
+    Ok(front)
+}
+
 impl Entry {
-    /// So many bits have gone out in a message.
-    fn send(&mut self, alloc: Global, bits: u32) -> Result<(), AllocError>
-        ensures { OnOk result (self.new ≡ parcels.bits_gone bits self.old) }
+    /// So many bits have gone out in a message. Returns them.
+    fn send(&mut self, alloc: Global, bits: u32) -> Result<Bits, AllocError>
+        ensures sent { IfOk result (λ sent. sent ≡ take bits self.old.bits) }
+        ensures gone { OnOk result (self.new ≡ parcels.bits_gone bits self.old) }
     {
-        self.bits = behind(alloc, &self.bits, bits as usize)?;
+        let sent = take_front(alloc, &mut self.bits, bits as usize)?;
         self.allocation.messages = self.allocation.messages.saturating_sub(1);
         self.allocation.bits = self.allocation.bits.saturating_sub(bits);
-        Ok(())
+        Ok(sent)
     }
 }
 
-/// So many bits of the end that may send on a link have gone out.
+/// So many bits of the end that may send on a link have gone out. Returns as many of the end at a place, which is the same one as a
+/// rule, and then they aren't copied.
 fn send_bits(
     alloc: Global,
     entries: &mut [Entry],
     busy: &[u8],
     link: u8,
+    at: usize,
     bits: u32,
-) -> Result<(), AllocError>
-    ensures { OnOk result (entries.new ≡ changed_first (parcels.may_send_on busy.now link) (parcels.bits_gone bits) entries.old) }
+) -> Result<Bits, AllocError>
+    requires { at < length entries.old }
+    ensures sent { IfOk result (λ sent. sent ≡ take bits (end_at entries.old at).bits) }
+    ensures gone { OnOk result (entries.new ≡ changed_first (parcels.may_send_on busy.now link) (parcels.bits_gone bits) entries.old) }
 {
-    if let Some(at) = sending_place(entries, busy, link) {
-        entries[at].send(alloc, bits)?;
+    let Some(place) = sending_place(entries, busy, link) else {
+        return front(alloc, &entries[at].bits, bits as usize);
+    };
+    if place == at {
+        return entries[at].send(alloc, bits);
     }
-    Ok(())
+    let sent = front(alloc, &entries[at].bits, bits as usize)?;
+    let _ = entries[place].send(alloc, bits)?;
+    Ok(sent)
 }
 
 impl Desk {
@@ -86,8 +111,7 @@ impl Desk {
         let entry = &self.entries[at];
         let socket = entry.own;
         let link = entry.link_number();
-        let sent = front(alloc, &entry.bits, bits as usize)?;
-        send_bits(alloc, &mut self.entries, busy, link, bits)?;
+        let sent = send_bits(alloc, &mut self.entries, busy, link, at, bits)?;
         self.tell(Notice::Sent { socket, bits: sent })
     }
 }

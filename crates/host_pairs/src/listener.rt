@@ -1,10 +1,13 @@
 //! Sockets that listen: each waits for anybody's request.
 
-ghost use Rattle.std.specs.Prelude.{◌≡◌, ◌++◌, ◌∷◌, [], OnOk, false};
+ghost use Rattle.std.specs.Prelude.{◌≡◌, ◌++◌, ◌∷◌, ◌-◌, ◌<◌, ◌≤◌, ℕ, [], OnOk, OnErr, IfOk, length, slice_index_or, nat_lt, false, true};
 ghost use Rattle.std.specs.BTreeSet.{contains};
-ghost use Rattle.std.specs.Bool.{OnTrue};
+ghost use Rattle.std.specs.Bool.{OnFalse, OnTrue};
+ghost use Rattle.std.specs.List.Sorted.{IsPartitionPoint};
 ghost use Rattle.std.specs.Ordering.{nat_cmp};
 ghost use Rattle.host_pairs.specs.Desk.{listener_on, listens_on, without_listener};
+ghost use Rattle.host_pairs.specs.Inside.Listening.{AreAscending, AreThese, AreTold};
+ghost use Rattle.host_pairs.specs.declared.listener.Listener.{Listener};
 
 use ncp_control::ByteSize;
 use std::alloc::{AllocError, Global};
@@ -22,25 +25,25 @@ pub struct Listener {
 
 /// The sockets of a host that listen, the oldest first.
 ///
-/// The set of their numbers tells whether one listens, however many there are.
+/// While they come in order of their numbers, one is searched for among them by halves. Once one comes that is lower than the last, a
+/// set of their numbers tells whether one listens. So that is found quickly however many there are.
 #[derive(Drop)]
 pub struct Listeners {
     listening: Vec<Listener>,
-    sockets: BTreeSet<u32>,
+    sockets: Option<BTreeSet<u32>>,
+    alloc: Global,
 }
 
 impl Model for Listeners {
-    ghost use Rattle.std.specs.Prelude.{◌≡◌, ℕ, List};
-    ghost use Rattle.std.specs.BTreeSet.{contains};
-    ghost use Rattle.std.specs.Ordering.{nat_cmp};
-    ghost use Rattle.host_pairs.specs.Desk.{listens_on};
+    ghost use Rattle.std.specs.Prelude.{List};
+    ghost use Rattle.host_pairs.specs.Inside.Listening.{AreTold};
     ghost use Rattle.host_pairs.specs.declared.listener.Listener.{Listener};
 
     ghost Value = { List Listener };
 
     ghost view = { λ l. l.listening.items };
 
-    ghost invariant = { λ l. (socket : ℕ) → contains nat_cmp l.sockets socket ≡ listens_on socket l.listening.items };
+    ghost invariant = { λ l. AreTold l.sockets l.listening.items };
 }
 
 impl Listeners {
@@ -50,7 +53,8 @@ impl Listeners {
     {
         Listeners {
             listening: Vec::new(alloc),
-            sockets: BTreeSet::new(alloc),
+            sockets: None,
+            alloc,
         }
     }
 
@@ -58,11 +62,97 @@ impl Listeners {
     pub fn push(&mut self, listener: Listener) -> Result<(), AllocError>
         ensures { OnOk result (self.new ≡ self.old ++ listener ∷ []) }
     {
+        let alloc = self.alloc;
         self.listening.reserve(1)?;
-        self.sockets.insert(listener.socket)?;
+        learn(alloc, &self.listening, &mut self.sockets, &listener)?;
         self.listening.push_reserved(listener);
         Ok(())
     }
+}
+
+/// The numbers of these sockets.
+fn numbers_of(alloc: Global, listening: &[Listener]) -> Result<BTreeSet<u32>, AllocError>
+    ensures { IfOk result (λ sockets. AreThese sockets listening.now) }
+{
+    let mut sockets = BTreeSet::new(alloc);
+    for listener in listening {
+        sockets.insert(listener.socket)?;
+    }
+    Ok(sockets)
+}
+
+/// The numbers of these sockets and of one more.
+fn numbers_with(
+    alloc: Global,
+    listening: &[Listener],
+    listener: &Listener,
+) -> Result<BTreeSet<u32>, AllocError>
+    ensures { IfOk result (λ sockets. AreThese sockets (listening.now ++ listener.now ∷ [])) }
+{
+    let mut sockets = numbers_of(alloc, listening)?;
+    sockets.insert(listener.socket)?;
+    Ok(sockets)
+}
+
+/// One more socket comes to listen behind these, and is among the numbers where they are kept.
+fn learn(
+    alloc: Global,
+    listening: &[Listener],
+    sockets: &mut Option<BTreeSet<u32>>,
+    listener: &Listener,
+) -> Result<(), AllocError>
+    requires { AreTold sockets.old listening.now }
+    ensures told { OnOk result (AreTold sockets.new (listening.now ++ listener.now ∷ [])) }
+    ensures kept { OnErr result (AreTold sockets.new listening.now) }
+{
+    if let Some(sockets) = sockets {
+        sockets.insert(listener.socket)?;
+    } else if !is_above(listening, listener.socket) {
+        *sockets = Some(numbers_with(alloc, listening, listener)?);
+    }
+    Ok(())
+}
+
+/// Whether a number is greater than that of the last of these.
+fn is_above(listening: &[Listener], socket: u32) -> bool
+    ensures { OnTrue result ((d : Listener) → 0 < length listening.now → (slice_index_or listening.now (length listening.now - 1) d).socket < socket) }
+{
+    match listening.last() {
+        Some(last) => last.socket < socket,
+        None => true,
+    }
+}
+
+/// How many of these stand before a socket.
+fn first_from(listening: &[Listener], socket: u32) -> usize
+    requires { AreAscending listening.now }
+    ensures bound { result ≤ length listening.now }
+    ensures parts { IsPartitionPoint (λ l. nat_lt l.socket socket ≡ true) (λ l. nat_lt l.socket socket ≡ false) listening.now result }
+{
+    listening.partition_point(|l| l.socket < socket)
+}
+
+/// Whether a socket stands at this place.
+fn stands_at(listening: &[Listener], at: usize, socket: u32) -> bool
+    ensures yes { OnTrue result ((at < length listening.now) × ((d : Listener) → (slice_index_or listening.now at d).socket ≡ socket)) }
+    ensures no { OnFalse result (at < length listening.now → (d : Listener) → (slice_index_or listening.now at d).socket ≡ socket → ⊥) }
+{
+    if at >= listening.len() {
+        return false;
+    }
+    listening[at].socket == socket
+}
+
+/// Whether a socket is one of these, which ascend. Sockets often come in order of their numbers, so one that is greater than all is not
+/// searched for.
+fn stands_among(listening: &[Listener], socket: u32) -> bool
+    requires { AreAscending listening.now }
+    ensures { result ≡ listens_on socket listening.now }
+{
+    if is_above(listening, socket) {
+        return false;
+    }
+    stands_at(listening, first_from(listening, socket), socket)
 }
 
 /// The first of these on a socket.
@@ -82,24 +172,24 @@ pub(crate) fn listener_on(listening: &Listeners, socket: u32) -> Option<Listener
     first_on(&listening.listening, socket)
 }
 
-/// Whether a socket listens. Sockets often come in order of their numbers, so one that is greater than all is not searched for.
+/// Whether a socket listens.
 pub fn listens_on(listening: &Listeners, socket: u32) -> bool
     ensures { result ≡ listens_on socket listening.now }
 {
-    if is_beyond(&listening.sockets, socket) {
-        return false;
+    match &listening.sockets {
+        Some(sockets) => is_one_of(sockets, socket),
+        None => stands_among(&listening.listening, socket),
     }
-    listening.sockets.contains(&socket)
 }
 
-/// Whether a number is greater than all of these.
+/// Whether a number is one of these. One that is greater than all is not searched for.
 #[tactic(auto, using(crate::proofs::ListenerLemmas::beyond_last))]
-fn is_beyond(sockets: &BTreeSet<u32>, socket: u32) -> bool
-    ensures { OnTrue result (contains nat_cmp sockets.now socket ≡ false) }
+fn is_one_of(sockets: &BTreeSet<u32>, socket: u32) -> bool
+    ensures { result ≡ contains nat_cmp sockets.now socket }
 {
     match sockets.last() {
-        Some(last) => *last < socket,
-        None => false,
+        Some(last) if *last < socket => false,
+        _ => sockets.contains(&socket),
     }
 }
 
@@ -107,8 +197,17 @@ fn is_beyond(sockets: &BTreeSet<u32>, socket: u32) -> bool
 pub fn stop_listening(listening: &mut Listeners, socket: u32)
     ensures { listening.new ≡ without_listener socket listening.old }
 {
-    if listening.sockets.remove(&socket) {
-        remove(&mut listening.listening, socket);
+    forget(&listening.listening, &mut listening.sockets, socket);
+    remove(&mut listening.listening, socket);
+}
+
+/// A socket is no longer among the numbers of these, where they are kept.
+fn forget(listening: &[Listener], sockets: &mut Option<BTreeSet<u32>>, socket: u32)
+    requires { AreTold sockets.old listening.now }
+    ensures { AreTold sockets.new (without_listener socket listening.now) }
+{
+    if let Some(sockets) = sockets {
+        sockets.remove(&socket);
     }
 }
 

@@ -207,15 +207,25 @@ impl Ncp {
     /// Errors, the first that applies: `WrongEnd` for an even socket, `NoSuchSocket` where it has no own
     /// end, `NotOpen`, `BadSize` for bits that aren't whole bytes, `Closing` where this host has closed the
     /// connection and it drains, `OutOfMemory` only where there are bits.
-    #[tactic(auto, unfolding(crate::specs::Requests::refusal, crate::specs::Requests::served, crate::specs::Requests::served_notices))]
     pub fn send(&mut self, socket: u32, bits: Bits) -> Result<(), NcpFault>
         requires live { self.old.spent ≡ false }
         ensures refused { IsRefused self.old (request.Send socket bits) result self.new }
         ensures served { IsServed (λ _. []) self.old (request.Send socket bits) result self.new }
         ensures memory { requests.refusal self.old (request.Send socket bits) ≡ None → IfErr result (λ f. 0 < length bits) }
     {
+        self.send_bits(socket, &bits)
+    }
+
+    /// The same, where the bits stay with the caller.
+    #[tactic(auto, unfolding(crate::specs::Requests::refusal, crate::specs::Requests::served, crate::specs::Requests::served_notices))]
+    fn send_bits(&mut self, socket: u32, bits: &Bits) -> Result<(), NcpFault>
+        requires live { self.old.spent ≡ false }
+        ensures refused { IsRefused self.old (request.Send socket bits.now) result self.new }
+        ensures served { IsServed (λ _. []) self.old (request.Send socket bits.now) result self.new }
+        ensures memory { requests.refusal self.old (request.Send socket bits.now) ≡ None → IfErr result (λ f. 0 < length bits.now) }
+    {
         let peer = self.check_send(socket, bits.len())?;
-        let done = self.add_bits(peer, socket, &bits);
+        let done = self.add_bits(peer, socket, bits);
         self.end(done)
     }
 
@@ -318,39 +328,51 @@ impl Ncp {
     /// Runs a request, as the programs above the sockets make them, and returns what is told of it.
     ///
     /// Errors: those of the request's own call, `OutOfMemory` only where something more is kept once it is served.
-    #[tactic(auto, unfolding(crate::specs::Requests::served_notices))]
     pub fn ask(&mut self, request: Request) -> Result<Vec<Notice>, NcpFault>
         requires live { self.old.spent ≡ false }
         ensures refused { IsRefused self.old request result self.new }
         ensures served { IsServed (λ notices. notices.items) self.old request result self.new }
         ensures memory { requests.refusal self.old request ≡ None → IfErr result (λ f. 0 < newly_kept self.old request) }
     {
+        self.serve(&request)
+    }
+
+    /// Runs a request as [`Ncp::ask`] does. The request stays with the caller, and no copy of it is made.
+    ///
+    /// Errors: those of the request's own call, `OutOfMemory` only where something more is kept once it is served.
+    #[tactic(auto, unfolding(crate::specs::Requests::served_notices))]
+    pub fn serve(&mut self, request: &Request) -> Result<Vec<Notice>, NcpFault>
+        requires live { self.old.spent ≡ false }
+        ensures refused { IsRefused self.old request.now result self.new }
+        ensures served { IsServed (λ notices. notices.items) self.old request.now result self.new }
+        ensures memory { requests.refusal self.old request.now ≡ None → IfErr result (λ f. 0 < newly_kept self.old request.now) }
+    {
         match request {
-            Request::Contact { peer } => return self.contact(peer),
-            Request::Listen { socket, size } => self.listen(socket, size)?,
+            Request::Contact { peer } => return self.contact(*peer),
+            Request::Listen { socket, size } => self.listen(*socket, *size)?,
             Request::OpenSend {
                 peer,
                 own,
                 foreign,
                 size,
-            } => self.open_send(peer, own, foreign, size)?,
+            } => self.open_send(*peer, *own, *foreign, *size)?,
             Request::OpenReceive { peer, own, foreign } => {
-                self.open_receive(peer, own, foreign)?;
+                self.open_receive(*peer, *own, *foreign)?;
             }
-            Request::Send { socket, bits } => self.send(socket, bits)?,
+            Request::Send { socket, bits } => self.send_bits(*socket, bits)?,
             Request::Grant {
                 socket,
                 messages,
                 bits,
-            } => self.grant(socket, messages, bits)?,
+            } => self.grant(*socket, *messages, *bits)?,
             Request::AskBack {
                 socket,
                 messages,
                 bits,
-            } => self.ask_back(socket, messages, bits)?,
-            Request::Interrupt { socket } => self.interrupt(socket)?,
-            Request::Close { socket } => self.close(socket)?,
-            Request::Echo { peer, octet } => self.echo(peer, octet)?,
+            } => self.ask_back(*socket, *messages, *bits)?,
+            Request::Interrupt { socket } => self.interrupt(*socket)?,
+            Request::Close { socket } => self.close(*socket)?,
+            Request::Echo { peer, octet } => self.echo(*peer, *octet)?,
         }
         Ok(Vec::new(self.alloc))
     }

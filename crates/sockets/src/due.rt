@@ -5,11 +5,11 @@ ghost use Rattle.host_pairs.specs.Outgoing.{HasRoom, IsThere, parcel_of};
 ghost use Rattle.host_pairs.specs.Parcels.{next_of};
 ghost use Rattle.sockets.specs.Due.{GoesNext, is_due};
 
-use host_pairs::{Outgoing, Pair};
+use host_pairs::{Outgoing, Pair, is_busy};
 
 /// What goes to a peer next.
 ///
-/// While commands wait it is only known whether something goes, since how many of them have room is counted when they go.
+/// While commands may go it is only known that something goes, since how many of them have room is counted when they go.
 #[derive(Clone, Copy)]
 pub(crate) enum Due {
     /// Nothing goes.
@@ -18,6 +18,12 @@ pub(crate) enum Due {
     Something,
     /// This goes.
     Known(Outgoing),
+}
+
+/// Whether commands wait, and the link of commands has no message outstanding. It promises nothing: what goes next is told either way,
+/// and bytes that go while commands have to wait are looked for once.
+fn commands_may_go(pair: &Pair) -> bool {
+    !pair.queue.as_slice().is_empty() && !is_busy(&pair.busy, 0)
 }
 
 impl Due {
@@ -32,7 +38,7 @@ impl Due {
     pub(crate) fn of(pair: &Pair) -> Due
         ensures { GoesNext pair.now result }
     {
-        if !pair.queue.as_slice().is_empty() {
+        if commands_may_go(pair) {
             return Due::some_of(pair);
         }
         Due::exact(pair, pair.next())

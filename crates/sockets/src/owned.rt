@@ -14,13 +14,13 @@ use std::collections::BTreeSet;
 
 /// The sockets of the ends with all peers, so far as they are known.
 ///
-/// Ends that are requested one after another teach them: the second one has all ends looked through, and each further one adds its
-/// own. Whatever else changes a peer makes them unknown, so nothing is looked through for an end that is requested alone.
+/// Ends that are requested one after another teach them: once there were many, all ends are looked through, and each further one adds
+/// its own. Whatever else changes a peer makes them unknown, so no set is made for a few ends that are requested in a row.
 #[derive(Drop)]
 pub(crate) enum Owned {
     /// Nothing is known.
     Unknown,
-    /// Nothing is known, and an end was requested last.
+    /// Nothing is known, and ends were requested last.
     Asked,
     /// The socket of each end is one of these.
     Known(BTreeSet<u32>),
@@ -77,14 +77,21 @@ impl Owned {
         }
     }
 
-    /// What is known once one more end was requested, on this socket.
-    pub(crate) fn learnt(self, alloc: Global, own: u32, peers: &[Peer]) -> Result<Owned, AllocError>
+    /// What is known once one more end was requested, on this socket. All ends are looked through if many were requested in a row.
+    pub(crate) fn learnt(
+        self,
+        alloc: Global,
+        own: u32,
+        peers: &[Peer],
+        many: bool,
+    ) -> Result<Owned, AllocError>
         requires { AreKnownBut own self peers.now }
         ensures { IfOk result (λ owned. AreKnown owned peers.now) }
     {
         match self {
             Owned::Unknown => Ok(Owned::Asked),
-            Owned::Asked => Ok(Owned::Known(owned_by(alloc, peers)?)),
+            Owned::Asked if many => Ok(Owned::Known(owned_by(alloc, peers)?)),
+            Owned::Asked => Ok(Owned::Asked),
             Owned::Known(sockets) => Ok(Owned::Known(with_socket(sockets, own)?)),
         }
     }

@@ -30,18 +30,24 @@ use std::alloc::{AllocError, Global};
 use std::marker::Model;
 use std::mem;
 
+/// How many ends are requested in a row before it is learnt which sockets have an end. To learn it costs as much as so many looks at
+/// all ends.
+const MANY: usize = 32;
+
 /// The other hosts that this one has to do with, in order of their address octets. A host that isn't here has
 /// a pair as at the opening.
 ///
 /// Beside each stands what goes to it next, so that the next message is found without a look at the others, and its connections are
 /// looked through once for each change. And so far as it is known which sockets have an end, one without an end is found without a
-/// look at all ends. The place of the peer that was changed last is where one is looked for first.
+/// look at all ends; that is learnt once many ends were requested in a row. The place of the peer that was changed last is where one is
+/// looked for first.
 #[derive(Drop)]
 pub(crate) struct Peers {
     peers: Vec<Peer>,
     due: Vec<Due>,
     recent: usize,
     owned: Owned,
+    in_a_row: usize,
 }
 
 impl Model for Peers {
@@ -68,6 +74,7 @@ impl Peers {
             due: Vec::new(alloc),
             recent: 0,
             owned: Owned::Unknown,
+            in_a_row: 0,
         }
     }
 
@@ -109,7 +116,12 @@ impl Peers {
         requires { AreKnownBut own owned self.old }
         ensures { self.new ≡ self.old }
     {
-        self.owned = owned.learnt(alloc, own, &self.peers)?;
+        if matches!(owned, Owned::Unknown) {
+            self.in_a_row = 0;
+        }
+        self.in_a_row = self.in_a_row.saturating_add(1);
+        let many = self.in_a_row >= MANY;
+        self.owned = owned.learnt(alloc, own, &self.peers, many)?;
         Ok(())
     }
 
@@ -339,11 +351,9 @@ fn swap(
         Ok(at) => {
             *recent = at;
             due[at] = Due::Nothing;
-            let known = Peer {
-                host,
-                pair: opening,
-            };
-            mem::replace(&mut peers[at], known).pair
+            let peer = &mut peers[at];
+            peer.host = host;
+            mem::replace(&mut peer.pair, opening)
         }
         Err(_) => opening,
     }
@@ -512,7 +522,9 @@ fn put_at(peers: &mut Vec<Peer>, due: &mut Vec<Due>, at: usize, host: HostAddr, 
     ensures due { GoNext due.new.items peers.new.items }
 {
     due[at] = Due::of(&pair);
-    peers[at] = Peer { host, pair };
+    let peer = &mut peers[at];
+    peer.host = host;
+    peer.pair = pair;
 }
 
 /// Puts a host that isn't known among the peers, at this place.

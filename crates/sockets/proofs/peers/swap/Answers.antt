@@ -14,4 +14,4 @@ returns-in-Ok-clause-again c = λ pair. again_swapped c.args.host c.args.opening
 
 pub returns-in-Ok-clause-due : goal.returns-in-Ok-clause-due
 returns-in-Ok-clause-due c =
-    opening_due c.args.host c.args.opening c.args.peers.now.items c.args.due.now.items c.in-Ok.at c.replace.new.dest c.requires.due c.requires.opening (search rules)
+    opening_due c.args.host c.args.opening c.args.peers.now.items c.args.due.now.items c.in-Ok.at (record { host = c.args.host; pair = c.replace.new.dest }) c.requires.due c.requires.opening (search rules)
