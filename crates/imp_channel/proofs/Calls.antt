@@ -11,7 +11,7 @@ use Rattle.packetiser.specs.PacketFields.{PacketFields}
 use Rattle.imp_channel.specs.declared.channel.Channel.{Channel}
 use Rattle.imp_channel.specs.declared.frame.Frame.{Frame}
 use Rattle.imp_channel.specs.Holding.{packet_of, packets_in}
-use Rattle.imp_channel.specs.Line.{End, opening_channel, is_free, submitted, frame_on, frames_of, frames_from, acknowledged, all_acknowledged}
+use Rattle.imp_channel.specs.Line.{End, opening_channel, is_free, submitted, frame_on, frames_of, frames_from}
 
 -- a channel that is free holds nothing
 pub none_from : (o : Option PacketFields) → is_none o ≡ true → o ≡ None
@@ -83,23 +83,10 @@ none_busy (Some p) count none = absurd (omega (arith, none))
 none_busy_in : (ch : Channel) (chs : List Channel) → count_by (λ channel. is_some channel.packet) (ch ∷ chs) ≡ 0 → (ch.packet ≡ None) × (count_by (λ channel. is_some channel.packet) chs ≡ 0)
 none_busy_in ch chs none = none_busy ch.packet (count_by (λ channel. is_some channel.packet) chs) (sym (sum_by-cons (λ (other : Channel). cond (is_some other.packet) 1 0) ch chs) ∙ none)
 
-still_free : (ack : Bool) (ch : Channel) → ch.packet ≡ None → acknowledged ack ch ≡ ch
-still_free ack ch free = rw free refl
-
--- where no channel is busy, acknowledgements change nothing
-pub none_acknowledged : (acks : List Bool) (chs : List Channel) → count_by (λ channel. is_some channel.packet) chs ≡ 0 → all_acknowledged acks chs ≡ chs
-none_acknowledged acks [] none = refl
-none_acknowledged [] (ch ∷ chs) none =
-    let free = none_busy_in ch chs none in
-    ap (λ (c : Channel). c ∷ all_acknowledged [] chs) (still_free false ch free.0) ∙ ap (λ (cs : List Channel). ch ∷ cs) (none_acknowledged [] chs free.1)
-none_acknowledged (ack ∷ acks) (ch ∷ chs) none =
-    let free = none_busy_in ch chs none in
-    ap (λ (c : Channel). c ∷ all_acknowledged acks chs) (still_free ack ch free.0) ∙ ap (λ (cs : List Channel). ch ∷ cs) (none_acknowledged acks chs free.1)
-
 free_sends : (e : End) (c : ℕ) (bit : Bool) (o : Option PacketFields) → o ≡ None → frames_of e c bit o ≡ []
 free_sends e c bit o free = ap (frames_of e c bit) free
 
--- and nothing is sent again
+-- where no channel is busy, nothing is sent again
 pub none_sent : (e : End) (c : ℕ) (chs : List Channel) → count_by (λ channel. is_some channel.packet) chs ≡ 0 → frames_from e c chs ≡ []
 none_sent e c [] none = refl
 none_sent e c (ch ∷ chs) none =

@@ -1,3 +1,4 @@
+pub mod Acknowledging
 pub mod Alternating
 pub mod Calls
 pub mod FrameLemmas

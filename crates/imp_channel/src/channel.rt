@@ -1,9 +1,11 @@
 //! One channel of a line.
 
-ghost use Rattle.std.specs.Prelude.{◌≡◌, ◌≤◌, ◌++◌, length, count_by, is_some, map, vec_len, vec_capacity, ◌+◌, true};
+ghost use Rattle.std.specs.Prelude.{◌≡◌, ◌≤◌, ◌++◌, length, count_by, is_some, map, vec_len, vec_capacity, ◌+◌, true, if◌then◌else◌};
+ghost use Rattle.imp_channel.specs.declared.frame.TheConstants.{ACKS};
 ghost use Rattle.imp_channel.specs.Holding.{packets_in};
 ghost use Rattle.imp_channel.specs.Line.{all_acknowledged, acknowledged, opening_channel};
 
+use crate::ACKS;
 use packetiser::Packet;
 
 /// How many channels a line has in each direction: all that a frame can name.
@@ -30,52 +32,55 @@ impl Channel {
     }
 
     /// Takes an acknowledgement bit. One that differs from the bit of the packet that waits frees the
-    /// channel, and the next packet has the other bit.
-    fn acknowledge(&mut self, ack: bool)
-        ensures { self.new ≡ acknowledged ack self.old }
+    /// channel, and the next packet has the other bit. The call answers whether it freed the channel. The
+    /// channel's own bit is told, so that a channel with that bit isn't looked at.
+    fn acknowledge(&mut self, bit: bool, ack: bool) -> bool
+        requires { bit ≡ self.old.bit }
+        ensures channel { self.new ≡ acknowledged ack self.old }
+        ensures bit { self.new.bit ≡ (if result then ack else bit) }
+        ensures freed { (if is_some self.new.packet then 1 else 0) + (if result then 1 else 0) ≡ (if is_some self.old.packet then 1 else 0) }
     {
-        if self.packet.is_some() && ack != self.bit {
-            self.packet = None;
-            self.bit = !self.bit;
+        if ack == bit || self.packet.is_none() {
+            return false;
         }
-    }
-
-    /// Whether a packet waits in it.
-    fn is_busy(&self) -> bool
-        ensures { result ≡ is_some self.now.packet }
-    {
-        self.packet.is_some()
+        self.packet = None;
+        self.bit = ack;
+        true
     }
 }
 
-/// Whether each of these acknowledgement bits is the bit of its channel. Such bits free no channel. All are looked at, with no early
-/// end, which is faster where bits mostly free none.
-pub(crate) fn have_bits(channels: &[Channel], acks: &[bool]) -> bool
-    requires { length channels.now ≤ length acks.now }
-    ensures { result ≡ true → all_acknowledged acks.now channels.now ≡ channels.now }
+/// Whether these are the same bits. All are looked at, with no early end, so that eight of them are compared at once.
+pub(crate) fn are_same(acks: &[bool; ACKS], bits: &[bool; ACKS]) -> bool
+    ensures { result ≡ true → acks.now ≡ bits.now }
 {
     let mut same = true;
-    for (c, channel) in channels.iter().enumerate() {
-        same = same & (channel.bit == acks[c]);
+    for c in 0..ACKS {
+        same = same & (acks[c] == bits[c]);
     }
     same
 }
 
-/// Takes the acknowledgement bit of each channel.
-pub(crate) fn acknowledge_all(channels: &mut [Channel], acks: &[bool])
-    requires { length channels.old ≤ length acks.now }
-    ensures { channels.new ≡ all_acknowledged acks.now channels.old }
+/// Takes the acknowledgement bit of each channel, and answers how many channels were freed. The channels' own bits stand beside
+/// them, before and after.
+pub(crate) fn acknowledge_all(
+    channels: &mut [Channel],
+    bits: &mut [bool; ACKS],
+    acks: &[bool; ACKS],
+) -> usize
+    requires count { length channels.old ≡ ACKS }
+    requires bits { bits.old ≡ map (λ channel. channel.bit) channels.old }
+    ensures channels { channels.new ≡ all_acknowledged acks.now channels.old }
+    ensures bits { bits.new ≡ map (λ channel. channel.bit) channels.new }
+    ensures freed { count_by (λ channel. is_some channel.packet) channels.new + result ≡ count_by (λ channel. is_some channel.packet) channels.old }
 {
+    let mut freed = 0;
     for (c, channel) in channels.iter_mut().enumerate() {
-        channel.acknowledge(acks[c]);
+        if channel.acknowledge(bits[c], acks[c]) {
+            bits[c] = acks[c];
+            freed += 1;
+        }
     }
-}
-
-/// How many packets wait in these channels.
-pub(crate) fn count_packets(channels: &[Channel]) -> usize
-    ensures { result ≡ count_by (λ channel. is_some channel.packet) channels.now }
-{
-    channels.iter().filter(|channel| channel.is_busy()).count()
+    freed
 }
 
 /// Resets the channels, and puts the packets that waited there at the end of a list with room for them.

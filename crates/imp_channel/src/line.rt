@@ -1,11 +1,11 @@
 //! One end of a line.
 
-ghost use Rattle.std.specs.Prelude.{◌≡◌, ◌<◌, ◌≤◌, ◌+◌, ◌++◌, length, IfOk, IfErr, IsSome, OnOk, OnErr, Ok, Some, None, false, position, count_by, is_some, is_none, slice_index_or, slice_set};
+ghost use Rattle.std.specs.Prelude.{◌≡◌, ◌<◌, ◌≤◌, ◌+◌, ◌++◌, length, map, IfOk, IfErr, IsSome, OnOk, OnErr, Ok, Some, None, false, position, count_by, is_some, is_none, slice_index_or, slice_set};
 ghost use Rattle.std.specs.Option.{option_copied, option_to_list};
 ghost use Rattle.imp_channel.specs.Holding.{packets_in};
 ghost use Rattle.imp_channel.specs.Line.{IsRefusal, is_free, frames_of, opening_channel, opening_end, frame_of, submitted, resent, acknowledgement, routes_frame, channel_at, is_foreign, has_expected_bit, expected_after, brought, state_after, all_acknowledged, answer_to, is_fresh_answer, is_repeat_answer};
 
-use crate::channel::{acknowledge_all, count_packets, have_bits, reset_all};
+use crate::channel::{acknowledge_all, are_same, reset_all};
 use crate::{ACKS, CHANNELS, Carried, Channel, Content, Frame, SubmitFault};
 use packetiser::Packet;
 use routing::Vector;
@@ -33,10 +33,12 @@ pub struct Line {
     expected: [bool; ACKS],
     // how many channels are busy
     busy: usize,
+    // the bits of the channels, beside them, so that acknowledgements are compared without a look at each channel
+    bits: [bool; ACKS],
 }
 
 impl Model for Line {
-    ghost use Rattle.std.specs.Prelude.{◌≡◌, length, count_by, is_some};
+    ghost use Rattle.std.specs.Prelude.{◌≡◌, length, map, count_by, is_some};
     ghost use Rattle.imp_channel.specs.declared.channel.TheConstants.{CHANNELS};
     ghost use Rattle.imp_channel.specs.Line.{End};
 
@@ -44,7 +46,7 @@ impl Model for Line {
 
     ghost view = { λ l. record { sending = l.channels.items; expected = l.expected } };
 
-    ghost invariant = { λ l. (length l.channels.items ≡ CHANNELS) × (l.busy ≡ count_by (λ channel. is_some channel.packet) l.channels.items) };
+    ghost invariant = { λ l. (length l.channels.items ≡ CHANNELS) × (l.busy ≡ count_by (λ channel. is_some channel.packet) l.channels.items) × (l.bits ≡ map (λ channel. channel.bit) l.channels.items) };
 }
 
 impl Line {
@@ -60,6 +62,7 @@ impl Line {
             channels,
             expected: [false; ACKS],
             busy: 0,
+            bits: [false; ACKS],
         })
     }
 
@@ -163,7 +166,7 @@ impl Line {
 
     /// Starts anew, as the line's other end must too, and gives back the packets of the busy channels in
     /// channel order. Memory is needed only where a channel is busy, and without it nothing has changed.
-    #[tactic(auto, using(crate::proofs::Calls::packets_counted))]
+    #[tactic(auto, using(crate::proofs::Calls::packets_counted, crate::proofs::Acknowledging::reset_bits))]
     pub fn reset(&mut self, alloc: Global) -> Result<Vec<Packet>, AllocError>
         ensures packets { IfOk result (λ packets. packets.items ≡ packets_in self.old.sending) }
         ensures state { IfOk result (λ _. self.new ≡ opening_end) }
@@ -173,6 +176,7 @@ impl Line {
         let mut packets = Vec::with_capacity(alloc, self.busy)?;
         reset_all(&mut self.channels, &mut packets);
         self.busy = 0;
+        self.bits = [false; ACKS];
         self.expected = [false; ACKS];
         Ok(packets)
     }
@@ -224,15 +228,14 @@ impl Line {
 
     /// Takes the acknowledgement bit of each channel. They matter to a busy one alone. It is all that `receive` does with a frame that
     /// brings no packet.
-    #[tactic(auto, using(crate::proofs::Calls::none_acknowledged))]
+    #[tactic(auto, using(crate::proofs::Acknowledging::own_acknowledged))]
     pub fn acknowledge(&mut self, acks: &[bool; ACKS])
         ensures { self.new ≡ record self.old { sending = all_acknowledged acks.now self.old.sending } }
     {
-        if self.busy == 0 || have_bits(&self.channels, acks) {
+        if are_same(acks, &self.bits) {
             return;
         }
-        acknowledge_all(&mut self.channels, acks);
-        self.busy = count_packets(&self.channels);
+        self.busy -= acknowledge_all(&mut self.channels, &mut self.bits, acks);
     }
 
     /// Puts the frame of a channel, if it is busy, at the end of a list.
@@ -265,12 +268,13 @@ impl Line {
 }
 
 /// Puts a packet into a free channel, and tells the bit that it goes out under.
-#[tactic(auto, using(crate::proofs::Calls::filled_counted))]
+#[tactic(auto, using(crate::proofs::Calls::filled_counted, crate::proofs::Acknowledging::filled_bits))]
 fn fill(channels: &mut [Channel], at: usize, packet: Packet) -> bool
     requires { position is_free channels.old ≡ Some at }
     ensures bit { result ≡ (slice_index_or channels.old at opening_channel).bit }
     ensures channels { channels.new ≡ slice_set channels.old at (record { bit = result; packet = Some packet }) }
     ensures busy { count_by (λ channel. is_some channel.packet) channels.new ≡ count_by (λ channel. is_some channel.packet) channels.old + 1 }
+    ensures bits { map (λ channel. channel.bit) channels.new ≡ map (λ channel. channel.bit) channels.old }
 {
     let channel = &mut channels[at];
     channel.packet = Some(packet);

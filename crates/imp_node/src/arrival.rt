@@ -20,6 +20,7 @@ ghost use Rattle.imp_node.specs.Turns.{Turned, Takes, from_line_grows};
 ghost use Rattle.imp_node.specs.Inside.Parts.{IsPacketFlow};
 ghost use Rattle.imp_node.specs.Inside.Arriving.{lost_by, has_place, turned_away, asked_about, completed};
 
+use crate::outgoing::push_frame;
 use crate::pump::target;
 use crate::steps::answer_packet;
 use crate::waiting::Message;
@@ -168,7 +169,7 @@ impl Imp {
     {
         let mut frames = self.spare.take(self.alloc);
         let frame = self.ports[port as usize].line.ack_frame();
-        frames.push(Outgoing { port, frame })?;
+        push_frame(&mut frames, port, frame)?;
         Ok(frames)
     }
 

@@ -10,6 +10,7 @@ ghost use Rattle.imp_node.specs.Lines as lines;
 ghost use Rattle.imp_node.specs.Lines.{on_port};
 ghost use Rattle.imp_node.specs.Turns.{Turned, Takes, sends, resend_grows, route_grows, end_down_grows, end_up_grows};
 
+use crate::outgoing::push_frame;
 use crate::port::Port;
 use crate::{Imp, Outgoing};
 use imp_channel::{CHANNELS, Frame, Line};
@@ -228,7 +229,7 @@ fn push_again(
     ensures memory { OnErr result (IsSome (channel_at line.now channel).packet) }
 {
     if let Some(frame) = line.again(channel)? {
-        frames.push(Outgoing { port: at, frame })?;
+        push_frame(frames, at, frame)?;
     }
     Ok(())
 }
@@ -262,7 +263,7 @@ fn push_told(
 {
     if port.up {
         let frame = port.line.routes_frame(distances.clone()?);
-        frames.push(Outgoing { port: at, frame })?;
+        push_frame(frames, at, frame)?;
     }
     Ok(())
 }

@@ -8,6 +8,7 @@ ghost use Rattle.imp_node.specs.State.{port_at};
 ghost use Rattle.imp_node.specs.Pump.{target, sent_on, packet_sent, pumped};
 
 use crate::Outgoing;
+use crate::outgoing::push_frame;
 use crate::port::Port;
 use imp_channel::SubmitFault;
 use packetiser::{Packet, PacketKind};
@@ -43,10 +44,7 @@ fn send_on(
     let port = &mut ports[at];
     match port.line.submit(packet) {
         Ok(frame) => {
-            frames.push(Outgoing {
-                port: at as u8,
-                frame,
-            })?;
+            push_frame(frames, at as u8, frame)?;
             Ok(None)
         }
         Err(SubmitFault::AllBusy(packet)) => Ok(Some(packet)),
