@@ -7,9 +7,11 @@ pub mod Carries
 pub mod Carrying
 pub mod Delivering
 pub mod Ending
+pub mod Highest
 pub mod Joining
 pub mod Living
 pub mod Opens
+pub mod Outstanding
 pub mod Owning
 pub mod Putting
 pub mod Restful

@@ -1,4 +1,5 @@
 pub mod Calling
+pub mod Highest
 pub mod Joined
 pub mod Remembering
 pub mod Resting

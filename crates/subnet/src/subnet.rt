@@ -26,12 +26,14 @@ use std::marker::Model;
 /// may be lost, repeated and overtaken. Running out of memory stops the subnet: nothing more is done, and its log
 /// stands.
 ///
-/// Beside its parts it remembers whether it rests: a quiet round then changes nothing, and is not made.
+/// Beside its parts it remembers whether it rests: a quiet round then changes nothing, and is not made. And it remembers the
+/// highest number that a message was begun with: an offer needn't look whether a higher one is alive.
 #[derive(Drop)]
 pub struct Subnet {
     pub(crate) parts: Parts,
     stopped: bool,
     rests: bool,
+    highest: Number,
 }
 
 impl Model for Subnet {
@@ -46,7 +48,7 @@ impl Model for Subnet {
 
     ghost view = { λ s. record { net = s.parts; stopped = s.stopped } };
 
-    ghost invariant = { λ s. IsRemembered (record { net = s.parts; stopped = s.stopped }) s.rests };
+    ghost invariant = { λ s. IsRemembered (record { net = s.parts; stopped = s.stopped }) s.rests s.highest };
 }
 
 impl Subnet {
@@ -72,6 +74,7 @@ impl Subnet {
             parts: Parts::open(alloc, hosts, sites, ends)?,
             stopped: false,
             rests: false,
+            highest: 0,
         })
     }
 
@@ -101,7 +104,9 @@ impl Subnet {
             return Err(CarrierFault::Stopped);
         }
         known(&message);
-        let outcome = self.parts.offer_out(message);
+        let begun = self.parts.next_number(&message.flow);
+        let outcome = self.parts.offer_out(message, self.highest);
+        self.highest = self.highest.max(begun);
         self.stopped = runs_out(&outcome);
         self.rests = still_rests(self.rests, &outcome);
         outcome

@@ -317,7 +317,7 @@ record IsDeadFor (ms : List Message) (p : PacketFields) : Type 0 where
   waited : Contains ms message
   is : p ≡ answer_packet kind.Dead message.flow message.number
 
-dead_all : (P : PacketFields → Type 0) (s : State) (ms : List Message) → All (λ m. P (answer_packet kind.Dead m.flow m.number)) ms → All P (flat_map (reply_for kind.Dead s) ms)
+pub dead_all : (P : PacketFields → Type 0) (s : State) (ms : List Message) → All (λ m. P (answer_packet kind.Dead m.flow m.number)) ms → All P (flat_map (reply_for kind.Dead s) ms)
 dead_all P s [] all = All-nil P
 dead_all P s (m ∷ ms) all =
     All-append P (reply_for kind.Dead s m) (flat_map (reply_for kind.Dead s) ms)

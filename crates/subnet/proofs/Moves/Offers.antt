@@ -83,7 +83,7 @@ piece_format m n p can small of carries =
     }
 
 -- what holds of each packet of a message
-each_packet : (f : Flow) (n : ℕ) (w : List Bool) (P : PacketFields → Type 0) → ((p : PacketFields) → IsPieceFor f n p → CarriesPieceOf w p → P p) → All P (packets_of f n w)
+pub each_packet : (f : Flow) (n : ℕ) (w : List Bool) (P : PacketFields → Type 0) → ((p : PacketFields) → IsPieceFor f n p → CarriesPieceOf w p → P p) → All P (packets_of f n w)
 each_packet f n w P holds =
     let ps : List PacketFields = packets_of f n w in
     let are : All (IsPieceFor f n) ps × All (CarriesPieceOf w) ps = packets_are f n w in
@@ -91,7 +91,7 @@ each_packet f n w P holds =
 
 -- ---- what is not refused
 
-next_is : (o : Option Standing) → number_in o ≡ moves.next_number (last_in o)
+pub next_is : (o : Option Standing) → number_in o ≡ moves.next_number (last_in o)
 next_is None = refl
 next_is (Some s) = refl
 
