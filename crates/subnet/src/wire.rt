@@ -208,7 +208,8 @@ fn follow(frames: &mut VecDeque<Frame>, frame: Frame) -> Result<(), AllocError>
     ensures { OnOk result (frames.new.items ≡ followed_by frames.old.items frame) }
 {
     if frames.len() < LINE_PLACES {
-        frames.push_back(frame)?;
+        frames.reserve(1)?;
+        frames.push_back_reserved(frame);
     }
     Ok(())
 }
