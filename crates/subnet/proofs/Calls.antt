@@ -12,6 +12,7 @@ pub mod Living
 pub mod Opens
 pub mod Owning
 pub mod Putting
+pub mod Resending
 pub mod Restful
 pub mod Resting
 pub mod RoundMemory
