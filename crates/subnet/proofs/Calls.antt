@@ -14,6 +14,7 @@ pub mod Opens
 pub mod Outstanding
 pub mod Owning
 pub mod Putting
+pub mod Resending
 pub mod Restful
 pub mod Resting
 pub mod RoundMemory

@@ -16,6 +16,7 @@ mod offering;
 mod opening;
 mod parts;
 mod quiet_rounds;
+mod resending;
 mod seeking;
 mod settled;
 mod starting;

@@ -4,12 +4,11 @@ ghost use Rattle.std.specs.Prelude.{◌≡◌, ◌<◌, length, slice_get, true,
 ghost use Rattle.std.specs.List.{range_with_len};
 ghost use Rattle.subnet.specs.Net.{imp_at, wire_at, frames_on};
 ghost use Rattle.subnet.specs.Events as events;
-ghost use Rattle.imp_node.specs.Lines.{resend};
 ghost use Rattle.subnet.specs.Calls.{grows_at, round_grows, delivered_grows};
 ghost use Rattle.subnet.specs.Inside.Calling.{AreLive, SameLog, carried_first, call_turn, call_grows};
 ghost use Rattle.subnet.specs.declared.imp_call.ImpCall.TheVariants as call;
 
-use crate::imp_call::{ImpCall, answers_at_imp, takes_at_imp};
+use crate::imp_call::{answers_at_imp, takes_at_imp};
 use crate::parts::{Parts, runs_out};
 use imp_channel::Frame;
 use imp_node::Outgoing;
@@ -80,7 +79,7 @@ impl Parts {
     }
 
     /// The same, by the calls of the IMP.
-    #[tactic(auto, using(crate::proofs::Calls::Attempting::resend_ignores, crate::proofs::Calls::RoundMemory::telling_wants, crate::proofs::Calls::RoundMemory::sending_wants))]
+    #[tactic(auto, using(crate::proofs::Calls::RoundMemory::telling_wants, crate::proofs::Calls::RoundMemory::sending_wants))]
     fn tell_and_resend(&mut self, imp: u8) -> Result<(), AllocError>
         requires { AreLive self.old.imps }
         ensures ok { OnOk result (self.new ≡ events.refreshed self.old imp) }
@@ -89,21 +88,7 @@ impl Parts {
         ensures keeps { SameLog self.old self.new }
     {
         self.tell(imp)?;
-        if self.has_nothing_to_resend(imp) {
-            return Ok(());
-        }
-        self.attempt(imp, ImpCall::Resend)
-    }
-
-    /// Whether an IMP is up and stores no packet, so that sending again would change nothing.
-    #[tactic(auto, using(crate::proofs::Calls::Resting::nothing_resent))]
-    fn has_nothing_to_resend(&self, imp: u8) -> bool
-        ensures { result ≡ true → events.at_imp (imp_at self.now.imps imp) imp resend self.now ≡ self.now }
-    {
-        match self.imp(imp) {
-            Some(imp) => !imp.holds_packet(),
-            None => false,
-        }
+        self.send_again(imp)
     }
 
     /// The frames of each of so many lines are delivered and dropped, one direction after the other.

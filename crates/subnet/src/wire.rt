@@ -1,6 +1,6 @@
 //! A line between two IMPs, and the frames that are live on it.
 
-ghost use Rattle.std.specs.Prelude.{◌≡◌, ◌<◌, length, slice_get, slice_set, IfOk, OnOk, OnErr, Some, true, option_copied};
+ghost use Rattle.std.specs.Prelude.{◌≡◌, ◌<◌, [], length, slice_get, slice_set, IfOk, OnOk, OnErr, Some, true, option_copied};
 ghost use Rattle.subnet.specs.Net as net;
 ghost use Rattle.subnet.specs.Net.{ends_at, far_end, frames_on, followed_by, with_frame, dropping};
 ghost use Rattle.subnet.specs.Inside.Calling.{copied_grows};
@@ -197,9 +197,23 @@ fn lose(frames: &mut VecDeque<Frame>, place: usize)
 {
     if place == 0 {
         let _ = frames.pop_front();
+        if frames.is_empty() {
+            rewind(frames);
+        }
     } else {
         let _ = frames.remove(place);
     }
+}
+
+/// An empty queue begins at the start of its memory again. So the frames of one round lie where those of the last one lay, and the
+/// processor still has that memory at hand.
+fn rewind(frames: &mut VecDeque<Frame>)
+    requires { frames.old.items ≡ [] }
+    ensures { frames.new.items ≡ [] }
+{
+    let alloc = *frames.allocator();
+    let empty = mem::replace(frames, VecDeque::new(alloc));
+    *frames = VecDeque::from_vec(empty.into_vec());
 }
 
 /// Puts a frame behind the others, if there is a place for it.
@@ -208,7 +222,8 @@ fn follow(frames: &mut VecDeque<Frame>, frame: Frame) -> Result<(), AllocError>
     ensures { OnOk result (frames.new.items ≡ followed_by frames.old.items frame) }
 {
     if frames.len() < LINE_PLACES {
-        frames.push_back(frame)?;
+        frames.reserve(1)?;
+        frames.push_back_reserved(frame);
     }
     Ok(())
 }

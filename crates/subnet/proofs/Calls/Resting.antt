@@ -9,9 +9,7 @@ use Rattle.leader1822.specs.declared.crossing.Inbound.{Inbound}
 use Rattle.imp_node.specs.State.{State, ImpTurn}
 use Rattle.imp_node.specs.Arrival.{ignored}
 use Rattle.imp_node.specs.Lines.{route, resend}
-use Rattle.imp_node.specs.Queries.{holds_packet}
 use Rattle.imp_node.specs.Taking.{to_host}
-use Rattle.imp_node.proofs.lemmas.{resending_rests}
 use Rattle.subnet.specs.Net.{Net, imp_at, with_turn}
 use Rattle.subnet.specs.Flows.{imp_is_up}
 use Rattle.subnet.specs.Events.{at_imp, refreshed, logging, crossings_of, taken_by_host, take_in, quiet_round}
@@ -26,10 +24,6 @@ rests_at n i (Some t) s turn at is rests =
     let same : t ≡ s = cc in
     let kept : set n.imps i (Some t) ≡ n.imps = ap (set n.imps i) (sym at) ∙ set-get_or n.imps i None in
     ap (λ (x : ImpTurn). with_turn i x n) (ap turn same ∙ rests ∙ ap ignored (sym same)) ∙ ap (λ (imps : List (Option State)). record n { imps = imps }) kept
-
--- an IMP without packets sends nothing again
-pub nothing_resent : (n : Net) (i : ℕ) (s : State) → imp_at n.imps i ≡ Some s → holds_packet s ≡ false → at_imp (imp_at n.imps i) i resend n ≡ n
-nothing_resent n i s is none = rests_at n i (imp_at n.imps i) s resend refl is (resending_rests s none)
 
 -- a host that gets nothing
 pub nothing_taken : (n : Net) (h : Host) → taken_by_host n h ≡ None → at_imp (imp_at n.imps h.imp) h.imp (λ s. to_host s h.host) n ≡ n → take_in n h ≡ n

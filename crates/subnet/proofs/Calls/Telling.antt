@@ -1,4 +1,4 @@
--- An IMP that tells its distances and does nothing else: its frames are put on lines one by one.
+-- An IMP that tells its distances, or sends again, and does nothing else: its frames are put on lines one by one.
 use Rattle.std.specs.Prelude.{if◌then◌else◌}
 use Rattle.std.proofs.Common.{◌≡◌, ℕ, ◌+◌, ◌<◌, ◌≤◌, zero, suc, Bool, true, false, List, [], ◌∷◌, ◌++◌, length, drop, set, nat_lt, Option, Some, None, Result, Ok, Err, OnOk, OnErr, refl, ap, sym, subst, ◌∙◌, arith}
 use Rattle.std.proofs.lemmas.List.{drop_more, set-get_or, length-append}
@@ -15,7 +15,8 @@ use Rattle.subnet.specs.Events.{at_imp}
 use Rattle.subnet.specs.Calls.{grows_at}
 use Rattle.subnet.specs.declared.imp_call.ImpCall.TheVariants as call
 use Rattle.subnet.specs.Inside.Calling.{call_turn, call_grows, AreLive}
-use Rattle.subnet.specs.Inside.Telling.{OnlyTells, told}
+use Rattle.subnet.specs.Inside.Telling.{OnlyPuts, OnlyTells, frames_by_up, tells, told}
+use Rattle.imp_node.specs.Turns.{sends}
 
 -- ---- one port
 
@@ -41,7 +42,7 @@ none_told s k i lines is = ap (put_all lines i) (sym (told_here s k None is))
 
 -- ---- one port after the other
 
-put_both : (outs others : List Outgoing) (lines : List Wire) (i : ℕ) → put_all lines i (outs ++ others) ≡ put_all (put_all lines i outs) i others
+pub put_both : (outs others : List Outgoing) (lines : List Wire) (i : ℕ) → put_all lines i (outs ++ others) ≡ put_all (put_all lines i outs) i others
 put_both [] others lines i = refl
 put_both (out ∷ outs) others lines i = put_both outs others (put_one lines i out) i
 
@@ -51,43 +52,62 @@ told_next s k i lines within =
     ap (λ (ports : List Port). put_all lines i (told_from (vector_of s.routes) k ports)) (drop_more s.ports k down_port within)
     ∙ put_both (told_by (vector_of s.routes) k (port_at s.ports k)) (told_from (vector_of s.routes) (k + 1) (drop (k + 1) s.ports)) lines i
 
-some_from : (distances : List ℕ) (ports : List Port) (j k : ℕ) → k < length ports → length (told_by distances (j + k) (port_at ports k)) ≤ length (told_from distances j ports)
-some_from distances [] j k within = absurd (omega (arith, within))
-some_from distances (port ∷ ports) j zero within =
-    omega (arith, length-append (told_by distances j port) (told_from distances (j + 1) ports), ap (λ (i : ℕ). length (told_by distances i port)) (zero_more j))
+-- the frames of all ports from this one on, where these are the frames of one
+abbrev pub all_from : (ℕ → Port → List Outgoing) → ℕ → List Port → List Outgoing
+all_from each k [] = []
+all_from each k (port ∷ ports) = each k port ++ all_from each (k + 1) ports
+
+pub some_from : (each : ℕ → Port → List Outgoing) (ports : List Port) (j k : ℕ) → k < length ports → length (each (j + k) (port_at ports k)) ≤ length (all_from each j ports)
+some_from each [] j k within = absurd (omega (arith, within))
+some_from each (port ∷ ports) j zero within =
+    omega (arith, length-append (each j port) (all_from each (j + 1) ports), ap (λ (i : ℕ). length (each i port)) (zero_more j))
   where
     zero_more : (j : ℕ) → j + 0 ≡ j
     zero_more j = omega arith
-some_from distances (port ∷ ports) j (suc k) within =
-    let later : length (told_by distances (j + 1 + k) (port_at ports k)) ≤ length (told_from distances (j + 1) ports) = some_from distances ports (j + 1) k (omega (arith, within)) in
-    let same : length (told_by distances (j + suc k) (port_at ports k)) ≡ length (told_by distances (j + 1 + k) (port_at ports k)) = ap (λ (i : ℕ). length (told_by distances i (port_at ports k))) (omega arith) in
-    omega (arith, length-append (told_by distances j port) (told_from distances (j + 1) ports), later, same)
+some_from each (port ∷ ports) j (suc k) within =
+    let later : length (each (j + 1 + k) (port_at ports k)) ≤ length (all_from each (j + 1) ports) = some_from each ports (j + 1) k (omega (arith, within)) in
+    let same : length (each (j + suc k) (port_at ports k)) ≡ length (each (j + 1 + k) (port_at ports k)) = ap (λ (i : ℕ). length (each i (port_at ports k))) (omega arith) in
+    omega (arith, length-append (each j port) (all_from each (j + 1) ports), later, same)
+
+pub some_of_all : (each : ℕ → Port → List Outgoing) (ports : List Port) (all : List Outgoing) (k : ℕ) → all ≡ all_from each 0 ports → k < length ports → 0 < length (each k (port_at ports k)) → 0 < length all
+some_of_all each ports all k are within some =
+    let least : length (each (0 + k) (port_at ports k)) ≤ length (all_from each 0 ports) = some_from each ports 0 k within in
+    let same : length (each k (port_at ports k)) ≡ length (each (0 + k) (port_at ports k)) = ap (λ (i : ℕ). length (each i (port_at ports k))) (omega arith) in
+    omega (arith, least, some, same, ap (λ (outs : List Outgoing). length outs) are)
+
+all_told : (distances : List ℕ) (k : ℕ) (ports : List Port) → told_from distances k ports ≡ all_from (told_by distances) k ports
+all_told distances k [] = refl
+all_told distances k (port ∷ ports) = ap (λ (outs : List Outgoing). told_by distances k port ++ outs) (all_told distances (k + 1) ports)
 
 pub some_told : (s : State) (k : ℕ) → k < length s.ports → 0 < length (told_by (vector_of s.routes) k (port_at s.ports k)) → 0 < length (told_from (vector_of s.routes) 0 s.ports)
-some_told s k within some =
-    let least : length (told_by (vector_of s.routes) (0 + k) (port_at s.ports k)) ≤ length (told_from (vector_of s.routes) 0 s.ports) = some_from (vector_of s.routes) s.ports 0 k within in
-    let same : length (told_by (vector_of s.routes) k (port_at s.ports k)) ≡ length (told_by (vector_of s.routes) (0 + k) (port_at s.ports k)) = ap (λ (i : ℕ). length (told_by (vector_of s.routes) i (port_at s.ports k))) (omega arith) in
-    omega (arith, least, some, same)
+some_told s k within some = some_of_all (told_by (vector_of s.routes)) s.ports (told_from (vector_of s.routes) 0 s.ports) k (all_told (vector_of s.routes) 0 s.ports) within some
 
 -- ---- the subnet
 
-turned : (n : Net) (i : ℕ) (o : Option State) → imp_at n.imps i ≡ o → OnlyTells o → record n { lines = put_all n.lines i (told o) } ≡ at_imp o i route n
-turned n i None at tells = refl
-turned n i (Some s) at tells =
-    ap (λ (imps : List (Option State)). record n { imps = imps; lines = put_all n.lines i (told (Some s)) }) (sym (ap (set n.imps i) (sym at) ∙ set-get_or n.imps i None))
-    ∙ ap (λ (turn : ImpTurn). with_turn i turn n) (sym tells)
+turned : (turn : State → ImpTurn) (frames : State → List Outgoing) (n : Net) (i : ℕ) (o : Option State) → imp_at n.imps i ≡ o → OnlyPuts turn frames o → record n { lines = put_all n.lines i (frames_by_up frames o) } ≡ at_imp o i turn n
+turned turn frames n i None at only = refl
+turned turn frames n i (Some s) at only =
+    ap (λ (imps : List (Option State)). record n { imps = imps; lines = put_all n.lines i (frames s) }) (sym (ap (set n.imps i) (sym at) ∙ set-get_or n.imps i None))
+    ∙ ap (λ (t : ImpTurn). with_turn i t n) (sym only)
+
+pub put_alone : {T E : Type 0} (turn : State → ImpTurn) (frames : State → List Outgoing) (r : Result T E) (n new : Net) (i : ℕ) → OnlyPuts turn frames (imp_at n.imps i)
+    → OnOk r (new ≡ record n { lines = put_all n.lines i (frames_by_up frames (imp_at n.imps i)) }) → OnOk r (new ≡ at_imp (imp_at n.imps i) i turn n)
+put_alone turn frames (Ok x) n new i only is = is ∙ turned turn frames n i (imp_at n.imps i) refl only
+put_alone turn frames (Err e) n new i only is = tt
 
 pub told_alone : {T E : Type 0} (r : Result T E) (n new : Net) (i : ℕ) → OnlyTells (imp_at n.imps i) → OnOk r (new ≡ record n { lines = put_all n.lines i (told (imp_at n.imps i)) }) → OnOk r (new ≡ at_imp (imp_at n.imps i) i (call_turn call.Route) n)
-told_alone (Ok x) n new i tells is = is ∙ turned n i (imp_at n.imps i) refl tells
-told_alone (Err e) n new i tells is = tt
+told_alone r n new i only is = put_alone route tells r n new i only is
 
 pub told_lives : (n new : Net) → new.imps ≡ n.imps → AreLive n.imps → AreLive new.imps
 told_lives n new same live = subst (λ (imps : List (Option State)). AreLive imps) (sym same) live
 
-grows_by : (o : Option State) → OnlyTells o → 0 < length (told o) → grows_at o (call_grows call.Route) ≡ true
-grows_by None tells some = absurd (omega (arith, some))
-grows_by (Some s) tells some = ap (λ (turn : ImpTurn). nat_lt 0 (length turn.frames)) tells ∙ grind (arith, nat_tests, some)
+grows_by : (turn : State → ImpTurn) (frames : State → List Outgoing) (o : Option State) → OnlyPuts turn frames o → 0 < length (frames_by_up frames o) → grows_at o (λ s. sends (turn s)) ≡ true
+grows_by turn frames None only some = absurd (omega (arith, some))
+grows_by turn frames (Some s) only some = ap (λ (t : ImpTurn). nat_lt 0 (length t.frames)) only ∙ grind (arith, nat_tests, some)
+
+pub put_grows : {T E : Type 0} (turn : State → ImpTurn) (frames : State → List Outgoing) (r : Result T E) (o : Option State) → OnlyPuts turn frames o → OnErr r (0 < length (frames_by_up frames o)) → OnErr r (grows_at o (λ s. sends (turn s)) ≡ true)
+put_grows turn frames (Ok x) o only some = tt
+put_grows turn frames (Err e) o only some = grows_by turn frames o only some
 
 pub told_grows : {T E : Type 0} (r : Result T E) (o : Option State) → OnlyTells o → OnErr r (0 < length (told o)) → OnErr r (grows_at o (call_grows call.Route) ≡ true)
-told_grows (Ok x) o tells some = tt
-told_grows (Err e) o tells some = grows_by o tells some
+told_grows r o only some = put_grows route tells r o only some

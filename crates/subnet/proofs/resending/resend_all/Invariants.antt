@@ -1,0 +1,11 @@
+use Rattle.std.proofs.Common.{◌≡◌, drop, length}
+use Rattle.imp_node.specs.Lines.{resent_from}
+use Rattle.subnet.specs.Net.{put_all}
+use Rattle.subnet.proofs.resending.resend_all.Given as goal
+
+-- the frames of the ports that are left, after those so far
+abbrev pub invariant-loop-port : goal.invariant-loop-port
+invariant-loop-port l = record {
+  state : put_all l.lines l.number (resent_from l.port (drop l.port l.imp.ports)) ≡ put_all l.fn.lines l.number (resent_from 0 l.imp.ports);
+  count : length l.lines ≡ length l.fn.lines;
+}
