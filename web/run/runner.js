@@ -1,0 +1,124 @@
+/**
+ * Runs the program arpasim in a browser: one worker for each run, so that the page never hangs.
+ *
+ * `makeRunner` gives a `Runner`. `native.js` gives one of the same type under Node, over the native program.
+ */
+
+/**
+ * When a run is ended from outside.
+ *
+ * @typedef {object} Limits
+ * @property {number} seconds how long a run may take, in seconds
+ * @property {number} octets how many octets a run may write, standard output and standard error together
+ */
+
+/**
+ * How a run ended.
+ *
+ * `ended` is `exit` where the program came to its own end, `time` or `output` where a limit was reached, `stopped` where `stop` was
+ * called. Except after `exit`, `status` is -1, and `stdout` is a prefix of what the program would have written. After `output` it and
+ * `stderr` have `limits.octets` octets together.
+ *
+ * @typedef {object} Outcome
+ * @property {number} status the exit status: 0 to 255, or -1
+ * @property {Uint8Array} stdout what was written to standard output
+ * @property {string} stderr what was written to standard error
+ * @property {"exit" | "time" | "output" | "stopped"} ended
+ */
+
+/**
+ * Runs the program. Runs may overlap. Each begins with an empty memory, and none sees anything of another.
+ *
+ * `run` takes the words of the command line, without the program's name, and what stands on standard input. Its promise is rejected
+ * only where the program can't be started, or where it breaks off without a status, which no input should bring about.
+ *
+ * `stop` ends every run of this runner that is under way, as `stopped`.
+ *
+ * @typedef {object} Runner
+ * @property {(words: string[], input: Uint8Array, limits: Limits) => Promise<Outcome>} run
+ * @property {() => void} stop
+ */
+
+/**
+ * What a worker says: octets that were written to a descriptor (1 or 2), that it has reached the limit of octets, its exit status, or
+ * why it broke off.
+ *
+ * @typedef {{descriptor: number, octets: Uint8Array} | {full: true} | {status: number} | {broken: string}} Said
+ */
+
+/**
+ * Joins pieces into one array.
+ *
+ * @param {Uint8Array[]} pieces
+ * @returns {Uint8Array}
+ */
+export function joined(pieces) {
+    const whole = new Uint8Array(pieces.reduce((sum, piece) => sum + piece.length, 0));
+    let at = 0;
+    for (const piece of pieces) {
+        whole.set(piece, at);
+        at += piece.length;
+    }
+    return whole;
+}
+
+/**
+ * Makes a runner of the compiled program. `spawn` starts a worker of `worker.js`; one is always kept ready, so that a run starts at once.
+ *
+ * @param {WebAssembly.Module} module
+ * @param {() => Worker} spawn
+ * @returns {Runner}
+ */
+export function makeRunner(module, spawn) {
+    /** @type {Set<() => void>} */
+    const stops = new Set();
+    let ready = spawn();
+
+    /** @type {Runner["run"]} */
+    function run(words, input, limits) {
+        const worker = ready;
+        ready = spawn();
+        return new Promise((resolve, reject) => {
+            /** @type {Uint8Array[][]} */
+            const written = [[], [], []];
+            const timer = setTimeout(() => end("time"), limits.seconds * 1000);
+            const stop = () => end("stopped");
+            stops.add(stop);
+
+            function leave() {
+                clearTimeout(timer);
+                stops.delete(stop);
+                worker.terminate();
+            }
+
+            /** @param {Outcome["ended"]} ended */
+            function end(ended, status = -1) {
+                leave();
+                resolve({ status, stdout: joined(written[1]), stderr: new TextDecoder().decode(joined(written[2])), ended });
+            }
+
+            /** @param {string} why */
+            function fail(why) {
+                leave();
+                reject(new Error(why));
+            }
+
+            worker.onmessage = ({ data }) => {
+                /** @type {Said} */
+                const said = data;
+                if ("octets" in said) written[said.descriptor].push(said.octets);
+                else if ("full" in said) end("output");
+                else if ("status" in said) end("exit", said.status);
+                else fail(`the program broke off: ${said.broken}`);
+            };
+            worker.onerror = (event) => fail(`the program can't be started: ${event.message}`);
+            worker.postMessage({ module, words, input, octets: limits.octets });
+        });
+    }
+
+    function stop() {
+        for (const end of [...stops]) end();
+    }
+
+    return { run, stop };
+}

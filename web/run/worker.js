@@ -1,0 +1,28 @@
+/** The worker of a run: it is sent one task, runs the program once, and says what the program writes and how it ends. */
+
+import { Full, runModule } from "./program.js";
+
+/** @typedef {import("./runner.js").Said} Said */
+
+/** @param {Said} said */
+function say(said, /** @type {Transferable[]} */ moved = []) {
+    /** @type {{postMessage: (message: Said, moved: Transferable[]) => void}} */ (/** @type {unknown} */ (globalThis)).postMessage(said, moved);
+}
+
+/** @param {{module: WebAssembly.Module, words: string[], input: Uint8Array, octets: number}} task */
+function perform({ module, words, input, octets }) {
+    let room = octets;
+    try {
+        const status = runModule(module, words, input, (descriptor, written) => {
+            const fits = written.slice(0, room);
+            say({ descriptor, octets: fits }, [fits.buffer]);
+            if (written.length > room) throw new Full();
+            room -= written.length;
+        });
+        say({ status });
+    } catch (why) {
+        say(why instanceof Full ? { full: true } : { broken: String(why) });
+    }
+}
+
+globalThis.addEventListener("message", (event) => perform(event.data), { once: true });

@@ -1,0 +1,32 @@
+/** What the tests and `native.js` take of Node. Debian's TypeScript brings no types of it. */
+
+interface Emitter {
+    on(event: string, heard: (...values: any[]) => void): void;
+}
+
+interface Child extends Emitter {
+    stdin: Emitter & { end(octets: Uint8Array): void };
+    stdout: Emitter;
+    stderr: Emitter;
+    kill(signal: string): void;
+}
+
+declare module "node:child_process" {
+    export function spawn(program: string, words: string[]): Child;
+}
+
+declare module "node:test" {
+    export function test(name: string, body: () => void | Promise<void>): void;
+}
+
+declare module "node:assert/strict" {
+    interface Assert {
+        (holds: unknown, message?: string): asserts holds;
+        equal(actual: unknown, expected: unknown, message?: string): void;
+        deepEqual(actual: unknown, expected: unknown, message?: string): void;
+        throws(body: () => unknown, expected?: RegExp | Function): void;
+        rejects(body: Promise<unknown>, expected?: RegExp | Function): Promise<void>;
+    }
+    const assert: Assert;
+    export default assert;
+}
