@@ -1,4 +1,4 @@
-"""Each link, source and name in the documents is there, and crates reach into each other only as they should (seconds).
+"""Each link, source, name and number in the documents is there, and what is made of them is as it is made (seconds): ./check docs [--write]
 
 Checks what the documents name: each link leads to a file, each source that is named by its path exists, and each name
 that the claims about a crate have stands in the code.
@@ -10,18 +10,25 @@ to be a function of that crate's module law, and the name of a file a file of th
 so it is with the definitions in the tables; the rows beside them have to be functions of a crate of tests, or of that crate, or
 stored inputs of cases/; and each other name has to be one of these, or that of a planted bug of the crate.
 
-docs/PROVED.md names each clause behind the path of its call, `CRATE::..::CALL`, and leads to the claims of each crate.
+docs/PROVED.md names each clause after the path of its call, `CRATE::..::CALL`, and docs/crates.md leads to the claims of each crate.
+
+The drawings of docs/pictures and the page of crates have to be as they are made, the numbers in drawings as the sources have them, and
+no text of a drawing over another one or over a line. Words of the house's dialect are counted against limits that can only fall
+(tools/documents). With --write the drawings and the page are made anew, and limits are lowered to what is counted.
 
 Then it counts what hides borders and what is dead, each against its limit: imports that reach into another crate's proofs/
 beside its module lemmas, names of proofs/ that are declared `pub` and stand nowhere else, and folders of proofs/ with too many entries.
 """
 
+import argparse
 import functools
 import glob
 import os
 import re
 from collections import Counter
 
+from documents import anchors, crates_page, dialect
+from drawings import pictures
 from parts import ROOT
 
 MOST_REACHING = 0  # imports into another crate's proofs/ beside lemmas
@@ -82,13 +89,13 @@ def crates_with_claims():
 
 
 def missing_claims():
-    """Crates without claims, and claims to which docs/PROVED.md doesn't lead."""
-    top = text_of(f"{ROOT}/docs/PROVED.md")
+    """Crates without claims, and claims to which docs/crates.md doesn't lead."""
+    top = text_of(f"{ROOT}/docs/crates.md")
     for crate in crates_with_claims():
         if not os.path.exists(f"{ROOT}/crates/{crate}/CLAIMS.md"):
             yield f"crates/{crate}: no CLAIMS.md"
         if f"](../crates/{crate}/CLAIMS.md)" not in top:
-            yield f"docs/PROVED.md: no link to the claims of {crate}"
+            yield f"docs/crates.md: no link to the claims of {crate}"
 
 
 def claims_of(crate):
@@ -217,8 +224,26 @@ def over_limits():
         yield from found if len(found) > most else []
 
 
+def made():
+    """What isn't as it is made, and what the drawings and the words of the documents have that they shouldn't."""
+    print("check docs:", dialect.summary())
+    return [*anchors.faults(), *pictures.faults(), *crates_page.faults(), *dialect.faults()]
+
+
+def write():
+    """Makes the drawings and the page of crates, and lowers the limits of the dialect."""
+    crates_page.write()
+    print(f"check docs: docs/crates.md and {pictures.write()} drawings are written")
+    dialect.lowered()
+    return 0
+
+
 def main():
-    wrong = [*missing_files(), *missing_claims(), *unknown_names(), *unknown_clauses(), *over_limits()]
+    parser = argparse.ArgumentParser(prog="check docs", description=__doc__, formatter_class=argparse.RawDescriptionHelpFormatter)
+    parser.add_argument("--write", action="store_true", help="make the drawings and the page of crates, and lower limits")
+    if parser.parse_args().write:
+        return write()
+    wrong = [*missing_files(), *missing_claims(), *unknown_names(), *unknown_clauses(), *made(), *over_limits()]
     print(*wrong, sep="\n", end="\n" if wrong else "")
-    print(f"check docs: {len(wrong)} wrong" if wrong else "check docs: each link, source and name is there, and each count within its limit")
+    print(f"check docs: {len(wrong)} wrong" if wrong else "check docs: each link, source, name and number is there, and each count within its limit")
     return 1 if wrong else 0
