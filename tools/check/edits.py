@@ -1,4 +1,4 @@
-"""Each planted bug of crates/*/wrong-bodies is refused by the proofs (minutes for a crate, an hour for all): ./check edits [--whole] [--jobs N] [CRATE | CRATE/NAME ..]
+"""Each planted bug of crates/*/wrong-bodies is refused by the proofs (minutes for a crate, an hour for all): ./check edits [--gate | --whole] [--jobs N] [CRATE | CRATE/NAME ..]
 
 `rt must-fail` tries each edit of must-fail/ by itself, and the first of a crate costs a whole check. Here edits of different
 functions of a crate are tried together, in a copy of the crate and of what its last check kept. A function is proved over the
@@ -7,6 +7,9 @@ functions are checked, with those that they call, first as they stand and then w
 alone. An edit that is in no function, or in one that `rt check --only` doesn't find, is tried over whole checks of the crate, and
 with --whole so is each. An edit that doesn't compile is named, and so is one that is refused only because a proof file names what
 it took away: neither says anything of the contract. Nothing is written beside the copy, which is removed.
+
+With --gate only those with the line `# The gate tries this bug.` are tried, right after an `rt ci` in this clone: over the libraries
+that this `rt ci` built, and with no check of the functions as they stand, since it has just proved them. Each has to be in one function.
 """
 
 import glob
@@ -17,12 +20,15 @@ import subprocess
 import sys
 import tempfile
 import time
+from concurrent.futures import ThreadPoolExecutor
 
-from drivers import crates_below
+from drivers import CORES, crates_below
 from parts import ROOT
 
 # what antt says of a proof that names what is no longer there, or answers a goal that says nothing any more
 GONE = r"has no field|is not in scope|has no `|was not admitted|\(nearest: \.|types are `Unit \{0\}` \(expected\)"
+# the line of an edit that the gate tries
+OF_GATE = "# The gate tries this bug.\n"
 # the head of an `impl`: its trait if it has one, and its type
 IMPL = re.compile(r"impl\b(?:<.*?>)?(?: (\S.*) for)?.*?(\w+)(?:<[^{]*>)? (?:where.*)?\{")
 
@@ -56,6 +62,7 @@ class Edit:
             text = file.read()
         self.files = sorted({it.strip() for it in re.findall(r"^file: (.*)$", text, re.MULTILINE)})
         self.pairs = re.findall(r"^old: (.*)\nnew: ?(.*)$", text, re.MULTILINE)
+        self.is_of_gate = OF_GATE in text
         self.function, self.only = self.function_of() or (None, None)
 
     def source(self):
@@ -156,13 +163,18 @@ def linked(path, to):
         shutil.copy2(path, to)
 
 
+def lines_of_crates():
+    """What crates.txt says that each crate stands on."""
+    with open(f"{ROOT}/crates.txt", encoding="utf-8") as file:
+        return dict(re.match(r"(\w+)[^:]*:(.*)", line).groups() for line in file if line.strip() and not line.startswith("#"))
+
+
 class Copy:
     """A copy of a crate, of those below it and of what their checks kept."""
 
     def __init__(self, crate, folder, words):
         self.crate, self.folder, self.words = crate, folder, words
-        with open(f"{ROOT}/crates.txt", encoding="utf-8") as file:
-            lines = dict(re.match(r"(\w+)[^:]*:(.*)", line).groups() for line in file if line.strip() and not line.startswith("#"))
+        lines = lines_of_crates()
         needed = crates_below({name: below.split() for name, below in lines.items()}, crate)
         for name in needed:
             # of its own what earlier checks kept; of those below what is built, which nothing writes to
@@ -173,10 +185,14 @@ class Copy:
         self.own = f"{folder}/crates/{crate}"
         shutil.rmtree(f"{self.own}/must-fail", ignore_errors=True)
 
+    def command(self):
+        """What checks the crate."""
+        return ["rt", "check", *self.words]
+
     def check(self, functions):
         """How a check of these functions ends, or of the crate where there are none: its status and what it said."""
-        words = [*self.words, *(word for it in functions for word in ("--only", it))]
-        ran = subprocess.run(["rt", "check", *words], cwd=self.own, stdin=subprocess.DEVNULL, stdout=subprocess.PIPE, stderr=subprocess.STDOUT, text=True, errors="replace")
+        words = [*self.command(), *(word for it in functions for word in ("--only", it))]
+        ran = subprocess.run(words, cwd=self.own, stdin=subprocess.DEVNULL, stdout=subprocess.PIPE, stderr=subprocess.STDOUT, text=True, errors="replace")
         return ran.returncode, ran.stdout
 
     def keep(self, functions):
@@ -188,12 +204,16 @@ class Copy:
             shutil.copytree(f"{self.own}/out", f"{self.folder}/kept", symlinks=True)
         return status, said
 
-    def check_with(self, texts, functions):
-        """What a check says with these texts in the place of the crate's own, over what was noted."""
+    def put_back(self):
+        """Puts back what was noted."""
         if not self.is_kept:
             shutil.rmtree(f"{self.own}/out")
             shutil.copytree(f"{self.folder}/kept", f"{self.own}/out", symlinks=True)
         self.is_kept = False
+
+    def check_with(self, texts, functions):
+        """What a check says with these texts in the place of the crate's own, over what was noted."""
+        self.put_back()
         shutil.copytree(f"{self.own}/src", f"{self.folder}/src")
         for path, text in texts.items():
             with open(f"{self.own}/{path}", "w", encoding="utf-8") as file:
@@ -203,6 +223,31 @@ class Copy:
         finally:
             shutil.rmtree(f"{self.own}/src")
             os.rename(f"{self.folder}/src", f"{self.own}/src")
+
+
+class CopyOverGate(Copy):
+    """A copy of a crate over the libraries that `rt ci` has just built in this clone."""
+
+    def __init__(self, crate, folder):
+        self.crate, self.folder, self.own = crate, folder, f"{folder}/{crate}"
+        for part in ("src", "specs", "proofs"):
+            if os.path.isdir(f"{ROOT}/crates/{crate}/{part}"):
+                shutil.copytree(f"{ROOT}/crates/{crate}/{part}", f"{self.own}/{part}")
+        self.below = {name: below.split() for name, below in lines_of_crates().items()}
+
+    def command(self):
+        """The check that `rt ci` itself makes of a planted bug, with a place where what it finds is kept for the next one."""
+        kit = os.path.dirname(os.path.dirname(os.path.realpath(shutil.which("rt"))))
+        built = {it: f"{ROOT}/crates/{it}/out/rlib" for it in crates_below(self.below, self.crate) if it != self.crate}
+        direct = {it: f"{built[it]}/{it}.rlib" if it in built else f"{kit}/rlibs/{it}.rlib" for it in [*self.below[self.crate], "std"]}
+        words = [f"{kit}/bin/rattle", "check", "--crate-name", self.crate, "src/lib.rt"]
+        words += [word for it, path in direct.items() for word in ("--extern", f"{it}={path}")]
+        words += [word for it in [f"{kit}/rlibs", *built.values()] for word in ("-L", f"dependency={it}")]
+        words += ["--antt-project", f"{kit}/rattle/logic/antt-project.json", "--logic-built", f"{kit}/logic_built"]
+        return [*words, "--links", f"{self.crate}=", "--jobs", "1", "--incremental", f"{self.folder}/kept"]
+
+    def put_back(self):
+        """Leaves what earlier checks kept: the checker takes of it only what the texts don't change."""
 
 
 def functions_of(edits, whole):
@@ -304,6 +349,31 @@ def check_crate(crate, names, whole, words):
     return len(edits) - len(failed), len(failed)
 
 
+def has_built(crate):
+    """Whether `rt ci` built what the crate stands on in this clone: what `rt check` builds has a stamp."""
+    below = crates_below({name: below.split() for name, below in lines_of_crates().items()}, crate)
+    built = {it: f"{ROOT}/crates/{it}/out/rlib" for it in below if it != crate}
+    return all(os.path.isdir(f"{at}/{it}.rlib") and not os.path.exists(f"{at}/stamp") for it, at in built.items())
+
+
+def check_for_gate(crate):
+    """Tries those edits of a crate that the gate tries. Gives how many are refused, and how many are not."""
+    edits = [it for it in edits_of(crate) if it.is_of_gate]
+    if not edits:
+        return 0, 0
+    if not has_built(crate):
+        print(f"{crate}: `rt ci` left no libraries here, so `rt check` proves what the crate stands on", flush=True)
+        return check_crate(crate, [it.name.removesuffix(".edit") for it in edits], False, ["--jobs", "1"])
+    begun = time.monotonic()
+    failed = [it for it in edits if not it.only]
+    for edit in failed:
+        print(f"{crate}/{edit.name}: NOT TRIED: it is not in one function alone", flush=True)
+    with tempfile.TemporaryDirectory(prefix="edits-") as room:
+        failed += try_all(CopyOverGate(crate, room), [it for it in edits if it.only], False)
+    print(f"{crate}: {len(edits) - len(failed)} of {len(edits)} refused, {time.monotonic() - begun:.0f} seconds", flush=True)
+    return len(edits) - len(failed), len(failed)
+
+
 def options(words):
     """What is asked for: whether each edit is tried over whole checks, the words that `rt check` gets, and the crates and edits."""
     whole, jobs = "--whole" in words, []
@@ -314,8 +384,18 @@ def options(words):
     return whole, jobs, words
 
 
+def told(counts):
+    """Prints how many are refused in all, and gives the status."""
+    refused, failed = (sum(it) for it in zip(*counts))
+    print(f"{refused} refused, {failed} not")
+    return 1 if failed else 0
+
+
 def main():
     having = [it for it in sorted(os.listdir(f"{ROOT}/crates")) if os.path.isdir(f"{ROOT}/crates/{it}/wrong-bodies")]
+    if "--gate" in sys.argv[1:]:
+        with ThreadPoolExecutor(CORES) as threads:
+            return told([*threads.map(check_for_gate, [it for it in sys.argv[1:] if it != "--gate"] or having)])
     whole, jobs, words = options(sys.argv[1:])
     asked = {}
     for word in words or having:
@@ -327,9 +407,4 @@ def main():
             print(f"check edits: no planted bug of {crate} is called {name}")
             return 1
         asked.setdefault(crate, []).extend([name] if name else [])
-    refused = failed = 0
-    for crate, names in asked.items():
-        counts = check_crate(crate, names, whole, jobs)
-        refused, failed = refused + counts[0], failed + counts[1]
-    print(f"{refused} refused, {failed} not")
-    return 1 if failed else 0
+    return told([check_crate(crate, names, whole, jobs) for crate, names in asked.items()])
