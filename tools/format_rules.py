@@ -1,8 +1,7 @@
-"""The formats: what octets say, read a second time.
+"""The formats: independent readers of what octets say.
 
-They were written from docs/leaders-and-bodies.md, docs/packets.md, docs/frames.md and docs/commands.md, in another language and
-another form than the definitions. Each reader gives the words in which tools/calls tells what was read and how that is written
-again, or the fault. `check readers` compares the code with them.
+They were written from docs/formats.md, in another language and another form than the definitions. Each reader gives the words in
+which tools/calls prints what was read and how that is written again, or the fault. `check readers` compares the code with them.
 
 Octets are `bytes`, and bits a text of the digits 0 and 1.
 """

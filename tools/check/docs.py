@@ -1,4 +1,4 @@
-"""Each link, source, name and number in the documents is there, and what is made of them is as it is made (seconds): ./check docs [--write]
+"""Each link, source, name and number in the documents is there, and what is made of them is as it is made (seconds): ./check docs [--write | --lower]
 
 Checks what the documents name: each link leads to a file, each source that is named by its path exists, and each name
 that the claims about a crate have stands in the code.
@@ -14,7 +14,7 @@ docs/PROVED.md names each clause after the path of its call, `CRATE::..::CALL`, 
 
 The drawings of docs/pictures and the page of crates have to be as they are made, the numbers in drawings as the sources have them, and
 no text of a drawing over another one or over a line. Words of the house's dialect are counted against limits that can only fall
-(tools/documents). With --write the drawings and the page are made anew, and limits are lowered to what is counted.
+(tools/documents). With --write the drawings and the page are made anew, and with --lower the limits are lowered to what is counted.
 
 Then it counts what hides borders and what is dead, each against its limit: imports that reach into another crate's proofs/
 beside its module lemmas, names of proofs/ that are declared `pub` and stand nowhere else, and folders of proofs/ with too many entries.
@@ -231,18 +231,21 @@ def made():
 
 
 def write():
-    """Makes the drawings and the page of crates, and lowers the limits of the dialect."""
+    """Makes the drawings and the page of crates."""
     crates_page.write()
     print(f"check docs: docs/crates.md and {pictures.write()} drawings are written")
-    dialect.lowered()
     return 0
 
 
 def main():
     parser = argparse.ArgumentParser(prog="check docs", description=__doc__, formatter_class=argparse.RawDescriptionHelpFormatter)
-    parser.add_argument("--write", action="store_true", help="make the drawings and the page of crates, and lower limits")
-    if parser.parse_args().write:
-        return write()
+    parser.add_argument("--write", action="store_true", help="make the drawings and the page of crates")
+    parser.add_argument("--lower", action="store_true", help="lower the limits of the dialect to what is counted")
+    options = parser.parse_args()
+    if options.lower:
+        dialect.lowered()
+    if options.write or options.lower:
+        return write() if options.write else 0
     wrong = [*missing_files(), *missing_claims(), *unknown_names(), *unknown_clauses(), *made(), *over_limits()]
     print(*wrong, sep="\n", end="\n" if wrong else "")
     print(f"check docs: {len(wrong)} wrong" if wrong else "check docs: each link, source, name and number is there, and each count within its limit")

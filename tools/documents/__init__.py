@@ -1,1 +1,1 @@
-"""What `./check docs` compares and `./check docs --write` makes anew: drawings, the page of crates, the limits of the dialect."""
+"""What `./check docs` compares and `./check docs --write` makes anew: drawings and the page of crates; and what it counts."""

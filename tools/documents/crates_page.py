@@ -1,4 +1,4 @@
-"""docs/crates.md: each crate, by layers, with what it has, what it uses, what is proved again after a change, and how it is attacked.
+"""docs/crates.md: each crate, by layers, with what it has, what it uses, and what is proved again after a change.
 
 All of it comes from crates.txt and the folders of the crates, but for the words that say what lives in a crate: these are written by
 hand in the page and kept. A new crate begins with the first sentence of its root file.
@@ -6,7 +6,6 @@ hand in the page and kept. A new crate begins with the first sentence of its roo
 
 from __future__ import annotations
 
-import glob
 import os
 import re
 
@@ -16,7 +15,7 @@ from drawings.repository import Layer, layers
 PAGE = f"{ROOT}/docs/crates.md"
 HEAD = """# The crates
 
-`./check docs --write` makes this page from [crates.txt](../crates.txt) and the folders of the crates; only the words in the column *What lives there* are written by hand. A crate's name leads to what is proved of it and how that was attacked. *Uses* names the nearest crates below: those that aren't used by another one that it uses. *Proved again* counts the crates above, which a change of a contract or a definition has proved again. *Planted* counts the bugs in `must-fail/`, which every gate tries, and those in `wrong-bodies/`, which `./check edits` tries ([attacks](PLANTED.md)).
+`./check docs --write` makes this page from [crates.txt](../crates.txt) and the folders of the crates; only the words in the column *What lives there* are written by hand. A crate's name leads to what is proved of it and how that was attacked. *Uses* names the nearest crates below: those that aren't used by another one that it uses. *Proved again* counts the crates above, which a change of a contract or a definition has proved again.
 """
 
 
@@ -65,19 +64,14 @@ def written_words() -> dict[str, str]:
         return {name: words.strip() for name, words in re.findall(r"^\| \[(\w+)\]\([^)]*\) \| [^|]* \| ([^|]*) \|", file.read(), re.MULTILINE)}
 
 
-def planted(crate: str) -> str:
-    counts = [len(glob.glob(f"{ROOT}/crates/{crate}/{folder}/*.edit")) for folder in ("must-fail", "wrong-bodies")]
-    return f"{counts[0]} + {counts[1]}" if any(counts) else ""
-
-
 def table(layer: Layer, direct: dict[str, list[str]], words: dict[str, str]) -> list[str]:
-    rows = ["| Crate | Has | What lives there | Uses | Proved again | Planted |", "|---|---|---|---|---|---|"]
+    rows = ["| Crate | Has | What lives there | Uses | Proved again |", "|---|---|---|---|---|"]
     for crate, kind in layer.crates.items():
         claims = f"../crates/{crate}/CLAIMS.md"
         link = f"[{crate}]({claims if os.path.exists(f'{ROOT}/crates/{crate}/CLAIMS.md') else f'../crates/{crate}'})"
         uses = ", ".join(f"`{it}`" for it in nearest(crate, direct))
         above = sum(1 for other in direct if crate in below(other, direct))
-        rows.append(f"| {link} | {kind} | {words.get(crate) or first_sentence(crate)} | {uses} | {above or ''} | {planted(crate)} |")
+        rows.append(f"| {link} | {kind} | {words.get(crate) or first_sentence(crate)} | {uses} | {above or ''} |")
     return rows
 
 
