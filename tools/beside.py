@@ -5,6 +5,7 @@ import sys
 from decode import raw_text_in_words, text_in_words
 from inside import Inside, TooLong
 from script_rules import read_line
+from waits import at_rest
 
 
 class Said:
@@ -34,6 +35,8 @@ def said(network, told):
     for number, words, printed in told:
         found = found_of(model, number, words, printed, network[1]) if model else None
         model = model if found else None
+        if found and words[0] == "calm" and words[1] != "0":
+            found.sentences += at_rest(model.place, model.carrier)
         every.append(said_of(found, printed, network[1]) if found else Said(printed))
     return every
 

@@ -175,7 +175,7 @@ class InTheWay:
             a, b = subnet.ends[line][:: 1 if way == "+" else -1]
             return [f"On line {line} from IMP {a} to IMP {b} {'no frame is' if frames == 0 else f'{frames} frames are' if frames > 1 else 'one frame is'} live, and there is none at place {place}."]
         if kind == "abandon":
-            return [f"IMP {parts[0][1][1]} is down or not there, or no slot of it holds pieces of flow {spell_flow(parts[0])}."]
+            return [self.no_pieces(parts[0])]
         if kind == "forget" and parts[0] == parts[1]:
             return ["An IMP notes no numbers of its own hosts' flows to forget."]
         numbers = [it for it in parts if isinstance(it, int)] if kind in ("resend", "route", "impup", "impdown", "forget") else parts[:1] if kind in ("enddown", "endup") else []
@@ -185,3 +185,12 @@ class InTheWay:
         if kind in ("enddown", "endup"):
             return [f"Line {parts[1]} does not end at IMP {parts[0]}."]
         return [f"The network has no host {spell_host(host_of(parts))}."]
+
+    def no_pieces(self, flow):
+        """Why there are no pieces of a flow to throw away."""
+        number = flow[1][1]
+        if number not in self.subnet.sites:
+            return f"The network has no IMP {number}."
+        if self.subnet.imps[number] is None:
+            return f"IMP {number} is down, and holds no pieces."
+        return f"No slot of IMP {number} holds pieces of flow {spell_flow(flow)}."

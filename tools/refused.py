@@ -18,6 +18,7 @@ except ImportError:  # Python before 3.11 has no reader of TOML
 MOST_OCTETS = 1_048_576
 MOST_BITS = 8063
 MOST_NUMBER = 4_294_967_295
+IMPS = {str(it) for it in range(1, MOST_IMPS + 1)}
 SHOWN = 72  # so many characters of a line are shown
 
 
@@ -100,12 +101,30 @@ def wrong_with_line(line, raw=True):
     form = (RAW_EVENTS if raw else WORLD_EVENTS).get(words[0])
     if form is None:
         return unknown_event(words[0], raw)
+    if why := known_mistake(words, line.decode("ascii")):
+        return why
     if len(words) != 1 + len(form):
         return f"`{words[0]}` needs {count(len(form), 'word')} after it: {words[0]} {' '.join(form)}. This line has {len(words) - 1}."
     causes = [wrong_with_word(name, word) for name, word in zip(form, words[1:])]
     if words[0] in ("out", "send") and causes[-2] is None:
         causes[-1] = wrong_with_text(int(words[-2]), words[-1])
     return next((it for it in causes if it), None)
+
+
+def known_mistake(words, line):
+    """What is meant where a line has a comment behind it, an empty line at a terminal without its space, or octets in another spelling."""
+    if words[0] == "type":
+        return f"An empty line is typed by `{line} `, with a space at the end. Otherwise the text stands behind the host." if len(words) == 2 else None
+    if any(it.startswith("#") for it in words[1:]):
+        return f"A comment stands on a line of its own, with `#` as its first character: put `{line[line.index(' #') + 1 :]}` on the line before."
+    if words[0] not in ("out", "send"):
+        return None
+    if quoted := re.search('"([^"]*)"', line):
+        octets = quoted[1].encode()
+        return f"A text is written in hexadecimal, with the number of its bits before it: {quoted[0]} is `{8 * len(octets)} {octets.hex().upper() or '-'}`."
+    if words[-1][:2] in ("0x", "0X"):
+        return f"The octets are hexadecimal digits without `0x`: `{words[-1][2:].upper()}`."
+    return None
 
 
 def unknown_event(word, raw=True):
@@ -142,7 +161,8 @@ def wrong_with_word(name, word):
             host, slash, imp = word.partition("/")
             if not slash:
                 return f"`{word}` is not a host. A host is its number, a slash and the number of its IMP, as in 0/1."
-            return wrong_number(host, "the host's number", 0, 3) or wrong_number(imp, "the IMP's number", 1, 63)
+            meant = f" A host is written HOST/IMP: is `0/{host}` meant?" if imp == "0" and host in IMPS else ""
+            return wrong_number(host, "the host's number", 0, 3, meant) or wrong_number(imp, "the IMP's number", 1, 63, meant)
         case "N":
             return wrong_number(word, "the link", 0, 255)
         case "BITS":
@@ -162,11 +182,11 @@ def wrong_with_word(name, word):
     return None
 
 
-def wrong_number(word, what, least, most):
+def wrong_number(word, what, least, most, meant=""):
     if not re.fullmatch("0|[1-9][0-9]*", word):
         return f"`{word}` cannot be read as {what}: numbers are decimal, without a sign and without leading zeros."
     if len(word) > 10 or not least <= int(word) <= most:
-        return f"`{word}` is out of range: {what} is {least} to {most}."
+        return f"`{word}` is out of range: {what} is {least} to {most}.{meant}"
     return None
 
 
@@ -193,7 +213,7 @@ def wrong_with_text(bits, octets):
 def wrong_with_topology(given):
     """Why an input's topology is refused, with the line of the file where one can be named; None where no cause is found."""
     if len(given.octets) > MOST_OCTETS:
-        return f"The input has {len(given.octets)} octets. At most {MOST_OCTETS} are read."
+        return f"The input has more than {MOST_OCTETS} octets. At most {MOST_OCTETS} are read."
     if given.marker is None:
         return wrong_with_marker(given)
     octets = given.topology()
@@ -221,6 +241,8 @@ def wrong_with_marker(given):
         return "The input is empty."
     if given.octets[:2] in (b"\xff\xfe", b"\xfe\xff"):
         return "The file is UTF-16, as some editors and shells of Windows write it. Save it as UTF-8 or ASCII."
+    if is_log(given.lines):
+        return "This is a log and not an input. `./explain --audit < FILE` tells whether the book in it is safe, and why not."
     why = "No line is exactly `%`, which separates the topology from the script."
     for number, line in enumerate(given.lines, 1):
         if line.strip() == b"%":
@@ -229,6 +251,11 @@ def wrong_with_marker(given):
         if line.split(b" ")[0].decode("latin-1") in {**RAW_EVENTS, **WORLD_EVENTS}:
             return at_line(given, number, f"{why} Does the script begin here? Then put a line `%` before it.")
     return why
+
+
+def is_log(lines):
+    """Whether the lines are those of a log, which has no marker line: some begin with words that no script line begins with."""
+    return any(line.startswith((b"in ", b"answer ", b"life ", b"handed ")) for line in lines) or lines[-2:] == [b"end", b""]
 
 
 TABLE = re.compile(r"\s*\[\[\s*(\w+)\s*\]\]\s*(#.*)?")
@@ -332,6 +359,8 @@ def is_tables(value):
 def wrong_with_table(name, place, table, ranges, lines):
     """Why a table has not exactly these keys with whole numbers in these ranges, and the line; None where it has."""
     opened = line_of_table(lines, name, place)
+    if displaced := [it for it in ("raw", "carrier") if it in table]:
+        return opened and line_of_key(lines, displaced[0], opened), f"`{displaced[0]}` stands behind `[[{name}]]`, so it is a key of that table. Put it before the first `[[`."
     if {*table} != {*ranges}:
         return opened, f"A table `[[{name}]]` has exactly the keys {' and '.join(ranges)}; here it has {', '.join(sorted(table)) or 'none'}."
     for key, (least, most) in ranges.items():

@@ -17,6 +17,8 @@ from http import HTTPStatus
 from http.server import BaseHTTPRequestHandler, ThreadingHTTPServer
 from urllib.parse import parse_qs
 
+from ending import shown_name
+
 MOST_OCTETS = 1_048_576  # of what a browser sends
 SECONDS = 60  # so long may a run take
 USAGE = "usage: ./explain --serve FILE [--seconds N]\n(N seconds are the limit of one run, 60 without the option)"
@@ -229,7 +231,7 @@ def main(root, words):
     # a shell without job control has SIGINT ignored in what it starts in the background
     signal.signal(signal.SIGINT, signal.default_int_handler)
     signal.signal(signal.SIGTERM, signal.default_int_handler)
-    with Server(root, os.path.basename(path), script, seconds) as server:
+    with Server(root, shown_name(path), script, seconds) as server:
         print(f"Open {server.address()} in a browser of this machine. Ctrl-C stops.", flush=True)
         try:
             server.serve_forever()

@@ -11,6 +11,8 @@ Checks what ./explain tells.
 - In subnets the independent model, from which the sentences about the inside are, prints what the program prints, event by
   event; where it knows that an answer was NotTaken, for which `incomplete` is printed too, that is told and drawn; each event that prints nothing has a sentence. What it says of lines written here by hand is what is written beside
   them. Where it names the next event that clears what stands in the way of a refused one, these events, one after the other, do.
+- Of a bad line of a log it tells the cause and the form, of a broken book which lines disagree and where, and of a network at rest what waits.
+- Closed and full streams are told in a line, and status 1.
 - What messages say is what is written here by hand, octets and words.
 - Without a kept program it tells the same.
 - README's table and the charts in README and docs/ are what it tells and draws, and README's changes to the examples do what it
@@ -20,16 +22,21 @@ It takes the proved program, or where ./build has not made that the one that was
 """
 
 import copy
+import os
 import random
 import re
+import shutil
+import subprocess
+import tempfile
+import time
 from collections import Counter
 
+import explaining as explain
 from parts import ROOT, loaded
 
+model, subnets = loaded("tools/check/model.py"), loaded("tools/check/subnet.py")
 
-explain, model, subnets = loaded("explain"), loaded("tools/check/model.py"), loaded("tools/check/subnet.py")
-
-import refused  # noqa: E402 (explain has put tools/ on the path)
+import refused  # noqa: E402
 from decode import text_in_words  # noqa: E402
 from inside import Inside  # noqa: E402
 from script_rules import read_line  # noqa: E402
@@ -80,8 +87,23 @@ BAD_LINES = [
     (b"calm 01", "without a sign and without leading zeros"),
     (b"calm 4294967296", "out of range: the number of rounds is 0 to 4294967295"),
     (b"offer 0/1", "`offer` is an event of networks with host programs"),
+    (b"calm 2 # settle", "A comment stands on a line of its own, with `#` as its first character: put `# settle` on the line before."),
+    (b"take 0/1 #x", "A comment stands on a line of its own"),
+    (b'out 0/1 0/2 5 24 "ABC"', '"ABC" is `24 414243`'),
+    (b'out 0/1 0/2 5 "A B"', '"A B" is `24 412042`'),
+    (b'out 0/1 0/2 5 0 ""', '"" is `0 -`'),
+    (b"out 0/1 0/2 5 8 0xfF", "hexadecimal digits without `0x`: `FF`"),
+    (b"out 1/0 2/0 5 0 -", "is `0/1` meant?"),
+    (b"take 63/0", "is `0/63` meant?"),
     (b"out 0/1 0/2 5 7 FF", "7 bits leave 1 bit of the last octet unused, which has to be zero"),
     (b"out 0/1 0/2 5 1 FF", "1 bit leaves 7 bits of the last octet unused, which have to be zero"),
+]
+
+# what a terminal's user may get wrong
+BAD_LINES_OF_WORLDS = [
+    (b"type 0/1", "An empty line is typed by `type 0/1 `, with a space at the end"),
+    (b'send 0/1 33 24 "ABC"', '"ABC" is `24 414243`'),
+    (b"contact 0/1 0/2 # first", "A comment stands on a line of its own"),
 ]
 
 # an example, the line of a refused event in it, and words of the cause that is meant
@@ -205,7 +227,67 @@ BAD_TOPOLOGIES = [
     (b'carrier = "Plain"\nraw = true\n[[imp]]\nid = 1\nhosts = 1\n%\n', "There are two carriers"),
     (GOOD + b"".join(b"[[imp]]\nid = %d\nhosts = 1\n[[line]]\na = 1\nb = %d\n" % (it, it) for it in range(2, 8)) + b"%\n", "more than five lines"),
     (b"#" * 1_048_600, "At most 1048576 are read"),
+    (b'carrier = "plain"\n[[imp]]\nid = 1\nhosts = 1\nraw = true\n%\n', "Line 5 of the file:\n  raw = true\n`raw` stands behind `[[imp]]`, so it is a key of that table. Put it before the first `[[`."),
+    (b"out 0/1 0/2 5 8 FF\nin 0/1 0/2 5 8 FF\nend\n", "This is a log and not an input. `./explain --audit < FILE`"),
+    (b"down 0/1\nend\n", "This is a log and not an input."),
 ]
+
+# the line of logs/two-octets that is changed (0 for one put before its first), what stands there then, and words of the cause
+BAD_LOG_LINES = [
+    (3, b"answer RFNM 0/1 0/2 0", "`RFNM` is none of rfnm, dead, incomplete, nottaken. Is `rfnm` meant? The form is `answer rfnm|dead|incomplete|nottaken S D N`."),
+    (7, b"out 0/2 0/1 5 56 0008000200484", "56 bits fill 7 octets, which are 14 hexadecimal digits. This line has 13, for 52 bits. The form is `out S D N BITS OCTETS`."),
+    (7, b"out 0/2 0/1 5 56 00080002004849\r", "carriage return at its end"),
+    (1, b"# my network", "A log has no comments"),
+    (1, b"", "A log has no empty lines"),
+    (1, b"OUT 0/1 0/2 0 0 -", "begins no line of a log. They begin with out, in, answer, down, up, life, handed, end, in lower case. Is `out` meant?"),
+    (1, b"out 0/1 0/2 0 0", "It has 4 words behind `out`, and 5 are needed"),
+    (1, b"out 0/1  0/2 0 0 -", "single spaces"),
+    (1, b"in 0/1 0/2 0 8 ff", "lower-case letters are not accepted"),
+    (1, b"in 0/1 0/2 256 0 -", "out of range: the link is 0 to 255"),
+    (1, b"in 0/1 0/2 5 8064 " + b"FF" * 1008, "the number of bits is 0 to 8063"),
+    (1, b"down 0/64", "the IMP's number is 1 to 63. The form is `down H`."),
+    (1, b"up\t0/1", "not a printable ASCII"),
+    (10, b"life 0/1 16 0/2 33 0 4 receive 1 16 1 100 0 0 OPEN 4849", "`OPEN` is none of open, ended. Is `open` meant?"),
+    (10, b"life 0/1 16 0/2 33 0 4 receive 1 016 1 100 0 0 open 4849", "`016` can't be read as a number"),
+    (10, b"life 0/1 16 0/2 33 0 4 send 1 16 1 100 0 0 open 4849", "Socket 16 is even and receives"),
+    (10, b"life 0/1 4294967296 0/2 33 0 4 receive 1 16 1 100 0 0 open 4849", "out of range: the socket is 0 to 4294967295"),
+    (10, b"life 0/1 16 0/2 33 18446744073709551616 4 receive 1 16 1 100 0 0 open 4849", "it is a number of 64 bits"),
+    (11, b"up 0/1", "It is one of the crossings, and stands behind lives"),
+    (13, b"handed 24 48", "24 bits fill 3 octets"),
+    (13, b"end", "It stands behind `end`, and nothing may."),
+    (14, b"end of it", "It has 2 words behind `end`, and 0 are needed. The form is `end`."),
+]
+# ends of that log, in place of its own, and words of the cause
+BAD_LOG_ENDS = [(b"", "Its last line has to be `end`"), (b"end", "It isn't ended by a line feed"), (b"end\nend\n", "It stands behind `end`")]
+# what is changed in a line of that log, the verdict, and words of what is told of the two lines
+BROKEN_LOGS = [
+    (10, b"4849", b"4848", "broken streams lines 10 11", "Line 10 took what line 11 didn't send: at octet 2 what was taken has 48, and what was sent has 49."),
+    (13, b"24 484950", b"8 48", "broken streams line 11", "what wasn't handed over in line 13: what was sent has 16 bits, and what was handed over has 8."),
+    (11, b"0/1 16 3", b"0/1 18 3", "broken streams line 10", "It took 16 bits, and no life matches it. That would be one of host 0/2, socket 33"),
+    (10, b"100", b"15", "broken grants lines 10 11", "at most 1 with 15 bits may pass. But line 10 took 1 message with 16 bits and line 11 sent 1 message with 16 bits."),
+    (10, b"0 0 open", b"0 85 open", "broken grants lines 10 11", "had 0 and 85 back: at most 1 with 15 bits may pass"),
+    (10, b"33 0 4", b"33 0 3", "malformed line 10", "Its PARTNER is 3, and at place 3 (line 4) is `out 0/2 0/1 0`."),
+    (10, b"33 0 4", b"33 99 4", "malformed line 10", "Its OWN is 99, and the log has 9 crossings only."),
+    (13, b"handed 24 484950\n", b"", "malformed line 11", "There are 2 lives and 1 list of what was handed over: this life has none."),
+    (8, b"49\n", b"48\n", "broken messages line 8", "It isn't what went out in line 7: at octet 7 what was taken has 48, and what went out has 49."),
+    (9, b"answer", b"in 0/2 0/1 5 56 00080002004849\nanswer", "broken messages line 9", "The message of line 7 was taken already in line 8."),
+    (8, b"in 0/2 0/1 5 56 00080002004849\n", b"", "broken messages line 8", "The last message of the flow 0/2 0/1 5 went out in line 7, and no line since then says that it was taken"),
+    (8, b"0/1 5", b"0/1 6", "broken messages line 8", "No message of the flow 0/2 0/1 6 went out before it."),
+    (11, b"3 1 send", b"3 1 send", "kept", "The book is safe: 9 crossings, 2 lives"),
+]
+
+# a script of two hosts at one IMP over plain mailboxes, or of two IMPs with a line, and what is told to wait at its last calm
+STALLS = [
+    ("plain", ["send 1/1 33 8 41", "calm 5"], "8 bits on socket 33 of host 1/1, for a grant: 0 messages and 0 bits are granted, and a byte has 8 bits (`grant 0/1 16 MESSAGES BITS`)"),
+    ("plain", ["grant 0/1 16 1 4", "send 1/1 33 8 41", "calm 5"], "1 messages and 4 bits are granted"),
+    ("plain", ["grant 0/1 16 1 8", "send 1/1 33 8 41", "calm 5"], None),
+    ("raw", ["out 0/1 0/2 5 8 41", "drop 0 + 0", "impdown 2", "enddown 1 0", "calm 9"], "message 0 of flow 0/1 0/2 5, for its answer (nothing of it is alive: `giveup 0/1 0/2 5` ends it)"),
+    ("raw", ["impdown 2", "out 0/1 0/2 5 8 41", "calm 9"], "IMP 2 is down, and its neighbours' ends of lines are up, so they don't know: `enddown 1 0`"),
+    ("raw", ["out 0/1 0/2 5 8 41", "calm 9"], None),
+    ("raw", ["calm 9"], None),
+]
+PLAIN_PAIR = 'carrier = "plain"\n[[imp]]\nid = 1\nhosts = 2\n%\ncontact 0/1 1/1\ncalm 3\nlisten 1/1 33 8\nopenrecv 0/1 1/1 16 33\ncalm 2\n'
+RAW_PAIR = "raw = true\n[[imp]]\nid = 1\nhosts = 1\n[[imp]]\nid = 2\nhosts = 1\n[[line]]\na = 1\nb = 2\n%\ncalm 1\n"
 
 
 class Wrong(Exception):
@@ -367,6 +449,8 @@ def check_causes(program, seeds):
         status, said, _ = explain.replay(given, program)
         same((status, said), (1, "arpasim: bad topology\n"), octets[-80:])
         same(words in explain.diagnose(given, said), True, f"{octets[-80:]}: {explain.diagnose(given, said)}")
+    for line, words in BAD_LINES_OF_WORLDS:
+        same(words in (refused.wrong_with_line(line, raw=False) or ""), True, f"{line}: {refused.wrong_with_line(line, raw=False)}")
     bad = 0
     for seed in range(seeds):
         chance = random.Random(seed)
@@ -387,6 +471,64 @@ def check_causes(program, seeds):
             same(bool(why), is_bad, f"the line {line!r}: {why}")
             bad += is_bad
     print(f"check explain: a cause named for {len(BAD_LINES) + len(BAD_TOPOLOGIES)} inputs written by hand and for {bad} made by chance")
+
+
+def audited(log):
+    """The status and the output of `./explain --audit`, which end as the program's do."""
+    ran = subprocess.run([f"{ROOT}/explain", "--audit"], input=log, capture_output=True)
+    return ran.returncode, ran.stdout.decode(), ran.stderr.decode()
+
+
+def check_logs():
+    """Of a bad line of a log its cause and form are told, of a broken part the lines that disagree, and where."""
+    with open(f"{ROOT}/logs/two-octets", "rb") as file:
+        log = file.read()
+    lines = log.split(b"\n")
+    bad = [(number + (line == b"end"), b"\n".join([*lines[: number - 1], line, *lines[number:]]), words) for number, line, words in BAD_LOG_LINES]
+    bad += [(None, log.removesuffix(b"end\n") + end, words) for end, words in BAD_LOG_ENDS]
+    for number, changed, words in bad:
+        status, output, said = audited(changed)
+        same((status, "arpasim: bad log line" in said, words in output), (2, True, True), f"{said}{output}")
+        same(number in (None, int(re.search(r"line (\d+)", said)[1])), True, f"{number}: {said}")
+    for number, before, after, verdict, words in BROKEN_LOGS:
+        line = lines[number - 1] + b"\n"
+        changed = log.replace(b"\n" + line, b"\n" + line.replace(before, after, 1), 1)
+        status, output, _ = audited(changed)
+        same((status, output.splitlines()[0], words in output), (0 if verdict == "kept" else 4, verdict, True), output)
+    print(f"check explain: {len(bad)} bad logs, each with its cause and form; {len(BROKEN_LOGS)} books, each with the lines that disagree")
+
+
+def check_stalls(program):
+    """What a network at rest waits for is told after a calm, and nothing where nothing waits."""
+    for kind, script, words in STALLS:
+        given = explain.Input(((PLAIN_PAIR if kind == "plain" else RAW_PAIR) + "\n".join(script) + "\n").encode())
+        told = "\n".join(explain.telling(given, explain.replay(given, program)[2])).split("calm ")[-1]
+        same("this waits" in told, words is not None, told)
+        same((words or "") in told, True, told)
+    print(f"check explain: {len(STALLS)} networks at rest, each with what waits")
+
+
+def check_ends():
+    """Where a stream is closed or full, or a name is not UTF-8, a command says so in one line and ends with status 1; long blanks take no time."""
+    name = os.fsencode(f"{ROOT}/examples/none-") + b"\xff"
+    for command in ("explain", "check", "measure"):
+        for ending, said in ((">&-", f"{command}: standard output is closed"), ("<&-", f"{command}: standard input is closed"), ("> /dev/full", f"{command}: No space left on device")):
+            if (command, ending) == ("check", "> /dev/full"):
+                continue  # it runs the whole gate before it has written what its buffer holds
+            ran = subprocess.run(["bash", "-c", f"./{command} < examples/first-message {ending}"], cwd=ROOT, capture_output=True, text=True, stdin=subprocess.DEVNULL)
+            same((ran.returncode, said in ran.stderr, "Traceback" in ran.stderr), (1, True, False), f"{command} {ending}: {ran.stderr}")
+        ran = subprocess.run([f"{ROOT}/{command}".encode(), *([b"--page"] if command == "explain" else []), name], capture_output=True, text=True, input="")
+        same((ran.returncode, ran.stderr.count("\n"), "Traceback" in ran.stderr), (1, 1, False), f"{command} and a name that is not UTF-8: {ran.stderr}")
+    with tempfile.TemporaryDirectory() as room:
+        named = os.path.join(os.fsencode(room), b"first-\xff")
+        shutil.copy(f"{ROOT}/examples/first-message", named)
+        with open(named, "rb") as file:
+            ran = subprocess.run([f"{ROOT}/explain", "--page", named], stdin=file, capture_output=True)
+        same((ran.returncode, "first \ufffd".encode() in ran.stdout.lower(), b"Traceback" in ran.stderr), (0, True, False), "a page of a file whose name is not UTF-8")
+    begin = time.monotonic()
+    ran = subprocess.run([f"{ROOT}/explain"], input=b"\n" * 40_000 + GOOD + b"%\ntake 0/1\n", capture_output=True)
+    same((ran.returncode, time.monotonic() - begin < 8), (0, True), "40,000 blank lines before a topology")
+    print("check explain: closed and full streams, names that are not UTF-8, and long blanks")
 
 
 def check_worlds(seeds):
@@ -473,6 +615,9 @@ def main():
         check_inside(program, 60)
         check_full_store(program)
         check_causes(program, 400)
+        check_logs()
+        check_stalls(program)
+        check_ends()
         check_worlds(100)
         check_readme(program)
     except Wrong as what:

@@ -21,9 +21,10 @@ import subprocess
 import sys
 import tempfile
 
+import explaining as explain
 from parts import ROOT, loaded
 
-explain, model = loaded("explain"), loaded("tools/check/model.py")
+model = loaded("tools/check/model.py")
 
 import script_rules  # noqa: E402
 from imp_rules import MOST_IMPS  # noqa: E402

@@ -8,6 +8,8 @@ import http.client
 import os
 import re
 import signal
+import socket
+import struct
 import subprocess
 import time
 from urllib.parse import quote_plus, urlsplit
@@ -152,6 +154,20 @@ def check_limits(served):
     same(served.run(example())[0], 200, "a run after that")
 
 
+def check_gone(served):
+    """A browser that goes away before its answer comes stops nothing."""
+    for _ in range(3):
+        body = f"script={quote_plus(example())}".encode()
+        with socket.create_connection(("127.0.0.1", served.address.port)) as line:
+            line.setsockopt(socket.SOL_SOCKET, socket.SO_LINGER, struct.pack("ii", 1, 0))
+            head = f"POST {served.root}run HTTP/1.1\r\nHost: {served.place}\r\nOrigin: http://{served.place}\r\nContent-Length: {len(body)}\r\n\r\n"
+            line.sendall(head.encode() + body)
+            time.sleep(0.1)
+        time.sleep(2)
+    same(served.process.poll(), None, "the server after a browser went away")
+    same(served.run(example())[0], 200, "a run after a browser went away")
+
+
 def check_stop():
     """Ctrl-C stops the server, also while something runs."""
     served = Served(600)
@@ -191,7 +207,7 @@ def main():
     try:
         check_words()
         served = Served()
-        for check in (check_good, check_others, check_limits):
+        for check in (check_good, check_gone, check_others, check_limits):
             check(served)
         status, said = served.stop()
         same((status, "Traceback" in said), (0, False), f"Ctrl-C: {said}")

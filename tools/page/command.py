@@ -3,6 +3,7 @@
 import os
 import sys
 
+from ending import shown_name
 from page import make, steps, topology
 
 USAGE = "usage: ./explain --page [--inside] [OTHER-FILE] < INPUT > replay.html"
@@ -19,7 +20,7 @@ def main(explain, words):
     for path in others:
         try:
             with open(path, "rb") as file:
-                inputs.insert(0, (explain.Input(file.read()), os.path.basename(path)))
+                inputs.insert(0, (explain.Input(file.read()), shown_name(path)))
         except OSError as fault:
             print(f"explain: {path}: {fault.strerror}", file=sys.stderr)
             return 1
@@ -47,4 +48,4 @@ def name_of_input():
         path = os.readlink("/proc/self/fd/0")
     except OSError:
         return ""
-    return os.path.basename(path) if os.path.isfile(path) else ""
+    return shown_name(path) if os.path.isfile(path) else ""

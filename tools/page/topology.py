@@ -14,7 +14,7 @@ try:
 except ImportError:  # Python before 3.11 has no reader of TOML
     tomllib = None
 
-NAME = re.compile(r"^\s*id\s*=\s*(\d+)\s*#\s*(\S.*?)\s*$", re.MULTILINE)
+NAME = re.compile(r"^[ \t]*id[ \t]*=[ \t]*(\d+)[ \t]*#[ \t]*(\S.*)$", re.MULTILINE)
 SHOWN = 14  # so many characters of a site's name are shown
 
 
@@ -52,7 +52,7 @@ def read(octets):
     """The network of a topology in UTF-8."""
     text = octets.decode().removeprefix("\ufeff").replace("\r\n", "\n")
     carrier, raw, imps, lines = by_tomllib(text) if tomllib else by_hand(text)
-    names = {int(number): name[:SHOWN] for number, name in NAME.findall(text)}
+    names = {int(number): name.rstrip()[:SHOWN].rstrip() for number, name in NAME.findall(text)}
     return Network(carrier, raw, dict(imps), lines, names)
 
 
@@ -65,7 +65,7 @@ def by_tomllib(text):
 
 def by_hand(text):
     """The same without a library, for the plain spelling that the examples have: one key a line."""
-    spaced = re.sub(r"^\s*(\w+)\s*=\s*", r"\1 = ", text, flags=re.MULTILINE)
+    spaced = re.sub(r"^[ \t]*(\w+)[ \t]*=[ \t]*", r"\1 = ", text, flags=re.MULTILINE)
     try:
         return network_of(spaced)
     except (ValueError, KeyError):
