@@ -100,6 +100,10 @@ class Host:
 
 class Port:
     def __init__(self):
+        self.accepted = set()  # what came in here since the IMP started: no rule looks at it, only those who tell of repeats
+        self.reset()
+
+    def reset(self):
         self.is_up, self.line, self.heard = True, Line(), None
 
 
@@ -256,6 +260,7 @@ class Imp:
                 self.lost += 1
                 return
             end.line.expected[channel] ^= 1
+            end.accepted.add(packet[:4])
         end.line.take_acknowledgements(acknowledged)
         self.send(port, None)
         if deed is not None:
@@ -371,7 +376,7 @@ class Imp:
         if not self.ports[port].is_up:
             raise Refused("IsDown")
         self.store += self.ports[port].line.held()
-        self.ports[port] = Port()
+        self.ports[port].reset()
         self.ports[port].is_up = False
 
     def end_up(self, port):

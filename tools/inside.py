@@ -213,8 +213,8 @@ class Inside:
             return ""
         if content[0] == "routes":
             return self.new_ways(number, was.ways) or "The routes that it knows stay the same."
-        if was.is_repeat:
-            return "It came before, so it is only acknowledged again."
+        if was.is_thrown_away:
+            return self.thrown_away(was)
         if imp.ports[was.port].line.expected[content[1]] == content[2]:
             return f"IMP {number} has no room for it and does not acknowledge it, so it will be sent again."
         packet = content[3]
@@ -224,6 +224,19 @@ class Inside:
         if kind == ASK:
             return self.asked(was, imp, flow, message)
         return self.taken_in(was, imp, kind, flow, message)
+
+    def thrown_away(self, was):
+        """Why a packet with the channel's other bit is thrown away: it came before, or the two ends of the line disagree."""
+        if was.was_accepted:
+            return "It came before, so it is only acknowledged again."
+        line = self.subnet.lines_of(was.number)[was.port]
+        far = sum(self.subnet.ends[line]) - was.number
+        ends = [(far, line), (was.number, line)]
+        cure = ", ".join(f"`{word} {imp} {line}`" for word in ("enddown", "endup") for imp, line in ends)
+        return (
+            f"It never came before, but IMP {was.number} expects the other bit on channel {was.content[1]}: one end of line {line} was reset and "
+            f"the other was not. So IMP {was.number} takes it for a repeat, acknowledges it, and it is LOST. To cure the line, reset both ends: {cure}."
+        )
 
     def passed_on(self, number, packet, ways):
         to = target(packet)
@@ -435,7 +448,9 @@ class Before:
         self.number, self.port, self.content, self.ways = imp.number, port, content, ways
         line = imp.ports[port].line
         self.busy, self.bits = list(line.busy), list(line.next_bit)
-        self.is_repeat = content is not None and content[0] == "packet" and content[2] != line.expected[content[1]]
+        is_packet = content is not None and content[0] == "packet"
+        self.is_thrown_away = is_packet and content[2] != line.expected[content[1]]
+        self.was_accepted = is_packet and content[3][:4] in imp.ports[port].accepted
         self.outstanding, self.kept, self.fates = dict(imp.outstanding), dict(imp.kept), dict(imp.fates)
         self.slots = {flow: (number, dict(pieces)) for flow, (number, pieces) in imp.slots.items()}
         self.messages = [len(host.messages) for host in imp.hosts]

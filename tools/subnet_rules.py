@@ -179,6 +179,9 @@ class Subnet(Crossed):
         if self.imps[number] is not None:
             raise Refused("IsUp")
         self.imps[number] = self.imp_of(number)
+        for port in (port for imp in others for port in imp.ports):
+            # none of its flows' packets is alive, so each that comes from now on is another one, whatever its number
+            port.accepted = {it for it in port.accepted if number not in (it[1][0][1], it[1][1][1])}
         for host in self.imps[number].hosts:
             host.is_up = False
 

@@ -271,13 +271,30 @@ class Told(Subnet):
         number = imp_named(self, event) if event[0] != "drop" else None
         ways = [(line, "+-"[self.ends[line].index(number)]) for line in self.at.get(number, [])]
         were = [len(self.live[line][way]) for line, way in ways]
+        accepted = self.accepted_after(event)
         for name, told in record["parts"].items():
             if told != self.parts[name]:
                 self.parts[name] = told
                 put(self, name, told)
+        self.keep_accepted(accepted, event, number)
         if self.imps.get(number) is not None:
             sent = [(port, self.live[line][way][count:]) for port, ((line, way), count) in enumerate(zip(ways, were))]
             self.imps[number].frames = [(port, *frame) for port, frames in sent for frame in frames]
+
+    def accepted_after(self, event):
+        """For each IMP that is up what its ports have accepted; and with a frame that arrives fresh, that too, if it has room."""
+        return {number: [(port.accepted, list(port.line.expected)) for port in imp.ports] for number, imp in self.imps.items() if imp is not None}
+
+    def keep_accepted(self, accepted, event, number):
+        """Gives each IMP back what its ports had accepted, with the packet that one of them accepts in this event."""
+        for other, ports in accepted.items():
+            imp = self.imps[other]
+            for port, (were, expected) in zip(imp.ports if imp is not None else [], ports):
+                port.accepted = were
+                if event[0] == "deliver" and other == number and port.line.expected != expected:
+                    port.accepted = were | {self.live[event[1]][event[2]][event[3]][1][3][:4]}
+                if event[0] == "impup" and other != event[1] and accepted.get(event[1]) is None and self.imps[event[1]] is not None:
+                    port.accepted = {it for it in were if event[1] not in (it[1][0][1], it[1][1][1])}
 
     def crossings(self, event, printed):
         """What crosses where these lines are printed, before the event has happened."""

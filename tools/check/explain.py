@@ -38,8 +38,10 @@ model, subnets = loaded("tools/check/model.py"), loaded("tools/check/subnet.py")
 
 import refused  # noqa: E402
 from decode import text_in_words  # noqa: E402
+from imp_rules import Imp  # noqa: E402
 from inside import Inside  # noqa: E402
 from script_rules import read_line  # noqa: E402
+from subnet_rules import Subnet  # noqa: E402
 
 # a script line, and words of the cause that is meant
 BAD_LINES = [
@@ -154,6 +156,29 @@ INSIDES = [
     ("a-question-after-a-restart", 33, "Message 0 of flow 0/1 0/2 9 is outstanding. The next event to clear it: `giveup 0/1 0/2 9`."),
     ("a-question-after-a-restart", 43, "IMP 2 sends the Never for message 1"),
     ("a-question-after-a-restart", 44, "had never seen it whole, and now never will take it"),
+]
+
+# scripts over two IMPs with a host each, whose last event delivers a packet with the channel's other bit, and what has become of it
+REPEAT, LOST = "It came before, so it is only acknowledged again.", "it is LOST"
+THROWN_AWAY = [
+    ("it arrives twice", REPEAT, ["calm 2", "out 0/1 0/2 5 8 41", "deliver 0 + 0", "deliver 0 + 0"]),
+    ("one end was reset", LOST, ["calm 2", "out 0/1 0/2 5 8 41", "calm 4", "enddown 1 0", "endup 1 0", "calm 2", "out 0/1 0/2 5 8 42", "deliver 0 + 0"]),
+    (
+        "its IMP started anew",
+        LOST,
+        ["calm 2", "out 0/1 0/2 5 8 41", "calm 6", "impdown 2", "forget 1 2", "calm 2", "impup 2", "hostup 0/2", "calm 5", "out 0/1 0/2 5 8 42", "deliver 0 + 0"],
+    ),
+    (
+        "it was accepted before the end was reset",
+        REPEAT,
+        ["calm 2", "out 0/1 0/2 5 8 41", "deliver 0 + 0", "deliver 0 - 0", "take 0/2", "enddown 1 0", "enddown 2 0", "endup 1 0", "endup 2 0"]
+        + ["route 2", "deliver 0 - 2", "out 0/1 0/2 6 8 42", "deliver 0 + 1", "deliver 0 + 0"],
+    ),
+    (
+        "its source's IMP started anew, and counts its messages from 0 again",
+        LOST,
+        ["calm 2", "out 0/1 0/2 5 8 41", "calm 6", "impdown 1", "forget 2 1", "impup 1", "hostup 0/1", "calm 2", "out 0/1 0/2 5 8 41", "deliver 0 + 0"],
+    ),
 ]
 
 # charts of an example: an arrow or a note that is drawn in it, and whether with --short
@@ -387,6 +412,46 @@ def check_inside(program, seeds):
     print(f"check explain: {found.total()} events in subnets that print nothing or are refused, each with sentences; {cleared} refused ones cleared as they say")
 
 
+def check_thrown_away():
+    """Of packets with the other bit it is told which came before and which are lost; and three wrong ways to judge that are found."""
+    same(wrongly_judged(), [], "packets with the channel's other bit")
+    end_down, impup = Imp.end_down, Subnet.impup
+
+    def since_the_reset(imp, port):
+        imp.ports[port].accepted = set()
+        return end_down(imp, port)
+
+    def over_a_restart(subnet, number):
+        were = [(port, port.accepted) for imp in subnet.imps.values() if imp is not None for port in imp.ports]
+        impup(subnet, number)
+        for port, accepted in were:
+            port.accepted = accepted
+
+    planted = [
+        ("the bit in place of the packet", Inside, "thrown_away", lambda *_: REPEAT),
+        ("since the reset in place of ever", Imp, "end_down", since_the_reset),
+        ("numbers that another IMP counts anew", Subnet, "impup", over_a_restart),
+    ]
+    for what, where, name, fault in planted:
+        right = getattr(where, name)
+        setattr(where, name, fault)
+        found = wrongly_judged()
+        setattr(where, name, right)
+        same(found != [], True, f"a planted fault: {what}")
+    print(f"check explain: {len(THROWN_AWAY)} packets with the channel's other bit, repeated or lost; {len(planted)} planted faults found")
+
+
+def wrongly_judged():
+    """Those of which something else is told."""
+    found = []
+    for what, words, script in THROWN_AWAY:
+        goes = Inside(("subnet", True, [(1, 1), (2, 1)], [(1, 2)]))
+        told = [goes.happen(read_line(it)) for it in script]
+        if words not in " ".join(told[-1].sentences):
+            found.append((what, told[-1].sentences))
+    return found
+
+
 def clears(goes, event, told):
     """Does what the sentences about a refused event say, again and again, until it is refused for this cause no more."""
     refusal = told.printed[-1]
@@ -613,6 +678,7 @@ def main():
         check_ties(program, 60)
         check_refusals(program)
         check_inside(program, 60)
+        check_thrown_away()
         check_full_store(program)
         check_causes(program, 400)
         check_logs()

@@ -30,3 +30,12 @@ declare module "node:assert/strict" {
     const assert: Assert;
     export default assert;
 }
+
+declare module "node:fs" {
+    export function readFileSync(path: string, encoding: string): string;
+    export function readdirSync(path: string): string[];
+    export function writeFileSync(path: string, text: string): void;
+    export function existsSync(path: string): boolean;
+}
+
+declare const process: { env: { [name: string]: string | undefined }; argv: string[]; exit(status: number): never };

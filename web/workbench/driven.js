@@ -1,0 +1,286 @@
+/**
+ * What happens inside a network whose hosts have programs: told by a raw script that their crossings drive.
+ *
+ * Such a network has no trace. But each `out` that `--texts` prints is a line of a raw script. So a raw script over the same topology
+ * does inside what the programs did: each crossing in its order, each inner event of the script as it is, and of each round in which a
+ * host sends the network's part of it, event by event. Its trace is taken, and used only if it prints exactly the crossings of the
+ * real replay.
+ */
+
+import { octetsOf, textOf } from "./octets.js";
+import { readTrace } from "./trace.js";
+
+/** @typedef {import("../run/runner.js").Runner} Runner */
+/** @typedef {import("./topology.js").Network} Network */
+/** @typedef {import("./script.js").Input} Input */
+/** @typedef {import("./runs.js").Moment} Moment */
+/** @typedef {import("./runs.js").Step} Step */
+/** @typedef {import("./trace.js").Record} Record */
+/** @typedef {{seconds: number, octets: number}} Limits */
+
+/** A line of a raw script, the step that it belongs to, and whether it is of the network's part of a round. */
+/** @typedef {{text: string, step: number, quiet: boolean}} Line */
+
+/** The program reads inputs of so many octets. */
+const MOST_OCTETS = 1_048_576;
+
+const INNER = ["take", "giveup", "hostdown", "hostup", "deliver", "drop", "resend", "route", "enddown", "endup", "impdown", "impup", "forget", "abandon", "ask"];
+
+/**
+ * The moments of a replay with what is inside, or null where that can't be had.
+ *
+ * @param {Runner["run"]} run
+ * @param {Input} input
+ * @param {Network} network
+ * @param {{part: Step, printed: string[]}[]} told what each step printed
+ * @param {Moment[]} moments
+ * @param {Limits} limits
+ * @returns {Promise<Moment[] | null>}
+ */
+export async function driven(run, input, network, told, moments, limits) {
+    const head = rawHead(input);
+    const frames = await framesOfRounds(run, head, network, told, limits);
+    if (!frames) return null;
+    const lines = rawScript(network, told, frames);
+    const records = await traceOf(run, head, lines, limits);
+    return records && joinedMoments(lines, records, moments);
+}
+
+/**
+ * The topology of an input, as that of a raw network.
+ *
+ * @param {Input} input
+ * @returns {string[]}
+ */
+function rawHead(input) {
+    return ["raw = true", ...input.head.filter((line) => !/^\s*raw\s*=/.test(line)), "%"];
+}
+
+/** @param {string} line */
+function isOut(line) {
+    return line.startsWith("out ");
+}
+
+/**
+ * Whether in a step that is a round some host sends.
+ *
+ * @param {{part: Step, printed: string[]}} step
+ */
+function isSending({ part, printed }) {
+    return part.words[0] === "calm" && printed.some(isOut);
+}
+
+/**
+ * The crossings of a round as lines of a raw script.
+ *
+ * @param {string[]} printed
+ */
+function crossings(printed) {
+    return printed.flatMap((line) => {
+        const words = line.split(" ");
+        if (words[0] === "out") return [line];
+        return words[0] === "in" ? [`take ${words[2]}`] : words[0] === "answer" ? [`take ${words[2]}`] : [];
+    });
+}
+
+/**
+ * The raw script: `frames` has for each round in which a host sends how many frames arrive, line by line, first `+` and then `-`.
+ *
+ * @param {Network} network
+ * @param {{part: Step, printed: string[]}[]} told
+ * @param {Map<number, number[]>} frames
+ * @returns {Line[]}
+ */
+function rawScript(network, told, frames) {
+    return told.flatMap((it, step) => {
+        if (isSending(it)) {
+            const quiet = quietRound(network, frames.get(step) ?? []).map((text) => ({ text, step, quiet: true }));
+            return [...quiet, ...crossings(it.printed).map((text) => ({ text, step, quiet: false }))];
+        }
+        const { words } = it.part;
+        if (words[0] === "calm") return [{ text: "calm 1", step, quiet: false }];
+        if (words[0] === "offer") return it.printed.filter(isOut).map((text) => ({ text, step, quiet: false }));
+        return INNER.includes(words[0]) ? [{ text: words.join(" "), step, quiet: false }] : [];
+    });
+}
+
+/**
+ * The network's part of a round.
+ *
+ * @param {Network} network
+ * @param {number[]} frames
+ */
+function quietRound(network, frames) {
+    if (network.plain) return [];
+    const lines = network.sites.flatMap(({ number }) => [`route ${number}`, `resend ${number}`]);
+    frames.forEach((count, place) => {
+        const way = `${place >> 1} ${place % 2 ? "-" : "+"} 0`;
+        for (let frame = 0; frame < count; frame += 1) lines.push(`deliver ${way}`, `drop ${way}`);
+    });
+    return lines;
+}
+
+/**
+ * How many frames arrive in each round in which a host sends: the raw script is run with more deliveries than there are frames, and
+ * those beyond are refused.
+ *
+ * @param {Runner["run"]} run
+ * @param {string[]} head
+ * @param {Network} network
+ * @param {{part: Step, printed: string[]}[]} told
+ * @param {Limits} limits
+ * @returns {Promise<Map<number, number[]> | null>}
+ */
+async function framesOfRounds(run, head, network, told, limits) {
+    const sending = told.flatMap((it, step) => (isSending(it) ? [step] : []));
+    if (network.plain || sending.length === 0) return new Map();
+    for (let most = 8; most <= 256; most *= 2) {
+        const padded = paddedScript(network, told, most);
+        const text = [...head, ...padded, ""].join("\n");
+        if (text.length > MOST_OCTETS) return null;
+        const outcome = await run([], octetsOf(text), limits);
+        if (outcome.ended !== "exit" || outcome.status !== 0) return null;
+        const counts = counted(textOf(outcome).split("\n"), 2 * network.lines.length, most);
+        if (counts.length !== sending.length) return null;
+        if (counts.every((it) => it.every((count) => count < most))) return new Map(sending.map((step, place) => [step, counts[place]]));
+    }
+    return null;
+}
+
+/**
+ * What is always refused, and not as NoSuch: the mark behind each direction of a line.
+ *
+ * @param {Network} network
+ */
+function separator(network) {
+    return `giveup ${network.hosts[0]} ${network.hosts[0]} 255`;
+}
+
+/**
+ * What begins a round: it prints a pair that no event prints.
+ *
+ * @param {Network} network
+ */
+function beginning(network) {
+    return ["drop 4294967295 + 0", separator(network), separator(network)];
+}
+
+/**
+ * The raw script with `most` deliveries for each direction of a line, and a mark behind each direction.
+ *
+ * @param {Network} network
+ * @param {{part: Step, printed: string[]}[]} told
+ * @param {number} most
+ */
+function paddedScript(network, told, most) {
+    const empty = network.lines.flatMap(() => [0, 0]);
+    return told.flatMap((it, step) => {
+        if (!isSending(it)) return rawScript(network, [it], new Map()).map((line) => line.text);
+        const lines = [...quietRound(network, empty), ...beginning(network)];
+        empty.forEach((_, place) => {
+            const way = `${place >> 1} ${place % 2 ? "-" : "+"} 0`;
+            for (let frame = 0; frame < most; frame += 1) lines.push(`deliver ${way}`, `drop ${way}`);
+            lines.push(separator(network));
+        });
+        return [...lines, ...crossings(it.printed)];
+    });
+}
+
+/**
+ * How many frames arrived, round by round: of `most` deliveries and drops for each of so many directions the rest was refused.
+ *
+ * @param {string[]} lines what was printed
+ * @param {number} ways
+ * @param {number} most
+ */
+function counted(lines, ways, most) {
+    /** @type {number[][]} */
+    const rounds = [];
+    const isMark = (/** @type {string | undefined} */ line) => line !== undefined && line.startsWith("refused ") && line !== "refused NoSuch";
+    for (let at = 0; at + 2 < lines.length; at += 1) {
+        if (lines[at] !== "refused NoSuch" || !isMark(lines[at + 1]) || !isMark(lines[at + 2])) continue;
+        at += 3;
+        const counts = [];
+        for (let way = 0; way < ways; way += 1, at += 1) {
+            let refused = 0;
+            for (; lines[at] === "refused NoSuch"; at += 1) refused += 1;
+            counts.push(most - refused / 2);
+        }
+        at -= 1;
+        rounds.push(counts);
+    }
+    return rounds;
+}
+
+/**
+ * @param {Runner["run"]} run
+ * @param {string[]} head
+ * @param {Line[]} lines
+ * @param {Limits} limits
+ * @returns {Promise<Record[] | null>}
+ */
+async function traceOf(run, head, lines, limits) {
+    const text = [...head, ...lines.map((line) => line.text), ""].join("\n");
+    if (text.length > MOST_OCTETS) return null;
+    const outcome = await run(["--trace"], octetsOf(text), limits);
+    return outcome.ended === "exit" && outcome.status === 0 ? readTrace(textOf(outcome)) : null;
+}
+
+/**
+ * The lines that tell of crossings, without the octets of texts.
+ *
+ * @param {string[]} printed
+ */
+function crossed(printed) {
+    return printed.filter((line) => /^(?:out|in|answer|down|up|refused) /.test(line)).map((line) => (/^(?:out|in) /.test(line) ? line.split(" ").slice(0, 5).join(" ") : line));
+}
+
+/**
+ * The moments of the real replay, joined with the records of the raw script; null where one crossing differs.
+ *
+ * @param {Line[]} lines
+ * @param {Record[]} records
+ * @param {Moment[]} moments
+ * @returns {Moment[] | null}
+ */
+export function joinedMoments(lines, records, moments) {
+    /** @type {Moment[]} */
+    const found = [];
+    /** @type {Map<number, Record[]>} */
+    const ofStep = new Map();
+    for (const record of records) {
+        const line = lines[record.event];
+        if (line.quiet && record.printed.length) continue;
+        ofStep.set(line.step, [...(ofStep.get(line.step) ?? []), record]);
+    }
+    let step = -1;
+    /** @type {Record[]} */
+    let left = [];
+    /** @type {Moment | null} */
+    let before = null;
+    for (const moment of moments) {
+        if (!before || before.event !== moment.event || before.round !== moment.round) {
+            if (left.length) return null;
+            step += 1;
+            left = ofStep.get(step) ?? [];
+        }
+        before = moment;
+        const wanted = crossed(moment.printed);
+        while (left.length && left[0].printed.length === 0 && moment.round) found.push({ ...moment, words: left[0].words, printed: [], parts: (left.shift() ?? left[0]).parts });
+        const record = isOfNetwork(moment) ? left.shift() : undefined;
+        if (record && JSON.stringify(record.printed) !== JSON.stringify(wanted)) return null;
+        if (!record && wanted.some((line) => !line.startsWith("refused "))) return null;
+        if (moment.words[0] !== "calm") found.push({ ...moment, parts: record?.parts ?? [] });
+    }
+    return left.length ? null : found;
+}
+
+/**
+ * Whether a moment has a record of the raw script: it crosses, or happens inside.
+ *
+ * @param {Moment} moment
+ */
+function isOfNetwork(moment) {
+    if (moment.words[0] === "offer") return moment.printed.some(isOut);
+    return INNER.includes(moment.words[0]);
+}

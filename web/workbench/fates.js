@@ -1,0 +1,207 @@
+/**
+ * What each moment did: of a frame that is delivered what became of it, and how much a moment matters.
+ *
+ * A packet whose channel expects the other bit is thrown away. It is a repeat only if it was accepted before at this end since the
+ * end's IMP started; otherwise the two ends of the line disagree, and it is lost.
+ */
+
+import { FAR } from "./state.js";
+import { farEnd, wayOf } from "./topology.js";
+
+/** @typedef {import("./runs.js").Moment} Moment */
+/** @typedef {import("./state.js").State} State */
+/** @typedef {import("./trace.js").Frame} Frame */
+/** @typedef {import("./trace.js").Packet} Packet */
+/** @typedef {import("./fold.js").Accepted} Accepted */
+
+/**
+ * What became of a frame that was delivered:
+ * - `fresh`: a packet that the IMP took in or passed on,
+ * - `repeat`: a packet that it had accepted before,
+ * - `lost`: a packet that it never accepted, thrown away for its channel bit,
+ * - `full`: a packet for which there was no room,
+ * - `news`, `same`: distances that changed what the IMP had heard, or did not,
+ * - `ack`: acknowledgements only,
+ * - `end`, `imp`: the end of the line, or the IMP, was down.
+ *
+ * @typedef {"fresh" | "repeat" | "lost" | "full" | "news" | "same" | "ack" | "end" | "imp"} Fate
+ */
+
+/**
+ * @typedef {object} MomentNote
+ * @property {Fate | null} fate of a frame that was delivered
+ * @property {Frame | null} frame that was delivered or dropped
+ * @property {number} line -1 where there is none
+ * @property {number} from the IMP from which the frame came
+ * @property {number} to the IMP to which it came
+ * @property {Packet[]} freed the packets that its acknowledgement bits freed
+ * @property {{frame: Frame, line: number, to: number}[]} sent the frames that the moment put on lines, without bare acknowledgements
+ * @property {0 | 1 | 2} weight 2: it printed something; 1: something new happened; 0: the rest
+ */
+
+/** @type {MomentNote} */
+const NOTHING = { fate: null, frame: null, line: -1, from: 0, to: 0, freed: [], sent: [], weight: 0 };
+
+/**
+ * What a moment did. Takes note of what is accepted.
+ *
+ * @param {Moment} moment
+ * @param {State} before
+ * @param {State} after
+ * @param {Accepted} accepted
+ * @returns {MomentNote}
+ */
+export function noteOf(moment, before, after, accepted) {
+    const [kind, ...rest] = moment.words;
+    const isRefused = moment.printed.some((line) => line.startsWith("refused "));
+    if (kind === "impup" && !isRefused) accepted.start(Number(rest[0]));
+    const isFrame = (kind === "deliver" || kind === "drop") && !isRefused && moment.parts.length > 0;
+    const note = isFrame ? frameNote(kind, rest, before, after, accepted) : { ...NOTHING };
+    note.sent = sentBy(moment, before, after);
+    note.weight = weightOf(moment, note);
+    return note;
+}
+
+/**
+ * @param {string} kind
+ * @param {string[]} words
+ * @param {State} before
+ * @param {State} after
+ * @param {Accepted} accepted
+ * @returns {MomentNote}
+ */
+function frameNote(kind, [number, way, place], before, after, accepted) {
+    const line = Number(number);
+    const [from, to] = wayOf(before.network, line, way);
+    const frame = before.line(line)[way === "+" ? "+" : "-"][Number(place)] ?? null;
+    const note = { ...NOTHING, frame, line, from, to };
+    if (kind === "drop" || !frame) return note;
+    note.fate = fateOf(frame, line, to, before, after, accepted);
+    note.freed = freedBy(line, to, before, after);
+    return note;
+}
+
+/**
+ * @param {Frame} frame
+ * @param {number} line
+ * @param {number} to
+ * @param {State} before
+ * @param {State} after
+ * @param {Accepted} accepted
+ * @returns {Fate}
+ */
+function fateOf(frame, line, to, before, after, accepted) {
+    const was = before.port(to, line);
+    const is = after.port(to, line);
+    if (!before.imp(to) || !was || !is) return "imp";
+    if (!was.up) return "end";
+    if (frame.routes) return hasNews(to, before, after) ? "news" : "same";
+    if (!frame.packet) return "ack";
+    if (Number(was.expected[frame.channel]) !== frame.bit) return accepted.at(to, line).has(frame.packet.key) ? "repeat" : "lost";
+    if (is.expected[frame.channel] === was.expected[frame.channel]) return "full";
+    accepted.add(to, line, frame.packet.key);
+    return "fresh";
+}
+
+/**
+ * Whether what an IMP heard changed its distances.
+ *
+ * @param {number} imp
+ * @param {State} before
+ * @param {State} after
+ */
+function hasNews(imp, before, after) {
+    return before.network.sites.some(({ number }) => {
+        const was = before.way(imp, number);
+        const is = after.way(imp, number);
+        return was.distance !== is.distance || was.line !== is.line;
+    });
+}
+
+/**
+ * The packets of an end that are acknowledged now.
+ *
+ * @param {number} line
+ * @param {number} imp
+ * @param {State} before
+ * @param {State} after
+ */
+function freedBy(line, imp, before, after) {
+    const were = before.port(imp, line)?.sending ?? [];
+    const are = after.port(imp, line)?.sending ?? [];
+    return were.flatMap(({ bit, packet }, channel) => (packet && are[channel] && are[channel].bit !== bit ? [packet] : []));
+}
+
+/**
+ * The frames that a moment put on lines.
+ *
+ * @param {Moment} moment
+ * @param {State} before
+ * @param {State} after
+ */
+function sentBy(moment, before, after) {
+    if (before.network.plain || moment.words[0] === "drop") return [];
+    return moment.parts.flatMap(([name]) => {
+        if (!name.startsWith("line ")) return [];
+        const line = Number(name.slice(5));
+        return /** @type {const} */ (["+", "-"]).flatMap((way) => {
+            const to = wayOf(before.network, line, way)[1];
+            const frames = after.line(line)[way].slice(before.line(line)[way].length);
+            return frames.filter((frame) => frame.packet || frame.routes).map((frame) => ({ frame, line, to }));
+        });
+    });
+}
+
+/**
+ * How much a moment matters.
+ *
+ * @param {Moment} moment
+ * @param {MomentNote} note
+ * @returns {0 | 1 | 2}
+ */
+function weightOf(moment, note) {
+    if (moment.printed.length) return 2;
+    if (moment.round === 0) return 1;
+    return note.fate === "fresh" || note.fate === "lost" || note.fate === "news" ? 1 : 0;
+}
+
+/**
+ * The IMPs whose distance to another one a moment changed, for the marks of changed cells.
+ *
+ * @param {State} before
+ * @param {State} after
+ */
+export function changedWays(before, after) {
+    /** @type {Set<string>} */
+    const found = new Set();
+    for (const { number: imp } of before.network.sites) {
+        if (before.parts[`imp ${imp}`] === after.parts[`imp ${imp}`]) continue;
+        for (const { number: to } of before.network.sites) {
+            const was = before.way(imp, to);
+            const is = after.way(imp, to);
+            if (was.distance !== is.distance || was.line !== is.line) found.add(`${imp} ${to}`);
+        }
+    }
+    return found;
+}
+
+/**
+ * How both ends of a line are reset, as script lines.
+ *
+ * @param {State} state
+ * @param {number} line
+ * @param {number} imp the one that threw a packet away
+ */
+export function cureOf(state, line, imp) {
+    const far = farEnd(state.network, line, imp);
+    return [`enddown ${far} ${line}`, `enddown ${imp} ${line}`, `endup ${far} ${line}`, `endup ${imp} ${line}`];
+}
+
+/**
+ * Whether a distance leads anywhere.
+ *
+ * @param {number} distance
+ */
+export function isReachable(distance) {
+    return distance < FAR;
+}

@@ -1,0 +1,136 @@
+/**
+ * The states of a replay, folded from its moments: what holds at each position, and what each moment did.
+ *
+ * A position is the number of moments that are done. Every 32nd state is kept; a state is at most 31 moments away from one.
+ */
+
+import { noteOf } from "./fates.js";
+import { State } from "./state.js";
+import { openingParts } from "./trace.js";
+
+/** @typedef {import("./runs.js").Replay} Replay */
+/** @typedef {import("./runs.js").Moment} Moment */
+/** @typedef {import("./trace.js").Part} Part */
+/** @typedef {import("./fates.js").MomentNote} MomentNote */
+
+const KEPT_EVERY = 32;
+
+/** The states of a replay. */
+export class History {
+    /** @param {Replay} replay */
+    constructor(replay) {
+        this.replay = replay;
+        this.network = replay.network;
+        /** @type {MomentNote[]} */
+        this.notes = [];
+        /** @type {{[name: string]: Part}[]} */
+        this.kept = [];
+        this.fold();
+    }
+
+    /** How many moments there are: the last position. */
+    get length() {
+        return this.notes.length;
+    }
+
+    fold() {
+        const { moments } = this.replay;
+        let parts = openingParts(this.network);
+        /** @type {Accepted} */
+        const accepted = new Accepted(this.network);
+        /** @type {Moment[]} */
+        const left = [];
+        this.kept.push(parts);
+        for (const moment of moments) {
+            const before = new State(this.network, parts);
+            if (this.replay.inside && isIdle(moment, before)) continue;
+            const after = new State(this.network, withParts(parts, moment));
+            this.notes.push(noteOf(moment, before, after, accepted));
+            left.push(moment);
+            parts = after.parts;
+            if (left.length % KEPT_EVERY === 0) this.kept.push(parts);
+        }
+        this.replay.moments = left;
+    }
+
+    /**
+     * The state at a position.
+     *
+     * @param {number} position
+     * @returns {State}
+     */
+    at(position) {
+        const place = Math.floor(position / KEPT_EVERY);
+        let parts = this.kept[place];
+        for (let at = place * KEPT_EVERY; at < position; at += 1) parts = withParts(parts, this.replay.moments[at]);
+        return new State(this.network, parts);
+    }
+}
+
+/**
+ * Parts with those that a moment left in their place.
+ *
+ * @param {{[name: string]: Part}} parts
+ * @param {Moment} moment
+ */
+function withParts(parts, moment) {
+    return moment.parts.length ? { ...parts, ...Object.fromEntries(moment.parts) } : parts;
+}
+
+/**
+ * Whether a moment of a calm is none of the elementary events that docs/trace.md names: a raw script that crossings drive has more.
+ *
+ * @param {Moment} moment
+ * @param {State} before
+ */
+function isIdle(moment, before) {
+    const [kind, what] = moment.words;
+    if (moment.round === 0 || moment.printed.length) return false;
+    if (kind === "resend") {
+        const imp = before.imp(Number(what));
+        return !imp || (imp.store.length === 0 && imp.ports.every((port) => port.sending.every((it) => !it.packet)));
+    }
+    if (kind !== "deliver") return false;
+    const [a, b] = before.network.lines[Number(what)];
+    return !before.imp(moment.words[2] === "+" ? b : a);
+}
+
+/** Which packets each end of a line accepted since its IMP started. */
+export class Accepted {
+    /** @param {import("./topology.js").Network} network */
+    constructor(network) {
+        this.network = network;
+        /** @type {Map<string, Set<string>>} by IMP and line the keys of packets */
+        this.ends = new Map();
+    }
+
+    /**
+     * @param {number} imp
+     * @param {number} line
+     */
+    at(imp, line) {
+        return this.ends.get(`${imp} ${line}`) ?? new Set();
+    }
+
+    /**
+     * @param {number} imp
+     * @param {number} line
+     * @param {string} key
+     */
+    add(imp, line, key) {
+        this.ends.set(`${imp} ${line}`, this.at(imp, line).add(key));
+    }
+
+    /**
+     * An IMP starts: it knows nothing, and no packet of a flow from it or to it is alive. So each that comes from now on is another one,
+     * whatever its number.
+     *
+     * @param {number} imp
+     */
+    start(imp) {
+        for (const [end, keys] of this.ends) {
+            if (Number(end.split(" ")[0]) === imp) this.ends.delete(end);
+            else for (const key of keys) if (key.split(" ").slice(1, 3).some((host) => Number(host.split("/")[1]) === imp)) keys.delete(key);
+        }
+    }
+}

@@ -1,0 +1,125 @@
+/**
+ * An input and its script: lines, events, comments, questions.
+ *
+ * Lines of the script are counted from 1 behind the marker, as the program counts them.
+ */
+
+import { joinedWords } from "./words.js";
+
+/**
+ * @typedef {object} ScriptLine
+ * @property {number} line its number, from 1 behind the marker
+ * @property {string} text
+ * @property {"event" | "comment" | "blank"} kind
+ */
+
+/**
+ * @typedef {object} ScriptEvent
+ * @property {number} line
+ * @property {string} text
+ * @property {string[]} words
+ */
+
+/**
+ * @typedef {object} Input
+ * @property {string} text
+ * @property {string[]} head the lines before the marker
+ * @property {boolean} marked whether there is a marker
+ * @property {ScriptLine[]} lines the lines behind it
+ * @property {ScriptEvent[]} events those that ask for an event
+ */
+
+/**
+ * A comment of several lines as one, or a question that is asked before the event that follows.
+ *
+ * @typedef {object} Note
+ * @property {"comment" | "question" | "answer"} kind
+ * @property {number} line its first line
+ * @property {number} last its last line
+ * @property {number} before the place among the events of the one that follows
+ * @property {string} text
+ */
+
+/**
+ * Splits an input.
+ *
+ * @param {string} text
+ * @returns {Input}
+ */
+export function readInput(text) {
+    const all = text.split("\n");
+    const at = all.indexOf("%");
+    const behind = at < 0 ? [] : all.slice(at + 1);
+    if (behind.length && behind[behind.length - 1] === "") behind.pop();
+    /** @type {ScriptLine[]} */
+    const lines = behind.map((it, place) => ({ line: place + 1, text: it, kind: it === "" ? "blank" : it.startsWith("#") ? "comment" : "event" }));
+    const events = lines.filter((it) => it.kind === "event").map((it) => ({ line: it.line, text: it.text, words: wordsOf(it.text) }));
+    return { text, head: at < 0 ? all : all.slice(0, at), marked: at >= 0, lines, events };
+}
+
+/**
+ * The words of an event. What is typed is one word, spaces included.
+ *
+ * @param {string} text
+ * @returns {string[]}
+ */
+export function wordsOf(text) {
+    const words = text.split(" ");
+    return words[0] === "type" && words.length > 2 ? [...words.slice(0, 2), words.slice(2).join(" ")] : words;
+}
+
+/**
+ * The text of an input with other lines behind the marker.
+ *
+ * @param {Input} input
+ * @param {string[]} lines
+ * @returns {string}
+ */
+export function withScript(input, lines) {
+    return `${[...input.head, "%", ...lines].join("\n")}\n`;
+}
+
+/**
+ * The comments of a script; `#?` asks a question and `#!` gives its answer.
+ *
+ * A comment that goes on in the next line, since its line is full, is one comment.
+ *
+ * @param {Input} input
+ * @returns {Note[]}
+ */
+export function notesOf(input) {
+    /** @type {Note[]} */
+    const notes = [];
+    let events = 0;
+    for (const { line, text, kind } of input.lines) {
+        if (kind === "event") events += 1;
+        if (kind !== "comment") continue;
+        const sort = text.startsWith("#?") ? "question" : text.startsWith("#!") ? "answer" : "comment";
+        const told = text.replace(/^#[?!]?\s*/, "");
+        const last = notes[notes.length - 1];
+        const before = last && input.lines[last.last - 1].text;
+        const goesOn = last && last.last === line - 1 && sort === "comment" && (last.kind !== "comment" || (before !== undefined && before.length > 60 && !/[.:!?]$/.test(before)));
+        if (goesOn) {
+            last.text = joinedWords([last.text, told]);
+            last.last = line;
+        } else {
+            notes.push({ kind: sort, line, last: line, before: events, text: told });
+        }
+    }
+    return notes.filter((it) => it.text);
+}
+
+/**
+ * What a file says of itself before all else: the comment at its head.
+ *
+ * @param {Input} input
+ * @returns {string}
+ */
+export function headComment(input) {
+    const found = [];
+    for (const line of input.head) {
+        if (!line.startsWith("#")) break;
+        found.push(line.replace(/^#\s*/, ""));
+    }
+    return found.join(" ").trim();
+}

@@ -1,0 +1,181 @@
+/**
+ * What holds at a position: the parts of the network, and questions to them.
+ *
+ * A position is the number of moments that are done.
+ */
+
+import { impOf, linesOf, wayOf } from "./topology.js";
+
+/** @typedef {import("./topology.js").Network} Network */
+/** @typedef {import("./trace.js").Part} Part */
+/** @typedef {import("./trace.js").Imp} Imp */
+/** @typedef {import("./trace.js").Line} Line */
+/** @typedef {import("./trace.js").Box} Box */
+/** @typedef {import("./trace.js").Packet} Packet */
+
+/** The distance that stands for no way. */
+export const FAR = 63;
+
+/** Looks at the parts of a network. */
+export class State {
+    /**
+     * @param {Network} network
+     * @param {{[name: string]: Part}} parts
+     */
+    constructor(network, parts) {
+        this.network = network;
+        this.parts = parts;
+    }
+
+    /**
+     * An IMP, null where it is down.
+     *
+     * @param {number} number
+     * @returns {Imp | null}
+     */
+    imp(number) {
+        return /** @type {Imp | null} */ (this.parts[`imp ${number}`] ?? null);
+    }
+
+    /**
+     * The frames that are live on a line.
+     *
+     * @param {number} line
+     * @returns {Line}
+     */
+    line(line) {
+        return /** @type {Line} */ (this.parts[`line ${line}`]) ?? { "+": [], "-": [] };
+    }
+
+    /**
+     * What waits for a host, null where its IMP is down or there is no such host.
+     *
+     * @param {string} host
+     * @returns {Box | null}
+     */
+    box(host) {
+        if (this.network.plain) return /** @type {Box} */ (this.parts[`host ${host}`]) ?? null;
+        return this.imp(impOf(host))?.hosts[Number(host.split("/")[0])] ?? null;
+    }
+
+    /** @param {string} host */
+    isUp(host) {
+        if (this.network.plain) return !(/** @type {string[]} */ (this.parts.down).includes(host));
+        return this.box(host)?.up ?? false;
+    }
+
+    /**
+     * The port of an IMP for a line.
+     *
+     * @param {number} imp
+     * @param {number} line
+     */
+    port(imp, line) {
+        return this.imp(imp)?.ports[linesOf(this.network, imp).indexOf(line)] ?? null;
+    }
+
+    /**
+     * Whether an IMP's end of a line is up.
+     *
+     * @param {number} imp
+     * @param {number} line
+     */
+    isEndUp(imp, line) {
+        return this.port(imp, line)?.up ?? false;
+    }
+
+    /**
+     * An IMP's own distance to another one and the line that it takes: the least that a neighbour told, plus one, over the first such
+     * line.
+     *
+     * @param {number} imp
+     * @param {number} to
+     * @returns {{distance: number, line: number}} the line is -1 where there is none
+     */
+    way(imp, to) {
+        if (imp === to) return { distance: 0, line: -1 };
+        const it = this.imp(imp);
+        const lines = linesOf(this.network, imp);
+        let found = { distance: FAR, line: -1 };
+        it?.ports.forEach((port, place) => {
+            const heard = it.routes[place]?.[to];
+            if (port.up && heard !== undefined && heard + 1 < found.distance) found = { distance: heard + 1, line: lines[place] };
+        });
+        return found;
+    }
+
+    /**
+     * All that is alive: each packet and message, and where it is.
+     *
+     * @returns {Held[]}
+     */
+    everything() {
+        /** @type {Held[]} */
+        const found = [];
+        for (const { number } of this.network.sites) found.push(...this.heldBy(number));
+        this.network.lines.forEach((_, line) => {
+            for (const way of /** @type {const} */ (["+", "-"])) {
+                this.line(line)[way].forEach((frame, place) => {
+                    if (frame.packet) found.push(heldPacket(frame.packet, { at: "line", imp: wayOf(this.network, line, way)[0], line, way, place, channel: frame.channel }));
+                });
+            }
+        });
+        return found;
+    }
+
+    /**
+     * All that an IMP holds.
+     *
+     * @param {number} number
+     * @returns {Held[]}
+     */
+    heldBy(number) {
+        /** @type {Held[]} */
+        const found = [];
+        const imp = this.imp(number);
+        if (!imp) return found;
+        const lines = linesOf(this.network, number);
+        for (const packet of imp.store) found.push(heldPacket(packet, { ...NOWHERE, at: "store", imp: number }));
+        imp.ports.forEach((port, place) => {
+            port.sending.forEach(({ packet }, channel) => {
+                if (packet) found.push(heldPacket(packet, { ...NOWHERE, at: "channel", imp: number, line: lines[place], channel }));
+            });
+        });
+        for (const slot of imp.slots) for (const packet of slot) found.push(heldPacket(packet, { ...NOWHERE, at: "slot", imp: number, place: slot.length }));
+        imp.hosts.forEach((box, host) => {
+            for (const it of box.messages) found.push({ kind: "data", flow: it.flow, number: it.number, packet: null, place: { ...NOWHERE, at: "host", imp: number, place: host } });
+        });
+        return found;
+    }
+}
+
+/**
+ * @typedef {object} Place
+ * @property {"store" | "channel" | "slot" | "host" | "line"} at
+ * @property {number} imp the IMP that holds it, on a line the one that it comes from
+ * @property {number} line
+ * @property {string} way
+ * @property {number} place on a line the frame's place, in a slot how many pieces are there, at a host which
+ * @property {number} channel
+ */
+
+/**
+ * @typedef {object} Held
+ * @property {Packet["kind"]} kind
+ * @property {string} flow
+ * @property {number} number
+ * @property {Packet | null} packet null for a whole message
+ * @property {Place} place
+ */
+
+/** @type {Place} */
+const NOWHERE = { at: "store", imp: 0, line: -1, way: "", place: 0, channel: -1 };
+
+/**
+ * @param {Packet} packet
+ * @param {Place} place
+ * @returns {Held}
+ */
+function heldPacket(packet, place) {
+    return { kind: packet.kind, flow: packet.flow, number: packet.number, packet, place };
+}

@@ -1,0 +1,75 @@
+/** The examples of the repository, replayed by the native program: what the tests stand on. */
+
+import { readFileSync, readdirSync } from "node:fs";
+
+import { nativeRunner } from "../../run/native.js";
+import { History } from "../fold.js";
+import { isReplay, replay } from "../runs.js";
+
+/** @typedef {import("../runs.js").Replay} Replay */
+
+const root = new URL("../../../", import.meta.url).pathname;
+
+/** The path of the program, as `./check workbench` gives it. */
+const program = process.env.ARPASIM ?? "";
+if (!program) throw new Error("ARPASIM has to be the path of the native program: ./check workbench gives it");
+
+export const { run } = nativeRunner(program);
+
+/** Time for a program that was built without proofs. */
+export const PATIENT = { seconds: 120, octets: 40_000_000 };
+
+/** The names of all examples. */
+export function exampleNames() {
+    return readdirSync(`${root}examples`).filter((name) => !name.includes("."));
+}
+
+/** @param {string} name */
+export function exampleText(name) {
+    return readFileSync(`${root}examples/${name}`, "utf8");
+}
+
+/**
+ * What an example prints, as it is stored.
+ *
+ * @param {string} name
+ */
+export function storedOutput(name) {
+    return readFileSync(`${root}examples/${name}.stdout`, "utf8").split("\n");
+}
+
+/** @type {Map<string, Promise<History | null>>} */
+const histories = new Map();
+
+/**
+ * The history of an example, null where it is refused.
+ *
+ * @param {string} name
+ */
+export function historyOf(name) {
+    const known = histories.get(name);
+    if (known) return known;
+    const made = replay(run, exampleText(name), PATIENT).then((it) => (isReplay(it) ? new History(it) : null));
+    histories.set(name, made);
+    return made;
+}
+
+/**
+ * The history of a text that is no example.
+ *
+ * @param {string} text
+ */
+export async function historyOfText(text) {
+    const it = await replay(run, text, PATIENT);
+    if (!isReplay(it)) throw new Error(`${it.said} (status ${it.status})`);
+    return new History(it);
+}
+
+/**
+ * A raw network of two IMPs with a host each, and a script.
+ *
+ * @param {string[]} script
+ */
+export function twoImps(script) {
+    return ["raw = true", "[[imp]]", "id = 1", "hosts = 1", "[[imp]]", "id = 2", "hosts = 1", "[[line]]", "a = 1", "b = 2", "%", ...script, ""].join("\n");
+}

@@ -1,0 +1,45 @@
+/** Small words of English that many sentences need. */
+
+/**
+ * A number and its noun, in the plural where it is not 1.
+ *
+ * @param {number} number
+ * @param {string} noun
+ * @returns {string}
+ */
+export function count(number, noun) {
+    return number === 1 ? `1 ${noun}` : `${number} ${noun}s`;
+}
+
+/**
+ * Words in a list, its end left out where there are many.
+ *
+ * @param {string[]} words
+ * @param {number} [most]
+ * @returns {string}
+ */
+export function listed(words, most = 4) {
+    if (words.length > most) return `${words.slice(0, most).join(", ")} and ${words.length - most} more`;
+    if (words.length < 2) return words.join("");
+    return `${words.slice(0, -1).join(", ")} and ${words[words.length - 1]}`;
+}
+
+/**
+ * A sentence's first letter in upper case.
+ *
+ * @param {string} text
+ * @returns {string}
+ */
+export function capital(text) {
+    return text.slice(0, 1).toUpperCase() + text.slice(1);
+}
+
+/**
+ * The parts that are not empty, as one text.
+ *
+ * @param {(string | null | undefined)[]} parts
+ * @returns {string}
+ */
+export function joinedWords(parts) {
+    return parts.filter(Boolean).join(" ");
+}
