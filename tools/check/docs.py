@@ -189,7 +189,9 @@ def dead():
     """The names that a file of proofs/ declares as `pub`, and that stand nowhere else in the sources, or in their own file beyond what they are."""
     text = {path: re.sub(r"(?m)(^|\s)--( .*|-*)$", "", text_of(path)) if path.endswith(".antt") else text_of(path) for path in sources()}
     counts = {path: Counter(TOKEN.findall(it)) for path, it in text.items()}
-    total = sum(counts.values(), Counter())
+    total = Counter()
+    for it in counts.values():
+        total.update(it)
     for path, it in text.items():
         if "/proofs/" not in path or os.path.basename(path) in ASKED_FOR:
             continue
