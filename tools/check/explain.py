@@ -15,7 +15,7 @@ Checks what ./explain tells.
 - Closed and full streams are told in a line, and status 1.
 - What messages say is what is written here by hand, octets and words.
 - Without a kept program it tells the same.
-- README's table and the charts in README and docs/ are what it tells and draws, and README's changes to the examples do what it
+- The tour's table and the charts in docs/ are what it tells and draws, and the tour's changes to the examples do what it
   says.
 
 It takes the proved program, or where ./build has not made that the one that was built without proofs.
@@ -123,7 +123,7 @@ REFUSALS = [
     ("a-host-stops-and-starts", 28, "no host 0/3: there is none at IMP 3"),
 ]
 
-# an example, the change that README proposes, the line that is then to be seen, and what it prints
+# an example, the change that the tour proposes, the line that is then to be seen, and what it prints
 CHANGES = [
     ("first-message", lambda lines: [*lines[:12], *lines[13:], lines[12]], 17, ["out 0/1 0/2 5 8"]),
     ("a-message-given-up", lambda lines: [*lines[:23], *lines[24:], b"take 0/1"], 25, ["answer incomplete 0/1 0/2 5"]),
@@ -627,32 +627,32 @@ def table(document, head):
 
 
 def check_readme(program):
-    """README's table of the first message and the changes that it proposes, and the chart and the table in docs/."""
-    with open(f"{ROOT}/README.md", encoding="utf-8") as file:
-        readme = file.read()
+    """The tour's table of the first message and the changes that it proposes, and the charts and the table in docs/."""
+    with open(f"{ROOT}/docs/tour.md", encoding="utf-8") as file:
+        tour = file.read()
     given = example("first-message")
     _, _, told = explain.replay(given, program)
-    rows = [(words, printed) for (words,), printed in table(readme, "Script line | Printed | What happened")]
-    same(rows, [(" ".join(words), printed) for _, words, printed in told], "README's table of the first message")
+    rows = [(words, printed) for (words,), printed in table(tour, "Script line | Printed | What happened")]
+    same(rows, [(" ".join(words), printed) for _, words, printed in told], "the tour's table of the first message")
     with open(f"{ROOT}/docs/program.md", encoding="utf-8") as file:
         same(f"```mermaid\n{explain.chart(given, told)}\n```" in file.read(), True, f"the chart in docs/program.md is not\n{explain.chart(given, told)}")
-    for page, name in (("README.md", DIALOGUE), ("docs/lessons.md", "lo-of-login")):
+    for page, name in (("docs/tour.md", DIALOGUE), ("docs/lessons.md", "lo-of-login")):
         drawn = explain.short_chart(example(name), explain.replay(example(name), program)[2])
         with open(f"{ROOT}/{page}", encoding="utf-8") as file:
             text = file.read()
         same((f"```mermaid\n{drawn}\n```" in text, f"`./explain --chart --short < examples/{name}`" in text), (True, True), f"the chart in {page} is not\n{drawn}")
     with open(f"{ROOT}/docs/lessons.md", encoding="utf-8") as file:
         check_dialogue(program, table(file.read(), "Script line | Printed, among other lines | What happened"))
-    same(re.findall(r"^- \[(.*)\]\(examples/", readme, re.MULTILINE), [*(name for name, *_ in CHANGES), DIALOGUE], "README's changes to the examples")
+    same(re.findall(r"^- \[(.*)\]\(\.\./examples/", tour, re.MULTILINE), [*(name for name, *_ in CHANGES), DIALOGUE], "the tour's changes to the examples")
     for name, change, number, printed in CHANGES:
         _, _, told = explain.replay(explain.Input(b"\n".join(change(example(name).lines[:-1]))), program)
-        same([it for at, _, it in told if at == number], [printed], f"{name}, changed as README says, line {number}")
+        same([it for at, _, it in told if at == number], [printed], f"{name}, changed as the tour says, line {number}")
     same(explain.replay(given, None), explain.replay(given, program), "the first message without a kept program")
-    print("check explain: README's table and changes, and the chart and the dialogue in docs/, are what it tells, with a kept program and without")
+    print("check explain: the tour's table and changes, and the chart and the dialogue in docs/, are what it tells, with a kept program and without")
 
 
 def check_dialogue(program, rows):
-    """The script of the dialogue is the lines of these rows, after a calm, and prints what each row names, in its order. README's changes to it do as they say."""
+    """The script of the dialogue is the lines of these rows, after a calm, and prints what each row names, in its order. The tour's changes to it do as they say."""
     given = example(DIALOGUE)
     _, _, told = explain.replay(given, program)
     *rows, (_, ends) = rows
@@ -664,9 +664,9 @@ def check_dialogue(program, rows):
         same([line for line in output if line in printed], printed, f"the dialogue, at {lines[0]}")
     lines = given.lines[:-1]
     _, _, told = explain.replay(explain.Input(b"\n".join([*lines, b"type 0/1 ", b"calm 40"])), program)
-    same("line 0/1 " in told[-1][2], True, "README's empty line at the terminal")
+    same("line 0/1 " in told[-1][2], True, "the tour's empty line at the terminal")
     _, _, told = explain.replay(explain.Input(b"\n".join(it for it in lines if it != b"contact 0/1 0/2")), program)
-    same([printed for _, words, printed in told if words[0] == "user"], [["failed user 0/1 local"]], "README's user without a contact")
+    same([printed for _, words, printed in told if words[0] == "user"], [["failed user 0/1 local"]], "the tour's user without a contact")
 
 
 def main():
