@@ -1,8 +1,8 @@
 /**
  * Runs a compiled module of the program once: the surroundings that arpasim has in place of an operating system.
  *
- * The module asks for three functions of `env`: `read(fd, at, count)`, `write(fd, at, count)` and `arg(n, at, room)`, and gives its `memory`
- * and `main`. Addresses and counts are 64 bits wide. A count that is answered is at most what was asked for, and -1 is a failure.
+ * The module asks for three functions of `env`: `read(descriptor, address, count)`, `write(descriptor, address, count)` and
+ * `arg(index, address, room)`, and gives its `memory` and `main`. Addresses and counts have 64 bits. Answers are counts, or -1 for a failure.
  */
 
 /** Thrown out of a run whose `write` doesn't want more octets. */
@@ -45,8 +45,11 @@ export function runModule(module, words, input, write) {
             write(descriptor, memory(address, count).slice());
             return count;
         },
-        /** Writes a word, as far as there is room, and answers how long it is; -1 for a word that isn't there. */
-        /** @type {(index: bigint, address: bigint, room: bigint) => bigint} */
+        /**
+         * Puts a word there, as far as there is room, and answers how long it is; -1 for a word that isn't there.
+         *
+         * @type {(index: bigint, address: bigint, room: bigint) => bigint}
+         */
         arg(index, address, room) {
             const word = line[Number(index)];
             if (word === undefined) return -1n;
@@ -56,6 +59,6 @@ export function runModule(module, words, input, write) {
         },
     };
     const { exports } = new WebAssembly.Instance(module, { env });
-    const exported = /** @type {{memory: WebAssembly.Memory, start: (words: number) => number}} */ (/** @type {unknown} */ (exports));
-    return exported.start(line.length) & 255;
+    const exported = /** @type {{memory: WebAssembly.Memory, main: (words: number, none: bigint) => number}} */ (/** @type {unknown} */ (exports));
+    return exported.main(line.length, 0n) & 255;
 }

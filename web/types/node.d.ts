@@ -13,6 +13,12 @@ interface Child extends Emitter {
 
 declare module "node:child_process" {
     export function spawn(program: string, words: string[]): Child;
+    export function spawnSync(program: string, words: string[], options: { input: Uint8Array; maxBuffer: number }): {
+        status: number | null;
+        stdout: Uint8Array;
+        stderr: Uint8Array;
+        error?: Error;
+    };
 }
 
 declare module "node:test" {
@@ -24,6 +30,7 @@ declare module "node:assert/strict" {
         (holds: unknown, message?: string): asserts holds;
         equal(actual: unknown, expected: unknown, message?: string): void;
         deepEqual(actual: unknown, expected: unknown, message?: string): void;
+        fail(message: string): never;
         throws(body: () => unknown, expected?: RegExp | Function): void;
         rejects(body: Promise<unknown>, expected?: RegExp | Function): Promise<void>;
     }
@@ -32,6 +39,7 @@ declare module "node:assert/strict" {
 }
 
 declare module "node:fs" {
+    export function readFileSync(path: string): Uint8Array;
     export function readFileSync(path: string, encoding: string): string;
     export function readdirSync(path: string): string[];
     export function writeFileSync(path: string, text: string): void;
@@ -39,3 +47,4 @@ declare module "node:fs" {
 }
 
 declare const process: { env: { [name: string]: string | undefined }; argv: string[]; exit(status: number): never };
+declare const Buffer: { compare(one: Uint8Array, other: Uint8Array): number };
