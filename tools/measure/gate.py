@@ -1,4 +1,4 @@
-"""How many seconds of the processor the gate spends on each crate, as a table in docs/PERFORMANCE.md: ./measure gate [PID]
+"""How many seconds of the processor the gate spends on each crate, as a table in docs/measured/gate.md: ./measure gate [PID]
 
 It runs `.ci/run` in a fresh clone of what is committed, and looks every 0.4 seconds at what its processes have used: the library of
 each crate, its tests, and its planted bugs. With the PID of a `.ci/run` that was begun by `setsid`, it watches that one. Of what
@@ -15,7 +15,7 @@ import time
 
 from parts import ROOT
 
-PAGE = f"{ROOT}/docs/PERFORMANCE.md"
+PAGE = f"{ROOT}/docs/measured/gate.md"
 MARKERS = "<!-- gate table: begin -->", "<!-- gate table: end -->"
 TICKS = os.sysconf("SC_CLK_TCK")
 PARTS = "library", "tests", "planted bugs"
@@ -102,7 +102,7 @@ def write(rows):
     with open(PAGE, encoding="utf-8") as file:
         text = file.read()
     if [text.count(it) for it in MARKERS] != [1, 1]:
-        sys.exit(f"measure gate: docs/PERFORMANCE.md lacks the lines `{MARKERS[0]}` and `{MARKERS[1]}`, so the table is only printed")
+        sys.exit(f"measure gate: docs/measured/gate.md lacks the lines `{MARKERS[0]}` and `{MARKERS[1]}`, so the table is only printed")
     head, rest = text.split(MARKERS[0])
     with open(PAGE, "w", encoding="utf-8") as file:
         file.write("\n".join([head + MARKERS[0], "", *rows, "", MARKERS[1] + rest.split(MARKERS[1])[1]]))
