@@ -1,4 +1,4 @@
-"""Each planted bug of crates/*/wrong-bodies is refused by the proofs (minutes for a crate, an hour for all): ./check edits [--gate | --whole] [--jobs N] [CRATE | CRATE/NAME ..]
+"""Each planted bug of crates/*/wrong-bodies is refused by the proofs (minutes for a crate, an hour for all): ./check edits [--gate | --whole] [--note] [--jobs N] [CRATE | CRATE/NAME ..]
 
 `rt must-fail` tries each edit of must-fail/ by itself, and the first of a crate costs a whole check. Here edits of different
 functions of a crate are tried together, in a copy of the crate and of what its last check kept. A function is proved over the
@@ -10,6 +10,8 @@ it took away: neither says anything of the contract. Nothing is written beside t
 
 With --gate only those with the line `# The gate tries this bug.` are tried, right after an `rt ci` in this clone: over the libraries
 that this `rt ci` built, and with no check of the functions as they stand, since it has just proved them. Each has to be in one function.
+
+With --note what came of all bugs of a crate is written into docs/measured/planted.md.
 """
 
 import glob
@@ -22,6 +24,7 @@ import tempfile
 import time
 from concurrent.futures import ThreadPoolExecutor
 
+from documents import planted
 from drivers import CORES, crates_below
 from parts import ROOT
 
@@ -346,6 +349,8 @@ def check_crate(crate, names, whole, words):
                 print(f"{crate}: over whole checks: {', '.join(it.name for it in left)}", flush=True)
             quick += 0 if is_whole else len(tried)
     print(f"{crate}: {len(edits) - len(failed)} of {len(edits)} refused, {quick} tried over their functions alone, {time.monotonic() - begun:.0f} seconds", flush=True)
+    if "--note" in sys.argv[1:] and not names:
+        planted.note(crate, len(edits) - len(failed), len(edits))
     return len(edits) - len(failed), len(failed)
 
 
@@ -377,7 +382,7 @@ def check_for_gate(crate):
 def options(words):
     """What is asked for: whether each edit is tried over whole checks, the words that `rt check` gets, and the crates and edits."""
     whole, jobs = "--whole" in words, []
-    words = [it for it in words if it != "--whole"]
+    words = [it for it in words if it not in ("--whole", "--note")]
     if "--jobs" in words:
         at = words.index("--jobs")
         jobs, words = words[at : at + 2], words[:at] + words[at + 2 :]
