@@ -1,7 +1,9 @@
 """What `./check` and `./measure` are made of: each of their parts is a file of tools/check or tools/measure."""
 
+import ast
 import importlib.machinery
 import importlib.util
+import itertools
 import os
 import subprocess
 import sys
@@ -49,6 +51,16 @@ def first_line(path):
         return next(filter(None, lines)).removesuffix('"""')
 
 
+def text_of(path):
+    """What a file says of itself: the text at its head, in Python or in bash."""
+    with open(f"{ROOT}/{path}", encoding="utf-8") as file:
+        text = file.read()
+    if path.endswith(".py"):
+        return (ast.get_docstring(ast.parse(text)) or "").strip()
+    lines = itertools.takewhile(lambda line: line.startswith("#"), text.splitlines())
+    return "\n".join(line.lstrip("# ") for line in lines if not line.startswith("#!"))
+
+
 def tell_all(kind):
     """Prints what parts of a kind there are, a line each."""
     for name, path in names_of(kind).items():
@@ -61,6 +73,9 @@ def run(kind, name, words):
     if path is None:
         print(f"there is no {kind} called {name}; there are {', '.join(names_of(kind))}", file=sys.stderr)
         return 1
+    if {"--help", "-h"} & {*words}:
+        print(text_of(path))
+        return 0
     if not path.endswith(".py"):
         return subprocess.run([f"{ROOT}/{path}", *words]).returncode
     sys.argv = [f"{kind} {name}", *words]

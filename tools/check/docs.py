@@ -241,7 +241,7 @@ def write():
 
 
 def main():
-    parser = argparse.ArgumentParser(prog="check docs", description=__doc__, formatter_class=argparse.RawDescriptionHelpFormatter)
+    parser = argparse.ArgumentParser(prog="check docs", add_help=False)
     parser.add_argument("--write", action="store_true", help="make the drawings, the page of crates and that of planted bugs")
     parser.add_argument("--lower", action="store_true", help="lower the limits of the dialect to what is counted")
     options = parser.parse_args()
