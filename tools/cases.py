@@ -1,5 +1,7 @@
 #!/usr/bin/env python3
-"""Runs stored inputs through the program, built once without proofs, and compares how each of them ends: tools/cases.py FOLDER..
+"""Runs stored inputs through the program and compares how each of them ends: tools/cases.py FOLDER..
+
+It takes the proved program, or where ./build has not made that the one that was built without proofs, which is slow.
 
 A file NAME of a folder, or of a folder below it, is an input. Beside it may stand
 
@@ -17,9 +19,13 @@ import os
 import re
 import subprocess
 import sys
-import tempfile
+from concurrent.futures import ThreadPoolExecutor
 
-ROOT = os.path.dirname(os.path.dirname(os.path.realpath(__file__)))
+sys.dont_write_bytecode = True
+
+from parts import any_program  # noqa: E402
+
+SECONDS = 120  # for one input
 PART = re.compile(r'("(?:[^"\\]|\\.)*")(?:\*(\d+))?(?: +|$)')
 BESIDE = (".args", ".stdout", ".stderr", ".status", ".rows")
 
@@ -65,22 +71,22 @@ class Case:
         if self.printed and self.words:
             raise Wrong(f"{name}: an input that is refused prints nothing")
 
-    def write(self, folder):
-        """Writes what `rt try --cases` reads. It tells a case's standard error only where it has nothing to compare."""
-        path = f"{folder}/{self.name}"
-        for end, content in (("", self.octets), (".args", self.args), (".stdout", None if self.words else self.printed)):
-            if content is not None:
-                with open(path + end, "wb") as file:
-                    file.write(content)
-
-    def differs(self, told):
-        """How the end of the case differs from the one that is wanted, or None. `told` is its line of rt, and the lines before."""
-        if told is None:
-            return "it was not run"
-        last, before = told
-        if f" run=ended status={self.status} " not in last or (not self.words and " output=expected " not in last):
-            return last
-        return None if before == self.words else f"standard error: {before!r}, wanted {self.words!r}"
+    def differs(self, program):
+        """How what comes of the case differs from what is stored, or None."""
+        words = [program, *(self.args or b"").splitlines()]
+        try:
+            ran = subprocess.run(words, input=self.octets, capture_output=True, timeout=SECONDS)
+        except subprocess.TimeoutExpired:
+            return f"it had not ended after {SECONDS} seconds"
+        if ran.returncode != self.status:
+            return f"status {ran.returncode}, wanted {self.status}"
+        if ran.stderr.decode(errors="backslashreplace") != self.words:
+            return f"standard error: {ran.stderr!r}, wanted {self.words!r}"
+        if ran.stdout == self.printed:
+            return None
+        pairs = zip(ran.stdout.splitlines(), self.printed.splitlines())
+        line = next((at for at, (one, other) in enumerate(pairs, 1) if one != other), None)
+        return f"line {line} differs" if line else f"{len(ran.stdout)} octets are printed, wanted {len(self.printed)}"
 
 
 def cases_below(folder):
@@ -103,24 +109,6 @@ def stray_files(folder):
         yield from (f"{place}/{it}" for it in files if it.endswith(BESIDE) and os.path.splitext(it)[0] not in files)
 
 
-def run(cases):
-    """What rt tells of each case, by its name: its line, and standard error before it. And what rt prints."""
-    with tempfile.TemporaryDirectory() as folder:
-        for case in cases:
-            case.write(folder)
-        done = subprocess.run(["rt", "try", "--cases", folder], cwd=f"{ROOT}/crates/arpasim", capture_output=True, check=False)
-    told, before = {}, ""
-    for line in done.stderr.decode(errors="backslashreplace").splitlines(keepends=True):
-        if line.startswith("case="):
-            told[line.split(" ")[0][len("case="):]] = line, before
-            before = ""
-        else:
-            before += line
-    if not told:
-        raise Wrong(f"the program was not built:\n{before}")
-    return told, done.stdout.decode(errors="backslashreplace")
-
-
 def main(folders):
     """Runs the cases of these folders. The status is 0 if each ended as it should."""
     try:
@@ -130,15 +118,16 @@ def main(folders):
         cases = [case for folder in folders for case in cases_below(folder)]
         if len({case.name for case in cases}) < len(cases):
             raise Wrong("two cases have one name")
-        told, printed = run(cases)
     except Wrong as wrong:
         print(f"cases: {wrong}")
         return 1
-    differing = [(case.name, case.differs(told.get(case.name))) for case in cases]
-    differing = [f"{name}: {how.strip()}" for name, how in differing if how]
-    refused = "".join(f"== {case.name}\n" for case in sorted(cases, key=lambda it: it.name) if case.words)
-    if printed != refused:
-        differing.append(f"a refused input printed something, or another input something else:\n{printed}")
+    program = any_program()
+    if not program:
+        print("cases: there is no program of these sources")
+        return 1
+    with ThreadPoolExecutor(os.cpu_count()) as threads:
+        ends = threads.map(lambda case: case.differs(program), cases)
+        differing = [f"{case.name}: {how}" for case, how in zip(cases, ends) if how]
     print(*differing, sep="\n", end="\n" if differing else "")
     print(f"cases: {len(cases)} inputs, of which {len(differing)} differ" if differing else f"cases: {len(cases)} inputs, each as stored")
     return 1 if differing else 0
