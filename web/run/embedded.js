@@ -8,13 +8,13 @@ import { makeRunner } from "./runner.js";
 /** @typedef {import("./runner.js").Runner} Runner */
 
 /**
- * What a page says of the program in it, as tools/wasm/pack.py wrote it.
+ * What a module says of itself, in a section that is made with it (tools/wasm/make.py).
  *
  * @typedef {object} Note
- * @property {boolean} proved whether the module is that of a proved build
+ * @property {boolean} proved whether it is the module of a proved program
+ * @property {string} mark the mark that the compiler left
  * @property {string} sources the hash of the sources that it was built of, as tools/kept-program computes it
- * @property {string} toolchain the mark that the compiler left in it
- * @property {string} sha256 the hash of the module
+ * @property {string} toolchain the version of the toolchain
  */
 
 /**
@@ -36,26 +36,29 @@ export function block(id) {
  * @returns {Promise<ArrayBuffer>}
  */
 export async function unpacked(text) {
-    const packed = Uint8Array.from(atob(text), (letter) => letter.charCodeAt(0));
+    const packed = Uint8Array.from(atob(text.trim()), (letter) => letter.charCodeAt(0));
     return new Response(new Blob([packed]).stream().pipeThrough(new DecompressionStream("gzip"))).arrayBuffer();
 }
 
 /**
- * What the page says of its program.
+ * What a module says of itself. A module that says nothing is taken for one that isn't proved.
  *
+ * @param {WebAssembly.Module} module
  * @returns {Note}
  */
-export function embeddedNote() {
-    return JSON.parse(block("program-note"));
+export function noteOf(module) {
+    const unknown = { proved: false, mark: "none", sources: "unknown", toolchain: "unknown" };
+    const [note] = WebAssembly.Module.customSections(module, "arpasim");
+    return note ? { ...unknown, ...JSON.parse(new TextDecoder().decode(note)) } : unknown;
 }
 
 /**
- * Makes a runner of the program in the page.
+ * Makes a runner of the program in the page, and reads its note.
  *
- * @returns {Promise<Runner>}
+ * @returns {Promise<{runner: Runner, note: Note}>}
  */
-export async function embeddedRunner() {
+export async function embedded() {
     const module = await WebAssembly.compile(await unpacked(block("program")));
     const address = URL.createObjectURL(new Blob([block("worker")], { type: "text/javascript" }));
-    return makeRunner(module, () => new Worker(address, { type: "module" }));
+    return { runner: makeRunner(module, () => new Worker(address)), note: noteOf(module) };
 }

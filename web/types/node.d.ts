@@ -8,11 +8,12 @@ interface Child extends Emitter {
     stdin: Emitter & { end(octets: Uint8Array): void };
     stdout: Emitter;
     stderr: Emitter;
+    stdio: any[];
     kill(signal: string): void;
 }
 
 declare module "node:child_process" {
-    export function spawn(program: string, words: string[]): Child;
+    export function spawn(program: string, words: string[], options?: { stdio: string[] }): Child;
     export function spawnSync(program: string, words: string[], options: { input: Uint8Array; maxBuffer: number }): {
         status: number | null;
         stdout: Uint8Array;
@@ -42,8 +43,18 @@ declare module "node:fs" {
     export function readFileSync(path: string): Uint8Array;
     export function readFileSync(path: string, encoding: string): string;
     export function readdirSync(path: string): string[];
-    export function writeFileSync(path: string, text: string): void;
+    export function writeFileSync(path: string, text: string, encoding?: string): void;
+    export function mkdtempSync(prefix: string): string;
+    export function rmSync(path: string, options: { recursive: boolean; force: boolean }): void;
     export function existsSync(path: string): boolean;
+}
+
+declare module "node:net" {
+    export function connect(port: number, host: string): Emitter & { write(text: string): void; end(): void };
+}
+
+declare module "node:os" {
+    export function tmpdir(): string;
 }
 
 declare const process: { env: { [name: string]: string | undefined }; argv: string[]; exit(status: number): never };

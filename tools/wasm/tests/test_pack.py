@@ -1,0 +1,64 @@
+"""Tests of pack.py: what is joined runs as the modules do, and what isn't known is refused."""
+
+import os
+import shutil
+import subprocess
+import tempfile
+import unittest
+from typing import Dict
+
+from wasm.pack import Refused, hash_of, joined, title_of
+
+NODE = shutil.which("node") or shutil.which("nodejs")
+
+
+class Joined(unittest.TestCase):
+    def setUp(self) -> None:
+        self.room = tempfile.TemporaryDirectory()
+        self.addCleanup(self.room.cleanup)
+
+    def joined(self, files: Dict[str, str]) -> str:
+        for name, text in files.items():
+            os.makedirs(os.path.dirname(f"{self.room.name}/{name}"), exist_ok=True)
+            with open(f"{self.room.name}/{name}", "w", encoding="utf-8") as file:
+                file.write(text)
+        return joined(f"{self.room.name}/main.js")
+
+    @unittest.skipUnless(NODE, "Node is absent")
+    def test_names_of_two_modules_never_meet(self) -> None:
+        script = self.joined(
+            {
+                "main.js": 'import { f as g, C } from "./a.js";\nimport * as b from "./low/b.js";\nconst f = 1;\nconsole.log(f, g(), new C().x, b.k, b.f());\n',
+                "a.js": 'import { k, f as there } from "./low/b.js";\nexport function f() { return k + there(); }\nexport class C { x = 7; }\n',
+                "low/b.js": "const k = 40;\nfunction f() { return 2; }\nexport { k, f };\n",
+            }
+        )
+        ran = subprocess.run([NODE or "", "-"], input=script, capture_output=True, text=True)
+        self.assertEqual((ran.stdout, ran.stderr), ("1 42 7 40 2\n", ""))
+
+    def test_a_module_is_joined_once_and_before_those_that_import_it(self) -> None:
+        script = self.joined({"main.js": 'import { a } from "./a.js";\nimport { b } from "./b.js";\n', "a.js": 'import { b } from "./b.js";\nexport const a = b;\n', "b.js": "export const b = 1;\n"})
+        self.assertEqual(script.count("const b = 1;"), 1)
+        self.assertLess(script.index("const b = 1;"), script.index("const a = b;"))
+
+    def test_other_forms_are_refused(self) -> None:
+        for form in ("export default 1;", "export let a = 1;", 'export * from "./b.js";', 'import "./b.js";', 'import a from "./b.js";', 'const a = import("./b.js");', 'import { a } from "b";'):
+            with self.assertRaises(Refused, msg=form):
+                self.joined({"main.js": f"{form}\n", "b.js": ""})
+
+    def test_a_module_that_imports_itself_is_refused(self) -> None:
+        with self.assertRaises(Refused):
+            self.joined({"main.js": 'import { b } from "./b.js";\n', "b.js": 'import { a } from "./main.js";\nexport const b = 1;\n'})
+
+
+class Page(unittest.TestCase):
+    def test_a_hash_is_the_one_that_browsers_name(self) -> None:
+        # of the text "alert('Hello, world.');", as the standard of Content Security Policy has it
+        self.assertEqual(hash_of("alert('Hello, world.');"), "'sha256-qznLcsROx4GACP2dm0UCKCzCG+HiZ1guq6ZZDob/Tng='")
+
+    def test_a_title_has_the_capitals_of_its_comments(self) -> None:
+        self.assertEqual(title_of("an-rfnm-is-lost", "# The RFNM is lost.\nout 0/1\n"), "An RFNM is lost")
+
+
+if __name__ == "__main__":
+    unittest.main()
