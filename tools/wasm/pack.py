@@ -27,6 +27,8 @@ IMPORT = re.compile(r"^import\s+(?:\{([^}]*)\}|\*\s+as\s+(\w+))\s+from\s+\"(\.{1
 EXPORT = re.compile(r"^export\s+((?:async\s+)?function\s*\*?\s*(\w+)|class\s+(\w+)|const\s+(\w+))", re.MULTILINE)
 EXPORT_LIST = re.compile(r"^export\s+\{([^}]*)\};[ ]*$", re.MULTILINE)
 COMMENT = re.compile(r"/\*\*.*?\*/", re.DOTALL)  # where types stand
+DOCUMENTATION = re.compile(r"^[ ]*/\*\*(?:[^*]|\*(?!/))*\*/[ ]*\n", re.MULTILINE)
+INDENT = re.compile(r"^[ ]+", re.MULTILINE)
 LEFT_OVER = re.compile(r"^(?:import|export)\b.*$|\bimport\(", re.MULTILINE)
 ALIAS = re.compile(r"(\w+)(?:\s+as\s+(\w+))?")
 ENDINGS = re.compile(r"\.(?:args|stdout|stderr|status|rows|md)$")
@@ -58,6 +60,14 @@ def names(text: str) -> list[tuple[str, str]]:
     return [(it[1], it[2] or it[1]) for it in found if it]
 
 
+def bare(text: str, path: str) -> str:
+    """A module without its comments of documentation and without indents, which a third of its octets are."""
+    text = DOCUMENTATION.sub("", text)
+    if any(line.count("`") % 2 for line in text.splitlines()):
+        raise Refused(f"{os.path.relpath(path, ROOT)} has a text in backticks over several lines, which isn't packed")
+    return INDENT.sub("", text)
+
+
 def add(packed: Packed, path: str) -> int:
     """Adds a module and those that it imports, before it, and answers its place."""
     if path in packed.places:
@@ -65,7 +75,7 @@ def add(packed: Packed, path: str) -> int:
     if path in packed.open:
         raise Refused(f"{os.path.relpath(path, ROOT)} imports itself, by way of {', '.join(os.path.relpath(it, ROOT) for it in packed.open)}")
     packed.open.append(path)
-    text = read(path)
+    text = bare(read(path), path)
 
     def imported(found: re.Match[str]) -> str:
         place = add(packed, os.path.normpath(os.path.join(os.path.dirname(path), found[3])))

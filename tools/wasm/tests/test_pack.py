@@ -46,6 +46,15 @@ class Joined(unittest.TestCase):
             with self.assertRaises(Refused, msg=form):
                 self.joined({"main.js": f"{form}\n", "b.js": ""})
 
+    def test_documentation_and_indents_are_left_out(self) -> None:
+        script = self.joined({"main.js": '/** The page. */\n\n/**\n * Answers one.\n *\n * @returns {number}\n */\nfunction f() {\n    return 1; /** @type {number} */\n}\nf("/** kept */");\n'})
+        self.assertIn('function f() {\nreturn 1; /** @type {number} */\n}\nf("/** kept */");\n', script)
+        self.assertNotIn("Answers one", script)
+
+    def test_a_text_over_several_lines_is_refused(self) -> None:
+        with self.assertRaises(Refused):
+            self.joined({"main.js": "const a = `one\n  two`;\n"})
+
     def test_a_module_that_imports_itself_is_refused(self) -> None:
         with self.assertRaises(Refused):
             self.joined({"main.js": 'import { b } from "./b.js";\n', "b.js": 'import { a } from "./main.js";\nexport const b = 1;\n'})

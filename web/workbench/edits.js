@@ -1,0 +1,121 @@
+/**
+ * Going on otherwise from a position: lines are added behind the moments that are done, and what results is a plain script.
+ *
+ * Between two lines of the script the lines are put behind the first. At the end of round r of `calm N` it becomes `calm r`, the lines,
+ * and `calm N-r`. Within round r it becomes `calm r-1`, the events of round r that are done, as script lines below a comment, the
+ * lines, and `calm N-r+1`: the rest of the round begins anew, so nothing is left lying.
+ */
+
+import { withScript } from "./script.js";
+
+/** @typedef {import("./fold.js").History} History */
+
+/**
+ * @typedef {object} Edit
+ * @property {string} text the whole input
+ * @property {number} position the position behind what was done before, which is the same as it was
+ * @property {number} added how many lines of the script were added
+ * @property {number} line the first of them
+ */
+
+/**
+ * Adds lines behind a position.
+ *
+ * @param {History} history
+ * @param {number} position
+ * @param {string[]} lines
+ * @param {boolean} [cutOff] whether what follows is left out
+ * @returns {Edit}
+ */
+export function goOn(history, position, lines, cutOff = false) {
+    const { input } = history.replay;
+    const script = input.lines.map((it) => it.text);
+    const from = wholeRounds(history, position);
+    const place = placeOf(history, from);
+    const before = script.slice(0, place.line);
+    const left = cutOff ? [] : [...place.after, ...script.slice(place.next)];
+    const begun = [...before, ...place.before];
+    return { text: withScript(input, [...begun, ...lines, ...left]), position: from, added: lines.length, line: begun.length + 1 };
+}
+
+/**
+ * A position from which a script can go on: where nothing is known of the inside, the end of the round.
+ *
+ * @param {History} history
+ * @param {number} position
+ */
+function wholeRounds(history, position) {
+    const { moments, inside } = history.replay;
+    let at = position;
+    while (!inside && at > 0 && at < moments.length && moments[at].round > 0 && moments[at].round === moments[at - 1].round && moments[at].event === moments[at - 1].event) at += 1;
+    return at;
+}
+
+/**
+ * Where lines are put: behind so many lines of the script and `before`, before `after` and the lines from `next` on.
+ *
+ * @param {History} history
+ * @param {number} position
+ * @returns {{line: number, before: string[], after: string[], next: number}}
+ */
+function placeOf(history, position) {
+    const { input, moments } = history.replay;
+    const behind = (/** @type {number} */ line) => ({ line, before: [], after: [], next: line });
+    if (position >= moments.length) return behind(input.lines.length);
+    if (position === 0) return behind(input.events[0].line - 1);
+    const { event, round } = moments[position - 1];
+    const { line, words } = input.events[event];
+    if (round === 0) return behind(line);
+    const rounds = Number(words[1]);
+    const next = moments[position];
+    if (next.event !== event || next.round !== round) return { line: line - 1, before: calm(round), after: calm(rounds - round), next: line };
+    let from = position;
+    while (from > 0 && moments[from - 1].event === event && moments[from - 1].round === round) from -= 1;
+    const done = moments.slice(from, position).map((moment) => moment.words.join(" "));
+    const comment = `# round ${round} of calm ${rounds}, its first ${done.length} events`;
+    return { line: line - 1, before: [...calm(round - 1), comment, ...done], after: calm(rounds - round + 1), next: line };
+}
+
+/** @param {number} rounds */
+function calm(rounds) {
+    return rounds > 0 ? [`calm ${rounds}`] : [];
+}
+
+/**
+ * How many events of the round a comment of `goOn` announces, 0 if it is none.
+ *
+ * @param {string} text
+ */
+export function announced(text) {
+    const found = /^(?:# )?round \d+ of calm \d+, its first (\d+) events$/.exec(text);
+    return found ? Number(found[1]) : 0;
+}
+
+/**
+ * Which lines of a script are not in another one: those that were added.
+ *
+ * @param {string[]} before
+ * @param {string[]} after
+ * @returns {Set<number>} lines of `after`, from 1
+ */
+export function addedLines(before, after) {
+    let start = 0;
+    while (start < before.length && start < after.length && before[start] === after[start]) start += 1;
+    let end = 0;
+    while (end < before.length - start && end < after.length - start && before[before.length - 1 - end] === after[after.length - 1 - end]) end += 1;
+    const olds = before.slice(start, before.length - end);
+    const news = after.slice(start, after.length - end);
+    /** @type {number[][]} */
+    const longest = Array.from({ length: olds.length + 1 }, () => Array(news.length + 1).fill(0));
+    for (let a = olds.length - 1; a >= 0; a -= 1) for (let b = news.length - 1; b >= 0; b -= 1) longest[a][b] = olds[a] === news[b] ? longest[a + 1][b + 1] + 1 : Math.max(longest[a + 1][b], longest[a][b + 1]);
+    /** @type {Set<number>} */
+    const found = new Set();
+    for (let a = 0, b = 0; b < news.length; ) {
+        if (a < olds.length && olds[a] === news[b]) {
+            a += 1;
+            b += 1;
+        } else if (a < olds.length && longest[a + 1][b] >= longest[a][b + 1]) a += 1;
+        else found.add(start + (b += 1));
+    }
+    return found;
+}

@@ -1,0 +1,242 @@
+/**
+ * Places the IMPs and hosts of a network on a map, by stress majorisation: the distance of two IMPs on the map follows the number of
+ * lines between them. The same network is always placed alike.
+ */
+
+import { farEnd, linesOf } from "./topology.js";
+
+/** @typedef {import("./topology.js").Network} Network */
+/** @typedef {{x: number, y: number}} Point */
+
+/**
+ * @typedef {object} Layout
+ * @property {number} width
+ * @property {number} height
+ * @property {boolean} small whether the map is of so many IMPs that hosts are dots
+ * @property {Map<number, Point>} imps
+ * @property {Map<string, Point>} hosts
+ * @property {{w: number, h: number}} box half the size of an IMP's box
+ * @property {number} radius of a host's circle
+ */
+
+/**
+ * Places a network.
+ *
+ * @param {Network} network
+ * @returns {Layout}
+ */
+export function placed(network) {
+    const numbers = network.sites.map((site) => site.number);
+    const small = numbers.length > 12;
+    const longest = Math.max(0, ...network.sites.map((site) => site.name.length));
+    const box = small ? { w: Math.max(15, 4 * longest + 5), h: 11 } : { w: Math.max(34, 5.2 * longest + 14), h: 21 };
+    const radius = small ? 5 : 15;
+    const step = small ? 74 : 172;
+    let points = spread(numbers.length, hopCounts(network, numbers), step);
+    points = apart(fitted(turned(points)), 2 * box.w + (small ? 10 : 46), 2 * box.h + (small ? 14 : 52));
+    const imps = new Map(numbers.map((number, place) => [number, points[place]]));
+    const hosts = hostsAround(network, imps, box, radius, small);
+    const margin = small ? 12 : 26;
+    const all = [...[...imps.values()].flatMap(({ x, y }) => [{ x: x - box.w, y: y - box.h }, { x: x + box.w, y: y + box.h }]), ...[...hosts.values()].flatMap(({ x, y }) => [{ x: x - radius, y: y - radius }, { x: x + radius, y: y + radius }])];
+    const left = Math.min(...all.map((it) => it.x)) - margin;
+    const top = Math.min(...all.map((it) => it.y)) - margin;
+    for (const it of [...imps.values(), ...hosts.values()]) Object.assign(it, { x: Math.round(10 * (it.x - left)) / 10, y: Math.round(10 * (it.y - top)) / 10 });
+    return { width: Math.max(...all.map((it) => it.x)) + margin - left, height: Math.max(...all.map((it) => it.y)) + margin - top, small, imps, hosts, box, radius };
+}
+
+/**
+ * Over how many lines each IMP is from each other, by their places; those that no way joins are far.
+ *
+ * @param {Network} network
+ * @param {number[]} numbers
+ */
+function hopCounts(network, numbers) {
+    const place = new Map(numbers.map((number, at) => [number, at]));
+    const far = Math.max(2, Math.ceil(Math.sqrt(numbers.length)));
+    return numbers.map((from) => {
+        const counts = numbers.map(() => far);
+        counts[place.get(from) ?? 0] = 0;
+        const seen = new Set([from]);
+        let edge = [from];
+        for (let hops = 1; edge.length; hops += 1) {
+            const next = edge.flatMap((imp) => linesOf(network, imp).map((line) => farEnd(network, line, imp))).filter((imp) => !seen.has(imp) && seen.add(imp));
+            for (const imp of next) counts[place.get(imp) ?? 0] = hops;
+            edge = next;
+        }
+        return counts;
+    });
+}
+
+/**
+ * Points whose distances follow counts as well as they can.
+ *
+ * @param {number} count
+ * @param {number[][]} hops
+ * @param {number} step
+ * @returns {Point[]}
+ */
+function spread(count, hops, step) {
+    let points = Array.from({ length: count }, (_, at) => {
+        const angle = (2 * Math.PI * at) / Math.max(count, 1) + 0.3;
+        return { x: step * Math.sqrt(count) * 0.4 * Math.cos(angle), y: step * Math.sqrt(count) * 0.4 * Math.sin(angle) };
+    });
+    for (let turn = 0; turn < (count > 20 ? 150 : 300); turn += 1) {
+        points = points.map((it, at) => {
+            let [x, y, weights] = [0, 0, 0];
+            points.forEach((other, place) => {
+                if (place === at) return;
+                const wanted = hops[at][place] * step;
+                const weight = 1 / (hops[at][place] * hops[at][place]);
+                const distance = Math.hypot(it.x - other.x, it.y - other.y) || 0.01;
+                x += weight * (other.x + (wanted * (it.x - other.x)) / distance);
+                y += weight * (other.y + (wanted * (it.y - other.y)) / distance);
+                weights += weight;
+            });
+            return weights ? { x: x / weights, y: y / weights } : it;
+        });
+    }
+    return points;
+}
+
+/**
+ * Points turned so that they are wider than high, with the first one on the left and above.
+ *
+ * @param {Point[]} points
+ */
+function turned(points) {
+    if (points.length < 2) return points;
+    const middle = { x: sum(points, (it) => it.x) / points.length, y: sum(points, (it) => it.y) / points.length };
+    const xx = sum(points, (it) => (it.x - middle.x) ** 2);
+    const yy = sum(points, (it) => (it.y - middle.y) ** 2);
+    const xy = sum(points, (it) => (it.x - middle.x) * (it.y - middle.y));
+    const angle = -0.5 * Math.atan2(2 * xy, xx - yy);
+    const flat = points.map((it) => ({
+        x: (it.x - middle.x) * Math.cos(angle) - (it.y - middle.y) * Math.sin(angle),
+        y: (it.x - middle.x) * Math.sin(angle) + (it.y - middle.y) * Math.cos(angle),
+    }));
+    const [sx, sy] = [flat[0].x > 1e-6 ? -1 : 1, flat[0].y > 1e-6 ? -1 : 1];
+    return flat.map((it) => ({ x: sx * it.x, y: sy * it.y }));
+}
+
+/** Maps are about so many times wider than high. */
+const ASPECT = 1.8;
+
+/**
+ * Points stretched towards the shape of a map.
+ *
+ * @param {Point[]} points
+ */
+function fitted(points) {
+    const span = (/** @type {number[]} */ values) => Math.max(...values) - Math.min(...values);
+    const [width, height] = [span(points.map((it) => it.x)), span(points.map((it) => it.y))];
+    if (height < 1) return points;
+    const factor = Math.min(1.35, Math.max(1, Math.sqrt((ASPECT * height) / width)));
+    return points.map((it) => ({ x: it.x * factor, y: it.y / factor }));
+}
+
+/**
+ * Points pushed apart until their boxes don't overlap.
+ *
+ * @param {Point[]} points
+ * @param {number} w the distance that two need in width
+ * @param {number} h or in height
+ */
+function apart(points, w, h) {
+    for (let turn = 0; turn < 200; turn += 1) {
+        let moved = false;
+        for (let a = 0; a < points.length; a += 1) {
+            for (let b = a + 1; b < points.length; b += 1) {
+                const dx = points[b].x - points[a].x;
+                const dy = points[b].y - points[a].y;
+                const [over, under] = [w - Math.abs(dx), h - Math.abs(dy)];
+                if (over <= 0 || under <= 0) continue;
+                moved = true;
+                const push = over < under ? { x: ((dx < 0 ? -1 : 1) * over) / 2 + 0.1, y: 0 } : { x: 0, y: ((dy < 0 ? -1 : 1) * under) / 2 + 0.1 };
+                points[a] = { x: points[a].x - push.x, y: points[a].y - push.y };
+                points[b] = { x: points[b].x + push.x, y: points[b].y + push.y };
+            }
+        }
+        if (!moved) break;
+    }
+    return points;
+}
+
+/**
+ * @param {Point[]} points
+ * @param {(it: Point) => number} value
+ */
+function sum(points, value) {
+    return points.reduce((total, it) => total + value(it), 0);
+}
+
+/**
+ * The hosts of each IMP around it, where its lines leave most room.
+ *
+ * @param {Network} network
+ * @param {Map<number, Point>} imps
+ * @param {{w: number, h: number}} box
+ * @param {number} radius
+ * @param {boolean} small
+ */
+function hostsAround(network, imps, box, radius, small) {
+    /** @type {Map<string, Point>} */
+    const hosts = new Map();
+    const gap = small ? 4 : 15;
+    for (const { number, hosts: count } of network.sites) {
+        const at = imps.get(number) ?? { x: 0, y: 0 };
+        const taken = linesOf(network, number).map((line) => {
+            const far = imps.get(farEnd(network, line, number)) ?? at;
+            return Math.atan2(far.y - at.y, far.x - at.x);
+        });
+        for (let host = 0; host < count; host += 1) {
+            const angle = widest(taken);
+            taken.push(angle);
+            hosts.set(`${host}/${number}`, edgePoint(at, angle, box.w + radius + gap, box.h + radius + gap));
+        }
+    }
+    return hosts;
+}
+
+/**
+ * The direction that is furthest from all that are taken.
+ *
+ * @param {number[]} taken
+ */
+function widest(taken) {
+    let best = { angle: -Math.PI / 2, room: -1 };
+    for (let at = 0; at < 48; at += 1) {
+        const angle = -Math.PI / 2 + (at * Math.PI) / 24;
+        const room = Math.min(Math.PI, ...taken.map((it) => Math.abs(Math.atan2(Math.sin(angle - it), Math.cos(angle - it)))));
+        if (room > best.room + 1e-9) best = { angle, room };
+    }
+    return best.angle;
+}
+
+/**
+ * Where a ray from a box's middle meets an ellipse around it.
+ *
+ * @param {Point} at
+ * @param {number} angle
+ * @param {number} w
+ * @param {number} h
+ * @returns {Point}
+ */
+function edgePoint(at, angle, w, h) {
+    const reach = 1 / Math.hypot(Math.cos(angle) / w, Math.sin(angle) / h);
+    return { x: at.x + reach * Math.cos(angle), y: at.y + reach * Math.sin(angle) };
+}
+
+/**
+ * Where a line leaves the box of an IMP towards another point.
+ *
+ * @param {Point} from
+ * @param {Point} to
+ * @param {{w: number, h: number}} box
+ * @returns {Point}
+ */
+export function leaving(from, to, box) {
+    const dx = to.x - from.x;
+    const dy = to.y - from.y;
+    const scale = 1 / Math.max(Math.abs(dx) / box.w, Math.abs(dy) / box.h, 1e-9);
+    return { x: from.x + dx * Math.min(scale, 0.5), y: from.y + dy * Math.min(scale, 0.5) };
+}

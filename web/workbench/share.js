@@ -1,0 +1,72 @@
+/** The address of what one sees: the script in it, compressed, and the place. */
+
+/**
+ * @typedef {object} Place
+ * @property {string} [text] the input
+ * @property {string} [example] the name of an example, in place of the input
+ * @property {number} at the stop
+ * @property {string} grain
+ * @property {boolean} hidden whether the future is hidden
+ * @property {number} to the IMP by whose distance the map is coloured, 0 for none
+ */
+
+/**
+ * The fragment of an address.
+ *
+ * @param {Place} place
+ * @returns {Promise<string>}
+ */
+export async function fragment({ text, example, at, grain, hidden, to }) {
+    const parts = example ? [`e=${encodeURIComponent(example)}`] : [`s=${await packed(text ?? "")}`];
+    if (at) parts.push(`at=${at}`);
+    if (grain !== "arrival") parts.push(`g=${grain}`);
+    if (hidden) parts.push("hide");
+    if (to) parts.push(`to=${to}`);
+    return `#${parts.join("&")}`;
+}
+
+/**
+ * What a fragment says, null where it says nothing that can be read.
+ *
+ * @param {string} hash
+ * @returns {Promise<Place | null>}
+ */
+export async function placeIn(hash) {
+    const parts = new Map(hash.replace(/^#/, "").split("&").map((it) => /** @type {[string, string]} */ ([it.split("=")[0], it.split("=").slice(1).join("=")])));
+    const packedText = parts.get("s");
+    const example = parts.get("e");
+    if (!packedText && !example) return null;
+    const number = (/** @type {string} */ name) => Math.max(0, Math.trunc(Number(parts.get(name) ?? 0)) || 0);
+    const grain = parts.get("g") ?? "arrival";
+    const place = { at: number("at"), grain: ["event", "arrival", "round"].includes(grain) ? grain : "arrival", hidden: parts.has("hide"), to: number("to") };
+    if (example) return { ...place, example: decodeURIComponent(example) };
+    try {
+        return { ...place, text: await unpacked(packedText ?? "") };
+    } catch {
+        return null;
+    }
+}
+
+/**
+ * A text as deflated octets in base64url.
+ *
+ * @param {string} text
+ */
+export async function packed(text) {
+    const stream = new Blob([text]).stream().pipeThrough(new CompressionStream("deflate-raw"));
+    const octets = new Uint8Array(await new Response(stream).arrayBuffer());
+    let letters = "";
+    for (const octet of octets) letters += String.fromCharCode(octet);
+    return btoa(letters).replace(/\+/g, "-").replace(/\//g, "_").replace(/=+$/, "");
+}
+
+/**
+ * The text again.
+ *
+ * @param {string} letters
+ */
+export async function unpacked(letters) {
+    const octets = Uint8Array.from(atob(letters.replace(/-/g, "+").replace(/_/g, "/")), (letter) => letter.charCodeAt(0));
+    const stream = new Blob([octets]).stream().pipeThrough(new DecompressionStream("deflate-raw"));
+    return new Response(stream).text();
+}

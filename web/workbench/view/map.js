@@ -1,0 +1,397 @@
+/** Draws the map: IMPs, hosts, lines, the frames on them, arcs of messages. Elements are changed, not drawn anew. */
+
+import { partTitle } from "../choices.js";
+import { leaving, placed } from "../layout.js";
+import { FAR } from "../state.js";
+import { impOf, siteName, wayOf } from "../topology.js";
+import { keep, s, say, set } from "./dom.js";
+
+/** @typedef {import("../topology.js").Network} Network */
+/** @typedef {import("../layout.js").Layout} Layout */
+/** @typedef {import("../layout.js").Point} Point */
+/** @typedef {import("../state.js").State} State */
+/** @typedef {import("../talk.js").Talk} Talk */
+/** @typedef {import("../trace.js").Frame} Frame */
+/** @typedef {import("../choices.js").Part} Part */
+
+const MOST_FRAMES = 7;
+const MOST_ARCS = 6;
+
+/**
+ * @typedef {object} Scene what is drawn
+ * @property {State} state
+ * @property {Talk} talk
+ * @property {boolean} inside
+ * @property {number} to the IMP by whose distance the map is coloured, 0 for none
+ */
+
+/** The map of one network. */
+export class MapView {
+    /**
+     * @param {SVGElement} svg
+     * @param {Network} network
+     * @param {(part: Part, element: Element) => void} tap
+     */
+    constructor(svg, network, tap) {
+        this.svg = svg;
+        this.network = network;
+        this.tap = tap;
+        this.layout = placed(network);
+        const { width, height } = this.layout;
+        set(svg, { viewBox: `0 0 ${Math.max(width, 200).toFixed(1)} ${Math.max(height, 120).toFixed(1)}`, "data-small": this.layout.small });
+        this.arcs = s("g", { class: "arcs" });
+        this.spokes = s("g", { class: "spokes" });
+        this.lines = s("g", { class: "lines" });
+        this.ways = s("g", { class: "ways" });
+        this.frames = s("g", { class: "frames" });
+        this.imps = s("g", { class: "imps" });
+        this.hosts = s("g", { class: "hosts" });
+        svg.replaceChildren(hatch(), this.arcs, this.spokes, this.lines, this.ways, this.frames, this.imps, this.hosts);
+        this.drawLines();
+        this.drawImps();
+        this.drawHosts();
+    }
+
+    /**
+     * @param {number} imp
+     * @returns {Point}
+     */
+    imp(imp) {
+        return this.layout.imps.get(imp) ?? { x: 0, y: 0 };
+    }
+
+    /**
+     * @param {string} host
+     * @returns {Point}
+     */
+    host(host) {
+        return this.layout.hosts.get(host) ?? this.imp(impOf(host));
+    }
+
+    /**
+     * The two ends of a line, where it leaves the boxes.
+     *
+     * @param {number} line
+     */
+    ends(line) {
+        const [a, b] = this.network.lines[line].map((imp) => this.imp(imp));
+        return [leaving(a, b, this.layout.box), leaving(b, a, this.layout.box)];
+    }
+
+    drawLines() {
+        if (this.network.plain) return;
+        this.network.lines.forEach((imps, line) => {
+            const [a, b] = this.ends(line);
+            const middle = between(a, b, 0.5);
+            const halves = [a, b].map((end, place) => s("line", { class: "half", "data-imp": imps[place], x1: end.x, y1: end.y, x2: middle.x, y2: middle.y }));
+            const crosses = [a, b].map((end) => cross(between(end, middle, 0.55), this.layout.small ? 3 : 5));
+            const hit = s("line", { class: "hit", x1: a.x, y1: a.y, x2: b.x, y2: b.y });
+            const label = this.layout.small ? [] : [s("rect", { class: "plate", x: middle.x - 7, y: middle.y - 7, width: 14, height: 14, rx: 3 }), s("text", { class: "number", x: middle.x, y: middle.y + 3.5 }, String(line))];
+            this.lines.append(this.part({ kind: "line", line }, `line ${line}`, [...halves, ...crosses, hit, ...label]));
+        });
+    }
+
+    drawImps() {
+        const { w, h } = this.layout.box;
+        for (const { number, name } of this.network.sites) {
+            const { x, y } = this.imp(number);
+            const small = this.layout.small;
+            const title = s("text", { class: "title", x, y: small ? y + 3.5 : y - 2 }, small ? name || String(number) : name || `IMP ${number}`);
+            const below = s("text", { class: "below", x, y: y + 13 }, name ? `IMP ${number}` : "");
+            const parts = [s("rect", { class: "box", x: x - w, y: y - h, width: 2 * w, height: 2 * h, rx: small ? 3 : 6 }), s("rect", { class: "hatch", x: x - w, y: y - h, width: 2 * w, height: 2 * h, rx: small ? 3 : 6 }), title];
+            if (!small) parts.push(below);
+            parts.push(badge(x + w - 2, y - h + 1, small ? 5.5 : 8.5));
+            this.imps.append(this.part({ kind: "imp", imp: number }, `imp ${number}`, parts));
+        }
+    }
+
+    drawHosts() {
+        const { radius, small } = this.layout;
+        for (const host of this.network.hosts) {
+            const { x, y } = this.host(host);
+            const imp = this.imp(impOf(host));
+            this.spokes.append(s("line", { class: "spoke", x1: imp.x, y1: imp.y, x2: x, y2: y }));
+            const parts = [s("circle", { class: "disc", cx: x, cy: y, r: radius }), s("path", { class: "crossed", d: crossPath(x, y, radius * 0.6) })];
+            if (!small) parts.push(s("text", { class: "name", x, y: y + 3.5 }, host));
+            parts.push(badge(x + radius * 0.75, y - radius * 0.75, small ? 5 : 7.5));
+            this.hosts.append(this.part({ kind: "host", host }, `host ${host}`, parts));
+        }
+    }
+
+    /**
+     * A part that can be tapped.
+     *
+     * @param {Part} part
+     * @param {string} key
+     * @param {SVGElement[]} children
+     */
+    part(part, key, children) {
+        const element = s("g", { class: `part ${part.kind}`, "data-part": key, role: "button", tabindex: -1, "aria-label": "" }, ...children);
+        element.addEventListener("click", (event) => {
+            event.stopPropagation();
+            this.tap(JSON.parse(element.dataset.what ?? JSON.stringify(part)), element);
+        });
+        element.dataset.what = JSON.stringify(part);
+        return element;
+    }
+
+    /**
+     * Draws what holds.
+     *
+     * @param {Scene} scene
+     */
+    draw(scene) {
+        this.updateLines(scene);
+        this.updateImps(scene);
+        this.updateHosts(scene);
+        this.updateArcs(scene);
+        this.updateWays(scene);
+        this.updateFrames(scene);
+    }
+
+    /** @param {Scene} scene */
+    updateLines({ state, inside }) {
+        if (this.network.plain) return;
+        [...this.lines.children].forEach((element, line) => {
+            const imps = this.network.lines[line];
+            const up = imps.map((imp) => !inside || state.isEndUp(imp, line));
+            imps.forEach((_, place) => {
+                element.children[place].classList.toggle("down", !up[place]);
+                element.children[place + 2].classList.toggle("shown", !up[place]);
+            });
+            const downAt = imps.filter((_, place) => !up[place]).map((imp) => siteName(this.network, imp));
+            set(element, { "aria-label": `${partTitle(state, { kind: "line", line })}${downAt.length ? `, down at ${downAt.join(" and ")}` : ""}` });
+        });
+    }
+
+    /** @param {Scene} scene */
+    updateImps({ state, inside, to }) {
+        this.network.sites.forEach(({ number }, place) => {
+            const element = this.imps.children[place];
+            const isUp = this.network.plain || !inside || state.imp(number) !== null;
+            const distance = to && isUp ? state.way(number, to).distance : -1;
+            element.classList.toggle("down", !isUp);
+            element.classList.toggle("chosen", to === number);
+            element.classList.toggle("nowhere", distance === FAR);
+            const title = element.querySelector(".title");
+            set(element, { "data-shade": distance < 0 || distance === FAR ? null : Math.min(8, distance) });
+            const held = inside && !this.network.plain ? state.heldBy(number).length : 0;
+            updateBadge(element, held);
+            const below = element.querySelector(".below");
+            if (below) {
+                say(below, distance < 0 ? (isUp ? (siteName(this.network, number).startsWith("IMP ") ? "" : `IMP ${number}`) : "down") : distance === FAR ? "no way" : String(distance));
+                below.classList.toggle("distance", distance >= 0);
+                if (title) set(title, { y: this.imp(number).y + (below.textContent ? -2 : 4) });
+            }
+            const told = distance < 0 ? "" : distance === FAR ? ", no way" : `, distance ${distance}`;
+            set(element, { "aria-label": `${siteName(this.network, number)}${isUp ? "" : ", down"}${told}${held ? `, holds ${held}` : ""}` });
+        });
+    }
+
+    /** @param {Scene} scene */
+    updateHosts({ state, talk, inside }) {
+        this.network.hosts.forEach((host, place) => {
+            const element = this.hosts.children[place];
+            const isUp = inside ? state.isUp(host) : (talk.up.get(host) ?? true);
+            element.classList.toggle("down", !isUp);
+            const box = inside ? state.box(host) : null;
+            const waits = box ? box.messages.length + box.answers.length : 0;
+            updateBadge(element, waits);
+            set(element, { "aria-label": `Host ${host}${isUp ? "" : ", down"}${waits ? `, ${waits} wait for it` : ""}` });
+        });
+    }
+
+    /** @param {Scene} scene */
+    updateArcs({ talk }) {
+        const open = [...talk.messages.values()];
+        keep(
+            this.arcs,
+            open.length > MOST_ARCS ? [] : open,
+            (it) => it.flow,
+            (it) => {
+                const [source, destination] = it.flow.split(" ").map((host) => this.host(host));
+                const middle = between(source, destination, 0.5);
+                const length = Math.hypot(destination.x - source.x, destination.y - source.y) || 1;
+                const bend = Math.min(46, 0.18 * length) + 5 * (Number(it.flow.split(" ")[2]) % 4);
+                const over = { x: middle.x + (bend * (destination.y - source.y)) / length, y: middle.y - (bend * (destination.x - source.x)) / length };
+                const y = Math.max(over.y, 6);
+                return s("path", { class: "arc", d: `M${source.x} ${source.y} Q${over.x} ${y} ${destination.x} ${destination.y}` });
+            },
+            (element, it) => element.classList.toggle("taken", it.taken),
+        );
+    }
+
+    /**
+     * The line that each IMP takes towards the chosen one.
+     *
+     * @param {Scene} scene
+     */
+    updateWays({ state, inside, to }) {
+        const chosen = to && inside && !this.network.plain ? this.network.sites.flatMap(({ number }) => (state.imp(number) && state.way(number, to).line >= 0 ? [{ imp: number, line: state.way(number, to).line }] : [])) : [];
+        keep(
+            this.ways,
+            chosen,
+            (it) => `${it.imp} ${it.line}`,
+            ({ imp, line }) => {
+                const [a, b] = this.ends(line);
+                const [from, other] = this.network.lines[line][0] === imp ? [a, b] : [b, a];
+                const at = between(from, other, 0.3);
+                const angle = (Math.atan2(other.y - from.y, other.x - from.x) * 180) / Math.PI;
+                return s("path", { class: "way", d: this.layout.small ? "M-4 -4 L3 0 L-4 4" : "M-6 -6 L5 0 L-6 6", transform: `translate(${at.x} ${at.y}) rotate(${angle})` });
+            },
+        );
+    }
+
+    /** @param {Scene} scene */
+    updateFrames({ state, inside }) {
+        /** @type {{key: string, line: number, way: "+" | "-", place: number, frame: Frame, count: number, more: number}[]} */
+        const shown = [];
+        if (inside && !this.network.plain) {
+            this.network.lines.forEach((_, line) => {
+                for (const way of /** @type {const} */ (["+", "-"])) {
+                    const frames = state.line(line)[way];
+                    const count = Math.min(frames.length, this.layout.small ? 2 : MOST_FRAMES);
+                    for (let place = 0; place < count; place += 1) shown.push({ key: `${line} ${way} ${place}`, line, way, place, frame: frames[place], count, more: place === count - 1 ? frames.length - count : 0 });
+                }
+            });
+        }
+        keep(
+            this.frames,
+            shown,
+            (it) => it.key,
+            ({ line, way, place }) => this.part({ kind: "frame", line, way, place }, `frame ${line} ${way} ${place}`, [s("circle", { class: "hit", r: 12 }), s("path", { class: "sign" }), s("path", { class: "stroke" }), s("text", { class: "more" })]),
+            (element, it) => this.updateFrame(state, element, it),
+        );
+    }
+
+    /**
+     * @param {State} state
+     * @param {SVGElement} element
+     * @param {{line: number, way: "+" | "-", place: number, frame: Frame, count: number, more: number}} it
+     */
+    updateFrame(state, element, { line, way, place, frame, count, more }) {
+        const [a, b] = this.ends(line);
+        const [from, to] = way === "+" ? [a, b] : [b, a];
+        const length = Math.hypot(to.x - from.x, to.y - from.y) || 1;
+        const gap = Math.min(this.layout.small ? 11 : 17, (0.9 * length) / Math.max(count, 1));
+        const along = Math.max(0.06 * length, length / 2 + gap * ((count - 1) / 2 - place));
+        const side = this.layout.small ? 5 : 9;
+        const x = from.x + ((to.x - from.x) * along) / length - (side * (to.y - from.y)) / length;
+        const y = from.y + ((to.y - from.y) * along) / length + (side * (to.x - from.x)) / length;
+        const angle = (Math.atan2(to.y - from.y, to.x - from.x) * 180) / Math.PI;
+        const kind = frame.packet ? frame.packet.kind : frame.routes ? "routes" : "ack";
+        const scale = this.layout.small ? 0.6 : 1;
+        set(element, { class: `part frame ${kind}`, style: `transform: translate(${x.toFixed(1)}px, ${y.toFixed(1)}px)`, "data-way": wayOf(this.network, line, way).join(" "), "aria-label": partTitle(state, { kind: "frame", line, way, place }) });
+        const turn = kind === "data" || kind === "routes" ? `rotate(${angle.toFixed(1)}) scale(${scale})` : `scale(${scale})`;
+        set(element.children[1], { d: SIGNS[kind], transform: turn });
+        set(element.children[2], { d: STROKES[kind] ?? "", transform: `scale(${scale})` });
+        say(element.children[3], more ? `+${more}` : "");
+        set(element.children[3], { x: (-14 * (to.x - from.x)) / length, y: (-14 * (to.y - from.y)) / length + 3 });
+    }
+
+    /**
+     * Lets a frame travel from one IMP to another, for the eye.
+     *
+     * @param {number} line
+     * @param {number} from
+     * @param {Frame} frame
+     */
+    travel(line, from, frame) {
+        const [a, b] = this.ends(line);
+        const [start, end] = this.network.lines[line][0] === from ? [a, b] : [b, a];
+        const kind = frame.packet ? frame.packet.kind : frame.routes ? "routes" : "ack";
+        const angle = (Math.atan2(end.y - start.y, end.x - start.x) * 180) / Math.PI;
+        const turn = kind === "data" || kind === "routes" ? `rotate(${angle}) scale(1.25)` : "scale(1.25)";
+        const ghost = s("g", { class: `ghost frame ${kind}`, "aria-hidden": "true" }, s("path", { class: "sign", d: SIGNS[kind], transform: turn }), s("path", { class: "stroke", d: STROKES[kind] ?? "" }));
+        this.svg.append(ghost);
+        const moved = ghost.animate([{ transform: `translate(${start.x}px, ${start.y}px)` }, { transform: `translate(${end.x}px, ${end.y}px)` }], { duration: 420, easing: "ease-in-out" });
+        moved.onfinish = () => ghost.remove();
+        moved.oncancel = () => ghost.remove();
+    }
+
+    /**
+     * All parts in the order in which keys go through them.
+     *
+     * @returns {SVGElement[]}
+     */
+    parts() {
+        return /** @type {SVGElement[]} */ ([...this.imps.children, ...this.hosts.children, ...this.lines.children, ...this.frames.children]);
+    }
+}
+
+/** Shapes that differ without colour, drawn around the origin. */
+const SIGNS = /** @type {{[kind: string]: string}} */ ({
+    data: "M-7 -5.5 H2 L8 0 L2 5.5 H-7 Z",
+    rfnm: "M-6.5 0 A6.5 6.5 0 1 1 6.5 0 A6.5 6.5 0 1 1 -6.5 0 Z",
+    dead: "M-6 -6 H6 V6 H-6 Z",
+    ask: "M0 -8 L8 0 L0 8 L-8 0 Z",
+    never: "M-3.5 -7 H3.5 L7 -3.5 V3.5 L3.5 7 H-3.5 L-7 3.5 V-3.5 Z",
+    routes: "M-4 -4.5 L5 0 L-4 4.5 Z",
+    ack: "M-2.5 0 A2.5 2.5 0 1 1 2.5 0 A2.5 2.5 0 1 1 -2.5 0 Z",
+});
+
+const STROKES = /** @type {{[kind: string]: string}} */ ({
+    rfnm: "M-3 0.2 L-0.8 2.6 L3.2 -2.4",
+    dead: "M-3 -3 L3 3 M3 -3 L-3 3",
+    ask: "M-1.8 -2 A1.9 1.9 0 1 1 0 0.4 V1.6 M0 3.6 V4.2",
+    never: "M0 -4 V1 M0 3.4 V4",
+});
+
+/**
+ * A sign for a legend.
+ *
+ * @param {string} kind
+ */
+export function legendSign(kind) {
+    return s("svg", { viewBox: "-10 -10 20 20", class: `frame ${kind} key`, "aria-hidden": "true" }, s("path", { class: "sign", d: SIGNS[kind] }), s("path", { class: "stroke", d: STROKES[kind] ?? "" }));
+}
+
+/**
+ * @param {Point} a
+ * @param {Point} b
+ * @param {number} part
+ */
+function between(a, b, part) {
+    return { x: a.x + (b.x - a.x) * part, y: a.y + (b.y - a.y) * part };
+}
+
+/**
+ * @param {number} x
+ * @param {number} y
+ * @param {number} r
+ */
+function crossPath(x, y, r) {
+    return `M${x - r} ${y - r} L${x + r} ${y + r} M${x + r} ${y - r} L${x - r} ${y + r}`;
+}
+
+/**
+ * @param {Point} at
+ * @param {number} r
+ */
+function cross(at, r) {
+    return s("path", { class: "cut", d: crossPath(at.x, at.y, r) });
+}
+
+/**
+ * @param {number} x
+ * @param {number} y
+ * @param {number} r
+ */
+function badge(x, y, r) {
+    return s("g", { class: "badge" }, s("circle", { cx: x, cy: y, r }), s("text", { x, y: y + (r > 6 ? 3.6 : 2.3) }));
+}
+
+/**
+ * @param {Element} element
+ * @param {number} count
+ */
+function updateBadge(element, count) {
+    const it = element.querySelector(".badge");
+    if (!it) return;
+    it.classList.toggle("shown", count > 0);
+    say(it.children[1], count ? String(count) : "");
+}
+
+function hatch() {
+    return s("defs", {}, s("pattern", { id: "hatched", width: 6, height: 6, patternUnits: "userSpaceOnUse", patternTransform: "rotate(45)" }, s("line", { x1: 0, y1: 0, x2: 0, y2: 6, class: "hatching" })));
+}

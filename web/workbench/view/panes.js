@@ -1,0 +1,322 @@
+/** Draws the tables beside the script: what waits, distances, what is inside, hosts and their connections. */
+
+import { changedWays } from "../fates.js";
+import { FAR } from "../state.js";
+import { packetName } from "../sentences.js";
+import { sends } from "../talk.js";
+import { farEnd, hostName, siteName, wayOf } from "../topology.js";
+import { ANSWERS, grouped, messageName } from "../waits.js";
+import { capital, count } from "../words.js";
+import { h, keep, s, say, sayWithCode, set } from "./dom.js";
+
+/** @typedef {import("../state.js").State} State */
+/** @typedef {import("../talk.js").Talk} Talk */
+/** @typedef {import("../talk.js").End} End */
+/** @typedef {import("../waits.js").Wait} Wait */
+/** @typedef {import("../fold.js").History} History */
+/** @typedef {import("../choices.js").Part} Part */
+
+/**
+ * @typedef {object} View what the tables show
+ * @property {History} history
+ * @property {number} position
+ * @property {State} state
+ * @property {State | null} before the state before the last step
+ * @property {Talk} talk
+ * @property {Wait[]} waits
+ * @property {number} to the IMP by whose distance the map is coloured
+ * @property {boolean} hidden
+ */
+
+/** The tables. */
+export class Panes {
+    /**
+     * @param {HTMLElement} element
+     * @param {{choose: (imp: number) => void, add: (lines: string[], words: string) => void, tap: (part: Part, element: Element) => void}} does
+     */
+    constructor(element, does) {
+        this.does = does;
+        this.element = element;
+        this.intro = h("p", { class: "soft" });
+        this.body = h("div", { class: "pane-body" });
+        element.replaceChildren(this.intro, this.body);
+        this.name = "";
+    }
+
+    /**
+     * @param {string} name
+     * @param {View} view
+     */
+    draw(name, view) {
+        if (this.body.parentElement !== this.element) this.element.replaceChildren(this.intro, this.body);
+        if (name !== this.name) this.body.replaceChildren();
+        this.name = name;
+        if (name === "waits") this.drawWaits(view);
+        else if (name === "distances") this.drawDistances(view);
+        else if (name === "inside") this.drawInside(view);
+        else this.drawHosts(view);
+    }
+
+    /** @param {View} view */
+    drawWaits({ state, waits }) {
+        say(this.intro, waits.length ? "What is not finished, where it is, and what it waits for." : "Nothing waits: every message has its answer.");
+        keep(
+            this.body,
+            grouped(state.network, waits),
+            (it) => `${it.what}`,
+            () => h("div", { class: "wait" }, h("h3"), h("p", { class: "where" }), h("p", { class: "for" }), h("div", { class: "cures" })),
+            (element, it) => {
+                const [what, where, why, cures] = element.children;
+                say(what, capital(it.what));
+                say(where, `${it.where} ${it.copies}`.trim());
+                where.hidden = !it.where;
+                sayWithCode(why, `waits for: ${it.for}`.replace(/^waits for: nothing of it/, "nothing of it"));
+                element.classList.toggle("bad", it.bad);
+                keep(
+                    cures,
+                    it.cures.length && (it.bad || it.cures[0].startsWith("take")) ? it.cures : [],
+                    (line) => String(line),
+                    (line) => h("button", { class: "cure", type: "button", onclick: () => this.does.add([String(line)], String(line)) }, h("code", {}, String(line))),
+                );
+            },
+        );
+    }
+
+    /** @param {View} view */
+    drawDistances({ history, state, before, to, position, hidden }) {
+        const { network } = state;
+        if (network.plain || !history.replay.inside) return this.nothing(network.plain ? "Plain mailboxes have no IMPs, so there are no distances." : "What is inside isn't known for this script.");
+        const columns = network.sites.length <= 9 ? network.sites.map((site) => site.number) : [to || network.sites[0].number];
+        say(this.intro, network.sites.length <= 9 ? "How far, by what the neighbours told. Choose a column to colour the map." : "How far, by what the neighbours told. Tap an IMP on the map to choose another one.");
+        const changed = before ? changedWays(before, state) : new Set();
+        let table = this.body.querySelector("table.distances");
+        if (!table) {
+            table = h("table", { class: "distances" }, h("thead", {}, h("tr")), h("tbody"));
+            this.body.replaceChildren(table, h("figure", { class: "staircase" }));
+        }
+        const [head, rows] = [table.querySelector("tr"), table.querySelector("tbody")];
+        if (head && rows) {
+            keep(
+                head,
+                [0, ...columns],
+                (imp) => `to ${imp}`,
+                (imp) => (imp ? h("th", { scope: "col" }, h("button", { type: "button", class: "column", onclick: () => this.does.choose(imp) }, `→ ${siteName(network, imp)}`)) : h("th", { scope: "col" }, "at")),
+                (element, imp) => element.firstElementChild && set(element.firstElementChild, { "aria-pressed": imp === to ? "true" : "false" }),
+            );
+            keep(
+                rows,
+                network.sites.map((site) => site.number),
+                (imp) => `at ${imp}`,
+                (imp) => h("tr", {}, h("th", { scope: "row" }, siteName(network, imp)), ...columns.map(() => h("td", {}, h("b"), h("small")))),
+                (element, imp) => columns.forEach((column, place) => this.distance(element.children[place + 1], state, imp, column, to, changed.has(`${imp} ${column}`))),
+            );
+        }
+        const figure = this.body.querySelector(".staircase");
+        if (figure) staircase(figure, history, to || columns[0], position, hidden);
+    }
+
+    /**
+     * @param {Element} cell
+     * @param {State} state
+     * @param {number} imp
+     * @param {number} to
+     * @param {number} chosen
+     * @param {boolean} isChanged
+     */
+    distance(cell, state, imp, to, chosen, isChanged) {
+        const way = state.way(imp, to);
+        const isUp = state.imp(imp) !== null;
+        cell.className = `${to === chosen ? "chosen " : ""}${isChanged ? "changed " : ""}${!isUp || way.distance === FAR ? "nowhere" : ""}`;
+        say(cell.children[0], !isUp ? "down" : way.distance === FAR ? "no way" : String(way.distance));
+        say(cell.children[1], isUp && way.line >= 0 && way.distance < FAR ? ` by line ${way.line}` : "");
+    }
+
+    /** @param {string} why */
+    nothing(why) {
+        say(this.intro, why);
+        this.body.replaceChildren();
+    }
+
+    /** @param {View} view */
+    drawInside({ history, state }) {
+        const { network } = state;
+        if (!history.replay.inside) return this.nothing("What is inside isn't known for this script.");
+        if (network.plain) return this.drawBoxes(state);
+        say(this.intro, "What each IMP holds, and what is on the lines. In a channel a packet stays until the neighbour acknowledges it.");
+        const parts = [
+            ...network.sites.map(({ number }) => ({ key: `imp ${number}`, title: siteName(network, number), part: /** @type {Part} */ ({ kind: "imp", imp: number }), items: impItems(state, number) })),
+            ...network.lines.flatMap((_, line) =>
+                /** @type {const} */ (["+", "-"]).map((way) => ({
+                    key: `line ${line} ${way}`,
+                    title: `${siteName(network, wayOf(network, line, way)[0])} → ${siteName(network, wayOf(network, line, way)[1])}`,
+                    part: /** @type {Part} */ ({ kind: "line", line }),
+                    items: state.line(line)[way].map((frame, place) => ({ kind: frame.packet ? frame.packet.kind : frame.routes ? "routes" : "ack", text: frame.packet ? `${packetName(network, frame.packet)}` : frame.routes ? "distances" : "acknowledgement", part: /** @type {Part} */ ({ kind: "frame", line, way, place }) })),
+                })),
+            ).filter((it) => it.items.length),
+        ];
+        keep(
+            this.body,
+            parts,
+            (it) => it.key,
+            (it) => h("section", { class: "held" }, h("h3", {}, h("button", { type: "button", class: "plain", onclick: (/** @type {Event} */ event) => this.does.tap(it.part, /** @type {Element} */ (event.currentTarget)) }, it.title)), h("ul")),
+            (element, it) => this.items(element.querySelector("ul"), it.items),
+        );
+    }
+
+    /**
+     * @param {Element} list
+     * @param {{kind: string, text: string, part?: Part}[]} items
+     */
+    items(list, items) {
+        keep(
+            list,
+            items.map((it, place) => ({ ...it, place })),
+            (it) => `${it.place} ${it.kind} ${it.text}`,
+            (it) => {
+                const { part } = it;
+                return h("li", { class: `kind ${it.kind}` }, part ? h("button", { type: "button", class: "plain", onclick: (/** @type {Event} */ event) => this.does.tap(part, /** @type {Element} */ (event.currentTarget)) }, it.text) : it.text);
+            },
+        );
+        if (items.length === 0) list.replaceChildren(h("li", { class: "none" }, "nothing"));
+    }
+
+    /** @param {State} state */
+    drawBoxes(state) {
+        say(this.intro, "What waits in each host's mailbox, the oldest first.");
+        const { network } = state;
+        keep(
+            this.body,
+            network.hosts,
+            (host) => host,
+            (host) => h("section", { class: "held" }, h("h3", {}, capital(hostName(network, host))), h("ul")),
+            (element, host) => {
+                const box = state.box(host);
+                const items = [...(box?.answers ?? []).map((it) => ({ kind: it.kind, text: `${ANSWERS[it.kind]} for ${messageName(network, it.flow)}` })), ...(box?.messages ?? []).map((it) => ({ kind: "data", text: messageName(network, it.flow) }))];
+                this.items(element.querySelector("ul"), items);
+            },
+        );
+    }
+
+    /** @param {View} view */
+    drawHosts({ history, state, talk }) {
+        const { network } = state;
+        const { inside } = history.replay;
+        say(this.intro, network.raw ? "Hosts, and messages without an answer." : "Hosts, their peers, and the ends of their connections as of this step.");
+        keep(
+            this.body,
+            network.hosts,
+            (host) => host,
+            (host) => h("section", { class: "host-row" }, h("h3"), h("p", { class: "soft" }), h("table", { class: "ends" }, h("thead", {}, h("tr", {}, ...["socket", "with", "state", "granted", "handed over", "sent or taken"].map((it) => h("th", { scope: "col" }, it)))), h("tbody"))),
+            (element, host) => {
+                const isUp = inside ? state.isUp(host) : talk.up.get(host);
+                const [title, told, table] = element.children;
+                say(title, `${capital(hostName(network, host))}${hostName(network, host) === `host ${host}` ? "" : ` (${host})`}`);
+                const ready = talk.contacts.filter((it) => it.host === host && it.state === "ready").map((it) => hostName(network, it.peer));
+                const open = [...talk.messages.values()].filter((it) => it.flow.startsWith(`${host} `));
+                const parts = [isUp ? "up" : "down", ...(ready.length ? [`ready with ${ready.join(", ")}`] : []), ...open.map((it) => `${it.taken ? "no answer yet, though taken" : "no answer yet"}: to ${hostName(network, it.flow.split(" ")[1])} on link ${it.flow.split(" ")[2]}`)];
+                say(told, parts.join(" · "));
+                const ends = talk.ends.filter((end) => end.host === host && end.state !== "over");
+                table.hidden = ends.length === 0;
+                keep(
+                    table.querySelector("tbody"),
+                    ends,
+                    (end) => `${end.socket} ${end.peer} ${end.foreign}`,
+                    () => h("tr", {}, h("th", { scope: "row" }), ...Array.from({ length: 5 }, () => h("td"))),
+                    (row, end) => endCells(network, end).forEach((text, place) => say(row.children[place], text)),
+                );
+            },
+        );
+    }
+}
+
+/**
+ * The cells of an end: what was done so far, and never what is still to come.
+ *
+ * @param {import("../topology.js").Network} network
+ * @param {End} end
+ */
+function endCells(network, end) {
+    const isSending = sends(end.socket);
+    const back = end.returnedBits || end.returnedMessages ? `, ${count(end.returnedMessages, "message")} and ${count(end.returnedBits, "bit")} back` : "";
+    return [
+        String(end.socket),
+        end.peer ? `${end.foreign} of ${hostName(network, end.peer)}` : "anybody",
+        end.state,
+        isSending ? "" : `${count(end.grantedMessages, "message")}, ${count(end.grantedBits, "bit")}${back}`,
+        isSending ? count(end.handed, "bit") : "",
+        `${count(end.bits, "bit")} ${isSending ? "sent" : "taken"}`,
+    ];
+}
+
+/**
+ * @param {State} state
+ * @param {number} number
+ */
+function impItems(state, number) {
+    const { network } = state;
+    if (!state.imp(number)) return [{ kind: "off", text: "down: it holds nothing" }];
+    return state.heldBy(number).map(({ packet, flow, place }) => {
+        const what = packet ? packetName(network, packet) : messageName(network, flow);
+        const where = { store: "in the store", channel: place.line < 0 ? "" : `channel ${place.channel} to ${siteName(network, farEnd(network, place.line, number))}`, slot: "in a slot", host: `waits for ${hostName(network, flow.split(" ")[1])}`, line: "" }[place.at];
+        return { kind: packet?.kind ?? "data", text: `${where}: ${what}` };
+    });
+}
+
+/**
+ * Distances to an IMP over time, as a staircase: what counts to infinity is seen to count.
+ *
+ * @param {Element} figure
+ * @param {History} history
+ * @param {number} to
+ * @param {number} position
+ * @param {boolean} hidden
+ */
+function staircase(figure, history, to, position, hidden) {
+    const { network } = history;
+    const others = network.sites.map((site) => site.number).filter((imp) => imp !== to).slice(0, 6);
+    const key = `${to} ${history.length} ${figure.clientWidth}`;
+    const [width, height] = [Math.max(figure.clientWidth, 260), 150];
+    const [left, right, top, bottom] = [44, width - 10, 24, height - 20];
+    const x = (/** @type {number} */ at) => left + ((right - left) * at) / Math.max(history.length, 1);
+    if (figure.getAttribute("data-of") !== key) {
+        figure.setAttribute("data-of", key);
+        const steps = distancesOverTime(history, to, others);
+        const most = Math.max(3, ...steps.flatMap((it) => it.steps.map((step) => step.distance).filter((it) => it < FAR)));
+        const y = (/** @type {number} */ distance) => (distance >= FAR ? top : bottom - ((bottom - top - 12) * distance) / most);
+        const ticks = [0, Math.round(most / 2), most];
+        const svg = s("svg", { viewBox: `0 0 ${width} ${height}`, role: "img", "aria-label": `Distances to ${siteName(network, to)} over time` });
+        svg.append(
+            ...[...ticks.map((tick) => ({ at: y(tick), text: String(tick) })), { at: top, text: "no way" }].flatMap(({ at, text }) => [s("line", { class: "grid", x1: left, x2: right, y1: at, y2: at }), s("text", { class: "tick", x: left - 6, y: at + 4 }, text)]),
+            ...steps.map(({ steps }, place) => s("path", { class: `stairs s${place}`, d: steps.map((step, at) => `${at ? "H" : "M"}${x(step.at).toFixed(1)}${at ? `V${y(step.distance).toFixed(1)}` : ` ${y(step.distance).toFixed(1)}`}`).join("") + `H${right}` })),
+            ...steps.map(({ imp }, place) => s("text", { class: `stairs-name s${place}`, x: left + ((right - left) * place) / Math.max(steps.length, 1), y: 12 }, `${["━", "╍", "┅", "┉", "─", "╌"][place]} ${siteName(network, imp)}`)),
+            s("rect", { class: "veil", x: left, y: top - 6, width: 0, height: bottom - top + 12 }),
+            s("line", { class: "now", x1: left, x2: left, y1: top - 6, y2: bottom + 4 }),
+            s("text", { class: "tick axis", x: right, y: height - 4 }, `distance to ${siteName(network, to)}, over time`),
+        );
+        figure.replaceChildren(svg);
+    }
+    const now = figure.querySelector(".now");
+    const veil = figure.querySelector(".veil");
+    if (now) set(now, { x1: x(position), x2: x(position) });
+    if (veil) set(veil, { x: x(position), width: hidden ? right - x(position) + 2 : 0 });
+}
+
+/**
+ * @param {History} history
+ * @param {number} to
+ * @param {number[]} imps
+ */
+function distancesOverTime(history, to, imps) {
+    const found = imps.map((imp) => ({ imp, steps: [{ at: 0, distance: history.at(0).way(imp, to).distance }] }));
+    history.replay.moments.forEach((moment, at) => {
+        if (!moment.parts.some(([name]) => name.startsWith("imp "))) return;
+        const state = history.at(at + 1);
+        for (const it of found) {
+            if (!moment.parts.some(([name]) => name === `imp ${it.imp}`)) continue;
+            const { distance } = state.way(it.imp, to);
+            if (distance !== it.steps[it.steps.length - 1].distance) it.steps.push({ at: at + 1, distance });
+        }
+    });
+    return found;
+}
+

@@ -1,0 +1,265 @@
+/** Draws the sheet: the script's rows, and the chart over the same rows. */
+
+import { rowsOf, seen } from "../sheet.js";
+import { hostName, impOf } from "../topology.js";
+import { keep, s, say, set, h } from "./dom.js";
+
+/** @typedef {import("../fold.js").History} History */
+/** @typedef {import("../stops.js").Stop} Stop */
+/** @typedef {import("../sheet.js").Row} Row */
+/** @typedef {import("../chart.js").Chart} Chart */
+
+/**
+ * @typedef {object} Sheet what is drawn
+ * @property {History} history
+ * @property {Stop[]} stops
+ * @property {Chart} chart
+ * @property {Set<number>} added lines of the script that were added
+ */
+
+/** The sheet of a replay. */
+export class SheetView {
+    /**
+     * @param {HTMLElement} element
+     * @param {(position: number) => void} go
+     */
+    constructor(element, go) {
+        this.go = go;
+        this.heads = h("div", { class: "heads" });
+        this.rows = h("div", { class: "rows" });
+        this.svg = s("svg", { class: "chart", "aria-hidden": "true" });
+        this.body = h("div", { class: "sheet-body" }, this.rows, this.svg);
+        this.scroller = h("div", { class: "sheet-scroll", tabindex: 0, role: "region", "aria-label": "script and chart" }, this.heads, this.body);
+        element.replaceChildren(this.scroller);
+        /** @type {Sheet | null} */
+        this.sheet = null;
+        /** @type {Row[]} */
+        this.list = [];
+        this.open = -2;
+        this.drawn = "";
+        new ResizeObserver(() => this.sheet && this.drawChart()).observe(this.body);
+    }
+
+    /**
+     * Shows another replay, or other stops.
+     *
+     * @param {Sheet} sheet
+     */
+    show(sheet) {
+        this.sheet = sheet;
+        this.list = rowsOf(sheet.history, sheet.stops);
+        this.open = -2;
+        const { network } = sheet.history;
+        keep(
+            this.heads,
+            ["", ...sheet.chart.lanes],
+            (host) => `head ${host}`,
+            (host) => (host ? h("span", { class: "head" }) : h("span", { class: "head script" }, "script")),
+            (element, host) => {
+                if (!host) return;
+                const name = hostName(network, host);
+                element.replaceChildren(...(name === `host ${host}` ? [h("b", {}, host)] : [h("b", {}, network.sites.find((it) => it.number === impOf(host))?.name ?? ""), " ", h("small", {}, host)]));
+            },
+        );
+        set(this.scroller, { style: `--lanes: ${sheet.chart.lanes.length}` });
+        keep(
+            this.rows,
+            this.list.map((row, place) => ({ row, place })),
+            ({ row, place }) => `${place} ${row.kind} ${row.number} ${row.text}`,
+            ({ row }) => this.makeRow(row),
+            (element, { row, place }) => {
+                element.dataset.place = String(place);
+                element.className = `row ${row.kind}${row.refused ? " refused" : ""}${row.kind === "event" && sheet.added.has(row.line) ? " added" : ""}`;
+                const head = element.querySelector(".steps");
+                if (head) say(head, ` ▸ ${row.steps} ${row.steps === 1 ? "step" : "steps"}`);
+            },
+        );
+    }
+
+    /**
+     * @param {Row} row
+     * @returns {HTMLElement}
+     */
+    makeRow(row) {
+        const isGoal = row.kind === "event" || row.kind === "stop";
+        const text = h("span", { class: "text" }, row.text);
+        if (row.steps) text.append(h("small", { class: "steps" }));
+        const element = h(isGoal ? "button" : "div", { class: "row", tabindex: isGoal ? -1 : null }, h("span", { class: "number" }, row.number), text);
+        if (isGoal) {
+            element.addEventListener("click", () => {
+                const it = this.list[Number(element.dataset.place)];
+                this.go(it.steps ? (this.sheet?.stops.find((stop) => stop.event === it.event)?.to ?? it.at) : it.at);
+            });
+        }
+        return element;
+    }
+
+    /**
+     * Shows where one is.
+     *
+     * @param {number} position
+     * @param {boolean} hidden whether what is to come is hidden
+     */
+    draw(position, hidden) {
+        if (!this.sheet) return;
+        const { stops } = this.sheet;
+        const current = this.list.findIndex((row) => row.stop >= 0 && stops[row.stop].from < position && position <= stops[row.stop].to);
+        const open = current >= 0 ? this.list[current].event : -1;
+        const shown = seen(this.list, open);
+        const elements = /** @type {HTMLElement[]} */ ([...this.rows.children]);
+        elements.forEach((element, place) => {
+            const row = this.list[place];
+            const isPast = row.kind === "comment" || row.kind === "question" ? row.at < position || row.at === 0 : row.at <= position && position > 0;
+            element.hidden = !shown[place] || (hidden && !isPast);
+            element.classList.toggle("future", !isPast);
+            element.classList.toggle("current", place === current);
+            element.setAttribute("aria-current", place === current ? "step" : "false");
+            if (row.steps) element.classList.toggle("open", row.event === open);
+        });
+        this.position = position;
+        this.hidden = hidden;
+        const drawn = `${open} ${hidden ? position : ""} ${this.body.clientWidth}`;
+        if (drawn !== this.drawn || this.open === -2) this.drawChart();
+        this.open = open;
+        this.drawn = drawn;
+        this.markPast();
+        const element = elements[current];
+        if (element) keepInView(this.scroller, element, this.heads.offsetHeight);
+        else this.scroller.scrollTop = 0;
+    }
+
+    /** Where the middle of the row of each moment is: that of its stop, or of the head of its calm. */
+    drawChart() {
+        if (!this.sheet) return;
+        const { stops, chart } = this.sheet;
+        const elements = /** @type {HTMLElement[]} */ ([...this.rows.children]);
+        /** @type {number[]} */
+        const middles = Array(stops.length).fill(-1);
+        /** @type {Map<number, number>} */
+        const ofEvent = new Map();
+        elements.forEach((element, place) => {
+            if (element.hidden) return;
+            const row = this.list[place];
+            const middle = element.offsetTop + element.offsetHeight / 2;
+            if (row.stop >= 0) middles[row.stop] = middle;
+            else if (row.kind === "event") ofEvent.set(row.event, middle);
+        });
+        /** @type {(at: number) => number} */
+        const y = (at) => {
+            const stop = stops.findIndex((it) => it.to > at);
+            return stop < 0 ? -1 : middles[stop] >= 0 ? middles[stop] : (ofEvent.get(stops[stop].event) ?? -1);
+        };
+        const height = this.rows.offsetHeight;
+        const width = this.svg.getBoundingClientRect().width;
+        if (!width) return;
+        set(this.svg, { viewBox: `0 0 ${width} ${Math.max(height, 1)}`, height });
+        const x = (/** @type {number} */ lane) => ((lane + 0.18) * width) / Math.max(chart.lanes.length, 1);
+        const room = width / Math.max(chart.lanes.length, 1);
+        this.svg.replaceChildren(
+            ...chart.lanes.map((_, lane) => s("line", { class: "lane", x1: x(lane), x2: x(lane), y1: 0, y2: height })),
+            ...chart.down.flatMap(({ lane, from, to }) => (y(from) < 0 ? [] : [s("line", { class: "isdown", "data-at": from, x1: x(lane), x2: x(lane), y1: y(from), y2: to >= 0 && y(to) >= 0 ? y(to) : height })])),
+            ...this.arrows(y, x, height),
+            ...this.marks(y, x, room),
+        );
+        this.markPast();
+    }
+
+    /**
+     * @param {(at: number) => number} y
+     * @param {(lane: number) => number} x
+     * @param {number} height
+     */
+    arrows(y, x, height) {
+        return (this.sheet?.chart.arrows ?? []).flatMap((arrow) => {
+            const { kind, from, lane, to, end } = arrow;
+            const start = y(from);
+            if (start < 0 || lane < 0) return [];
+            if (kind === "message") return this.message(arrow, y, x, height);
+            const stop = y(to);
+            if (stop < 0) return [];
+            if (lane !== end) return [s("g", { class: `arrow ${kind}`, "data-at": to }, s("line", { x1: x(lane), y1: start, x2: x(end), y2: stop }))];
+            // an answer without a taking: a bow at the source's own lane, or only its end where it is long
+            const top = Math.max(start, stop - 120);
+            return [s("g", { class: `arrow ${kind}`, "data-at": to }, s("path", { d: `M${x(lane)} ${top} C${x(lane) - 13} ${top + 6} ${x(lane) - 13} ${stop - 6} ${x(lane)} ${stop}` }))];
+        });
+    }
+
+    /**
+     * A message: to where it is taken; while it isn't, to a ring, and where it never will be, to a cross.
+     *
+     * @param {import("../chart.js").Arrow} arrow
+     * @param {(at: number) => number} y
+     * @param {(lane: number) => number} x
+     * @param {number} height
+     */
+    message({ from, lane, to, end, failed }, y, x, height) {
+        const [start, stop] = [y(from), y(to)];
+        if (end < 0) return [];
+        const ended = to >= 0 ? to : failed;
+        const far = end === lane ? x(lane) + 18 : x(lane) + 0.72 * (x(end) - x(lane));
+        const low = start + Math.min(22, Math.max(height - start - 5, 0));
+        const line = () => s("line", { x1: x(lane), y1: start, x2: far, y2: low });
+        const ring = s("g", { class: "arrow message open", "data-at": from, "data-until": ended < 0 ? null : ended }, line(), s("circle", { cx: far, cy: low, r: 3.5 }));
+        if (to >= 0 && stop >= 0) return [ring, s("g", { class: "arrow message", "data-at": to }, s("line", { x1: x(lane), y1: start, x2: x(end), y2: stop }))];
+        if (failed < 0) return [ring];
+        return [ring, s("g", { class: "arrow message", "data-at": failed }, line(), s("path", { class: "end", d: `M${far - 4} ${low - 4} L${far + 4} ${low + 4} M${far + 4} ${low - 4} L${far - 4} ${low + 4}` }))];
+    }
+
+    /**
+     * Words at lanes, on a plate so that no arrow crosses them.
+     *
+     * @param {(at: number) => number} y
+     * @param {(lane: number) => number} x
+     * @param {number} room
+     */
+    marks(y, x, room) {
+        const letters = Math.max(4, Math.floor((room - 16) / 6.6));
+        return (this.sheet?.chart.marks ?? []).flatMap(({ at, lane, kind, words }) => {
+            const middle = y(at);
+            if (middle < 0) return [];
+            const text = shortened(words, letters);
+            return [s("g", { class: `mark ${kind}`, "data-at": at }, s("title", {}, words), s("circle", { cx: x(lane), cy: middle, r: 3.5 }), s("text", { class: "plate", x: x(lane) + 8, y: middle + 4 }, text), s("text", { x: x(lane) + 8, y: middle + 4 }, text))];
+        });
+    }
+
+    markPast() {
+        for (const element of this.svg.children) {
+            const at = element.getAttribute("data-at");
+            if (at === null) continue;
+            const isFuture = Number(at) >= (this.position ?? 0);
+            element.classList.toggle("future", isFuture);
+            element.classList.toggle("gone", isFuture && (this.hidden ?? false));
+            const until = element.getAttribute("data-until");
+            const isOver = until !== null && (this.hidden ? Number(until) < (this.position ?? 0) : true);
+            element.classList.toggle("over", isOver);
+        }
+    }
+}
+
+/**
+ * Words in so many letters: the parts behind the first are left out before any is cut.
+ *
+ * @param {string} words
+ * @param {number} letters
+ */
+function shortened(words, letters) {
+    if (words.length <= letters) return words;
+    const [first] = words.split(" · ");
+    return first.length <= letters ? first : `${first.slice(0, letters - 1)}…`;
+}
+
+/**
+ * Scrolls so that an element is seen, with some rows around it.
+ *
+ * @param {HTMLElement} scroller
+ * @param {HTMLElement} element
+ * @param {number} head
+ */
+function keepInView(scroller, element, head) {
+    const top = element.offsetTop;
+    const room = scroller.clientHeight - head;
+    if (room <= 0) return;
+    const margin = Math.min(room / 3, 4 * element.offsetHeight);
+    if (top < scroller.scrollTop + margin) scroller.scrollTop = Math.max(0, top - room / 3);
+    else if (top + element.offsetHeight > scroller.scrollTop + room - margin) scroller.scrollTop = top - room / 2;
+}

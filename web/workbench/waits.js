@@ -1,0 +1,280 @@
+/**
+ * What is not finished at a position, where it is, and what it waits for: the answer to "why does nothing happen?".
+ */
+
+import { State } from "./state.js";
+import { sends } from "./talk.js";
+import { farEnd, hostName, impName, impOf, siteName } from "./topology.js";
+import { count, listed } from "./words.js";
+
+/** @typedef {import("./talk.js").Talk} Talk */
+/** @typedef {import("./talk.js").End} End */
+/** @typedef {import("./state.js").Held} Held */
+/** @typedef {import("./topology.js").Network} Network */
+
+/**
+ * @typedef {object} Wait
+ * @property {string} what
+ * @property {string} where "" where nothing is left of it
+ * @property {string} copies how many copies there are beside it
+ * @property {string} for what it waits for
+ * @property {boolean} bad whether it waits for ever, unless somebody does something
+ * @property {string[]} cures script lines that help
+ * @property {string} flow of a message, "" otherwise
+ */
+
+/**
+ * All that waits.
+ *
+ * @param {State} state
+ * @param {Talk} talk as of the same position
+ * @param {boolean} inside whether the state tells where messages are
+ * @returns {Wait[]}
+ */
+export function waitsOf(state, talk, inside) {
+    return [...messageWaits(state, talk, inside), ...connectionWaits(state, talk), ...(inside ? deadNeighbours(state) : [])];
+}
+
+/**
+ * @param {State} state
+ * @param {Talk} talk
+ * @param {boolean} inside
+ * @returns {Wait[]}
+ */
+function messageWaits(state, talk, inside) {
+    const { network } = state;
+    if (!inside) return [...talk.messages.values()].map((it) => ({ ...wait(messageName(network, it.flow)), where: it.taken ? "taken" : "in the network", for: "its answer", flow: it.flow }));
+    if (network.plain) return plainWaits(state);
+    const everything = state.everything();
+    /** @type {Wait[]} */
+    const found = [];
+    for (const site of network.sites) {
+        for (const it of state.imp(site.number)?.sources ?? []) {
+            if (it.state === "answered") found.push({ ...wait(`The answer to ${messageName(network, it.flow)}`), where: impName(network, site.number), for: `${hostName(network, it.flow.split(" ")[0])} to take it`, flow: it.flow });
+            if (it.state === "outstanding") found.push(outstanding(state, it.flow, it.number, everything));
+        }
+    }
+    return found;
+}
+
+/**
+ * @param {State} state
+ * @returns {Wait[]}
+ */
+function plainWaits(state) {
+    const { network } = state;
+    return network.hosts.flatMap((host) => {
+        const box = state.box(host);
+        if (!box) return [];
+        return [
+            ...box.messages.map((it) => ({ ...wait(messageName(network, it.flow)), where: `the mailbox of ${hostName(network, host)}`, for: `${hostName(network, host)} to take it`, flow: it.flow })),
+            ...box.answers.map((it) => ({ ...wait(`${ANSWERS[it.kind]} for ${messageName(network, it.flow)}`), where: `the mailbox of ${hostName(network, host)}`, for: `${hostName(network, host)} to take it`, flow: it.flow })),
+        ];
+    });
+}
+
+/** The names of answers. */
+export const ANSWERS = { rfnm: "RFNM", dead: "Dead", incomplete: "Incomplete", nottaken: "Not taken" };
+
+/** What the packets that answer a message are called. */
+export const PACKETS = { data: "the message", rfnm: "its RFNM", dead: "its Dead", ask: "the question about it", never: "the answer that it never came" };
+
+/**
+ * A message by its source, destination and link.
+ *
+ * @param {Network} network
+ * @param {string} flow
+ */
+export function messageName(network, flow) {
+    const [source, destination, link] = flow.split(" ");
+    const from = hostName(network, source);
+    return `${from}${from.endsWith("s") ? "'" : "'s"} message to ${hostName(network, destination)} on link ${link}`;
+}
+
+/**
+ * @param {string} what
+ * @returns {Wait}
+ */
+function wait(what) {
+    return { what, where: "", copies: "", for: "", bad: false, cures: [], flow: "" };
+}
+
+/**
+ * A message that is outstanding: all that is alive of it, and what the one that is furthest waits for.
+ *
+ * @param {State} state
+ * @param {string} flow
+ * @param {number} number
+ * @param {Held[]} everything
+ * @returns {Wait}
+ */
+function outstanding(state, flow, number, everything) {
+    const { network } = state;
+    const told = { ...wait(messageName(network, flow)), flow };
+    const copies = everything.filter((it) => it.flow === flow && it.number === number);
+    const far = impOf(flow.split(" ")[1]);
+    if (copies.length === 0) {
+        const canAsk = far !== impOf(flow.split(" ")[0]) && state.way(impOf(flow.split(" ")[0]), far).line >= 0;
+        return { ...told, for: "nothing of it is alive: ask, or give it up", bad: true, cures: [...(canAsk ? [`ask ${flow}`] : []), `giveup ${flow}`] };
+    }
+    const best = furthest(state, copies);
+    const held = copies.filter((it) => it.place.at !== "line").length;
+    const others = copies.length > 1 ? `(${listed([...(held ? [`${held} held`] : []), ...(copies.length > held ? [`${copies.length - held} on lines`] : [])])})` : "";
+    return { ...told, ...placeOf(state, best), copies: others };
+}
+
+/**
+ * The copy that matters: an answer before a question before the message, and of each kind the one that is nearest to its end.
+ *
+ * @param {State} state
+ * @param {Held[]} copies
+ */
+function furthest(state, copies) {
+    const rank = { rfnm: 4, dead: 4, never: 4, ask: 2, data: 3 };
+    const at = { host: 100, slot: 90, line: 0.2, channel: 0.1, store: 0 };
+    const score = (/** @type {Held} */ it) => {
+        const to = target(it);
+        const distance = it.place.at === "host" || it.place.at === "slot" ? 0 : state.way(it.place.imp, to).distance;
+        return 1000 * rank[it.kind] + at[it.place.at] - distance;
+    };
+    return copies.reduce((best, it) => (score(it) > score(best) ? it : best));
+}
+
+/**
+ * The IMP to which something travels.
+ *
+ * @param {Held} held
+ */
+function target(held) {
+    const [source, destination] = held.flow.split(" ");
+    return impOf(held.kind === "data" || held.kind === "ask" ? destination : source);
+}
+
+/**
+ * Where a copy is and what it waits for.
+ *
+ * @param {State} state
+ * @param {Held} held
+ * @returns {{where: string, for: string, bad: boolean, cures: string[]}}
+ */
+function placeOf(state, held) {
+    const { network } = state;
+    const { imp, line, place, channel } = held.place;
+    const what = held.kind === "data" ? "" : `${PACKETS[held.kind]}: `;
+    const far = line >= 0 ? farEnd(network, line, imp) : 0;
+    switch (held.place.at) {
+        case "host": {
+            const host = held.flow.split(" ")[1];
+            return { where: `${impName(network, imp)}`, for: `${hostName(network, host)} to take it`, bad: !state.isUp(host), cures: [`take ${host}`] };
+        }
+        case "slot":
+            return { where: `${impName(network, imp)}, a slot with ${count(place, "piece")}`, for: "its other pieces", bad: false, cures: [] };
+        case "store":
+            return { where: `${what}${impName(network, imp)}, in the store`, for: `a free channel towards ${siteName(network, target(held))}`, bad: false, cures: [] };
+        case "line":
+            return { where: `${what}on the line from ${siteName(network, imp)} to ${siteName(network, far)}`, for: "the frame to arrive", bad: false, cures: ["calm 1"] };
+    }
+    const isDown = !state.isEndUp(far, line);
+    return {
+        where: `${what}${impName(network, imp)}, channel ${channel} to ${siteName(network, far)}`,
+        for: isDown ? `the acknowledgement of ${siteName(network, far)}, whose end of line ${line} is down` : `the acknowledgement of ${siteName(network, far)}`,
+        bad: isDown,
+        cures: isDown ? [`enddown ${imp} ${line}`] : [],
+    };
+}
+
+/**
+ * What connections and contacts wait for.
+ *
+ * @param {State} state
+ * @param {Talk} talk
+ * @returns {Wait[]}
+ */
+function connectionWaits(state, talk) {
+    const { network } = state;
+    /** @type {Wait[]} */
+    const found = [];
+    for (const { host, peer, state: phase } of talk.contacts) {
+        if (phase === "asked") found.push({ ...wait(`${possessive(hostName(network, host))} contact with ${hostName(network, peer)}`), for: `the RRP of ${hostName(network, peer)}, after the RFNM for its own RST`, bad: !talk.up.get(peer) });
+    }
+    for (const end of talk.ends) found.push(...endWaits(network, talk, end));
+    return found;
+}
+
+/**
+ * @param {Network} network
+ * @param {Talk} talk
+ * @param {End} end
+ * @returns {Wait[]}
+ */
+function endWaits(network, talk, end) {
+    const at = `socket ${end.socket} of ${hostName(network, end.host)}`;
+    if (end.state === "asked") return [{ ...wait(`The request from ${at}`), for: `${hostName(network, end.peer)} to ask for the same connection, or to listen on socket ${end.foreign}` }];
+    if (end.state === "closing") return [{ ...wait(`The close of ${at}`), for: `the CLS of ${hostName(network, end.peer)}` }];
+    if (!sends(end.socket) || end.state !== "open" || end.handed <= end.bits) return [];
+    const mate = talk.mate(end);
+    const messages = mate ? mate.grantedMessages - end.messages - end.returnedMessages : 0;
+    const bits = mate ? mate.grantedBits - end.bits - end.returnedBits : 0;
+    const left = end.handed - end.bits;
+    const granted = `${count(Math.max(messages, 0), "message")} and ${count(Math.max(bits, 0), "bit")} are left of the grant`;
+    const isShort = messages < 1 || bits < (end.size || 1);
+    return [
+        {
+            ...wait(`${count(left, "bit")} on ${at}`),
+            where: `${possessive(hostName(network, end.host))} program; ${granted}`,
+            for: isShort ? `a grant of ${hostName(network, end.peer)}` : `${hostName(network, end.host)} to offer`,
+            bad: isShort,
+            cures: isShort ? [`grant ${end.peer} ${end.foreign} 1 ${left}`] : [`offer ${end.host}`],
+        },
+    ];
+}
+
+/**
+ * IMPs that are down while their neighbours still take them for up.
+ *
+ * @param {State} state
+ * @returns {Wait[]}
+ */
+function deadNeighbours(state) {
+    const { network } = state;
+    if (network.plain) return [];
+    return network.sites.flatMap(({ number }) => {
+        if (state.imp(number)) return [];
+        const ends = network.lines.flatMap((ends, line) => (ends.includes(number) && state.isEndUp(farEnd(network, line, number), line) ? [`enddown ${farEnd(network, line, number)} ${line}`] : []));
+        if (ends.length === 0) return [];
+        return [{ ...wait(`${impName(network, number)} is down, and its neighbours don't see it`), for: "its neighbours' ends of its lines to go down", bad: true, cures: ends }];
+    });
+}
+
+/** @param {string} name */
+function possessive(name) {
+    return name.endsWith("s") ? `${name}'` : `${name}'s`;
+}
+
+/**
+ * Waits that are alike as one: messages of one pair of hosts that wait at one place for one thing.
+ *
+ * @param {Network} network
+ * @param {Wait[]} waits
+ * @returns {(Wait & {count: number})[]}
+ */
+export function grouped(network, waits) {
+    /** @type {Map<string, Wait[]>} */
+    const groups = new Map();
+    for (const it of waits) {
+        const pair = it.flow.split(" ").slice(0, 2).join(" ");
+        const isAnswer = it.what.startsWith("The answer");
+        const key = it.flow ? `${isAnswer}|${pair}|${it.where.replace(/channel \d+/, "channel")}|${it.for}` : `${it.what}|${it.where}|${it.for}`;
+        groups.set(key, [...(groups.get(key) ?? []), it]);
+    }
+    return [...groups.values()].map((group) => {
+        const [first] = group;
+        if (group.length === 1) return { ...first, count: 1 };
+        const [source, destination] = first.flow.split(" ");
+        const links = listed(group.map((it) => it.flow.split(" ")[2]), 16);
+        const start = first.what.startsWith("The answer") ? `The answers to ${group.length}` : String(group.length);
+        const what = `${start} messages from ${hostName(network, source)} to ${hostName(network, destination)}, links ${links}`;
+        const where = first.where.replace(/channel \d+/, "channels");
+        return { ...first, what, where, copies: "", count: group.length, cures: group.length > 1 && first.cures.length ? group.flatMap((it) => it.cures.slice(-1)) : [] };
+    });
+}
