@@ -23,11 +23,13 @@ beside its module lemmas, names of proofs/ that are declared `pub` and stand now
 import argparse
 import functools
 import glob
+import io
 import os
 import re
+import unittest
 from collections import Counter
 
-from documents import anchors, crates_page, dialect, planted
+from documents import anchors, crates_page, dialect, planted, tests
 from drawings import pictures
 from parts import ROOT
 
@@ -226,10 +228,16 @@ def over_limits():
         yield from found if len(found) > most else []
 
 
+def failed_tests():
+    """The tests of these checks that fail."""
+    ran = unittest.TextTestRunner(stream=io.StringIO()).run(unittest.defaultTestLoader.loadTestsFromModule(tests))
+    return [f"tools/documents/tests.py: {test.id()} fails: {why.splitlines()[-1]}" for test, why in (*ran.failures, *ran.errors)]
+
+
 def made():
     """What isn't as it is made, and what the drawings and the words of the documents have that they shouldn't."""
     print("check docs:", dialect.summary())
-    return [*anchors.faults(), *pictures.faults(), *crates_page.faults(), *planted.faults(), *dialect.faults()]
+    return [*failed_tests(), *anchors.faults(), *pictures.faults(), *crates_page.faults(), *planted.faults(), *dialect.faults()]
 
 
 def write():

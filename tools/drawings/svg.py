@@ -26,7 +26,8 @@ INK, SOFT, PAPER = ("#1f2328", "#e6edf3"), ("#4a525b", "#aab2bc"), ("#ffffff", "
 
 def style() -> str:
     """The style sheet that all drawings have."""
-    light, dark = [], []
+    light: list[str] = []
+    dark: list[str] = []
     for name, (line, fill, dark_line, dark_fill) in COLOURS.items():
         for into, stroke, inside in ((light, line, fill), (dark, dark_line, dark_fill)):
             into += [f".{name}{{stroke:{stroke};fill:{inside}}}", f".{name}-line{{stroke:{stroke}}}", f".{name}-text,.{name}-head{{fill:{stroke}}}"]
