@@ -30,8 +30,6 @@ from parts import ROOT
 
 # what antt says of a proof that names what is no longer there, or answers a goal that says nothing any more
 GONE = r"has no field|is not in scope|has no `|was not admitted|\(nearest: \.|types are `Unit \{0\}` \(expected\)"
-# the line of an edit that the gate tries
-OF_GATE = "# The gate tries this bug.\n"
 # the head of an `impl`: its trait if it has one, and its type
 IMPL = re.compile(r"impl\b(?:<.*?>)?(?: (\S.*) for)?.*?(\w+)(?:<[^{]*>)? (?:where.*)?\{")
 
@@ -65,7 +63,7 @@ class Edit:
             text = file.read()
         self.files = sorted({it.strip() for it in re.findall(r"^file: (.*)$", text, re.MULTILINE)})
         self.pairs = re.findall(r"^old: (.*)\nnew: ?(.*)$", text, re.MULTILINE)
-        self.is_of_gate = OF_GATE in text
+        self.is_of_gate = planted.GATE in text
         self.function, self.only = self.function_of() or (None, None)
 
     def source(self):

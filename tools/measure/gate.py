@@ -58,7 +58,8 @@ def work_of(pid, parent):
     except OSError:
         return parent
     crate = words[words.index("--crate-name") + 1]
-    part = 2 if "rt-edit" in folder else 1 if "--test" in words else 0
+    # `rt ci` tries planted bugs in folders rt-edit.., and `./check edits --gate` in folders edits-..
+    part = 2 if re.search(r"/(rt-edit|edits-)", folder) else 1 if "--test" in words else 0
     return crate, PARTS[part]
 
 
