@@ -5,4 +5,5 @@ pub mod FrameLemmas
 pub mod Holding
 pub mod OneChannel
 pub mod Runs
+pub mod Spellings
 pub mod lemmas

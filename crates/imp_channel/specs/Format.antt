@@ -3,13 +3,13 @@
 -- Octet 0 is the version, the same in every frame, octet 1 the kind, octet 2 the acknowledgement bits, that of channel 0 in
 -- the lowest place. In a packet frame octet 3 has the channel in its lowest three places and the packet's bit in the next, and
 -- the packet follows. In a routes frame the distances follow, an octet each, that to IMP 1 first.
-use Rattle.std.specs.Prelude.{◌≡◌, ℕ, zero, suc, ◌+◌, ◌*◌, ◌/◌, ◌%◌, Bool, true, false, List, [], ◌∷◌, length, Result, Ok, Err, IsOk, nat_lt, nat_le, ◌==◌, if◌then◌else◌}
+use Rattle.std.specs.Prelude.{◌≡◌, ℕ, zero, suc, ◌+◌, ◌*◌, ◌/◌, ◌%◌, ◌<◌, Bool, true, false, List, [], ◌∷◌, length, Result, Ok, Err, IsOk, nat_lt, nat_le, ◌==◌, if◌then◌else◌}
 use Rattle.leader1822.specs.Host.{most_imps}
-use Rattle.packetiser.specs.PacketFields.{PacketFields}
+use Rattle.packetiser.specs.PacketFields.{PacketFields, IsPacket}
 use Rattle.packetiser.specs.Format as packets
 use Rattle.packetiser.specs.declared.fault.PacketFault.{PacketFault}
 use Rattle.packetiser.specs.declared.fault.PacketFault.TheVariants as packet_fault
-use Rattle.routing.specs.Vector.{is_vector}
+use Rattle.routing.specs.Vector.{IsVector, is_vector}
 use Rattle.imp_channel.specs.Carriage.{Carriage}
 use Rattle.imp_channel.specs.declared.fault.ChannelFault.{ChannelFault}
 use Rattle.imp_channel.specs.declared.fault.ChannelFault.TheVariants as fault
@@ -112,6 +112,21 @@ frame_in (kind ∷ acks ∷ rest) = framed (bits_of 8 acks) (content_of kind res
 abbrev pub read_of : List ℕ → Result Frame ChannelFault
 read_of [] = Err fault.Short
 read_of (octet ∷ rest) = if octet == version then frame_in rest else Err fault.BadVersion
+
+-- ---- what can be written
+
+-- what a frame may bring: a packet by its format on one of eight channels, nothing, or the distances of a vector
+abbrev pub Brings : Content → Type 0
+Brings (content.Packet carried) = (carried.channel < 8) × IsPacket carried.packet
+Brings content.Nothing = Unit {0}
+Brings (content.Routes distances) = IsVector distances
+
+-- the format of frames: what a frame may say
+pub record IsFrame (f : Frame) : Type 0 where
+  pub acks : length f.acks ≡ 8
+  pub brings : Brings f.content
+
+-- ---- memory
 
 -- how many bits the packet of a packet frame says that it has; any other frame has none
 abbrev pub packet_bits_in : ℕ → List ℕ → ℕ

@@ -1,4 +1,5 @@
 pub mod Carriage
+pub mod Examples
 pub mod Format
 pub mod Holding
 pub mod Line

@@ -1,14 +1,63 @@
 //! What a line promises, as laws over the definitions that the calls of [`crate::Line`] cite. The functions
 //! here do nothing: each clause is a law.
 
-ghost use Rattle.std.specs.Prelude.{◌≡◌, ℕ, ◌+◌, List, [], ◌∷◌, ◌++◌, Some, Ok, IsPermutation};
+ghost use Rattle.std.specs.Prelude.{◌≡◌, ℕ, ◌+◌, ◌<◌, true, false, List, [], ◌∷◌, ◌++◌, All, replicate, Some, Ok, Err, IsPermutation};
+ghost use Rattle.packetiser.specs.Examples.{about_it};
+ghost use Rattle.packetiser.specs.Format as packets;
 ghost use Rattle.packetiser.specs.PacketFields.{PacketFields};
 ghost use Rattle.packetiser.specs.Rejoining.{AreAmong};
+ghost use Rattle.packetiser.specs.declared.packet.PacketKind.TheVariants as kind;
+ghost use Rattle.imp_channel.specs.Examples.{packet_octets, packet_frame};
+ghost use Rattle.imp_channel.specs.Format.{IsFrame, read_of, spelling};
 ghost use Rattle.imp_channel.specs.Holding.{packets_in, carried_by, carried_by_all};
 ghost use Rattle.imp_channel.specs.Line.{End, opening_end, submitted, resent, acknowledgement, routes_frame, answer_to, state_after};
 ghost use Rattle.imp_channel.specs.Schedule.{Event, InOrder, run, opening_side, opening_sides, one_packet};
+ghost use Rattle.imp_channel.specs.declared.fault.ChannelFault.TheVariants as fault;
+ghost use Rattle.imp_channel.specs.declared.frame.Content.TheVariants as content;
 ghost use Rattle.imp_channel.specs.declared.frame.Frame.{Frame};
 ghost use Rattle.imp_channel.specs.declared.line.Received.TheVariants as received;
+
+/// Each frame has one spelling, and only spellings are read.
+pub fn spellings()
+    // what is written is read again
+    ensures again { (f : Frame) → IsFrame f → read_of (spelling f) ≡ Ok f }
+
+    // what is read keeps the format, and was its spelling: nothing stands after its end
+    ensures read { (octets : List ℕ) (f : Frame) → All (λ n. n < 256) octets → read_of octets ≡ Ok f → IsFrame f × (octets ≡ spelling f) }
+
+    // two frames are spelled differently
+    ensures one { (f g : Frame) → IsFrame f → IsFrame g → spelling f ≡ spelling g → f ≡ g }
+{}
+
+/// Frames octet by octet, and octets that are none.
+pub fn worked_frames()
+    // acknowledgements alone: the bit of channel 0 is the lowest
+    ensures acks { read_of (242 ∷ 1 ∷ 1 ∷ []) ≡ Ok (record { acks = true ∷ replicate 7 false; content = content.Nothing }) }
+    ensures last_ack { spelling (record { acks = replicate 7 false ++ true ∷ []; content = content.Nothing }) ≡ 242 ∷ 1 ∷ 128 ∷ [] }
+
+    // an RFNM on channel 7 under bit 0, and on channel 0 under bit 1
+    ensures channel { read_of (packet_octets 7) ≡ Ok (packet_frame 7 false) }
+    ensures bit { read_of (packet_octets 8) ≡ Ok (packet_frame 0 true) }
+    ensures written { (spelling (packet_frame 7 false) ≡ 242 ∷ 0 ∷ 0 ∷ 7 ∷ packets.spelling (about_it kind.Rfnm)) × (spelling (packet_frame 0 true) ≡ 242 ∷ 0 ∷ 0 ∷ 8 ∷ packets.spelling (about_it kind.Rfnm)) }
+
+    // distances: an octet each, that to IMP 1 first
+    ensures routes { read_of (242 ∷ 2 ∷ 0 ∷ 0 ∷ 1 ∷ replicate 61 63) ≡ Ok (record { acks = replicate 8 false; content = content.Routes (0 ∷ 1 ∷ replicate 61 63) }) }
+    ensures too_far { read_of (242 ∷ 2 ∷ 0 ∷ 64 ∷ replicate 62 63) ≡ Err fault.NotCanonical }
+    ensures too_few { read_of (242 ∷ 2 ∷ 0 ∷ 64 ∷ replicate 61 63) ≡ Err fault.Short }
+    ensures too_many { read_of (242 ∷ 2 ∷ 0 ∷ replicate 64 63) ≡ Err fault.NotCanonical }
+
+    // another version, whatever follows it; and too few octets before a kind that is none
+    ensures version { (read_of (243 ∷ []) ≡ Err fault.BadVersion) × (read_of (240 ∷ 3 ∷ 0 ∷ []) ≡ Err fault.BadVersion) × (read_of (1 ∷ 1 ∷ []) ≡ Err fault.BadVersion) }
+    ensures short { (read_of [] ≡ Err fault.Short) × (read_of (242 ∷ []) ≡ Err fault.Short) × (read_of (242 ∷ 3 ∷ []) ≡ Err fault.Short) × (read_of (242 ∷ 0 ∷ 0 ∷ []) ≡ Err fault.Short) }
+
+    // no such kind; a value above the packet's bit, before what is wrong in the packet; an octet after the end
+    ensures no_kind { read_of (242 ∷ 3 ∷ 0 ∷ []) ≡ Err fault.NotCanonical }
+    ensures above { (read_of (packet_octets 16) ≡ Err fault.NotCanonical) × (read_of (242 ∷ 0 ∷ 0 ∷ 16 ∷ []) ≡ Err fault.NotCanonical) }
+    ensures after_end { read_of (242 ∷ 1 ∷ 0 ∷ 0 ∷ []) ≡ Err fault.NotCanonical }
+
+    // what is wrong in the packet
+    ensures packet { (read_of (242 ∷ 0 ∷ 0 ∷ 0 ∷ []) ≡ Err fault.Short) × (read_of (242 ∷ 0 ∷ 0 ∷ 0 ∷ 1 ∷ 1 ∷ 2 ∷ 5 ∷ 0 ∷ 0 ∷ 128 ∷ 0 ∷ 16 ∷ 0 ∷ 0 ∷ []) ≡ Err fault.BadLength) }
+{}
 
 /// Packets come out in order and once.
 ///

@@ -1,14 +1,13 @@
 -- Plain boxes rest while their map by flow is empty.
-use Rattle.std.proofs.Common.{◌≡◌, Bool, true, false, ◌||◌, List, [], ◌∷◌, Option, Some, None, IsSome, is_some, Ok, Err, refl, ap, sym, ◌∙◌}
+use Rattle.std.proofs.Common.{◌≡◌, Bool, true, false, ◌||◌, List, [], ◌∷◌, Option, None, is_some, Ok, Err, refl, ap, sym, ◌∙◌}
 use Rattle.std.specs.FinMap.{empty, get, get-empty}
 use Rattle.leader1822.specs.Host.{Host, is_host}
 use Rattle.leader1822.specs.Flow.{flow_cmp}
 use Rattle.leader1822.specs.Rest.{Rests, TakesNothing}
-use Rattle.leader1822.specs.Boxes.{Boxes, BoxesRound, BoxesTake, WaitingAnswer, for_host, first_of_list, host_refusal, next_for, answer_first}
+use Rattle.leader1822.specs.Boxes.{Boxes, BoxesRound, BoxesTake, WaitingAnswer, for_host, first_of_list, next_for, answer_first}
 use Rattle.leader1822.specs.Inside.Held.{Flows, Held, IsIndexed, IsKept}
 use Rattle.leader1822.specs.Inside.Soundness.{texts_of, kinds_of, texts_for, kinds_for, AreTo, AreToldTo, Matches}
 use Rattle.leader1822.specs.declared.address.Flow.{Flow}
-use Rattle.leader1822.specs.declared.carrier.CarrierFault.{CarrierFault}
 use Rattle.leader1822.specs.declared.carrier.CarrierFault.TheVariants as fault
 use Rattle.leader1822.specs.declared.message.HostMessage.{HostMessage}
 use Rattle.leader1822.proofs.Lists.{same_host-true, same_flow-refl}

@@ -20,7 +20,7 @@ pub enum CarrierFault {
     /// There is no such host, IMP, line or frame, or the carrier has no such event.
     #[error("NoSuch")]
     NoSuch,
-    /// Something that must be gone first is still alive.
+    /// Something that has to be gone first is still alive, outstanding or remembered.
     #[error("StillAlive")]
     StillAlive,
     /// The host, IMP or end of a line is down.
@@ -99,10 +99,14 @@ pub trait Carrier: Drop {
         ensures shown { ShowsRound (seen self.old) result (seen self.new) };
 
     /// Whether it is known that the network rests: a quiet round leaves it as it is, and so does a taking of any host, which
-    /// brings nothing. A carrier may answer `false` though it rests. This takes no memory.
+    /// brings nothing. A carrier may answer `false` though it rests, and one that doesn't say otherwise does. This takes no
+    /// memory.
     fn rests(&self) -> bool
         ensures running { result ≡ true → (seen self.now).stopped ≡ false }
-        ensures unchanged { result ≡ true → Rests rounds takes self.now };
+        ensures unchanged { result ≡ true → Rests rounds takes self.now }
+    {
+        false
+    }
 
     /// All crossings so far, oldest first. They are a run of the mailboxes.
     fn log(&self) -> &[Crossing]

@@ -10,6 +10,7 @@ ghost use Rattle.leader1822.specs.declared.address.Flow.{Flow};
 ghost use Rattle.link_table.specs.Flows.{Sources, Destinations, noted, ended, ended_in, begun, flow_answered, given_up, handed, number_in, last_in, outstanding_in, is_idle_in, answered_in, given_up_in, handed_in, release_in, has_outstanding, has_outstanding_to};
 ghost use Rattle.link_table.specs.Keys.{is_from, drop_from, has_from};
 ghost use Rattle.link_table.specs.declared.destination.Fate.{Fate};
+ghost use Rattle.link_table.specs.declared.destination.Fate.TheVariants as fate;
 ghost use Rattle.link_table.specs.declared.source.Standing.{Standing};
 ghost use Rattle.link_table.specs.declared.source.Standing.TheVariants as standing;
 ghost use Rattle.link_table.specs.declared.source.Release.TheVariants as release;
@@ -132,6 +133,13 @@ pub fn numbers_of_sources()
     // it may when it took the answer, and a message that is outstanding stays so
     ensures handed_idle { (m : Sources) (f : Flow) → outstanding_in (map.get m f) ≡ None → is_idle_in (map.get (handed m f) f) ≡ true }
     ensures handed_outstanding { (m : Sources) (f g : Flow) → outstanding_in (map.get (handed m f) g) ≡ outstanding_in (map.get m g) }
+{}
+
+/// The fate that is kept with a number.
+pub fn worked_fates()
+    // it changes for the number that is kept alone: what becomes of an older message is passed over
+    ensures ended { ended_in 5 fate.Dead (record { number = 5; fate = fate.Waits }) ≡ record { number = 5; fate = fate.Dead } }
+    ensures other { (ended_in 4 fate.Dead (record { number = 5; fate = fate.Waits }) ≡ record { number = 5; fate = fate.Waits }) × (ended_in 6 fate.Taken (record { number = 5; fate = fate.Waits }) ≡ record { number = 5; fate = fate.Waits }) }
 {}
 
 /// What the calls of a destination do to each flow.

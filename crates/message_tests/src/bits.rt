@@ -105,6 +105,38 @@ fn a_slice_shifts_across_octets(rt: HostRuntime) {
     }
 }
 
+/// Whether so many bits from a place on, cut out at once, are those that are taken one at a time; and whether they and the bits
+/// before that place, appended at once, are all of these taken one at a time.
+fn agrees(alloc: Global, from: u8, count: u8) -> Result<[bool; 2], BitFault> {
+    let whole = Bits::from_octets(alloc, &[0x41, 0x9A, 0x00, 0xFF, 0x5C, 0xE3, 0x17], 56)?;
+    let (from, to) = (usize::from(from), usize::from(from) + usize::from(count));
+    let part = whole.slice(alloc, from, to)?;
+    let (mut before, mut all, mut cut) = (Bits::new(alloc), Bits::new(alloc), Bits::new(alloc));
+    for place in 0..to {
+        let Some(bit) = whole.get(place) else {
+            return Err(BitFault::Range);
+        };
+        all.push(bit)?;
+        if place < from {
+            before.push(bit)?;
+        } else {
+            cut.push(bit)?;
+        }
+    }
+    before.append(&part)?;
+    Ok([part == cut, before == all])
+}
+
+#[test]
+fn slices_and_appends_are_those_of_single_bits(rt: HostRuntime) {
+    for from in 0..16u8 {
+        for count in 0..41u8 {
+            let found = agrees(rt.alloc(), from, count);
+            assert_eq!(rt; found, Ok([true; 2]), "{count} bits from {from}");
+        }
+    }
+}
+
 /// How many bits of eight zeros lie between two places.
 fn between(alloc: Global, from: usize, to: usize) -> Result<usize, BitFault> {
     let bits = Bits::from_octets(alloc, &[0], 8)?;

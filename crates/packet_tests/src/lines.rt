@@ -44,7 +44,7 @@ const NO_FRAMES: [(&[u8], ChannelFault); 20] = [
     (&[0xF2, 3, 0], ChannelFault::NotCanonical),
     (&[0xF2, 1, 0, 0], ChannelFault::NotCanonical),
     (&[0xF2, 0, 0, 16], ChannelFault::NotCanonical),
-    // channel 16; a packet of kind 5
+    // a value above the channel and its bit; a packet of kind 5
     (
         &[0xF2, 0, 0, 16, 1, 0x01, 0x42, 5, 0, 0, 0x80, 0, 0],
         ChannelFault::NotCanonical,

@@ -1,6 +1,6 @@
 //! Worked examples of packets, cutting and reassembly.
 
-use crate::values::{flow, is_told};
+use crate::values::{flow, is_told, to_imp_3};
 use bit_messages::{BitFault, Bits};
 use leader1822::{HostMessage, Number, Text};
 use packetiser::{Added, Held, Outcome, Packet, PacketFault, PacketKind, Reassembly, cut};
@@ -156,6 +156,22 @@ fn is_written(alloc: Global, packet: &Packet, octets: &[u8]) -> bool {
     }
 }
 
+/// Whether the request's message, with the number 0, is cut into one packet that is written as it stands here.
+fn request_cut(alloc: Global) -> Result<bool, PacketFault> {
+    let Ok(bits) = Bits::from_octets(alloc, &REQUEST, 120) else {
+        return Err(PacketFault::OutOfMemory);
+    };
+    let Some(text) = Text::new(bits) else {
+        return Err(PacketFault::BadLength);
+    };
+    let flow = to_imp_3();
+    let packets = cut(alloc, &HostMessage { flow, text }, 0)?;
+    match packets.as_slice() {
+        [packet] => Ok(is_written(alloc, packet, &RTS)),
+        _ => Ok(false),
+    }
+}
+
 /// Whether a copy of the request is written as it stands here.
 fn request_copied(alloc: Global) -> Result<bool, PacketFault> {
     let request = Packet::read(alloc, &RTS)?;
@@ -236,7 +252,10 @@ const EMPTY: [u8; 11] = [0, 1, 2, 5, 0, 0, 0x80, 0, 0x10, 0x80, 0];
 /// Its RFNM.
 const RFNM: [u8; 9] = [1, 1, 2, 5, 0, 0, 0x80, 0, 0];
 
-/// A request for connection from 0/1 to 0/3: receive socket 16, send socket 33, link 5.
+/// The text of a request for connection: receive socket 16, send socket 33, link 5.
+const REQUEST: [u8; 15] = [0, 8, 0, 10, 0, 1, 0, 0, 0, 16, 0, 0, 0, 33, 5];
+
+/// Its packet from 0/1 to 0/3 on link 0, number 0.
 const RTS: [u8; 25] = [
     0, 1, 3, 0, 0, 0, 0x80, 0, 0x80, 0, 8, 0, 10, 0, 1, 0, 0, 0, 16, 0, 0, 0, 33, 5, 0x80,
 ];
@@ -499,6 +518,11 @@ fn a_copy_an_answer_and_the_empty_message_are_written(rt: HostRuntime) {
         empty_cut(alloc),
     ];
     assert_eq!(rt; found, [Ok(true); 3]);
+}
+
+#[test]
+fn a_request_is_cut_into_its_packet(rt: HostRuntime) {
+    assert_eq!(rt; request_cut(rt.alloc()), Ok(true));
 }
 
 /// Whether a message of so many bits is cut into so many packets, each with its place, the last flag and

@@ -42,15 +42,15 @@ fn told(tables: &[RouteTable; 4]) -> [Said; 4] {
     found
 }
 
-/// IMPs 1, 2 and 3 in a row, and IMP 4 alone.
-fn row(alloc: Global) -> Result<[Said; 4], AllocError> {
+/// IMPs 1, 2 and 3 in a row, and IMP 4 alone, after so many rounds.
+fn row(alloc: Global, rounds: u32) -> Result<[Said; 4], AllocError> {
     let mut tables = [
         misled(alloc, 1, 1)?,
         misled(alloc, 2, 2)?,
         misled(alloc, 3, 1)?,
         misled(alloc, 4, 0)?,
     ];
-    settle(alloc, &[(1, 2), (2, 3)], &mut tables, 63)?;
+    settle(alloc, &[(1, 2), (2, 3)], &mut tables, rounds)?;
     Ok(told(&tables))
 }
 
@@ -111,7 +111,7 @@ fn sixty_three_rounds_tell_shortest_walks(rt: HostRuntime) {
         (far_from_others([63, 63, 0, 1]), None),
         (far_from_others([63, 63, 1, 0]), Some(0)),
     ];
-    let found = [row(rt.alloc()), ring(rt.alloc()), islands(rt.alloc())];
+    let found = [row(rt.alloc(), 63), ring(rt.alloc()), islands(rt.alloc())];
     assert_eq!(rt; found, [Ok(in_a_row), Ok(in_a_ring), Ok(on_islands)]);
 }
 
@@ -129,4 +129,24 @@ fn no_round_changes_nothing(rt: HostRuntime) {
         (far_from_others([63, 63, 63, 0]), None),
     ];
     assert_eq!(rt; row_at_first(rt.alloc()), Ok(misled));
+}
+
+/// Distances of the first four IMPs in the row after so many rounds, from misled tables: those that nobody is right about
+/// have grown by one a round.
+fn after(rounds: u8) -> [Said; 4] {
+    let far = rounds.saturating_add(1);
+    [
+        (distances([0, 1, 2, far], far), Some(0)),
+        (distances([1, 0, 1, far], far), Some(1)),
+        (distances([2, 1, 0, far], far), None),
+        (far_from_others([63, 63, 63, 0]), None),
+    ]
+}
+
+#[test]
+fn in_a_round_each_hears_what_the_others_knew_before_it(rt: HostRuntime) {
+    for rounds in 1..3u8 {
+        let found = row(rt.alloc(), u32::from(rounds));
+        assert_eq!(rt; found, Ok(after(rounds)), "{rounds} rounds");
+    }
 }

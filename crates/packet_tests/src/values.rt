@@ -20,6 +20,14 @@ pub(crate) fn flow(link: u8) -> Flow
     }
 }
 
+/// The flow on link 0 from 0/1 to 0/3.
+pub(crate) fn to_imp_3() -> Flow {
+    Flow {
+        destination: HostAddr::new(0, 3).unwrap(),
+        ..flow(0)
+    }
+}
+
 /// The flow on link 5 from host 0 at IMP 3 to 0/2.
 pub(crate) fn from_imp_3() -> Flow {
     Flow {

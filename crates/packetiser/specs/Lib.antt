@@ -6,3 +6,4 @@ pub mod Pieces
 pub mod Slots
 pub mod Rejoining
 pub mod Inside
+pub mod Examples

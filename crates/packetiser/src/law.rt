@@ -2,18 +2,21 @@
 //! functions here do nothing: each clause is a law.
 
 ghost use Rattle.std.specs.Prelude.{◌≡◌, ℕ, ◌+◌, ◌*◌, ◌<◌, ◌≤◌, Bool, true, false, List, [], ◌∷◌, ◌++◌, length, map};
-ghost use Rattle.std.specs.Prelude.{Option, None, Some, Ok, All, IsPermutation, if◌then◌else◌};
+ghost use Rattle.std.specs.Prelude.{Option, None, Some, Ok, Err, All, IsPermutation, if◌then◌else◌};
 ghost use Rattle.bit_messages.specs.Body.{body, most_text_bits, has_mark, strip_fault};
+ghost use Rattle.bit_messages.specs.Octets.{bits_of};
 ghost use Rattle.bit_messages.specs.declared.fault.BitFault.TheVariants as bit_fault;
 ghost use Rattle.leader1822.specs.Flow.{same_flow};
 ghost use Rattle.leader1822.specs.declared.address.Flow.{Flow};
 ghost use Rattle.packetiser.specs.PacketFields.{PacketFields, IsPacket, flow_of};
-ghost use Rattle.packetiser.specs.Format.{spelling, read_of};
+ghost use Rattle.packetiser.specs.Examples.{flow, request, request_packet, header, with_octet, with_octets, sixteen_bits, about_it};
+ghost use Rattle.packetiser.specs.Format.{spelling, read_of, is_bad_length};
 ghost use Rattle.packetiser.specs.Pieces.{piece_count, piece_packet, places, packets_of, IsBodySize, CarriesPieceOf};
 ghost use Rattle.packetiser.specs.Slots.{SlotState, IsTable, IsPieceFor, slot_of, kept_for, gathered, joined_pieces, is_whole_from};
 ghost use Rattle.packetiser.specs.Slots.{outcome_of, answer_of, added, without, packets_in, in_some_order, pieces_for, has_room};
 ghost use Rattle.packetiser.specs.Rejoining.{AreAmong, IsGathered, IsRejoined, Holds, answer_to, all_came, slots_after};
 ghost use Rattle.packetiser.specs.Rejoining.{Event, IsAmongOthers, places_in, after_events};
+ghost use Rattle.packetiser.specs.declared.fault.PacketFault.TheVariants as fault;
 ghost use Rattle.packetiser.specs.declared.packet.PacketKind.TheVariants as kind;
 ghost use Rattle.packetiser.specs.declared.reassembly.Outcome.TheVariants as outcome;
 ghost use Rattle.packetiser.specs.declared.reassembly.Added.TheVariants as answer;
@@ -28,6 +31,48 @@ pub fn spellings()
 
     // two packets are spelled differently
     ensures one { (p q : PacketFields) → IsPacket p → IsPacket q → spelling p ≡ spelling q → p ≡ q }
+{}
+
+/// Packets octet by octet, and octets that are none.
+pub fn worked_packets()
+    // a request for connection is cut into one packet
+    ensures request { map spelling (packets_of (flow 0) 0 (body (bits_of request))) ≡ request_packet ∷ [] }
+
+    // answers and questions: the kind, and source, destination, link and number of the message that they are about
+    ensures answers { (read_of (header 1 128 0) ≡ Ok (about_it kind.Rfnm)) × (read_of (header 2 128 0) ≡ Ok (about_it kind.Dead)) × (read_of (header 4 128 0) ≡ Ok (about_it kind.Never)) }
+    ensures question { read_of (header 3 128 0) ≡ Ok (about_it kind.Ask) }
+
+    // a piece at place 7 that is the last, with one unit of sixteen bits
+    ensures piece { read_of (with_octets 0 135 16) ≡ Ok (record (about_it kind.Data) { place = 7; bits = sixteen_bits }) }
+    ensures piece_again { spelling (record (about_it kind.Data) { place = 7; bits = sixteen_bits }) ≡ with_octets 0 135 16 }
+
+    // other hosts at its ends: the upper two bits of an address are the host
+    ensures hosts { read_of (1 ∷ 65 ∷ 255 ∷ 5 ∷ 1 ∷ 2 ∷ 128 ∷ 0 ∷ 0 ∷ []) ≡ Ok (record (about_it kind.Rfnm) { source = record { imp = 1; host = 1 }; destination = record { imp = 63; host = 3 } }) }
+
+    // too few octets: for a header, and for the bits that it counts
+    ensures short { (read_of [] ≡ Err fault.Short) × (read_of (9 ∷ 0 ∷ 0 ∷ 0 ∷ 0 ∷ 0 ∷ 0 ∷ 0 ∷ []) ≡ Err fault.Short) × (read_of (with_octet 0 128 9 128) ≡ Err fault.Short) }
+
+    // no such kind, IMP 0
+    ensures no_kind { read_of (header 5 128 0) ≡ Err fault.NotCanonical }
+    ensures no_imp { (read_of (1 ∷ 64 ∷ 3 ∷ 5 ∷ 1 ∷ 2 ∷ 128 ∷ 0 ∷ 0 ∷ []) ≡ Err fault.NotCanonical) × (read_of (1 ∷ 1 ∷ 192 ∷ 5 ∷ 1 ∷ 2 ∷ 128 ∷ 0 ∷ 0 ∷ []) ≡ Err fault.NotCanonical) }
+
+    // a bit between place and last flag, place 7 without the flag, an answer at another place or without the flag, an octet more
+    ensures between { (read_of (with_octets 0 136 16) ≡ Err fault.NotCanonical) × (read_of (with_octets 0 192 16) ≡ Err fault.NotCanonical) }
+    ensures unmarked { read_of (with_octets 0 7 16) ≡ Err fault.NotCanonical }
+    ensures answer_place { (read_of (header 1 129 0) ≡ Err fault.NotCanonical) × (read_of (header 4 0 0) ≡ Err fault.NotCanonical) }
+    ensures after_end { (read_of (with_octet 1 128 0 0) ≡ Err fault.NotCanonical) × (read_of (with_octets 0 128 8) ≡ Err fault.NotCanonical) }
+
+    // a piece without bits, with part of a unit, that isn't the last and isn't full; an answer and a question with bits
+    ensures no_bits { read_of (header 0 128 0) ≡ Err fault.BadLength }
+    ensures part_of_unit { read_of (with_octet 0 128 8 128) ≡ Err fault.BadLength }
+    ensures not_full { read_of (with_octets 0 1 16) ≡ Err fault.BadLength }
+    ensures answer_bits { (read_of (with_octets 2 128 16) ≡ Err fault.BadLength) × (read_of (with_octets 3 128 16) ≡ Err fault.BadLength) }
+
+    // 1008 bits are the most, and are full; 1024 are too many
+    ensures most { (is_bad_length (0 ∷ 1 ∷ 3 ∷ 5 ∷ 1 ∷ 2 ∷ 0 ∷ 3 ∷ 240 ∷ []) ≡ false) × (is_bad_length (0 ∷ 1 ∷ 3 ∷ 5 ∷ 1 ∷ 2 ∷ 128 ∷ 4 ∷ 0 ∷ []) ≡ true) }
+
+    // a missing octet comes before IMP 0, and an octet too many before a bad length
+    ensures order { (read_of (1 ∷ 0 ∷ 3 ∷ 5 ∷ 1 ∷ 2 ∷ 128 ∷ 0 ∷ 8 ∷ []) ≡ Err fault.Short) × (read_of (with_octets 1 128 8) ≡ Err fault.NotCanonical) }
 {}
 
 /// A message is cut into pieces that are its body.
