@@ -122,7 +122,7 @@ impl Imp {
     }
 
     /// Whether an answer about this flow waits for its source.
-    pub(crate) fn has_answer_about(&self, flow: &Flow) -> bool
+    pub fn has_answer_about(&self, flow: &Flow) -> bool
         ensures { result ≡ list_any (is_about flow.now) (host_at self.now flow.now.source.host).answers }
     {
         let source = flow.source;

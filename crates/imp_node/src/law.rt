@@ -401,6 +401,45 @@ pub fn worked_flows()
     ensures idle { is_idle (give_up (host_down sent_imp 0).state (flow (host 0 1) (host 0 2) 7)).state (flow (host 0 1) (host 0 2) 7) ≡ true }
 {}
 
+/// What is kept of messages that were not taken, and what a repeat brings. Host 0 at IMP 1 is served over port 0, from host 0 at
+/// IMP 2 on link 2.
+pub fn worked_fates()
+    // a body without a mark never comes: that is noted of its number, and so a question about it is answered
+    ensures unmarked { map.get (from_line (serving []) 0 (packet_frame 0 (unmarked_packet (flow (host 0 2) (host 0 1) 2) 0))).state.kept (flow (host 0 2) (host 0 1) 2) ≡ Some (record { number = 0; fate = fate.Never }) }
+    ensures unmarked_asked { (from_line (from_line (serving []) 0 (packet_frame 0 (unmarked_packet (flow (host 0 2) (host 0 1) 2) 0))).state 0 (packet_frame 1 (answer_packet kind.Ask (flow (host 0 2) (host 0 1) 2) 0))).frames ≡ on_port 0 (record { acks = true ∷ true ∷ replicate 6 false; content = content.Nothing }) ∷ on_port 0 (record (packet_frame 0 (answer_packet kind.Never (flow (host 0 2) (host 0 1) 2) 0)) { acks = true ∷ true ∷ replicate 6 false }) ∷ [] }
+
+    // a message that waits for a host that goes down is dead, and not one that never came
+    ensures stopped { map.get (host_down (noted (flow (host 0 2) (host 0 1) 2) 0 fate.Waits (serving (messages_between (host 0 2) (host 0 1) 1))) 0).state.kept (flow (host 0 2) (host 0 1) 2) ≡ Some (record { number = 0; fate = fate.Dead }) }
+
+    // what becomes of message 0 is passed over where number 5 was noted since
+    ensures older_stopped { map.get (host_down (noted (flow (host 0 2) (host 0 1) 2) 5 fate.Waits (serving (messages_between (host 0 2) (host 0 1) 1))) 0).state.kept (flow (host 0 2) (host 0 1) 2) ≡ Some (record { number = 5; fate = fate.Waits }) }
+    ensures older_taken { map.get (to_host (noted (flow (host 0 2) (host 0 1) 2) 5 fate.Waits (serving (messages_between (host 0 2) (host 0 1) 1))) 0).state.kept (flow (host 0 2) (host 0 1) 2) ≡ Some (record { number = 5; fate = fate.Waits }) }
+
+    // the acknowledgement bits of a repeat count: they free the channel of the packet that went out. Without them it stays there
+    ensures repeat_frees { packets (from_line (from_line sent_imp 0 (packet_frame 0 (only_packet (flow (host 0 2) (host 0 1) 2) 0))).state 0 (record (packet_frame 0 (only_packet (flow (host 0 2) (host 0 1) 2) 0)) { acks = ack_frame.acks })).state ≡ [] }
+    ensures repeat_keeps { packets (from_line (from_line sent_imp 0 (packet_frame 0 (only_packet (flow (host 0 2) (host 0 1) 2) 0))).state 0 (packet_frame 0 (only_packet (flow (host 0 2) (host 0 1) 2) 0))).state ≡ only_packet (flow (host 0 1) (host 0 2) 7) 0 ∷ [] }
+{}
+
+/// What comes up again, and what is thrown away.
+pub fn worked_restarts()
+    // a host comes up only once none of its messages is outstanding
+    ensures unsettled { host_up_refusal (host_down sent_imp 0).state 0 ≡ Some fault.Unsettled }
+    ensures settled { host_up_refusal (give_up (host_down sent_imp 0).state (flow (host 0 1) (host 0 2) 7)).state 0 ≡ None }
+    ensures others_unsettled { host_up_refusal (host_down sent_imp 1).state 1 ≡ None }
+
+    // then it is up, and nothing waits for it
+    ensures host_comes_up { host_up (host_down (serving []) 0).state 0 ≡ record { state = serving []; frames = [] } }
+
+    // the answer that waited for it when it went down is gone, and its flow is idle
+    ensures answer_cleared { is_idle (host_down (sent_answered 0).state 0).state (flow (host 0 1) (host 0 2) 7) ≡ true }
+
+    // an end that comes up is as just reset, has heard nothing, and sends nothing
+    ensures end_comes_up { end_up (end_down (serving []) 0).state 0 ≡ record { state = record (serving []) { routes = record { own = 1; heard = None ∷ [] } }; frames = [] } }
+
+    // one slot is thrown away, and nothing else changes: no number is noted
+    ensures slot_thrown_away { abandon (record (serving []) { slots = slots_of 2 }) (flow (host 0 2) (host 0 1) 1) ≡ record { state = record (serving []) { slots = slots_of 1 }; frames = [] } }
+{}
+
 /// Calls that can't run out of memory, since nothing grows.
 pub fn worked_memory()
     // a frame that only acknowledges, where nothing waits; a host that takes nothing, or an answer
