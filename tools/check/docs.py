@@ -10,7 +10,7 @@ to be a function of that crate's module law, and the name of a file a file of th
 so it is with the definitions in the tables; the rows beside them have to be functions of a crate of tests, or of that crate, or
 stored inputs of cases/; and each other name has to be one of these, or that of a planted bug of the crate.
 
-docs/PROVED.md names each clause after the path of its call, `CRATE::..::CALL`, and docs/crates.md leads to the claims of each crate.
+docs/PROVED.md names each clause after the path of its call, `CRATE::..::CALL`, and docs/measured/crates.md leads to the claims of each crate.
 
 The drawings of docs/pictures and the page of crates have to be as they are made, the numbers in drawings as the sources have them, and
 no text of a drawing over another one or over a line. Words of the house's dialect are counted against limits that can only fall
@@ -55,7 +55,7 @@ def text_of(path):
 
 def missing_files():
     """Links of the documents that lead to no file, and sources that are named and do not exist."""
-    pages = [f"{ROOT}/README.md", f"{ROOT}/CONTRIBUTING.md", f"{ROOT}/docs/*.md", f"{ROOT}/crates/*/CLAIMS.md"]
+    pages = [f"{ROOT}/README.md", f"{ROOT}/CONTRIBUTING.md", f"{ROOT}/CHANGELOG.md", f"{ROOT}/docs/*.md", f"{ROOT}/docs/measured/*.md", f"{ROOT}/crates/*/CLAIMS.md"]
     for page in sorted(it for some in pages for it in glob.glob(some)):
         for link in re.findall(r"\]\(([^)#]+)[^)]*\)", text_of(page)):
             if "://" not in link and not os.path.exists(os.path.join(os.path.dirname(page), link)):
@@ -91,13 +91,13 @@ def crates_with_claims():
 
 
 def missing_claims():
-    """Crates without claims, and claims to which docs/crates.md doesn't lead."""
-    top = text_of(f"{ROOT}/docs/crates.md")
+    """Crates without claims, and claims to which docs/measured/crates.md doesn't lead."""
+    top = text_of(f"{ROOT}/docs/measured/crates.md")
     for crate in crates_with_claims():
         if not os.path.exists(f"{ROOT}/crates/{crate}/CLAIMS.md"):
             yield f"crates/{crate}: no CLAIMS.md"
-        if f"](../crates/{crate}/CLAIMS.md)" not in top:
-            yield f"docs/crates.md: no link to the claims of {crate}"
+        if f"](../../crates/{crate}/CLAIMS.md)" not in top:
+            yield f"docs/measured/crates.md: no link to the claims of {crate}"
 
 
 def claims_of(crate):
@@ -244,7 +244,7 @@ def write():
     """Makes the drawings, the page of crates and that of planted bugs."""
     crates_page.write()
     planted.write()
-    print(f"check docs: docs/crates.md, docs/measured/planted.md and {pictures.write()} drawings are written")
+    print(f"check docs: docs/measured/crates.md, docs/measured/planted.md and {pictures.write()} drawings are written")
     return 0
 
 

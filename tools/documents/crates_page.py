@@ -1,4 +1,4 @@
-"""docs/crates.md: each crate, by layers, with what it has, what it uses, and what is proved again after a change.
+"""docs/measured/crates.md: each crate, by layers, with what it has, what it uses, and what is proved again after a change.
 
 All of it comes from crates.txt and the folders of the crates, but for the words that say what lives in a crate: these are written by
 hand in the page and kept. A new crate begins with the first sentence of its root file.
@@ -12,10 +12,10 @@ import re
 from drawings.facts import ROOT
 from drawings.repository import Layer, layers
 
-PAGE = f"{ROOT}/docs/crates.md"
+PAGE = f"{ROOT}/docs/measured/crates.md"
 HEAD = """# The crates
 
-`./check docs --write` makes this page from [crates.txt](../crates.txt) and the folders of the crates; only the words in the column *What lives there* are written by hand. A crate's name leads to what is proved of it and how that was attacked. *Uses* names the nearest crates below: those that aren't used by another one that it uses. *Proved again* counts the crates above, which a change of a contract or a definition has proved again.
+`./check docs --write` makes this page from [crates.txt](../../crates.txt) and the folders of the crates; only the words in the column *What lives there* are written by hand. A crate's name leads to what is proved of it and how that was attacked. *Uses* names the nearest crates below: those that aren't used by another one that it uses. *Proved again* counts the crates above, which a change of a contract or a definition has proved again.
 """
 
 
@@ -67,8 +67,8 @@ def written_words() -> dict[str, str]:
 def table(layer: Layer, direct: dict[str, list[str]], words: dict[str, str]) -> list[str]:
     rows = ["| Crate | Has | What lives there | Uses | Proved again |", "|---|---|---|---|---|"]
     for crate, kind in layer.crates.items():
-        claims = f"../crates/{crate}/CLAIMS.md"
-        link = f"[{crate}]({claims if os.path.exists(f'{ROOT}/crates/{crate}/CLAIMS.md') else f'../crates/{crate}'})"
+        claims = f"../../crates/{crate}/CLAIMS.md"
+        link = f"[{crate}]({claims if os.path.exists(f'{ROOT}/crates/{crate}/CLAIMS.md') else f'../../crates/{crate}'})"
         uses = ", ".join(f"`{it}`" for it in nearest(crate, direct))
         above = sum(1 for other in direct if crate in below(other, direct))
         rows.append(f"| {link} | {kind} | {words.get(crate) or first_sentence(crate)} | {uses} | {above or ''} |")
@@ -96,4 +96,4 @@ def faults() -> list[str]:
     if os.path.exists(PAGE):
         with open(PAGE, encoding="utf-8") as file:
             stored = file.read()
-    return [] if stored == page() else ["docs/crates.md: not as it is made (./check docs --write)"]
+    return [] if stored == page() else ["docs/measured/crates.md: not as it is made (./check docs --write)"]
