@@ -369,7 +369,7 @@ IN_A_SUBNET = {
     "NoSuch": "The network has no such host, IMP or end of a line, no frame is live at that place of the line, or there are no pieces to throw away.",
     "IsDown": "The host, its IMP, or that end of the line is down.",
     "IsUp": "The host, the IMP, or that end of the line is up already.",
-    "StillAlive": "Something of it is still alive in the network: in an IMP, or in a frame on a line. It has to arrive or to be lost first.",
+    "StillAlive": "Something of it is still alive in an IMP or in a frame on a line, a message is outstanding whose number would be forgotten, or an IMP keeps a number that would be given again. That has to be gone first.",
     "Unsettled": "The host can't start while a message that it sent is still outstanding.",
     "NotOutstanding": "No message of the flow is outstanding, so there is nothing to give up or to ask about.",
     "Blocked": "A message of this flow is outstanding, or an answer about one waits for its source.",

@@ -10,7 +10,7 @@
 //!
 //! A reader of traces may rely on three laws ([`law`]). A calm is its elementary events one after another. What an event's
 //! parts do not name is as before. Of the subnets that replays come to, those with equal texts of all parts are equal, but
-//! for their logs, so a trace leaves nothing out.
+//! for their logs, so over one network a trace leaves nothing out.
 #![tactic(auto)]
 
 mod calm;

@@ -1,8 +1,8 @@
 //! Which IMPs, hosts and lines a network has, and the TOML documents that say so.
 //!
 //! A [`Topology`] keeps the rules of a network by its type: one to 63 IMPs with at most four hosts
-//! each, lines between IMPs that are there, one between two of them at most, and five at an IMP at most
-//! (Heart et al. 1970). A document is read as the one topology that it describes, or refused.
+//! each (Heart et al. 1970), lines between IMPs that are there, one between two of them at most, and five at an
+//! IMP at most, a limit of the networks here. A document is read as the one topology that it describes, or refused.
 //!
 //! Nothing here knows how messages are carried.
 #![tactic(auto)]

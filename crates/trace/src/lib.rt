@@ -8,7 +8,7 @@
 //!
 //! A reader of traces may rely on three laws ([`law`]). A calm is its elementary events one after another.
 //! What an event's parts do not name is as before. States with equal texts of all parts are equal, but for
-//! their logs, so a trace leaves nothing out.
+//! their logs, so over one network a trace leaves nothing out.
 #![tactic(auto)]
 
 mod element;
