@@ -1,6 +1,6 @@
 """What is alive in a subnet of the independent model: each packet and message, where it is, and which event moves it on.
 
-`inside` stands on this. Nothing here changes a subnet.
+`inside` uses this. Nothing here changes a subnet.
 """
 
 from dataclasses import dataclass

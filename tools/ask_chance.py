@@ -1,8 +1,8 @@
-"""Scripts for raw networks in which IMPs ask what became of their messages, made by chance.
+"""Random scripts for raw networks in which IMPs ask what became of their messages.
 
 As in `world_chance` each event is chosen by looking at what the model has come to, and then happens in the model. Here messages
 are few, and much is lost: of most of them something has to be asked. Now and then a host, an IMP or an end of a line stops
-before the question, between question and answer, or behind both.
+before the question, between question and answer, or after both.
 """
 
 import random
@@ -138,7 +138,7 @@ class Questions:
         self.do(*self.chance.choice(ways + [("abandon", flow) for flow in slots]))
 
     def some_recover(self):
-        """What is down tries to come up; an IMP after what stands in its way is asked for or given up, lost and forgotten."""
+        """What is down tries to come up; an IMP after what is in its way is asked for or given up, lost and forgotten."""
         for number, imp in self.subnet.imps.items():
             if imp is None and self.do("impup", number) and self.chance.random() < 0.6:
                 self.clear(number)

@@ -1,4 +1,4 @@
-"""Books made by chance, to be judged by the audit: those of worlds that the model runs, as they are, changed where nothing is promised
+"""Random books, to be judged by the audit: those of worlds that the model runs, as they are, changed where nothing is promised
 or broken on purpose in one place; and small ones of few hosts and sockets, in which hardly a stamp is right.
 """
 
@@ -30,7 +30,7 @@ def moved(book, place, by):
 
 
 def insert(book, place, *crossing):
-    """Puts a crossing into the log; the stamps of lives go on naming what they named."""
+    """Puts a crossing into the log; the stamps of lives continue naming what they named."""
     moved(book, place, 1)
     book.log.insert(place, crossing)
 

@@ -1,4 +1,4 @@
-"""Plain mailboxes: their rules, read a second time.
+"""Plain mailboxes: an independent implementation of their rules.
 
 They were written from docs/mailboxes.md, in another language and another form than the definitions. `check model` compares
 the program with them.
@@ -110,6 +110,6 @@ class Boxes(Crossed):
         self.is_up[host] = True
 
     def tell(self, kind, flow):
-        """Puts an answer behind the others, where its host is up."""
+        """Puts an answer after the others, where its host is up."""
         if self.is_up[flow[0]]:
             self.answers.append((kind, flow))

@@ -1,6 +1,6 @@
 """What crosses the interface between hosts and their network: kept, spelled and printed.
 
-Both readings of a carrier, `box_rules` and `subnet_rules`, stand on this.
+Both readings of a carrier, `box_rules` and `subnet_rules`, use this.
 """
 
 from imp_rules import Refused, spell_flow, spell_host

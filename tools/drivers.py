@@ -14,7 +14,7 @@ from concurrent.futures import ThreadPoolExecutor
 
 from unproved import ROOT, NotKept, build, keep, kept_for_sources
 
-# what it stands on: these, and the crates below them
+# what it uses: these, and the crates below them
 USES = "bit_messages hex icp imp_channel imp_node leader1822 ncp_control packetiser routing sockets subnet terminal"
 # an IMP without hosts and lines has nothing to tell
 EXAMPLE, WANTED = b"imp\nnew 1 0 0\nroute\n", b"ok\nok\n"
@@ -22,7 +22,7 @@ CORES = os.cpu_count() or 1
 
 
 def crates_below(lines, name):
-    """A crate of the repository and those that it stands on."""
+    """A crate of the repository and those that it uses."""
     found = [name] if name in lines else []
     for low in lines.get(name, []):
         found += [it for it in crates_below(lines, low) if it not in found]
@@ -30,7 +30,7 @@ def crates_below(lines, name):
 
 
 def with_driver(folder):
-    """Puts the program's sources into a folder as a crate, with copies of the crates that it stands on."""
+    """Puts the program's sources into a folder as a crate, with copies of the crates that it uses."""
     with open(f"{ROOT}/crates.txt", encoding="utf-8") as file:
         lines = dict(line.strip().split(":") for line in file if line.strip() and not line.startswith("#"))
     below = {name: below.split() for name, below in lines.items()}

@@ -1,4 +1,4 @@
-"""One host's network control program: its rules, read a second time.
+"""One host's network control program: an independent implementation of its rules.
 
 It was written from the rules that docs/hosts.md retells and from NIC 8246, in another language and another form than the
 definitions: what a host keeps is changed in place, and messages and commands are octets spelled from the formats.
@@ -29,7 +29,7 @@ def number(value, count):
 
 
 def read_numbers(octets_in, *counts):
-    """The numbers of so many octets each that follow a command's code."""
+    """The numbers of this many octets each that follow a command's code."""
     at, found = 1, []
     for count in counts:
         found.append(int.from_bytes(octets_in[at : at + count], "big"))

@@ -1,4 +1,4 @@
-"""One IMP of the subnet: its rules, read a second time.
+"""One IMP of the subnet: an independent implementation of its rules.
 
 It was written from docs/imp.md, in another language and another form than the definitions, with packets and frames spelled
 from the formats. `check imp` compares the code with it, and `subnet_rules` joins several of it.

@@ -1,4 +1,4 @@
-"""Whole inputs of any octets: how the program has to end on them, read a second time.
+"""Whole inputs of any octets: how the program has to end on them, independently implemented.
 
 It was written from docs/program.md. Of TOML it knows the plain spelling that topologies have here, one key a line, which the
 inputs of `check readers` begin with: prefixes of it, and octets of it changed to ones that TOML has nowhere, are judged rightly.

@@ -65,7 +65,7 @@ VERDICTS = [
     ("1 100 0 0", "2 100 1 84", "kept"),
     ("receive 1 16 1 100", "receive 2 16 1 100", "broken grants lines 10 11"),
     ("send 1 16", "send 2 16", "broken grants lines 10 11"),
-    # the life that fails is the receiving one, wherever it stands
+    # the life that fails is the receiving one, wherever it is
     (BOTH, f"{SENDER}\n{RECEIVER[:-1]}8\n{LISTS_TURNED}", "broken streams lines 11 10"),
     (BOTH, f"{SENDER}\n{RECEIVER.replace('1 100', '1 15')}\n{LISTS_TURNED}", "broken grants lines 11 10"),
     (BOTH, f"{SENDER.replace('send 1', 'send 2')}\n{RECEIVER}\n{LISTS_TURNED}", "broken grants lines 11 10"),

@@ -1,4 +1,4 @@
-"""The mailboxes that the network promises its hosts: whether a log is a run of them, read a second time.
+"""The mailboxes that the network promises its hosts: whether a log is a run of them, independently implemented.
 
 It was written from docs/mailboxes.md, in another language and another form than the definitions, and it knows nothing of IMPs,
 lines and numbers. `check asking` judges the logs of the independent model by it.

@@ -1,6 +1,6 @@
-"""Topologies, script lines and whole inputs: the rules, read a second time.
+"""Topologies, script lines and whole inputs: an independent implementation of the rules.
 
-They were written from docs/program.md. `check model` and `check explain` stand on them.
+They were written from docs/program.md. `check model` and `check explain` use them.
 """
 
 import re
@@ -30,7 +30,7 @@ OUT = re.compile(f"out {FLOW} {BITS}")
 MOST_TEXT = 8063
 EVERYTHING = "worlds", "services"  # what a program may or may not run yet beside raw networks
 
-# what a host's program and what runs on it are asked for: the words behind the host
+# what a host's program and what runs on it are asked for: the words after the host
 ASKED = {
     "offer": "",
     "contact": "host",
@@ -92,7 +92,7 @@ def opened(network):
 
 
 def read_number(word, size=32):
-    """A number of so many bits."""
+    """A number of this many bits."""
     if int(word) >= 1 << size:
         raise BadLine
     return int(word)
@@ -183,7 +183,7 @@ def expected(options, network, lines, runs=EVERYTHING):
 
 
 def with_texts(printed, crossings):
-    """Printed lines, and behind each message its text. The crossings are those of all of them, in order."""
+    """Printed lines, and after each message its text. The crossings are those of all of them, in order."""
     crossings = iter(crossings)
     for line in printed:
         kind = line.split(" ")[0]

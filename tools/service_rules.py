@@ -1,8 +1,8 @@
-"""What runs on hosts: the initial connection, the line terminal and the echo service, their rules read a second time.
+"""What runs on hosts: the initial connection, the line terminal and the echo service: an independent implementation of their rules.
 
 They were written from the rules that docs/initial-connection.md retells and from RFC 165, in another language and another
 form than the definitions. Each is told the notices of its host's program and gives requests; what it reports is fetched
-behind them.
+after them.
 """
 
 from host_rules import octets
@@ -36,7 +36,7 @@ class Machine:
         return []
 
     def refused(self, fault):
-        """One of its requests was refused: those behind it are passed over."""
+        """One of its requests was refused: those after it are passed over."""
         del fault
         self.fail("local")
         return True
@@ -194,7 +194,7 @@ class Terminal(Service):
 
     def __init__(self, receives, sends):
         super().__init__(receives, sends)
-        self.part = ""  # the bits behind the last whole octet
+        self.part = ""  # the bits after the last whole octet
         self.kept = b""
         self.lines = []
 
@@ -212,6 +212,6 @@ class Terminal(Service):
 
 
 def program_after(machine):
-    """What follows a machine that is done: the echo service behind a server, the terminal behind a user."""
+    """What follows a machine that is done: the echo service after a server, the terminal after a user."""
     _, receives, sends = machine.outcome
     return (Echo if isinstance(machine, Server) else Terminal)(receives, sends)

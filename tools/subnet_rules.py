@@ -1,4 +1,4 @@
-"""The subnet: its rules, read a second time.
+"""The subnet: an independent implementation of its rules.
 
 It was written from docs/subnet.md over the independent model of one IMP, in another language and another form than the
 definitions. `check model` compares the program with it. Each event prints what crosses, or why it is refused.

@@ -1,9 +1,9 @@
 #!/usr/bin/env python3
-"""Traces of raw networks, read a second time: tools/trace_rules.py < FILE prints the trace of an input.
+"""Traces of raw networks, independently implemented: tools/trace_rules.py < FILE prints the trace of an input.
 
 It was written from docs/trace.md, in another language and another form than the definitions: mailboxes and subnets are those
 of tools/box_rules.py and tools/subnet_rules.py, and a trace is told from what they are after each event. The parts of a subnet
-are in tools/trace_subnet.py. `check trace` stands on it.
+are in tools/trace_subnet.py. `check trace` uses it.
 """
 
 import json

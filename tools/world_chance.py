@@ -1,4 +1,4 @@
-"""Scripts for hosts with their programs, made by chance.
+"""Random scripts for hosts with their programs.
 
 Each event is chosen by looking at what the model has come to, and then happens in the model: so that connections open, carry
 data, close and are reset, and scripts don't stay at the door. Runs differ: some lose much, some reset much, some ask for
@@ -94,7 +94,7 @@ class Script:
             self.do("grant", receiver, own, 3, self.one(100, 4000))
 
     def serve(self, user, server):
-        """An initial connection, as far as it comes in so many rounds."""
+        """An initial connection, as far as it comes in this many rounds."""
         calms = 12 if self.subnet else 5
         self.do("server", server, *SERVICES[0])
         self.do("contact", user, server)

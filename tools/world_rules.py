@@ -1,6 +1,6 @@
-"""Hosts that run their programs over a carrier, and the book of their connections: the rules, read a second time.
+"""Hosts that run their programs over a carrier, and the book of their connections: an independent implementation of the rules.
 
-It stands on the independent models of a carrier (`box_rules`, `subnet_rules`), of one host's program (`host_rules`) and of what
+It uses the independent models of a carrier (`box_rules`, `subnet_rules`), of one host's program (`host_rules`) and of what
 runs on a host (`service_rules`), and was written from the rules that docs/world.md and docs/program.md retell, in another
 language and another form than the definitions. `check model` compares the program with it. Each event prints what crosses,
 what users are told, what their programs report, or why the event is refused.
@@ -13,7 +13,7 @@ from imp_rules import Refused, spell_host
 from service_rules import Server, Terminal, User, program_after, read_bits, read_host
 
 TAKES, OFFERS = 16, 32  # so often a host takes and offers in a round of `calm` at most
-PRINTED = {"opened": 3, "sent": 2, "arrived": 2, "error": 2}  # so many words of a notice are printed, of others all
+PRINTED = {"opened": 3, "sent": 2, "arrived": 2, "error": 2}  # this many words of a notice are printed, of others all
 NETWORK = [
     "deliver", "drop", "resend", "route", "enddown", "endup", "impdown", "impup", "hostdown", "hostup", "giveup", "ask", "forget", "abandon",
 ]  # fmt: skip
@@ -61,10 +61,10 @@ class Book:
         self.contacts = []
         self.reports = []
         self.lives = []
-        self.strays = 0  # notices of bits that stand in no life: there is none, unless a rule is lacking
+        self.strays = 0  # notices of bits that are in no life: there is none, unless a rule is lacking
 
     def life(self, host, socket):
-        """The life of a host's socket that hasn't ended. Where there is none, one that stands in no book."""
+        """The life of a host's socket that hasn't ended. Where there is none, one that is in no book."""
         for life in self.lives:
             if (life.host, life.socket) == (host, socket) and not life.has_ended:
                 return life

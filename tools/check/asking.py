@@ -1,6 +1,6 @@
-"""Logs of networks whose IMPs ask, held up to the mailboxes, in the model alone (half a minute for 1,000): ./check asking [RUNS]
+"""Logs of networks whose IMPs ask, checked against the mailboxes, only in the model (half a minute for 1,000): ./check asking [RUNS]
 
-Runs scripts with questions, made by chance (tools/ask_chance.py), in the independent model alone. Of each log it is looked at whether it is
+Runs random scripts with questions (tools/ask_chance.py), only in the independent model. Of each log it is looked at whether it is
 a run of the mailboxes, and that no message is taken, before or after, whose source was told "not taken" (tools/mailbox_rules.py).
 So this script doesn't try the program: `check model` does. It tries the rules of questions themselves.
 
@@ -21,7 +21,7 @@ from subnet_rules import Subnet
 from without_rules import AskedUnnoted, BeginsKept, Impatient, of_imps
 
 RUNS = 1000
-MOST_TRIED = 4000  # so many scripts are run to find that a rule is lacking
+MOST_TRIED = 4000  # this many scripts are run to find that a rule is lacking
 
 # ---- logs by hand
 

@@ -3,13 +3,13 @@
 `rt must-fail` tries each edit of must-fail/ by itself, and the first of a crate costs a whole check. Here edits of different
 functions of a crate are tried together, in a copy of the crate and of what its last check kept. A function is proved over the
 contracts of those it calls, so an edit counts as refused only at goals of its own function, which are printed. So only these
-functions are checked, with those that they call, first as they stand and then with the edits. What a batch leaves open is tried
+functions are checked, with those that they call, first as they are and then with the edits. What a batch leaves open is tried
 alone. An edit that is in no function, or in one that `rt check --only` doesn't find, is tried over whole checks of the crate, and
 with --whole so is each. An edit that doesn't compile is named, and so is one that is refused only because a proof file names what
 it took away: neither says anything of the contract. Nothing is written beside the copy, which is removed.
 
 With --gate only those with the line `# The gate tries this bug.` are tried, right after an `rt ci` in this clone: over the libraries
-that this `rt ci` built, and with no check of the functions as they stand, since it has just proved them. Each has to be in one function.
+that this `rt ci` built, and with no check of the functions as they are, since it has just proved them. Each has to be in one function.
 
 With --note what came of all bugs of a crate is written into docs/measured/planted.md.
 """
@@ -91,7 +91,7 @@ class Edit:
         ((trait, owner, name),) = found
         if owner != "}":  # named by the module of its type, which may be another
             modules = modules_of(self.crate, owner)
-            # a trait's method stands under the names of type, trait and the trait's argument, as in LineFaultFromAllocError::from
+            # a trait's method is under the names of type, trait and the trait's argument, as in LineFaultFromAllocError::from
             of_trait = re.match(r"(?:\w+::)*(\w+)(?:<(?:\w+::)*(\w+))?", trait)
             of_type = owner + "".join(of_trait.groups("") if of_trait else [])
             return rf"{self.crate}::(?:\w+::)*{of_type}[\w+]*::{name}(?=$|::)", "::".join([self.crate, *modules[0], of_type, name]) if len(modules) == 1 else None
@@ -165,7 +165,7 @@ def linked(path, to):
 
 
 def lines_of_crates():
-    """What crates.txt says that each crate stands on."""
+    """What crates.txt says that each crate uses."""
     with open(f"{ROOT}/crates.txt", encoding="utf-8") as file:
         return dict(re.match(r"(\w+)[^:]*:(.*)", line).groups() for line in file if line.strip() and not line.startswith("#"))
 
@@ -197,7 +197,7 @@ class Copy:
         return ran.returncode, ran.stdout
 
     def keep(self, functions):
-        """Checks the functions, or the crate, as they stand, and notes what that kept, so that `check_with` can begin with it."""
+        """Checks the functions, or the crate, as they are, and notes what that kept, so that `check_with` can begin with it."""
         shutil.rmtree(f"{self.folder}/kept", ignore_errors=True)
         status, said = self.check(functions)
         if status == 0:
@@ -300,7 +300,7 @@ def try_in_batches(copy, edits, whole):
 
 
 def begin(copy, edits, whole):
-    """Checks the functions of the edits as they stand, or with `whole` the crate. Gives the edits whose functions that finds, and whether
+    """Checks the functions of the edits as they are, or with `whole` the crate. Gives the edits whose functions that finds, and whether
     these are proved."""
     found = edits
     while found:
@@ -353,7 +353,7 @@ def check_crate(crate, names, whole, words):
 
 
 def has_built(crate):
-    """Whether `rt ci` built what the crate stands on in this clone: what `rt check` builds has a stamp."""
+    """Whether `rt ci` built what the crate uses in this clone: what `rt check` builds has a stamp."""
     below = crates_below({name: below.split() for name, below in lines_of_crates().items()}, crate)
     built = {it: f"{ROOT}/crates/{it}/out/rlib" for it in below if it != crate}
     return all(os.path.isdir(f"{at}/{it}.rlib") and not os.path.exists(f"{at}/stamp") for it, at in built.items())

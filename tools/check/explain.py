@@ -3,14 +3,14 @@
 Checks what ./explain tells.
 
 - The lines that it ties to each event are those that the independent model of the rules in tools/check/model.py prints for it, on
-  inputs made by chance. So are, in plain networks, the messages of which it says that they still wait.
+  random inputs. So are, in plain networks, the messages of which it says that they still wait.
 - Of a refused event of an example it tells the cause that is written here by hand.
 - Of a refused script line or topology it names a cause exactly if that model refuses it, and for inputs written
   here by hand it names the cause that is meant.
 - In networks with host programs it names a cause for each bad line, and has a sentence for each line that is printed there.
 - In subnets the independent model, from which the sentences about the inside are, prints what the program prints, event by
   event; where it knows that an answer was NotTaken, for which `incomplete` is printed too, that is told and drawn; each event that prints nothing has a sentence. What it says of lines written here by hand is what is written beside
-  them. Where it names the next event that clears what stands in the way of a refused one, these events, one after the other, do.
+  them. Where it names the next event that clears what is in the way of a refused one, these events, one after the other, do.
 - Of a bad line of a log it tells the cause and the form, of a broken book which lines disagree and where, and of a network at rest what waits.
 - Closed and full streams are told in a line, and status 1.
 - What messages say is what is written here by hand, octets and words.
@@ -219,7 +219,7 @@ TEXTS = [
 DIALOGUE = "from-a-terminal-to-a-server"
 
 GOOD = b'carrier = "plain"\nraw = true\n[[imp]]\nid = 1\nhosts = 1\n'
-# what stands before the script, and words of the cause that is meant
+# what is before the script, and words of the cause that is meant
 BAD_TOPOLOGIES = [
     (GOOD, "No line is exactly `%`"),
     (GOOD + b"% \n", "Line 6 of the file:\n  % \nNo line is exactly `%`"),
@@ -257,7 +257,7 @@ BAD_TOPOLOGIES = [
     (b"down 0/1\nend\n", "This is a log and not an input."),
 ]
 
-# the line of logs/two-octets that is changed (0 for one put before its first), what stands there then, and words of the cause
+# the line of logs/two-octets that is changed (0 for one put before its first), what is there then, and words of the cause
 BAD_LOG_LINES = [
     (3, b"answer RFNM 0/1 0/2 0", "`RFNM` is none of rfnm, dead, incomplete, nottaken. Is `rfnm` meant? The form is `answer rfnm|dead|incomplete|nottaken S D N`."),
     (7, b"out 0/2 0/1 5 56 0008000200484", "56 bits fill 7 octets, which are 14 hexadecimal digits. This line has 13, for 52 bits. The form is `out S D N BITS OCTETS`."),

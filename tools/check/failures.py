@@ -61,7 +61,7 @@ class Way:
 
 
 def streams(at_most):
-    """The ways in which reads and writes of at most so many octets fail."""
+    """The ways in which reads and writes of at most this many octets fail."""
     return [
         Way("reads", at_most), Way("reads", at_most, "INTERRUPTED"),
         Way("writes", at_most), Way("writes", at_most, "NOTHING"), Way("writes", at_most, "INTERRUPTED"),
@@ -88,7 +88,7 @@ class Trial:
             self.wrong.append("without a failure it ends otherwise than it should")
 
     def beside(self, ending):
-        """What stands in a file beside the input, if it is there."""
+        """What is in a file beside the input, if it is there."""
         if not os.path.isfile(self.path + ending):
             return b""
         with open(self.path + ending, "rb") as file:

@@ -1,6 +1,6 @@
-"""A host's program against the independent model in Python, on calls made by chance (minutes): ./check hosts [RUNS | FOLDER]
+"""A host's program against the independent model in Python, on random calls (minutes): ./check hosts [RUNS | FOLDER]
 
-Compares hosts' programs with an independent model of their rules, on calls made by chance.
+Compares hosts' programs with an independent model of their rules, on random calls.
 
 The proofs say that `Ncp` does what its definitions say. Whether the definitions say what docs/hosts.md says is for readers
 to judge; this script tries it as well. tools/host_rules.py was written from those rules, in another language and another
@@ -99,7 +99,7 @@ class Calls:
 
 
 class Chance(Calls):
-    """Calls made by chance on hosts, and boxes between them."""
+    """Random calls on hosts, and boxes between them."""
 
     def __init__(self, seed):
         self.random = random.Random(seed)
@@ -384,7 +384,7 @@ def changed(text, step=8):
 
 
 def worked_runs():
-    """What is made of each command with an ECO behind it, of data, and of control texts of every length."""
+    """What is made of each command with an ECO after it, of data, and of control texts of every length."""
     yield Worked(0, changed(control_message([bytes([0])]), 1))
     for name in WORKED:
         yield Worked(0, changed(control_message([bytes.fromhex(name), bytes.fromhex("09 42")])))

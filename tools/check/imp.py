@@ -1,6 +1,6 @@
-"""One IMP against the independent model in Python, on calls made by chance (minutes): ./check imp [RUNS]
+"""One IMP against the independent model in Python, on random calls (minutes): ./check imp [RUNS]
 
-Compares one IMP with an independent model of its rules, on calls made by chance.
+Compares one IMP with an independent model of its rules, on random calls.
 
 The proofs say that `Imp` does what its definitions say. Whether the definitions say what docs/imp.md says is for readers
 to judge; this script tries it as well. `Imp` in tools/imp_rules.py was written from those rules, in another language and
@@ -56,11 +56,11 @@ def told_of(imp, flow):
     )
 
 
-# ---- calls made by chance
+# ---- random calls
 
 
 class Chance:
-    """Calls made by chance for one IMP, its hosts and its neighbours."""
+    """Random calls for one IMP, its hosts and its neighbours."""
 
     def __init__(self, seed):
         self.random = random.Random(seed)

@@ -1,9 +1,9 @@
-"""The program against the independent model in Python, on inputs made by chance (two minutes).
+"""The program against the independent model in Python, on random inputs (two minutes).
 
-Compares the program with an independent model of its rules, on inputs made by chance.
+Compares the program with an independent model of its rules, on random inputs.
 
 The proofs say that the program does what the definitions say. Whether the definitions say what docs/program.md and
-docs/mailboxes.md say is for readers to judge; this script tries it as well. tools/script_rules.py, and what it stands on,
+docs/mailboxes.md say is for readers to judge; this script tries it as well. tools/script_rules.py, and what it uses,
 was written from those rules, in another language and another form. Both run every input, and status, output and standard
 error have to be the same. The same inputs are made each time. TOML itself is not tried: documents are written in its
 plainest spelling.
@@ -11,7 +11,7 @@ plainest spelling.
 Networks with host programs are tried as far as the program runs them, which it is asked first: their scripts are made event by
 event, by looking at what the model has come to (tools/world_chance.py), and it is counted what they came to. So are scripts of raw
 networks in which IMPs ask what became of their messages (tools/ask_chance.py). Of these the log is compared too, since two answers
-are printed alike. `./check model asking RUNS` tries so many of these alone.
+are printed alike. `./check model asking RUNS` tries this many of these alone.
 
 It takes the proved program, or where ./build has not made that the one that was built without proofs. With `--try`, and perhaps the folder of another clone of the repository, it
 takes the program that `rt try` builds without proofs, and fewer inputs, since that one is slow.
@@ -39,7 +39,7 @@ INPUTS = 3000
 WORLDS = 1500
 ASKING = 500
 
-# ---- inputs made by chance
+# ---- random inputs
 
 
 def some_network(chance):

@@ -1,11 +1,11 @@
 """The page of a replay: its state, rows, bars, map and size, and with --browser what it does in Chromium (minutes).
 
-Without a browser, for each example and for inputs made by chance:
+Without a browser, for each example and for random inputs:
 - the state that is folded from printed lines is that of the independent model in Python, after each event;
-- each printed line stands in one row, in order, and the calm cut into rounds prints the same;
+- each printed line is in one row, in order, and the calm cut into rounds prints the same;
 - the bars and the book agree, and a difference between them stops the page;
 - no two signs of a map overlap, the page names no address of another file, and it has at most 300 KB;
-- with --inside too, and a model that differs from the program stops the page; traces tell of subnets by chance what the model does;
+- with --inside too, and a model that differs from the program stops the page; traces tell of random subnets what the model does;
 - two scripts beside each other keep the order of both.
 
 With --browser the pages of some examples are tried in Chromium, and five planted faults have to be found. Where there is
@@ -102,7 +102,7 @@ def check_fold(network, events, what):
 
 
 def check_chance(seeds):
-    """The fold for inputs by chance, whose lines the model prints."""
+    """The fold for random inputs, whose lines the model prints."""
     count = 0
     for seed in range(seeds):
         chance = random.Random(seed)
@@ -198,7 +198,7 @@ def example(name):
 
 
 def check_questions(program):
-    """A question and a Never have signs of their own, and an answer that is printed as `incomplete` stands by its own name."""
+    """A question and a Never have signs of their own, and an answer that is printed as `incomplete` is by its own name."""
     name = "a-question-overtakes-its-message"
     data = make.data_of(explain, example(name), program, name, True)
     words = data["words"]
@@ -249,7 +249,7 @@ def check_traces(runs):
 
 
 def some_net(chance, count, lines):
-    """A network of so many IMPs, and of so many lines if they find ends, made by chance."""
+    """A random network of this many IMPs, and of this many lines if they find ends."""
     numbers, ends = sorted(chance.sample(range(1, MOST_IMPS + 1), count)), []
     places = {it: 0 for it in numbers}
     for _ in range(20 * MOST_LINES):
@@ -262,7 +262,7 @@ def some_net(chance, count, lines):
 
 
 def check_maps(seeds):
-    """No signs overlap on maps of networks by chance: one of the greatest, a few others as they come, and many smaller ones."""
+    """No signs overlap on maps of random networks: one of the greatest, a few others as they come, and many smaller ones."""
     for seed in range(seeds):
         chance = random.Random(seed)
         count = MOST_IMPS if seed == 0 else chance.randrange(1, MOST_IMPS + 1 if seed % 10 == 0 else 21)

@@ -5,9 +5,9 @@ Tries every reader on each prefix of worked octets, and with each octet changed 
 - Of leaders, bodies, packets, frames, commands, control texts and headers of messages each row names a reader and octets, and says
   what is read. tools/calls reads all that comes of it by the crates' own calls, also with each bit changed.
 - Topologies and scripts are given to the program, whole, and what it prints, its status and its words are compared. Of a
-  topology each prefix is also tried with the marker behind it.
+  topology each prefix is also tried with the marker after it.
 
-What has to come of each was written down beforehand: of the rows by hand here, of all that comes of them by a second reading of
+What has to come of each was written down beforehand: of the rows by hand here, of all that comes of them by an independent reading of
 the formats in Python (tools/format_rules.py, tools/input_rules.py), which has to read the rows as they say. Each fault of a
 reader has to be met.
 

@@ -4,7 +4,7 @@ Compares the machines of the initial connection, the terminal and the echo servi
 
 The proofs say that these machines do what their definitions say. Whether the definitions say what docs/initial-connection.md says
 is for readers to judge; this script tries it as well. tools/service_rules.py was written from those rules and RFC 165, in another
-language and another form. Both are told notices made by chance, most of them about the machine's own sockets, and what they ask
+language and another form. Both are told random notices, most of them about the machine's own sockets, and what they ask
 for and come to has to be the same.
 
 The calls are made by tools/calls, built without proofs (tools/drivers.py): ./check services [RUNS]
@@ -27,7 +27,7 @@ PEERS = [(0, 1), (0, 2), (3, 63)]
 
 
 class Chance:
-    """A machine, and what it is told by chance."""
+    """A machine, and what it is told at random."""
 
     def __init__(self, seed):
         self.random = random.Random(seed)

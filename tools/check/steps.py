@@ -42,7 +42,7 @@ def kept_at():
 
 
 def with_sources(folder):
-    """Puts the program's source into a folder as a crate, with copies of the crates that it stands on."""
+    """Puts the program's source into a folder as a crate, with copies of the crates that it uses."""
     with open(f"{ROOT}/crates.txt", encoding="utf-8") as file:
         lines = dict(line.strip().split(":") for line in file if line.strip() and not line.startswith("#"))
     below = {name: below.split() for name, below in lines.items()}
@@ -58,7 +58,7 @@ def with_sources(folder):
 
 
 def events_of(name):
-    """What the program reads for an input, whose IMPs stand in a row and have a host each."""
+    """What the program reads for an input, whose IMPs are in a row and have a host each."""
     with open(f"{ROOT}/{name}", "rb") as file:
         topology, script = file.read().split(b"\n%\n", 1)
     carrier, raw, imps, _ = network_in(topology)

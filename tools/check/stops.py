@@ -1,7 +1,7 @@
-"""A stop at every event of a dialogue, after which it goes on to its end and the book keeps its promise (minutes).
+"""A stop at every event of a dialogue, after which it continues to its end and the book keeps its promise (minutes).
 
 The dialogue from a terminal to a server, EXAMPLE, is expanded to single events. After each of them, in a run of its own, each IMP,
-each host and each end of the line stops and comes up again, and in one more run all of them in turn. Then the dialogue goes on
+each host and each end of the line stops and comes up again, and in one more run all of them in turn. Then the dialogue continues
 with a new contact, on the same sockets. `./check stops 10` stops after every tenth event only.
 
 tools/stopping.py makes the scripts by the independent model, and the program runs them. It has to print what the model prints,
@@ -68,7 +68,7 @@ def crossing_of(line):
 
 
 def carried(lines):
-    """The bits of each life: each `sent` and `arrived` stands behind its message, and is about the last opening of its socket."""
+    """The bits of each life: each `sent` and `arrived` is after its message, and is about the last opening of its socket."""
     bits, last, text = [], {}, ""
     for line in lines:
         kind, *words = line.split(" ")

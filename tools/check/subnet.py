@@ -1,6 +1,6 @@
-"""A whole subnet against the independent model in Python, on events made by chance (minutes): ./check subnet [RUNS]
+"""A whole subnet against the independent model in Python, on random events (minutes): ./check subnet [RUNS]
 
-Compares a whole subnet with an independent model of its rules, on events made by chance.
+Compares a whole subnet with an independent model of its rules, on random events.
 
 The proofs say that `Subnet` does what its definitions say. Whether the definitions say what docs/subnet.md says is for
 readers to judge; this script tries it as well. tools/subnet_rules.py was written from those rules, in another language and
@@ -29,7 +29,7 @@ LARGEST_RUNS = 200
 LARGEST_EVENTS = 400
 
 
-# ---- networks and events made by chance
+# ---- random networks and events
 
 WEIGHTS = {
     "out": 14, "take": 6, "calm": 2, "deliver": 20, "drop": 8, "resend": 3, "route": 2, "giveup": 4, "ask": 5, "abandon": 1, "forget": 1,

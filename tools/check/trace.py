@@ -1,13 +1,13 @@
 """Traces of raw networks: what they leave out (a minute for 300 scripts over mailboxes and 300 over subnets): ./check trace [RUNS]
 
-The traces of all examples over raw networks, and of scripts made by chance, as tools/trace_rules.py tells them from docs/trace.md:
+The traces of all examples over raw networks, and of random scripts, as tools/trace_rules.py tells them from docs/trace.md:
 
 - The program prints the same trace with `--trace`, where one is kept that traces this carrier; what it doesn't trace it refuses.
 - The column of events is itself a script: it prints the same again, in the model, and by the program, where one is kept; and it
   comes to the same parts.
 - The lines that are told as printed are, one after the other, what the script prints.
 - What an event's parts do not name is as before: who puts the named parts in the place of the old ones has all of them.
-- The parts leave nothing out: networks made anew from their parts, in the middle of a script, go on alike: they print the same
+- The parts leave nothing out: networks made anew from their parts, in the middle of a script, continue alike: they print the same
   and come to the same parts.
 - The worked examples of docs/trace.md are what the model tells.
 
@@ -34,7 +34,7 @@ from script_rules import BadLine, network_is_good, opened, read_line
 from trace_rules import OfBoxes, Traced, all_parts, made_of, spelled, text, traced
 
 RUNS = 300
-MOST_TRIED = 600  # so many scripts are run to find that a rule is broken
+MOST_TRIED = 600  # this many scripts are run to find that a rule is broken
 ANEW = 2  # so often a network is made anew in a script
 EVENTS = 80  # of a script about the frames of a subnet
 UNTRACED = {"plain": "first-message", "subnet": "three-imps-in-a-row"}  # an example of each carrier
@@ -93,7 +93,7 @@ def followed(network, records):
 
 
 def begins_anew(network, parts, rest, last):
-    """Whether a network made from parts goes on as the trace does, and has the same parts in the end."""
+    """Whether a network made from parts continues as the trace does, and has the same parts in the end."""
     other = made_of(network, parts)
     if all_parts(other) != parts:
         raise Wrong("a network made from parts has other parts")
@@ -196,13 +196,13 @@ def by_chance(kind):
 
 
 class Made:
-    """Scripts by chance, each made once."""
+    """Random scripts, each made once."""
 
     def __init__(self, kind):
         self.more, self.made = by_chance(kind), []
 
     def first(self, runs):
-        """So many of them, the first ones."""
+        """This many of them, the first ones."""
         for place in range(runs):
             if place == len(self.made):
                 self.made.append(next(self.more))

@@ -1,12 +1,12 @@
-"""The promise of the book, in worlds made by chance that the model alone runs (half a minute for 1,000): ./check worlds [RUNS]
+"""The promise of the book, in random worlds that only the model runs (half a minute for 1,000): ./check worlds [RUNS]
 
-Runs hosts with their programs over networks made by chance, in the model alone, and audits their books: ./check worlds [RUNS]
+Runs hosts with their programs over random networks, only in the model, and audits their books: ./check worlds [RUNS]
 
 The model is the independent model of the rules (tools/world_rules.py). Of each book it is computed whether it keeps its promise,
 from the crossings, the lives and the bits that were handed over (tools/audit_rules.py): at the end of each run, and after each
 event of some; in these it is looked at too whether what had an effect on a host went out after that host's last clean point for
 its sender (tools/clean_rules.py). So this script doesn't try the program. It tries the promise itself, and with it two facts that are stronger: no
-program is ever told of an error, and two lives that go on and have each other's hosts and sockets are one connection.
+program is ever told of an error, and two lives that continue and have each other's hosts and sockets are one connection.
 
 First the audit itself is tried, on books that are right and books that are wrong in one place; and readings of the promise that
 are wrong in one place have to be told from the right one by one of these books.
@@ -26,7 +26,7 @@ from world_rules import Life, World
 from world_chance import reached, some_script
 
 RUNS = 3000
-CLOSELY = 10  # of so many runs one is audited after each event
+CLOSELY = 10  # of this many runs one is audited after each event
 
 # a connection that carries data, and what is not sent is returned
 OPENING = ["contact 0/1 0/2", "calm 3", "listen 0/2 33 8", "openrecv 0/1 0/2 16 33", "calm 2"]
@@ -168,7 +168,7 @@ def judged(wrong_audit, book):
 
 
 def pairs_that_differ(log, lives):
-    """Lives that go on, with each other's hosts and sockets, that are not one connection."""
+    """Lives that continue, with each other's hosts and sockets, that are not one connection."""
     going = [life for life in lives if not life.has_ended]
     for life in filter(lambda life: life.receives(), going):
         for other in going:
@@ -193,7 +193,7 @@ class Watched(World):
 
 
 def kept_by(program):
-    """All that a host's program keeps. A pair as at the opening is as good as none."""
+    """All that a host's program keeps. A pair in the initial state counts as none."""
     if program is None:
         return None
     pairs = {peer: (it.phase, it.early, it.owed, {*it.busy}, [{**vars(end)} for end in it.ends], [*it.queue]) for peer, it in program.pairs.items()}
@@ -215,7 +215,7 @@ def broken(world):
 
 
 def run(seed):
-    """A run by chance: what breaks, the script as far as it happened, and what was reached."""
+    """A random run: what breaks, the script as far as it happened, and what was reached."""
     network, script = some_script(seed)
     if seed % CLOSELY:
         return broken(script.world), network, script.lines, reached(script.world.printed)

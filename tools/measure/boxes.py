@@ -79,7 +79,7 @@ def printed(program, source):
 
 
 def filled(name, count):
-    """A script of so many lines."""
+    """A script of this many lines."""
     lines = SCRIPTS[name](count)
     lines += (count - len(lines)) * [f"take {IDLE}"]
     return TOPOLOGY + "\n".join(lines) + "\n"

@@ -64,7 +64,7 @@ def work_of(pid, parent):
 
 
 def watch(session, goes_on):
-    """The seconds of the processor of each work of a session, as long as it goes on."""
+    """The seconds of the processor of each work of a session, as long as it continues."""
     used, works, latest = {}, {}, {}
     while goes_on():
         for pid in filter(str.isdigit, os.listdir("/proc")):

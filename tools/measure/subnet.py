@@ -13,7 +13,7 @@ Each kind of script is measured at one size and at ten times that size:
 - quiet rounds in that ring, with nothing but distances in transit: in each, 32 frames are delivered and 64 hosts take.
 - messages between 252 hosts, four at each of 63 IMPs, the most that there can be, with 157 lines: 250 at a time.
 - one message over 63 IMPs in a row, after as many rounds as its routes need.
-- single events by chance in a ring of 16 IMPs with eight chords. The independent model of the rules in Python goes along, so
+- single random events in a ring of 16 IMPs with eight chords. The independent model of the rules in Python goes along, so
   that frames that are there are delivered and dropped, and messages are begun on idle flows.
 
 For each the median and the best processor time of the rounds are told, from the start of the process to its end, and the
@@ -39,7 +39,7 @@ RING = [(number, number % 16 + 1) for number in range(1, 17)]
 
 
 def network(imps, lines):
-    """The document of IMPs with so many hosts, and of lines."""
+    """The document of IMPs with this many hosts, and of lines."""
     sites = "".join(f"[[imp]]\nid={number}\nhosts={hosts}\n" for number, hosts in imps)
     return 'carrier = "subnet"\nraw = true\n' + sites + "".join(f"[[line]]\na={a}\nb={b}\n" for a, b in lines) + "%\n"
 
@@ -138,7 +138,7 @@ def ended(program, source):
 
 
 def alone(program, source, rounds):
-    """The median and the best processor time of so many runs."""
+    """The median and the best processor time of this many runs."""
     runs = [processor_time([program], source) for _ in range(rounds)]
     return statistics.median(runs), min(runs)
 

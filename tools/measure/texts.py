@@ -4,11 +4,11 @@ OTHER is a clone at another commit, the earlier one. ./build has to be run in bo
 so that a busy machine slows both.
 
 - A script of near 1,048,576 octets, whose messages have texts of 8,063 bits. Each message is sent, taken and answered.
-  The texts are made by chance, the same ones each time. What is printed has to be the same. Told are the processor time,
+  The texts are random, the same ones each time. What is printed has to be the same. Told are the processor time,
   from the start of the process to its end, and the most memory that the process held.
 - The public calls pad16, strip, cut, write and read, on a body of 8,064 bits: the processor time of a call. They are
   called by tools/texts.rs, which is proved and built for each state in a temporary folder, over copies of the crates that
-  it stands on and of what their checks kept (`rt check` in crates/packetiser of both clones saves minutes).
+  it uses and of what their checks kept (`rt check` in crates/packetiser of both clones saves minutes).
 
 It wants GNU time at /usr/bin/time, which tells how much memory a process held. It is not part of the gate.
 """

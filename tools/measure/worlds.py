@@ -70,7 +70,7 @@ OF_64 = ["plain mailboxes of 64 hosts", "a ring of 16 IMPs with 4 hosts"]
 
 
 def octets(bits):
-    """So many bits by chance, spelled as a script spells them."""
+    """This many random bits, spelled as a script spells them."""
     return f"{bits} {CHANCE.randbytes(bits // 8).hex().upper()}"
 
 
@@ -161,7 +161,7 @@ def at_one_host(_, __, count):
 
 
 def pairs_of(count):
-    """So many pairs of the 64 hosts, as far apart as they go: each host has to do with a few others."""
+    """This many pairs of the 64 hosts, as far apart as they go: each host has to do with a few others."""
     hosts = [f"{host}/{imp}" for imp in range(1, 17) for host in range(4)]
     return [(hosts[at % 64], hosts[(at + 1 + at // 64) % 64]) for at in range(count)]
 
@@ -229,7 +229,7 @@ MEASURED = [
 
 
 def memory_of(program, source, wanted):
-    """The most memory that a run held, in KiB, and what it printed, which has to have so many lines of each of these kinds."""
+    """The most memory that a run held, in KiB, and what it printed, which has to have this many lines of each of these kinds."""
     memory, output = most_memory(program, source)
     kinds = [line.partition(b" ")[0].decode() for line in output.splitlines()]
     wanted = {"refused": 0, "error": 0, **wanted}
