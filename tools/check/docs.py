@@ -14,7 +14,7 @@ docs/PROVED.md names each clause after the path of its call, `CRATE::..::CALL`, 
 
 The drawings of docs/pictures and the page of crates have to be as they are made, the numbers in drawings as the sources have them, and
 no text of a drawing over another one or over a line. Words of the house's dialect are counted against limits that can only fall
-(tools/documents). With --write the drawings, this page and that of planted bugs are made anew, and with --lower the limits are lowered to what is counted.
+(tools/documents). With --write the drawings, this page and those of planted bugs and of rules are made anew, and with --lower the limits are lowered to what is counted.
 
 Then it counts what hides borders and what is dead, each against its limit: imports that reach into another crate's proofs/
 beside its module lemmas, names of proofs/ that are declared `pub` and stand nowhere else, and folders of proofs/ with too many entries.
@@ -29,7 +29,7 @@ import re
 import unittest
 from collections import Counter
 
-from documents import anchors, crates_page, dialect, planted, tests
+from documents import anchors, crates_page, dialect, planted, rules, tests
 from drawings import pictures
 from parts import ROOT
 
@@ -237,20 +237,21 @@ def failed_tests():
 def made():
     """What isn't as it is made, and what the drawings and the words of the documents have that they shouldn't."""
     print("check docs:", dialect.summary())
-    return [*failed_tests(), *anchors.faults(), *pictures.faults(), *crates_page.faults(), *planted.faults(), *dialect.faults()]
+    return [*failed_tests(), *anchors.faults(), *pictures.faults(), *crates_page.faults(), *planted.faults(), *rules.faults(), *dialect.faults()]
 
 
 def write():
-    """Makes the drawings, the page of crates and that of planted bugs."""
+    """Makes the drawings and the pages of crates, of planted bugs and of rules."""
     crates_page.write()
     planted.write()
-    print(f"check docs: docs/measured/crates.md, docs/measured/planted.md and {pictures.write()} drawings are written")
+    rules.write()
+    print(f"check docs: docs/measured/crates.md, planted.md, rules.md and {pictures.write()} drawings are written")
     return 0
 
 
 def main():
     parser = argparse.ArgumentParser(prog="check docs", add_help=False)
-    parser.add_argument("--write", action="store_true", help="make the drawings, the page of crates and that of planted bugs")
+    parser.add_argument("--write", action="store_true", help="make the drawings and the pages of crates, planted bugs and rules")
     parser.add_argument("--lower", action="store_true", help="lower the limits of the dialect to what is counted")
     options = parser.parse_args()
     if options.lower:
