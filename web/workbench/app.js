@@ -234,6 +234,7 @@ export class Workbench {
         } finally {
             window.clearTimeout(slow);
             byId("wait").hidden = true;
+            if (run === this.runs) document.documentElement.dataset.replays = String(run);
         }
     }
 

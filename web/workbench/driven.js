@@ -98,7 +98,7 @@ function rawScript(network, told, frames) {
             return [...quiet, ...crossings(it.printed).map((text) => ({ text, step, quiet: false }))];
         }
         const { words } = it.part;
-        if (words[0] === "calm") return [{ text: "calm 1", step, quiet: false }];
+        if (words[0] === "calm") return [{ text: words.join(" "), step, quiet: false }];
         if (words[0] === "offer") return it.printed.filter(isOut).map((text) => ({ text, step, quiet: false }));
         return INNER.includes(words[0]) ? [{ text: words.join(" "), step, quiet: false }] : [];
     });

@@ -185,7 +185,7 @@ function impIn(told) {
  * @param {any} told
  * @returns {Part}
  */
-function partIn(name, told) {
+export function partIn(name, told) {
     if (name === "down") return told;
     if (name.startsWith("host ")) return boxIn(told);
     if (name.startsWith("line ")) return { "+": told["+"].map(frameIn), "-": told["-"].map(frameIn) };

@@ -275,7 +275,7 @@ export class MapView {
         const length = Math.hypot(to.x - from.x, to.y - from.y) || 1;
         const gap = Math.min(this.layout.small ? 11 : 17, (0.9 * length) / Math.max(count, 1));
         const along = Math.max(0.06 * length, length / 2 + gap * ((count - 1) / 2 - place));
-        const side = this.layout.small ? 5 : 9;
+        const side = this.layout.small ? 6 : 11;
         const x = from.x + ((to.x - from.x) * along) / length - (side * (to.y - from.y)) / length;
         const y = from.y + ((to.y - from.y) * along) / length + (side * (to.x - from.x)) / length;
         const angle = (Math.atan2(to.y - from.y, to.x - from.x) * 180) / Math.PI;

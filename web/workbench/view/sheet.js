@@ -213,11 +213,12 @@ export class SheetView {
      * @param {number} room
      */
     marks(y, x, room) {
-        const letters = Math.max(4, Math.floor((room - 16) / 6.6));
+        const last = (this.sheet?.chart.lanes.length ?? 1) - 1;
+        const letters = (/** @type {number} */ lane) => Math.max(4, Math.floor(((lane === last ? 0.82 : 1) * room - 14) / 6.9));
         return (this.sheet?.chart.marks ?? []).flatMap(({ at, lane, kind, words }) => {
             const middle = y(at);
             if (middle < 0) return [];
-            const text = shortened(words, letters);
+            const text = shortened(words, letters(lane));
             return [s("g", { class: `mark ${kind}`, "data-at": at }, s("title", {}, words), s("circle", { cx: x(lane), cy: middle, r: 3.5 }), s("text", { class: "plate", x: x(lane) + 8, y: middle + 4 }, text), s("text", { x: x(lane) + 8, y: middle + 4 }, text))];
         });
     }

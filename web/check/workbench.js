@@ -1,0 +1,262 @@
+/**
+ * Tries the workbench in a browser: node web/check/workbench.js PAGE BROWSER..
+ *
+ * Each lesson is stepped forth and back, parts are tapped, an address is opened again, keys and the focus are looked at, and at each
+ * size nothing is cut and no text stands on another. Faults that are planted in the page have to be found. It ends with status 1 where
+ * something is wrong, and says what.
+ */
+
+import { readFileSync, writeFileSync } from "node:fs";
+
+import { chromium, firefox } from "./browser.js";
+
+/** @typedef {import("./browser.js").Browser} Browser */
+
+const SIZES = /** @type {[number, number][]} */ ([[390, 844], [720, 450], [1024, 768], [1280, 720], [1440, 900]]);
+const SHOWN = ["lo-of-login", "arpanet-of-december-1969", "reassembly-lockup", "rerouted-over-a-triangle", "from-a-terminal-to-a-server"];
+
+/** What each trial begins with: names for what is asked of the page. */
+const HELPERS = `
+const $ = (id) => document.getElementById(id);
+const pause = (time) => new Promise((go) => setTimeout(go, time));
+const until = async (holds, what) => { for (let at = 0; at < 600; at += 1) { if (holds()) return; await pause(25); } throw new Error("never: " + what); };
+const ready = () => until(() => document.documentElement.dataset.ready === "yes" && $("count").textContent, "the page is ready");
+const replays = () => document.documentElement.dataset.replays;
+const changed = async (does) => { const was = replays(); does(); await until(() => replays() !== was, "the script is replayed"); await pause(20); };
+const press = (id) => $(id).click();
+const load = async (name) => { await changed(() => { $("lesson").value = name; $("lesson").dispatchEvent(new Event("change")); }); want($("lesson").value === name && $("count").textContent.startsWith("step 0"), name + " is not shown"); };
+const key = (name, on = document.body, more = {}) => on.dispatchEvent(new KeyboardEvent("keydown", { key: name, bubbles: true, cancelable: true, ...more }));
+const wrong = [];
+const want = (holds, what) => { if (!holds) wrong.push(what); };
+await ready();
+`;
+
+/** Goes through the steps of an example forth and back: each has its sentence, and it is the same both ways. */
+const STEPPED = `
+const count = Number($("slider").max);
+const seen = [];
+const every = Math.max(1, Math.floor(count / 150));
+for (let at = 0; at <= count; at += every) { $("slider").value = at; $("slider").dispatchEvent(new Event("input")); seen.push($("sentence").textContent); want($("sentence").textContent.length > 3, name + ": a sentence at step " + at); want($("count").textContent === "step " + at + " of " + count, name + ": the count at step " + at); }
+for (let at = seen.length - 1; at >= 0; at -= 1) { $("slider").value = at * every; $("slider").dispatchEvent(new Event("input")); want($("sentence").textContent === seen[at], name + ": another sentence on the way back at step " + at * every); }
+press("next"); want($("count").textContent.startsWith("step 1 "), name + ": next goes one step"); press("back"); want($("count").textContent.startsWith("step 0 "), name + ": back goes one step");
+`;
+
+/** The boxes of texts that are seen, and what is wrong with them. */
+const MEASURED = `
+const room = { width: document.documentElement.clientWidth, height: document.documentElement.clientHeight };
+want(document.documentElement.scrollWidth <= room.width, "the page is " + document.documentElement.scrollWidth + " wide at " + room.width);
+for (const id of ["head", "told", "map", "tabs", "foot"]) { const box = $(id).getBoundingClientRect(); want(box.width > 0 && box.height > 20, id + " is " + Math.round(box.width) + " by " + Math.round(box.height)); want(box.right <= room.width + 1 && box.left >= -1, id + " is cut at the side"); }
+want($("sheet").getBoundingClientRect().height > 60 || $("pane").getBoundingClientRect().height > 60, "neither the script nor a table has room");
+want($("map").getBoundingClientRect().height > 100, "the map has no room");
+for (const it of document.querySelectorAll("#head button, #foot button, #tabs button")) { const box = it.getBoundingClientRect(); if (box.width && !it.closest("#rare:not(.open)")) want(box.right <= room.width + 1 && box.left >= -1 || it.closest("#tabs"), "the button " + it.textContent + " is cut"); }
+const boxes = (selector) => [...document.querySelectorAll(selector)].filter((it) => it.textContent.trim() && it.getBoundingClientRect().width && getComputedStyle(it).display !== "none").map((it) => ({ text: it.textContent, box: it.getBoundingClientRect() }));
+const overlap = (list, what) => list.forEach((a, at) => list.slice(at + 1).forEach((b) => { const w = Math.min(a.box.right, b.box.right) - Math.max(a.box.left, b.box.left); const h = Math.min(a.box.bottom, b.box.bottom) - Math.max(a.box.top, b.box.top); if (w > 2 && h > 3) wrong.push(what + ": " + a.text + " on " + b.text); }));
+overlap(boxes("#network text"), "map");
+overlap(boxes(".chart .mark:not(.gone) text:not(.plate)"), "chart");
+overlap(boxes("#sheet .row:not([hidden]) .text"), "rows");
+overlap(boxes("#sheet .head"), "heads");
+`;
+
+/** The contrast of texts that have to be read. */
+const CONTRAST = `
+const parse = (color) => (color.match(/[\\d.]+/g) ?? []).map(Number);
+const light = (rgb) => { const [r, g, b] = rgb.map((it) => { const value = it / 255; return value <= 0.03928 ? value / 12.92 : ((value + 0.055) / 1.055) ** 2.4; }); return 0.2126 * r + 0.7152 * g + 0.0722 * b; };
+const ground = (it) => { for (let at = it; at; at = at.parentElement) { const color = parse(getComputedStyle(at).backgroundColor); if (color.length === 3 || color[3] > 0.99) return color.slice(0, 3); } return [255, 255, 255]; };
+for (const it of document.querySelectorAll("#label, #sentence, .row .text, .row .number, .row .steps, .head, .soft, #count, #legend span, .wait p, .wait h3, th, td, #tabs button")) {
+    if (!it.textContent.trim() || !it.getBoundingClientRect().width) continue;
+    const back = ground(it);
+    let opacity = 1; for (let at = it; at; at = at.parentElement) opacity *= Number(getComputedStyle(at).opacity);
+    const front = parse(getComputedStyle(it).color).slice(0, 3).map((value, place) => value * opacity + back[place] * (1 - opacity));
+    const [a, b] = [light(front), light(back)].sort((x, y) => y - x);
+    want((a + 0.05) / (b + 0.05) >= 4.45, "contrast " + ((a + 0.05) / (b + 0.05)).toFixed(2) + ": " + (it.id || it.className) + " " + it.textContent.slice(0, 30));
+}
+`;
+
+/** Keys, the focus, and what a screen reader is told. */
+const KEYS = `
+await load("first-message");
+want($("sentence").getAttribute("aria-live") === "polite", "no live region");
+$("next").focus(); $("next").click(); want(document.activeElement === $("next"), "a step takes the focus from the button");
+key(" ", $("next")); want($("play").textContent === "Play", "space on a button plays");
+key("ArrowRight"); want($("count").textContent.startsWith("step 2 "), "right goes a step"); key("ArrowLeft"); key("End"); want($("count").textContent === "step " + $("slider").max + " of " + $("slider").max, "End goes to the end"); key("Home"); want($("count").textContent.startsWith("step 0 "), "Home goes to the beginning");
+want(/^step 0 of/.test($("slider").getAttribute("aria-valuetext")), "the slider has no text");
+key("Enter", $("network")); want(document.activeElement && document.activeElement.closest("#network"), "Enter goes into the map"); const part = document.activeElement; want(part.getAttribute("aria-label"), "a part without a name");
+key("Enter", part); want(!$("menu").hidden, "Enter opens the menu"); key("Escape", document.activeElement); want($("menu").hidden && document.activeElement === part, "Escape gives the focus back");
+want([...document.querySelectorAll("th")].every((it) => it.getAttribute("scope")), "a head of a table without scope");
+want([...document.querySelectorAll("button, select, input:not([type=file])")].every((it) => it.textContent.trim() || it.getAttribute("aria-label")), "a button without a name");
+`;
+
+/** Taps change the script, undo brings it back, and an address brings it elsewhere. */
+const TAPPED = `
+await load("rerouted-over-a-triangle");
+for (let at = 0; at < 14; at += 1) press("next");
+const count = () => $("count").textContent; const script = () => [...document.querySelectorAll(".row.event .text")].map((it) => it.textContent).join("\\n");
+for (const kind of ["line", "imp", "host", "frame"]) {
+    const part = document.querySelector("#network .part." + kind);
+    if (!part) { wrong.push("no " + kind + " to tap"); continue; }
+    const before = [count(), script()];
+    part.dispatchEvent(new MouseEvent("click", { bubbles: true }));
+    if (matchMedia("(pointer: coarse)").matches && $("menu").querySelector("h2").textContent === "Which one?") $("menu").querySelector("[role=menuitem]").click();
+    const items = [...$("menu").querySelectorAll("[role=menuitem]")].filter((it) => it.querySelector("code"));
+    want(items.length > 0, kind + ": no choices");
+    const lines = items[0].querySelector("code").textContent.split(" · ");
+    await changed(() => items[0].click());
+    want(lines.every((line) => script().includes(line)), kind + ": the lines are not in the script: " + lines);
+    want(document.querySelectorAll(".row.added").length >= lines.length, kind + ": added lines are not marked");
+    await changed(() => press("undo"));
+    want(count() === before[0] && script() === before[1], kind + ": undo does not bring back the same script and step: " + count());
+}
+await changed(() => press("round"));
+press("share"); await pause(120);
+const shared = { hash: location.hash, count: count(), sentence: $("sentence").textContent, script: script() };
+want(/^#s=/.test(shared.hash), "no script in the address");
+await load("first-message");
+await changed(() => { location.hash = shared.hash; });
+want(count() === shared.count && script() === shared.script && $("sentence").textContent === shared.sentence, "the address brings another script or step");
+`;
+
+/** What is to come is hidden, and questions are asked instead of the next step. */
+const HIDDEN = `
+await load("reassembly-lockup");
+press("hide");
+for (let at = 0; at < 3; at += 1) press("next");
+const shown = [...document.querySelectorAll("#sheet .row:not([hidden])")].filter((it) => it.getBoundingClientRect().height);
+want(shown.every((it) => !it.classList.contains("future")), "a row of the future is shown");
+want([...document.querySelectorAll(".chart [data-at]")].every((it) => !it.classList.contains("future") || it.classList.contains("gone")), "an arrow of the future is shown");
+want(!/ of /.test($("count").textContent) && Number($("slider").max) <= 3, "the count or the slider gives the length away");
+press("edit"); want($("editor").hidden, "Edit shows the future");
+await load("first-message");
+press("next"); press("next"); want(!$("question").hidden && $("question").querySelector("button"), "no question is asked"); want($("sentence").textContent === "", "the sentence stands beside the question");
+press("next"); want($("count").textContent === "step 2" && !$("question").hidden && $("sentence").textContent, "the answer does not follow: " + $("count").textContent);
+press("hide");
+`;
+
+/** Faults while one types, and nothing lost on reload. */
+const TYPED = `
+await load("first-message");
+press("edit"); want(!$("editor").hidden, "no editor");
+const area = document.querySelector("textarea"); const good = area.value;
+area.value = good.replace("take 0/2", "tak 0/2"); await changed(() => area.dispatchEvent(new Event("input")));
+want(/Is .take. meant/.test(document.querySelector(".fault").textContent), "no fault while one types: " + document.querySelector(".fault").textContent);
+want(document.querySelectorAll(".gutter .bad").length === 1, "no line is marked");
+want(JSON.parse(sessionStorage.getItem("dorydate")).text.includes("tak 0/2"), "what was typed is not kept");
+area.value = good.replace("take 0/2", "calm 2"); area.dispatchEvent(new Event("input")); await changed(() => key("Enter", area, { ctrlKey: true }));
+want(document.querySelector(".fault").textContent === "" && [...document.querySelectorAll(".row.event .text")].some((it) => it.textContent.startsWith("calm 2")), "what was typed is not replayed");
+document.querySelector(".editor-head button").click(); want($("editor").hidden && !$("sheet").hidden, "the editor stays");
+await changed(() => press("undo"));
+`;
+
+/**
+ * Runs a trial in the page; what it finds wrong.
+ *
+ * @param {Browser} browser
+ * @param {string} body
+ * @returns {Promise<string[]>}
+ */
+async function trial(browser, body) {
+    try {
+        return await browser.evaluate(`${HELPERS}\n${body}\nreturn wrong;`);
+    } catch (why) {
+        return [`a trial broke off: ${why instanceof Error ? why.message : why}`];
+    }
+}
+
+/** Faults for the page, and words of what has to be found. */
+const PLANTED = /** @type {[string, (page: string) => string, string, string][]} */ ([
+    ["the sheet has no height where the page is low", (page) => page.replace("</style>", "@media (max-height: 500px) { main { grid-template-rows: minmax(10rem, 36%) 0 0 !important; height: 0 } }</style>"), "MEASURED 720 450", "has room"],
+    ["a head that does not wrap", (page) => page.replace("</style>", "@media (max-width: 560px) { #foot .group button { min-width: 9rem } }</style>"), "MEASURED 390 844", "wide at 390"],
+    ["a step takes the focus", (page) => page.replace('press("next", () => this.step(1));', 'press("next", () => { this.step(1); byId("next").blur(); });'), "KEYS", "takes the focus"],
+    ["space plays on a button, too", (page) => page.replace('isButton ? {} : { " ": () => this.play() }', '{ " ": () => this.play() }'), "KEYS", "space on a button plays"],
+    ["pale rows", (page) => page.replace("</style>", ".row.future { opacity: 0.34 !important }</style>"), "CONTRAST", "contrast"],
+    ["a comment that shows while the future is hidden", (page) => page.replace("(hidden && !isPast)", '(hidden && !isPast && row.kind !== "comment")'), "HIDDEN", "a row of the future"],
+]);
+
+/**
+ * A page whose policy allows changed scripts and styles, so that faults can be planted.
+ *
+ * @param {string} page
+ */
+function open(page) {
+    return page.replace(/'sha256-[^']*'/g, "'unsafe-inline'");
+}
+
+/**
+ * All trials of a page.
+ *
+ * @param {Browser} browser
+ * @param {string} address
+ */
+async function whole(browser, address) {
+    /** @type {string[]} */
+    const wrong = [];
+    await browser.resize(1440, 900);
+    await browser.open(address);
+    const names = await browser.evaluate(`${HELPERS} return [...$("lesson").options].map((it) => it.value);`);
+    let steps = 0;
+    for (const name of names) {
+        if (/a-bad-line|an-unknown-event/.test(name)) continue;
+        wrong.push(...(await trial(browser, `const name = ${JSON.stringify(name)}; await load(name); ${STEPPED}`)));
+        steps += await browser.evaluate('return Number(document.getElementById("slider").max);');
+    }
+    for (const body of [KEYS, TAPPED, HIDDEN, TYPED]) wrong.push(...(await trial(browser, body)));
+    let places = 0;
+    for (const [width, height] of SIZES) {
+        await browser.resize(width, height);
+        for (const name of SHOWN) {
+            for (const part of [0, 0.35, 0.8]) {
+                const found = await trial(browser, `await load(${JSON.stringify(name)}); $("slider").value = Math.floor(${part} * $("slider").max); $("slider").dispatchEvent(new Event("input")); await pause(150); ${MEASURED} ${CONTRAST}`);
+                wrong.push(...found.map((it) => `${name} at ${width} by ${height}: ${it}`));
+                places += 1;
+            }
+        }
+    }
+    return { wrong, steps, places, lessons: names.length };
+}
+
+/**
+ * Plants each fault in the page, and answers those that are not found.
+ *
+ * @param {Browser} browser
+ * @param {string} page
+ * @param {string} file where a page with a fault is put
+ */
+async function planted(browser, page, file) {
+    /** @type {string[]} */
+    const missed = [];
+    /** @type {{[name: string]: string}} */
+    const bodies = { KEYS, HIDDEN, MEASURED, CONTRAST };
+    for (const [what, fault, where, words] of PLANTED) {
+        const changed = fault(page);
+        if (changed === page) missed.push(`${what}: there is no place to plant it`);
+        writeFileSync(file, open(changed));
+        const [name, width, height] = where.split(" ");
+        await browser.resize(Number(width ?? 1440), Number(height ?? 900));
+        await browser.open(`file://${file}`);
+        const found = await trial(browser, bodies[name]);
+        if (!found.some((it) => it.includes(words))) missed.push(`${what}: found only ${found.slice(0, 3).join("; ") || "nothing"}`);
+    }
+    return missed;
+}
+
+async function main() {
+    const [page, ...programs] = process.argv.slice(2);
+    let failed = false;
+    for (const program of programs) {
+        const browser = await (program.includes("firefox") ? firefox : chromium)(program);
+        try {
+            const { wrong, steps, places, lessons } = await whole(browser, `file://${page}`);
+            for (const it of wrong.slice(0, 40)) console.log(`${browser.name}: ${it}`);
+            const others = browser.requests().filter((it) => !/^(?:file|blob|data):/.test(it));
+            if (others.length) console.log(`${browser.name}: the page asks for ${others[0]}`);
+            const missed = await planted(browser, readFileSync(page, "utf8"), `${page}.planted.html`);
+            for (const it of missed) console.log(`${browser.name}: a planted fault was not found: ${it}`);
+            failed ||= wrong.length + missed.length + others.length > 0;
+            console.log(`${browser.name}: ${lessons} lessons with ${steps} steps forth and back, ${places} places at ${SIZES.length} sizes, ${PLANTED.length - missed.length} planted faults found, ${wrong.length} things wrong`);
+        } finally {
+            await browser.close();
+        }
+    }
+    process.exit(failed ? 1 : 0);
+}
+
+await main();

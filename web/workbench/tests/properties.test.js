@@ -1,0 +1,120 @@
+/** What holds at every stop of every example, and planted faults that break it. */
+
+import assert from "node:assert/strict";
+import { test } from "node:test";
+
+import { chartOf } from "../chart.js";
+import { choicesFor } from "../choices.js";
+import { placed } from "../layout.js";
+import { sentenceOf } from "../sentences.js";
+import { rowsOf, seen } from "../sheet.js";
+import { stopsOf } from "../stops.js";
+import { sends, Talk } from "../talk.js";
+import { waitsOf } from "../waits.js";
+import { exampleNames, historyOf } from "./examples.js";
+
+/** @typedef {import("../fold.js").History} History */
+/** @typedef {import("../waits.js").Wait} Wait */
+
+const NAMES = exampleNames().filter((name) => !/a-bad-line|an-unknown-event/.test(name));
+
+/**
+ * What waits and isn't among the waits.
+ *
+ * @param {History} history
+ * @param {number} position
+ * @param {Talk} talk
+ * @param {Wait[]} waits
+ */
+function leftOut(history, position, talk, waits) {
+    const state = history.at(position);
+    const found = [];
+    const flows = new Set(waits.map((it) => it.flow));
+    if (history.replay.inside && !history.network.plain) {
+        for (const { number } of history.network.sites) for (const it of state.imp(number)?.sources ?? []) if (it.state !== "idle" && !flows.has(it.flow)) found.push(it.flow);
+    } else if (!history.replay.inside) for (const flow of talk.messages.keys()) if (!flows.has(flow)) found.push(flow);
+    for (const end of talk.ends) if (sends(end.socket) && end.state === "open" && end.handed > end.bits && !waits.some((it) => it.what.includes(`socket ${end.socket} `))) found.push(`bits on ${end.socket}`);
+    for (const it of talk.contacts) if (it.state === "asked" && !waits.some((wait) => wait.what.includes("contact"))) found.push("contact");
+    return found;
+}
+
+for (const name of NAMES) {
+    test(`${name}: sentences, waits, rows and choices at every stop`, async () => {
+        const history = await historyOf(name);
+        assert(history);
+        const talk = new Talk(history.replay);
+        const stops = stopsOf(history, "arrival");
+        const every = Math.max(1, Math.floor(stops.length / 120));
+        stops.forEach((stop, place) => {
+            if (place % every) return;
+            if (stop.main >= 0) {
+                const sentence = sentenceOf(history, stop.main);
+                assert(/^[A-Z“].*[.”]$/.test(sentence), `${stop.main}: ${sentence}`);
+                assert(!/undefined|NaN|\[object|  |host 0\/0/.test(sentence), sentence);
+                assert.equal(sentence.split("`").length % 2, 1, sentence);
+            }
+            const state = history.at(stop.to);
+            const waits = waitsOf(state, talk.goTo(stop.to), history.replay.inside);
+            assert.deepEqual(leftOut(history, stop.to, talk, waits), [], `step ${place + 1}`);
+            for (const wait of waits) assert(wait.what && wait.for && !/undefined|NaN/.test(wait.what + wait.where + wait.for), JSON.stringify(wait));
+        });
+        const state = history.at(history.length);
+        for (const host of history.network.hosts) assert(choicesFor(state, talk.goTo(history.length), { kind: "host", host }).length > 0);
+        const rows = rowsOf(history, stops);
+        assert.deepEqual(rows.filter((row) => row.stop >= 0).map((row) => row.stop), stops.map((_, place) => place));
+        assert(seen(rows, -1).length === rows.length);
+    });
+
+    test(`${name}: each message has its lane, and the map has no boxes on one another`, async () => {
+        const history = await historyOf(name);
+        assert(history);
+        const chart = chartOf(history);
+        assert.deepEqual(withoutLane(history, chart.lanes), []);
+        const { imps, box, hosts } = placed(history.network);
+        const points = [...imps.values()];
+        points.forEach((a, at) => points.slice(at + 1).forEach((b) => assert(Math.abs(a.x - b.x) >= 2 * box.w || Math.abs(a.y - b.y) >= 2 * box.h)));
+        assert.equal(hosts.size, history.network.hosts.length);
+    });
+}
+
+/**
+ * The hosts that send or are sent to and have no lane.
+ *
+ * @param {History} history
+ * @param {string[]} lanes
+ */
+function withoutLane(history, lanes) {
+    const hosts = history.replay.moments.flatMap((moment) => moment.printed.filter((line) => line.startsWith("out ")).flatMap((line) => line.split(" ").slice(1, 3)));
+    return [...new Set(hosts)].filter((host) => history.network.hosts.includes(host) && !lanes.includes(host));
+}
+
+test("a lane that is left out is found: 0/4 of the lockup takes nothing", async () => {
+    const history = await historyOf("reassembly-lockup");
+    assert(history);
+    const crossing = new Set(history.replay.moments.flatMap((moment) => moment.printed.map((line) => line.split(" ")).map((words) => (words[0] === "out" ? words[1] : words[2]))));
+    assert.deepEqual(withoutLane(history, [...crossing]), ["0/4"]);
+    assert.deepEqual(chartOf(history).lanes, ["0/1", "0/3", "0/4"]);
+});
+
+test("something that waits and is left out is found", async () => {
+    const history = await historyOf("reassembly-lockup");
+    assert(history);
+    const stops = stopsOf(history, "arrival");
+    const talk = new Talk(history.replay).goTo(stops[130].to);
+    const waits = waitsOf(history.at(stops[130].to), talk, true);
+    assert.equal(waits.length, 16);
+    assert.equal(leftOut(history, stops[130].to, talk, waits.slice(1)).length, 1);
+});
+
+test("connections are told as of the step, and never as they end", async () => {
+    const history = await historyOf("lo-of-login");
+    assert(history);
+    const whole = new Talk(history.replay);
+    for (let position = 0; position <= history.length; position += 7) {
+        const cut = new Talk({ ...history.replay, moments: history.replay.moments.slice(0, position) }).goTo(position);
+        assert.deepEqual(JSON.stringify(cut.ends), JSON.stringify(whole.goTo(position).ends));
+    }
+    assert.deepEqual(new Talk(history.replay).goTo(0).ends, []);
+    const first = whole.goTo(history.length).ends.filter((end) => end.state === "over");
+    assert.deepEqual(first.map((end) => [end.host, end.socket, end.bits]), [["0/2", 16, 16], ["0/1", 33, 24]]);
+});

@@ -1,0 +1,169 @@
+/** Rows written by hand: what waits, what is wrong with a line, what is told of a text, and addresses. */
+
+import assert from "node:assert/strict";
+import { test } from "node:test";
+
+import { faultOf, wrongLine } from "../faults.js";
+import { withQuestions } from "../lessons.js";
+import { notesOf, readInput } from "../script.js";
+import { sentenceOf } from "../sentences.js";
+import { fragment, packed, placeIn, unpacked } from "../share.js";
+import { Talk } from "../talk.js";
+import { saying } from "../texts.js";
+import { grouped, waitsOf } from "../waits.js";
+import { historyOf, historyOfText, run, twoImps } from "./examples.js";
+import { isReplay, replay } from "../runs.js";
+
+/** @typedef {import("../fold.js").History} History */
+
+/**
+ * What waits at the end of a script.
+ *
+ * @param {History} history
+ */
+function waitsAtEnd(history) {
+    return waitsOf(history.at(history.length), new Talk(history.replay).goTo(history.length), history.replay.inside);
+}
+
+/**
+ * A network of host programs over two IMPs.
+ *
+ * @param {string[]} script
+ */
+function programs(script) {
+    return twoImps(script).replace("raw = true\n", "");
+}
+
+test("a message that was lost for a reset of one end waits for nobody, and is told so", async () => {
+    const history = await historyOfText(twoImps(["calm 2", "out 0/1 0/2 5 8 41", "calm 4", "enddown 1 0", "endup 1 0", "calm 2", "out 0/1 0/2 5 8 42", "deliver 0 + 0", "calm 20"]));
+    const at = history.replay.moments.findIndex((_, place) => history.notes[place].fate === "lost");
+    const sentence = sentenceOf(history, at);
+    assert(sentence.includes("It never came before"), sentence);
+    assert(sentence.includes("LOST") && sentence.includes("`enddown 1 0`, `enddown 2 0`, `endup 1 0`, `endup 2 0`"), sentence);
+    const [wait, ...more] = waitsAtEnd(history);
+    assert.deepEqual(more, []);
+    assert(wait.bad && wait.for.startsWith("nothing of it is alive"));
+    assert.deepEqual(wait.cures, ["ask 0/1 0/2 5", "giveup 0/1 0/2 5"]);
+});
+
+test("bits wait for a grant, and it is told how much is left of it", async () => {
+    const open = ["calm 2", "contact 0/1 0/2", "calm 6", "listen 0/2 16 8", "opensend 0/1 0/2 33 16 8", "calm 6"];
+    for (const [grant, left] of /** @type {const} */ ([[[], "0 messages and 0 bits"], [["grant 0/2 16 1 4"], "1 message and 4 bits"], [["grant 0/2 16 0 80"], "0 messages and 80 bits"]])) {
+        const history = await historyOfText(programs([...open, ...grant, "send 0/1 33 8 4C", "calm 6"]));
+        const [wait] = waitsAtEnd(history);
+        assert(wait && wait.what.startsWith("8 bits on socket 33") && wait.bad, JSON.stringify(wait));
+        assert(wait.where.includes(`${left} are left of the grant`), wait.where);
+        assert.deepEqual(wait.cures, ["grant 0/2 16 1 8"]);
+    }
+});
+
+test("a contact that never ends is told, and that nothing of its message is alive", async () => {
+    const history = await historyOfText(programs(["calm 2", "contact 0/1 0/2", "calm 10", "impdown 2", "calm 3", "forget 1 2", "impup 2", "hostup 0/2", "calm 10", "contact 0/1 0/2", "calm 20"]));
+    assert(history.replay.inside);
+    const waits = waitsAtEnd(history);
+    assert(waits.some((it) => it.what.includes("contact")), JSON.stringify(waits));
+    assert(waits.some((it) => it.for.startsWith("nothing of it is alive")), JSON.stringify(waits));
+});
+
+test("an IMP that is down while its neighbours' ends are up is told", async () => {
+    const history = await historyOfText(twoImps(["calm 2", "impdown 2", "out 0/1 0/2 5 8 41", "calm 20"]));
+    const wait = waitsAtEnd(history).find((it) => it.what.includes("neighbours don't see it"));
+    assert(wait?.bad);
+    assert.deepEqual(wait.cures, ["enddown 1 0"]);
+});
+
+test("the sixteen messages of the lockup are two rows", async () => {
+    const history = await historyOf("reassembly-lockup");
+    assert(history);
+    const at = history.replay.moments.findIndex((moment) => moment.words.join(" ") === "enddown 1 0" || moment.words[0] === "enddown");
+    const waits = waitsOf(history.at(at), new Talk(history.replay).goTo(at), true);
+    assert.deepEqual(grouped(history.network, waits).map((it) => it.count), [8, 8]);
+});
+
+/** A line, and words of the fault that is meant. */
+const BAD_LINES = /** @type {[string, string][]} */ ([
+    ["jump", "is not an event"],
+    ["tak 0/1", "Is `take` meant?"],
+    ["Take 0/1", "Is `take` meant?"],
+    ["%", "A second one is not an event"],
+    ["take 0/1\r", "carriage return"],
+    ["take\t0/1", "not printable ASCII"],
+    ["take  0/1", "single spaces"],
+    ["take 0/1 ", "single spaces"],
+    ["take", "needs 1 word after it: take H. This line has 0"],
+    ["take 1", "`1` is not a host"],
+    ["take 4/1", "the host's number is 0 to 3"],
+    ["out 1/0 2/0 5 8 41", "the IMP's number is 1 to 63"],
+    ["take 00/1", "without leading zeros"],
+    ["calm 2 # settle", "a comment stands on a line of its own"],
+    ["calm 4294967296", "is 0 to 4294967295"],
+    ["out 0/1 0/2 5 24 \"ABC\"", "is written 24 414243"],
+    ["out 0/1 0/2 5 8 ff", "lower-case"],
+    ["out 0/1 0/2 5 7 FF", "have to be zero"],
+    ["out 0/1 0/2 5 0 00", "`0 -`"],
+    ["deliver 0 * 0", "not a direction"],
+    ["offer 0/1", "networks with host programs"],
+]);
+
+test("each bad line has its cause, and the program refuses it", async () => {
+    for (const [line, words] of BAD_LINES) {
+        const why = wrongLine(line, true);
+        assert(why?.includes(words), `${line}: ${why}`);
+        const outcome = await replay(run, twoImps([line]));
+        assert(!isReplay(outcome) && faultOf(outcome).line === 12, line);
+    }
+    assert(wrongLine("echo 0/1 0/2 0xFF", false)?.includes("decimal"));
+    assert(wrongLine("type 0/1", false)?.includes("one space after the host"));
+});
+
+test("each bad network has its cause and its line", async () => {
+    const good = twoImps([]);
+    for (const [from, to, words, line] of /** @type {[string, string, string, number][]} */ ([
+        ["raw = true", "rawe = true", "Is `raw` meant?", 1],
+        ["hosts = 1\n[[line]]", "hosts = 5\n[[line]]", "from 0 to 4", 7],
+        ["b = 2", "b = 3", "does not join two different IMPs", 8],
+        ["id = 2", "id = 1", "Two IMPs have the `id` 1", 6],
+        ["raw = true\n[[imp]]\nid = 1", "[[imp]]\nraw = true\nid = 1", "stands before the first", 2],
+        ["\n%\n", "\n% \n", "not even a space", 11],
+    ])) {
+        const outcome = await replay(run, good.replace(from, to));
+        assert(!isReplay(outcome), to);
+        const fault = faultOf(outcome);
+        assert(fault.text.includes(words), `${to}: ${fault.text}`);
+        assert.equal(fault.line, line, `${to}: ${fault.text}`);
+    }
+});
+
+test("what texts say", () => {
+    assert.equal(saying(true, 5, 24, "414243"), "“ABC”");
+    assert.equal(saying(true, 5, 3, "A0"), "A0");
+    assert.equal(saying(false, 0, 48, "00080001000C"), "RST");
+    assert.equal(saying(false, 0, 120, "0008000A0001000000100000002105"), "RTS 16 from 33 on link 5");
+    assert.equal(saying(false, 0, 120, "0008000A0002000000210000001008"), "STR 33 to 16, bytes of 8 bits");
+    assert.equal(saying(false, 5, 48, "00080001004C"), "“L”");
+});
+
+test("an address brings the same text, step and view elsewhere", async () => {
+    const text = twoImps(["calm 2", "# ä comment", "out 0/1 0/2 5 8 41"]);
+    const place = { at: 3, grain: "round", hidden: true, to: 2 };
+    assert.deepEqual(await placeIn(await fragment({ ...place, text })), { ...place, text });
+    assert.deepEqual(await placeIn(await fragment({ ...place, example: "lo-of-login" })), { ...place, example: "lo-of-login" });
+    assert.equal(await unpacked(await packed(text)), text);
+    assert.equal(await placeIn("#s=not-deflated"), null);
+    assert.equal(await placeIn("#step-24"), null);
+});
+
+test("questions and answers are comments before their line", () => {
+    const input = readInput(withQuestions(twoImps(["calm 2", "out 0/1 0/2 5 8 41"]), [{ line: 2, ask: "What comes?", answer: "That." }]));
+    assert.deepEqual(notesOf(input), [
+        { kind: "question", line: 2, last: 2, before: 1, text: "What comes?" },
+        { kind: "answer", line: 3, last: 3, before: 1, text: "That." },
+    ]);
+});
+
+test("an endless calm is cut, and what was printed till then is there", async () => {
+    const history = await historyOf("resets-in-step");
+    assert(history);
+    const outcome = await replay(run, history.replay.input.text.replace(/^calm 7$/m, "calm 4294967295"), { seconds: 20, octets: 20_000_000 });
+    assert(isReplay(outcome) && outcome.cut !== "" && outcome.moments.length > 1000);
+});
