@@ -535,8 +535,12 @@ def main():
         return command.main(sys.modules[__name__], options)
     if options in (["--log"], ["--audit"]):
         return audited(options)
+    if options[:1] == ["--expect"]:
+        from dorydate.expect import command as expect
+
+        return expect(options[1:])
     if sorted(options) not in ([], ["--chart"], ["--chart", "--short"]):
-        print(f"usage: ./explain [--chart [--short] | --page [--inside] [OTHER-FILE]] < FILE\nusage: ./explain --audit < LOG\n{serve.USAGE}", file=sys.stderr)
+        print(f"usage: ./explain [--chart [--short] | --page [--inside] [OTHER-FILE]] < FILE\nusage: ./explain --audit < LOG\nusage: ./explain --expect FILE..\n{serve.USAGE}", file=sys.stderr)
         if files := [it for it in options if os.path.isfile(it)]:
             print(f"explain: the input is standard input, so put `<` before the file: ./explain < {files[0]}", file=sys.stderr)
         return 1

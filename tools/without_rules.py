@@ -8,6 +8,7 @@ the order of messages on different links, so a message may be taken long after o
 import re
 
 import script_rules
+from audit_rules import audit, messages_are_kept
 from box_rules import Boxes
 from host_rules import ALL, GONE, GVB, HEARD, READY, RET, RRP, WANT, End, Host, Pair
 from imp_rules import NEVER, Imp, Refused
@@ -339,12 +340,6 @@ class OneCounter(Host):
             end.bits = max(end.bits, 0)
         return notices
 
-    def offered(self, stamp):
-        notices = super().offered(stamp)
-        for end in [end for pair in self.pairs.values() for end in pair.ends]:
-            end.bits = max(end.bits, 0)
-        return notices
-
 
 # ---- all of them
 
@@ -405,3 +400,19 @@ def read_line(line, raw):
     """The event of a script line, those of `Overtaken` included."""
     found = re.fullmatch("(hold|free) (.*)", line)
     return (found[1], script_rules.read_line(f"giveup {found[2]}")[1]) if found else script_rules.read_line(line, raw)
+
+
+# ---- what breaks
+
+
+def broken(place):
+    """What the book of a raw network or of a world breaks, or what users of a world see that no user should; None where nothing is."""
+    if not isinstance(place, World):
+        return None if messages_are_kept(place.log) else "messages"
+    if part := audit(place.carrier.log, place.book.lives):
+        return part
+    if place.book.strays:
+        return "bits of no life"
+    if any(notice.startswith("error") for _, notice, _ in place.book.notices):
+        return "an error"
+    return None

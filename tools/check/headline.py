@@ -21,12 +21,10 @@ import os
 import random
 import sys
 
-
 import imp_rules
-from audit_rules import audit, messages_are_kept
 from model import network_of
 from parts import ROOT
-from without_rules import LACKING, opened_without, read_line
+from without_rules import LACKING, broken, opened_without, read_line
 from world_chance import Script, some_world
 
 HARMLESS = [
@@ -84,29 +82,13 @@ class Lesson:
 
     def part(self, rule, script):
         """What breaks without a rule."""
-        place = self.run(rule, script)
-        return broken_raw(place) if self.network[1] else broken(place)
+        return broken(self.run(rule, script))
 
     def without_a_line(self):
         """Each line that has to be needed, with its number in the file and the script without it."""
         for at, line in enumerate(self.script):
             if line != self.beside and line and not line.startswith(("#", "repeat ", "done")):
                 yield len(self.lines) - len(self.script) + at + 1, line, self.script[:at] + self.script[at + 1 :]
-
-
-def broken_raw(carrier):
-    return None if messages_are_kept(carrier.log) else "messages"
-
-
-def broken(world):
-    """What a world's book breaks, or what its users see that no user should."""
-    if part := audit(world.carrier.log, world.book.lives):
-        return part
-    if world.book.strays:
-        return "bits of no life"
-    if any(notice.startswith("error") for _, notice, _ in world.book.notices):
-        return "an error"
-    return None
 
 
 def check(path):

@@ -1,0 +1,156 @@
+"""`./explore`: finds the shortest script that prints what a pattern asks for.
+
+    ./explore taken-and-incomplete
+    ./explore --network A-B --raw --find 'in A B N .. then answer incomplete A B N'
+"""
+
+from __future__ import annotations
+
+import argparse
+import sys
+from collections.abc import Sequence
+from pathlib import Path
+
+from dorydate.explore import breadth, lockup, without
+from dorydate.explore.kinds import Pools, chosen, pools
+from dorydate.explore.many import CannotRun, One
+from dorydate.explore.named import SEARCHES
+from dorydate.explore.pattern import BadPattern, Pattern, read
+from dorydate.explore.search import MATCHES, NotKept, Progress, Search
+from dorydate.explore.shrink import Script as Found
+from dorydate.network import BadNetwork, Network
+from dorydate.program import NoProgram, Program, found
+from dorydate.script import BadLine, Script
+
+FOUND, NOT_FOUND, WRONG = 0, 1, 2  # exit statuses; with --never the first two are exchanged
+
+
+class Wrong(Exception):
+    """What is wrong with the words of the command."""
+
+
+def parser() -> argparse.ArgumentParser:
+    made = argparse.ArgumentParser("explore", description="Finds the shortest script that prints what a pattern asks for (docs/python.md).")
+    made.add_argument("name", nargs="?", help="a search with a name (--list), or a file with a topology")
+    made.add_argument("--list", action="store_true", help="tell which searches have names")
+    made.add_argument("--find", metavar="PATTERN", help="what is looked for")
+    made.add_argument("--never", metavar="PATTERN", help="what must not come: status 1 if it does")
+    made.add_argument("--network", metavar="CHAIN", nargs="+", help="a network by chains of sites, as in UCLA-SRI-UTAH")
+    made.add_argument("--raw", action="store_true", help="the script itself sends and takes messages")
+    made.add_argument("--plain", action="store_true", help="mailboxes in the place of a subnet")
+    made.add_argument("--kinds", metavar="KIND", nargs="+", help="the kinds of events, all of the network where none are named")
+    made.add_argument("--runs", type=int, default=1_000_000, help="schedules at most")
+    made.add_argument("--seconds", type=float, default=600.0, help="seconds at most")
+    made.add_argument("--seed", type=int, default=1)
+    made.add_argument("--matches", type=int, default=MATCHES, help="so many matches are shrunk, and the shortest is told")
+    made.add_argument("--audit", action="store_true", help="hold the log of each schedule up to the proved audit")
+    made.add_argument("--all", type=int, metavar="EVENTS", help="run every list of so many events, from the shortest, states that were seen before cut off")
+    made.add_argument("--without", metavar="RULE", help="the independent model without one rule in the place of the program: which promise breaks")
+    made.add_argument("--rules", action="store_true", help="tell which rules can be left out")
+    made.add_argument("--quiet", action="store_true", help="tell no progress")
+    return made
+
+
+def network_of(words: argparse.Namespace) -> Network:
+    """The network that is explored."""
+    if words.network:
+        return Network.joined(*words.network, raw=words.raw, carrier="plain" if words.plain else "subnet")
+    if words.name in SEARCHES:
+        return SEARCHES[words.name].network
+    if words.name is None:
+        raise Wrong("name a search, a file with a topology, or a --network; --list tells which searches have names")
+    try:
+        text = Path(words.name).read_text(encoding="utf-8")
+    except OSError as fault:
+        raise Wrong(f"{words.name} is no search with a name, and as a file: {fault.strerror}") from None
+    return Network.read(text.split("\n%\n")[0])
+
+
+def pattern_of(words: argparse.Namespace) -> Pattern:
+    text = words.find or words.never or (SEARCHES[words.name].pattern if words.name in SEARCHES else None)
+    if text is None:
+        raise Wrong("nothing is looked for: name a search, or give --find PATTERN or --never PATTERN")
+    return read(text)
+
+
+def pools_of(words: argparse.Namespace, network: Network) -> Pools:
+    every = pools(network)
+    kinds = words.kinds or (SEARCHES[words.name].kinds if words.name in SEARCHES else ())
+    if unknown := [it for it in kinds if it not in every]:
+        raise Wrong(f"`{unknown[0]}` is no kind of event of this network; there are {', '.join(every)}")
+    return chosen(every, kinds) if kinds else every
+
+
+def shown(progress: Progress, pattern: Pattern) -> None:
+    """The line of progress, written over the one before on a terminal."""
+    end = "\r" if sys.stderr.isatty() else "\n"
+    print(f"explore: {progress.line(pattern.length())}", end=end, file=sys.stderr, flush=True)
+
+
+def written(network: Network, pattern: Pattern, script: Found, program: Program) -> str:
+    """A script with what each event prints as a comment behind it."""
+    calm = pattern.calm.rounds
+    heading = [f"Found by ./explore: {pattern.text}"]
+    if calm:
+        heading.append(f"The pattern is about a last `calm {calm}` behind these events.")
+    text = Script.of(network, script, heading).text()
+    last = One(network, program).of(script, 0).lines
+    return text + "".join(f"# prints: {it}\n" for it in last[-6:])
+
+
+def tell_list() -> int:
+    for name, search in SEARCHES.items():
+        print(f"  {name:22} {search.what}\n  {'':22} {search.pattern}")
+    print(f"  {'lockup':22} {lockup.WHAT}")
+    return FOUND
+
+
+def searched(words: argparse.Namespace, program: Program) -> int:
+    """A search by random schedules."""
+    network, pattern = network_of(words), pattern_of(words)
+    search = Search(network, pattern, program, words.seed, pools_of(words, network), audits=words.audit)
+    best = search.run(words.runs, words.seconds, words.matches, None if words.quiet else lambda it: shown(it, pattern))
+    if sys.stderr.isatty() and not words.quiet:
+        print(file=sys.stderr)
+    progress = search.progress
+    print(f"explore: {progress.line(pattern.length())}, in {progress.seconds():.1f} s", file=sys.stderr)
+    if best is None:
+        print("explore: nothing found", file=sys.stderr)
+        return FOUND if words.never else NOT_FOUND
+    print(f"explore: the first match after {progress.first_after} schedules and {progress.first:.2f} s; shrunk to {len(best)} events in {progress.shrinking} runs", file=sys.stderr)
+    print(written(network, pattern, best, program), end="")
+    return NOT_FOUND if words.never else FOUND
+
+
+def chose(words: argparse.Namespace) -> int:
+    """Does what the words ask for."""
+    if words.list:
+        return tell_list()
+    if words.rules:
+        return without.tell_rules()
+    if words.without:
+        return without.command(words.without, words.seed, words.seconds, words.runs)
+    program = found()
+    if words.name == "lockup":
+        return lockup.command(program, words.seed, words.seconds)
+    if words.all is not None:
+        network = network_of(words)
+        return breadth.command(network, pattern_of(words), program, words.all, pools_of(words, network), words.seconds)
+    return searched(words, program)
+
+
+def main(options: Sequence[str] | None = None) -> int:
+    """The exit status."""
+    words = parser().parse_args(options)
+    try:
+        return chose(words)
+    except NotKept as why:
+        print(f"explore: {why}", file=sys.stderr)
+        return WRONG
+    except (Wrong, BadPattern, BadNetwork, BadLine, CannotRun, NoProgram) as why:
+        print(f"explore: {why}", file=sys.stderr)
+        return WRONG
+
+
+if __name__ == "__main__":
+    sys.exit(main())

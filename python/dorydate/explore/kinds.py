@@ -1,0 +1,139 @@
+"""Random schedules: the kinds of events of a network, small pools of each, and weights that change from schedule to schedule."""
+
+from __future__ import annotations
+
+import random
+from collections.abc import Iterable, Mapping, Sequence
+from itertools import accumulate
+
+from dorydate import script as events
+from dorydate.explore.pattern import Pattern
+from dorydate.network import Host, Network
+from dorydate.script import Calm, Event, Flow, Text
+
+Pools = Mapping[str, tuple[Event, ...]]
+SWARM = (0, 1, 1, 4, 16)  # weights of a kind in a schedule that has its own
+CALMS = (1, 1, 1, 2, 2, 3, 5)
+LENGTH = 40  # events of a schedule, at most
+# kinds of events that cause lines which a pattern forbids, where nothing else causes them
+CAUSES = {
+    "down": {"hostdown", "impdown"},
+    "up": {"hostup", "impup"},
+    "interrupt": {"interrupt"},
+    "echoed": {"echo"},
+    "returned": {"askback"},
+    "done": {"server", "user"},
+    "failed": {"server", "user"},
+}
+ONE_BYTE = Text.of(b"A")
+
+
+def pools(network: Network, texts: Sequence[Text] = (Text(),), links: Sequence[int] = (0,), places: int = 3) -> Pools:
+    """The events of a network that schedules are made of, by kind. Pools are small, so that requests meet their partners."""
+    hosts = network.hosts()
+    pairs = [(a, b) for a in hosts for b in hosts if a != b]
+    flows = [Flow(a, b, link) for a, b in pairs for link in links]
+    found: dict[str, Iterable[Event]] = {
+        "take": map(events.Take, hosts),
+        "giveup": map(events.GiveUp, flows),
+        "hostdown": map(events.HostDown, hosts),
+        "hostup": map(events.HostUp, hosts),
+    }
+    if network.carrier == "subnet":
+        found |= of_subnet(network, flows, places)
+    if network.raw:
+        found["out"] = (events.Out(flow, text) for flow in flows for text in texts)
+    else:
+        found |= of_programs(hosts, pairs)
+    return {kind: tuple(it) for kind, it in found.items()}
+
+
+def of_subnet(network: Network, flows: Sequence[Flow], places: int) -> dict[str, Iterable[Event]]:
+    """Events of IMPs and lines."""
+    imps = [it.number for it in network.imps]
+    ends = [(imp, line) for imp in imps for line in network.lines_of(imp)]
+    frames = [(line, way, place) for line in range(len(network.lines)) for way in "+-" for place in range(places)]
+    return {
+        "deliver": (events.Deliver(*it) for it in frames),
+        "drop": (events.Drop(*it) for it in frames),
+        "resend": map(events.Resend, imps),
+        "enddown": (events.EndDown(*it) for it in ends),
+        "endup": (events.EndUp(*it) for it in ends),
+        "impdown": map(events.ImpDown, imps),
+        "impup": map(events.ImpUp, imps),
+        "forget": (events.Forget(a, b) for a in imps for b in imps if a != b),
+        "ask": map(events.Ask, flows),
+    }
+
+
+def of_programs(hosts: Sequence[Host], pairs: Sequence[tuple[Host, Host]]) -> dict[str, Iterable[Event]]:
+    """What users ask for: one socket of each kind at each host, bytes of eight bits and of one."""
+    sends, receives = 33, 16
+    own = [(host, socket) for host in hosts for socket in (sends, receives)]
+    return {
+        "contact": (events.Contact(*it) for it in pairs),
+        "listen": (events.Listen(host, socket, 8) for host, socket in own),
+        "opensend": (events.OpenSend(*it, sends, receives, 8) for it in pairs),
+        "openrecv": (events.OpenReceive(*it, receives, sends) for it in pairs),
+        "send": (events.Send(host, sends, ONE_BYTE) for host in hosts),
+        "grant": (events.Grant(host, receives, messages, bits) for host in hosts for messages, bits in ((1, 8), (2, 100))),
+        "askback": (events.AskBack(host, receives, 128, 128) for host in hosts),
+        "interrupt": (events.Interrupt(*it) for it in own),
+        "close": (events.Close(*it) for it in own),
+        "offer": map(events.Offer, hosts),
+    }
+
+
+def fit(found: Pools, pattern: Pattern) -> Pools:
+    """The pools without the kinds whose lines a pattern forbids."""
+    barred = {kind for word in pattern.barred() for kind in CAUSES.get(word, ())}
+    return {kind: it for kind, it in found.items() if kind not in barred and it}
+
+
+def chosen(found: Pools, kinds: Iterable[str]) -> Pools:
+    """The pools of these kinds only."""
+    return {kind: found[kind] for kind in kinds if kind in found}
+
+
+class Maker:
+    """Makes schedules: swarm and flat weights in turn. An event is named by its place in `events`."""
+
+    def __init__(self, found: Pools, length: int = LENGTH, opening: int = 1, calms: Sequence[int] = CALMS) -> None:
+        self.length, self.opening, self.calms = length, opening, calms  # rounds before the first event make routes known
+        self.kinds = tuple(kind for kind in found if found[kind])
+        self.events: tuple[Event, ...] = tuple(event for kind in self.kinds for event in found[kind])
+        counts = [len(found[kind]) for kind in self.kinds]
+        self.ranges = [(end - count, count) for end, count in zip(accumulate(counts), counts)]
+
+    def weights(self, chance: random.Random, is_swarm: bool) -> list[int]:
+        """The weights of the kinds, each with those before it."""
+        given = [chance.choice(SWARM) if is_swarm else 1 for _ in self.kinds]
+        return list(accumulate(given if any(given) else [1] * len(given)))
+
+    def some(self, chance: random.Random, weights: Sequence[int], count: int) -> list[int]:
+        """Some events by their weights."""
+        draw = chance.random
+        return [begin + int(draw() * many) for begin, many in chance.choices(self.ranges, cum_weights=weights, k=count)]
+
+    def batch(self, chance: random.Random, copies: int) -> tuple[list[list[list[int]]], list[int]]:
+        """Schedules for networks side by side: for each the events of each part, and the calms behind the parts, which they share."""
+        calms, left, ends = [self.opening], self.length, [0]
+        while left > 0:
+            size = chance.choice((1, 2, 3, 5, 8))
+            ends.append(ends[-1] + size)
+            calms.append(chance.choice(self.calms))
+            left -= size + 1
+        parts: list[list[list[int]]] = []
+        for copy in range(copies):
+            drawn = self.some(chance, self.weights(chance, copy % 2 == 0), ends[-1])
+            parts.append([[], *(drawn[begin:end] for begin, end in zip(ends, ends[1:]))])
+        return parts, calms
+
+    def script(self, parts: Sequence[Sequence[int]], calms: Sequence[int]) -> list[Event]:
+        """The schedule of one network: its parts with the calms behind them."""
+        found: list[Event] = []
+        for part, rounds in zip(parts, calms):
+            found += [self.events[it] for it in part]
+            if rounds:
+                found.append(Calm(rounds))
+        return found

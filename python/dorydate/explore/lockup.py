@@ -1,0 +1,191 @@
+"""The search for a reassembly lockup, by a measure from the trace.
+
+Eight messages hold the eight slots of an IMP, each with a piece that waits elsewhere; and those pieces can't come, since all eight
+channels towards the IMP are full of a message that finds no slot. Nothing is lost, all is up, and nothing moves any more. Before the end
+nothing that is printed differs, so random schedules don't find it. What a trace shows differs: a message whose first piece
+goes ahead while its last stays behind is torn, and the more messages are torn, and the more of another message waits beside the
+slots, the nearer is the lockup. The search climbs by that.
+"""
+
+from __future__ import annotations
+
+import json
+import random
+import re
+import sys
+import time
+from collections.abc import Sequence
+from typing import Any
+
+from dorydate.explore.many import CannotRun, Many, One
+from dorydate.explore.shrink import Script as Events
+from dorydate.explore.shrink import Shrinker
+from dorydate.network import Host, Network
+from dorydate.program import Program
+from dorydate.script import Calm, Deliver, Event, Flow, Out, Script, Text
+
+WHAT = "eight messages hold all slots of an IMP, and their pieces can never come: by a measure from the trace"
+NETWORK = Network.joined("WEST-MIDDLE-EAST", raw=True)
+SOURCE, BESIDE, TARGET = Host(0, 1), Host(0, 2), Host(0, 3)
+TWO_PIECES, EIGHT_PIECES = Text.of(b"A" * 126), Text.of(b"B" * 883)
+SLOTS = 8
+LAST = 20  # rounds of the last calm, in which nothing may be printed
+PLACES = 16
+MOST_EVENTS = 120  # of a script: longer ones are cut
+STALE = 600  # batches without a better script, after which the search begins anew
+OPENING = Calm(2)
+
+
+def events() -> list[Event]:
+    """What the search draws from: messages of two pieces from far, one of eight from beside the destination, and frames that arrive."""
+    outs: list[Event] = [Out(Flow(SOURCE, TARGET, link), TWO_PIECES) for link in range(SLOTS)]
+    outs.append(Out(Flow(BESIDE, TARGET, 0), EIGHT_PIECES))
+    return outs
+
+
+def frames() -> list[Event]:
+    return [Deliver(line, way, place) for line in (0, 1) for way in "+-" for place in range(PLACES)]
+
+
+PACKET = re.compile(r"data (\d/\d+ \d/\d+ \d+ \d+) (\d+) (?:last|more) ")
+
+
+def packets_of(part: Any) -> set[tuple[str, int]]:
+    """The pieces of messages in a part of an IMP: flow and number, and the place of the piece."""
+    return {(found[0], int(found[1])) for found in PACKET.findall(json.dumps(part))}
+
+
+def held_by(imp: Any) -> set[tuple[str, int]]:
+    """The pieces that an IMP holds."""
+    return packets_of([imp["ports"], imp["store"], imp["slots"]]) if imp else set()
+
+
+def torn(imps: Sequence[Any]) -> int:
+    """How many messages from far are torn: their first piece has come to a further IMP, and their last has not left the first one.
+    One counts more where the first IMP no longer holds its first piece, since its channel is free again."""
+    first, further = held_by(imps[0]), set().union(*map(held_by, imps[1:]))
+    return sum(4 + ((message, 0) not in first) for message, piece in further if piece == 0 and (message, 1) in first and (message, 1) not in further)
+
+
+def measure(imps: Sequence[Any]) -> int:
+    """How near the lockup is: messages that are torn, one for each slot; and then, how much of another waits beside the destination."""
+    apart = min(torn(imps), 5 * SLOTS)
+    waiting = packets_of([imps[1]["store"], imps[1]["ports"]]) if imps[1] and apart >= 4 * SLOTS else set()
+    return apart + sum(piece >= 2 for _, piece in waiting)
+
+
+def is_locked(imps: Sequence[Any]) -> bool:
+    """Whether all slots of the destination are held, and of each message a piece that it lacks is still alive before it."""
+    if any(imp is None for imp in imps) or len(imps[-1]["slots"]) < SLOTS:
+        return False
+    before = {piece for imp in imps[:-1] for piece in packets_of([imp["ports"], imp["store"]])}
+    held = packets_of(imps[-1]["slots"])
+    return all(any(other == message and (other, piece) not in held for other, piece in before) for message in {it for it, _ in held})
+
+
+class Climb:
+    """The search: scripts that are changed a little, those that come nearer are gone on from."""
+
+    def __init__(self, program: Program, seed: int) -> None:
+        self.many, self.one = Many(NETWORK, program), One(NETWORK, program)
+        self.chance = random.Random(seed)
+        self.outs, self.frames = events(), frames()
+        self.tried = 0
+
+    # ---- what a script comes to
+
+    def traced(self, many: Many, scripts: Sequence[Events], last: int = 0) -> list[str]:
+        """The records of scripts side by side, with a calm behind all of them perhaps."""
+        lines = [many.spelled(copy, it) for copy, script in enumerate(scripts) for it in script]
+        text = [f"calm {OPENING.rounds}", *lines, *([f"calm {last}"] if last else [])]
+        ran = many.program.run((many.head + "".join(f"{it}\n" for it in text)).encode("ascii"), "--trace")
+        if ran.status:
+            raise CannotRun(f"the program says: {ran.said.strip()} (status {ran.status})")
+        return ran.output.splitlines()
+
+    def measures(self, scripts: Sequence[Events]) -> list[int]:
+        """How near the lockup scripts come, which are run side by side."""
+        self.tried += len(scripts)
+        imps = imps_at(self.traced(self.many, scripts), self.many)
+        return [measure(imps[copy * self.many.size : (copy + 1) * self.many.size]) for copy in range(len(scripts))]
+
+    def locks(self, script: Events) -> bool:
+        """Whether a script, alone, comes to a lockup that lasts: nothing is printed in a last calm."""
+        result = self.one.of((OPENING, *script), LAST)
+        return not result.last and is_locked(imps_at(self.traced(self.one, [script], LAST), self.one))
+
+    # ---- changes
+
+    def changed(self, script: Events) -> Events:
+        """A script with something more at its end, or elsewhere, or something less."""
+        draw = self.chance.random() if len(script) < MOST_EVENTS else 1.0
+        if draw < 0.7:
+            return script + tuple(self.addition() for _ in range(self.chance.choice((1, 1, 2, 3))))
+        at = self.chance.randrange(len(script) + 1)
+        if draw < 0.85 or not script:
+            return script[:at] + (self.addition(),) + script[at:]
+        at = min(at, len(script) - 1)
+        return script[:at] + script[at + 1 :]
+
+    def addition(self) -> Event:
+        return self.chance.choice(self.outs) if self.chance.random() < 0.35 else self.chance.choice(self.frames)
+
+    def run(self, seconds: float, tell: bool = False) -> Events | None:
+        """A script that ends in a lockup; None where time is up."""
+        begun = told = time.monotonic()
+        edge: list[tuple[int, Events]] = [(0, ())]
+        stale = 0
+        while time.monotonic() - begun < seconds:
+            scripts = [self.changed(self.chance.choice(edge)[1]) for _ in range(self.many.copies)]
+            best = max(value for value, _ in edge)
+            for script, value in zip(scripts, self.measures(scripts)):
+                edge.append((value, script))
+                if value > 4 * SLOTS and self.locks(script):
+                    return script
+            edge = self.kept(edge)
+            stale = 0 if edge[0][0] > best else stale + 1
+            if stale > STALE:
+                edge, stale = [(0, ())], 0
+            if tell and time.monotonic() - told > 1:
+                told = time.monotonic()
+                print(f"explore: {self.tried} schedules, {self.tried / (told - begun):.0f} a second; nearest {edge[0][0]} of {6 * SLOTS}", file=sys.stderr, flush=True)
+        return None
+
+    def kept(self, scripts: list[tuple[int, Events]], most: int = 16) -> list[tuple[int, Events]]:
+        """The nearest scripts; among equals any, the last ones first, so that they go on changing."""
+        unique = {script: (value, at) for at, (value, script) in enumerate(scripts)}
+        order = sorted(unique.items(), key=lambda it: (-it[1][0], -it[1][1]))
+        return [(value, script) for script, (value, _) in order[:most]]
+
+    def shortest(self, script: Events) -> tuple[Events, int]:
+        shrinker = Shrinker(self.locks, 8000)
+        return shrinker.shrink(script), shrinker.runs
+
+
+def imps_at(records: Sequence[str], many: Many) -> list[Any]:
+    """The last part of each IMP in these records, read from their end."""
+    wanted = many.copies * many.size
+    found: dict[int, Any] = {}
+    for record in reversed(records):
+        if len(found) == wanted:
+            break
+        number = int(name[1]) if (name := re.search(r'"imp (\d+)"', record)) else 0
+        if 0 < number <= wanted and number not in found:
+            found[number] = json.loads(record)["parts"][f"imp {number}"]
+    return [found.get(number) for number in range(1, wanted + 1)]
+
+
+def command(program: Program, seed: int, seconds: float) -> int:
+    """Tells the shortest script of a lockup."""
+    climb = Climb(program, seed)
+    begun = time.monotonic()
+    script = climb.run(seconds, True)
+    took = time.monotonic() - begun
+    if script is None:
+        print(f"explore: nothing found in {climb.tried} schedules and {took:.0f} s", file=sys.stderr)
+        return 1
+    tried = climb.tried
+    short, runs = climb.shortest(script)
+    print(f"explore: a lockup after {tried} schedules and {took:.1f} s, with {len(script)} events; shrunk to {len(short)} in {runs} runs", file=sys.stderr)
+    print(Script.of(NETWORK, (OPENING, *short, Calm(LAST)), [f"Found by ./explore lockup: {WHAT}"]).text(), end="")
+    return 0

@@ -1,0 +1,226 @@
+"""Patterns over what a replay prints: lines in their order, with names that are bound, and what must not come between.
+
+    in A B N .. then not out A B N .. then answer incomplete A B N
+
+A part is a line: its words, `_` for any word, `..` once for any words, and a single capital for a name, which is bound where
+it first stands. Parts that `then` joins come one after another; others may stand between, but not one that a `not` before the
+next part describes (at the end: none until the end). `and` joins patterns that are found anywhere, each in its own order, with
+the same names. `where M < N` compares two names as numbers, `where A != B` as words. `calm N: nothing`, `calm N: no WORDS` and
+`calm N: K lines` are about a last calm, which is added to the script: it prints nothing, no such line, at least so many lines.
+"""
+
+from __future__ import annotations
+
+import operator
+import re
+from collections.abc import Callable, Iterable, Mapping, Sequence
+from dataclasses import dataclass, field
+from functools import lru_cache
+
+Names = tuple[tuple[str, str], ...]  # what is bound, in order of the names
+
+
+class BadPattern(ValueError):
+    """What is wrong with a pattern."""
+
+
+@dataclass(frozen=True)
+class Part:
+    """A line of a pattern."""
+
+    words: tuple[str, ...]
+    has_rest: bool = False  # whether any words may stand behind these
+    ending: tuple[str, ...] = ()  # and behind those, at the line's end, these
+
+    @staticmethod
+    def read(text: str) -> Part:
+        words = [".." if it == "..." else it for it in text.split()]
+        at = words.index("..") if ".." in words else len(words)
+        ending = words[at + 1 :]
+        if not at or ".." in ending:
+            raise BadPattern(f"`{text.strip()}` is not a line: its words, and `..` for any words once")
+        if not re.fullmatch("[a-z]+", words[0]):
+            raise BadPattern(f"`{text.strip()}` does not begin with the first word of a printed line, such as `in` or `answer`")
+        return Part(tuple(words[:at]), at < len(words), tuple(ending))
+
+    def match(self, words: Sequence[str], names: Names) -> Names | None:
+        """The names with which these words are this line; None where they aren't."""
+        if words[0] != self.words[0] or len(words) < len(self.words) + len(self.ending) or (not self.has_rest and len(words) > len(self.words)):
+            return None
+        bound = dict(names)
+        for wanted, word in (*zip(self.words, words), *zip(self.ending, words[len(words) - len(self.ending) :])):
+            if wanted == word or wanted == "_":
+                continue
+            if len(wanted) != 1 or not wanted.isupper() or bound.setdefault(wanted, word) != word:
+                return None
+        return tuple(sorted(bound.items())) if len(bound) > len(names) else names
+
+    def __str__(self) -> str:
+        return " ".join([*self.words, *([".."] if self.has_rest else []), *self.ending])
+
+
+@dataclass(frozen=True)
+class Sequel:
+    """Parts in their order, each with what must not come before it; and what must not come after the last."""
+
+    parts: tuple[tuple[tuple[Part, ...], Part], ...]
+    never_after: tuple[Part, ...] = ()
+
+    def heads(self) -> set[str]:
+        """The first words of lines that have to come."""
+        return {part.words[0] for _, part in self.parts}
+
+
+State = frozenset[tuple[int, Names]]  # how far a pattern has come, with which names
+START: State = frozenset({(0, ())})
+
+
+def step(sequel: Sequel, state: State, words: Sequence[str]) -> State:
+    """How far a pattern has come after one more line."""
+    found = set()
+    for at, names in state:
+        barred = sequel.parts[at][0] if at < len(sequel.parts) else sequel.never_after
+        if not any(it.match(words, names) is not None for it in barred):
+            found.add((at, names))
+        if at < len(sequel.parts) and (bound := sequel.parts[at][1].match(words, names)) is not None:
+            found.add((at + 1, bound))
+    return frozenset(found)
+
+
+COMPARISONS: Mapping[str, Callable[[int, int], bool]] = {"<": operator.lt, ">": operator.gt, "<=": operator.le, "=": operator.eq}
+
+
+@dataclass(frozen=True)
+class Where:
+    """A comparison of two names, or of a name and a number."""
+
+    left: str
+    sign: str
+    right: str
+
+    def holds(self, names: Mapping[str, str]) -> bool:
+        left, right = (names.get(it, it) for it in (self.left, self.right))
+        if self.sign == "!=":
+            return left != right
+        if not (left.isdecimal() and right.isdecimal()):
+            return False
+        return COMPARISONS[self.sign](int(left), int(right))
+
+
+@dataclass(frozen=True)
+class LastCalm:
+    """What is wanted of a last calm that is added."""
+
+    rounds: int = 0
+    nothing: bool = False
+    least: int = 0
+    barred: tuple[Part, ...] = ()
+
+    def holds(self, lines: Sequence[str]) -> bool:
+        if (self.nothing and lines) or len(lines) < self.least:
+            return False
+        return not any(part.match(line.split(" "), ()) is not None for part in self.barred for line in lines)
+
+
+@dataclass(frozen=True)
+class Pattern:
+    """A pattern: what it was read from, its parts and conditions."""
+
+    text: str
+    sequels: tuple[Sequel, ...]
+    conditions: tuple[Where, ...] = ()
+    calm: LastCalm = field(default_factory=LastCalm)
+
+    def needs_lives(self) -> bool:
+        return any("life" in it.heads() for it in self.sequels)
+
+    def needs_trace(self) -> bool:
+        """Whether it names lines that only a trace has (explore.seen)."""
+        return any(it.heads() & {"noted", "arrives", "slots"} for it in self.sequels)
+
+    def barred(self) -> set[str]:
+        """The first words of lines that it forbids from the start, whatever else they say."""
+        parts = [it for sequel in self.sequels for it in sequel.parts[0][0]]
+        return {it.words[0] for it in parts if len(it.words) == 1 and it.has_rest}
+
+    def heads(self) -> set[str]:
+        return {word for sequel in self.sequels for word in sequel.heads()}
+
+    def depth(self, lines: Iterable[str]) -> int:
+        """How many of its parts are found, at best."""
+        split = [it.split(" ") for it in lines]
+        return sum(max((at for at, _ in run(sequel, split)), default=0) for sequel in self.sequels)
+
+    def length(self) -> int:
+        return sum(len(it.parts) for it in self.sequels)
+
+    def match(self, lines: Sequence[str], last: Sequence[str] = ()) -> dict[str, str] | None:
+        """The names with which these lines match, the last calm's lines being `last`; None where they don't."""
+        if not self.calm.holds(last):
+            return None
+        words = {it.split(" ", 1)[0] for it in lines}
+        if not all(it.heads() <= words for it in self.sequels):
+            return None
+        split = [it.split(" ") for it in lines]
+        found: list[dict[str, str]] = [{}]
+        for sequel in self.sequels:
+            ends = [dict(names) for at, names in run(sequel, split) if at == len(sequel.parts)]
+            found = [{**one, **other} for one in found for other in ends if all(one.get(name, word) == word for name, word in other.items())]
+        return next((names for names in found if all(it.holds(names) for it in self.conditions)), None)
+
+
+def run(sequel: Sequel, lines: Iterable[Sequence[str]]) -> State:
+    """How far a pattern comes in these lines."""
+    state = START
+    for words in lines:
+        state = step(sequel, state, words)
+    return state
+
+
+@lru_cache(maxsize=64)
+def read(text: str) -> Pattern:
+    """A pattern by its text."""
+    body, *conditions = re.split(r"\bwhere\b", text)
+    calm, sequels = LastCalm(), []
+    for piece in filter(str.strip, re.split(r"\band\b|\n", body)):
+        if found := re.fullmatch(r"calm (\d+):(.*)", piece.strip()):
+            calm = read_calm(int(found[1]), found[2])
+        else:
+            sequels.append(read_sequel(piece))
+    if not sequels and not calm.rounds:
+        raise BadPattern("the pattern is empty")
+    return Pattern(text.strip(), tuple(sequels), tuple(map(read_where, conditions)), calm)
+
+
+def read_sequel(text: str) -> Sequel:
+    parts, barred = [], []
+    for piece in re.split(r"\bthen\b", text):
+        if piece.split()[:1] == ["not"]:
+            barred.append(Part.read(piece.strip().removeprefix("not")))
+        else:
+            parts.append((tuple(barred), Part.read(piece)))
+            barred = []
+    if not parts:
+        raise BadPattern(f"`{text.strip()}` has no line that has to come")
+    return Sequel(tuple(parts), tuple(barred))
+
+
+def read_where(text: str) -> Where:
+    found = re.fullmatch(r"\s*([A-Z]|\d+)\s*(<=|<|>|!=|=)\s*([A-Z]|\d+)\s*", text)
+    if not found:
+        raise BadPattern(f"`where{text}` is not a comparison, as `where M < N`")
+    return Where(found[1], found[2], found[3])
+
+
+def read_calm(rounds: int, text: str) -> LastCalm:
+    nothing, least, barred = False, 0, []
+    for piece in map(str.strip, text.split(",")):
+        if piece == "nothing":
+            nothing = True
+        elif found := re.fullmatch(r"(?:at least )?(\d+) lines", piece):
+            least = int(found[1])
+        elif piece.startswith("no "):
+            barred.append(Part.read(f"{piece[3:]} .."))
+        else:
+            raise BadPattern(f"`{piece}` is nothing that is said of a last calm: `nothing`, `no WORDS` or `K lines`")
+    return LastCalm(rounds, nothing, least, tuple(barred))

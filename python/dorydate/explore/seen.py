@@ -1,0 +1,65 @@
+"""Lines of what only a trace shows, for patterns over the inside: they stand among the printed ones, where they happen.
+
+| Line | When |
+|---|---|
+| `noted FATE S D N K` | the destination's IMP notes `waits`, `taken`, `dead` or `never` for message K of the flow |
+| `arrives KIND S D N K` | a packet about message K of the flow arrives for the first time at the IMP that it is for |
+| `slots I C` | IMP I holds pieces of C messages |
+"""
+
+from __future__ import annotations
+
+import json
+from collections.abc import Iterable, Iterator, Sequence
+from typing import Any
+
+from dorydate.network import Network
+
+LINES = ("noted", "arrives", "slots")
+
+
+class Seen:
+    """Follows a trace of a network."""
+
+    def __init__(self, network: Network) -> None:
+        self.network = network
+        self.parts: dict[str, Any] = {}
+        self.arrived: set[str] = set()
+
+    def lines(self, trace: Iterable[str]) -> Iterator[tuple[str, Sequence[str]]]:
+        """For each record the name of its first part, and what is printed and seen."""
+        for record in trace:
+            told = json.loads(record)
+            name = next(iter(told["parts"]), "")
+            found = list(told["printed"])
+            if told["event"].startswith("deliver "):
+                found += self.arrivals(told["event"])
+            for part, value in told["parts"].items():
+                if part.startswith("imp "):
+                    found += self.changes(part, value)
+                self.parts[part] = value
+            yield name, found
+
+    def arrivals(self, event: str) -> Iterator[str]:
+        """What a frame brings to an IMP that it is for, for the first time."""
+        _, line, way, place = event.split(" ")
+        ends = self.network.lines[int(line)]
+        far = ends.b if way == "+" else ends.a
+        frames = self.parts.get(f"line {line}", {}).get(way, [])
+        packet = frames[int(place)].get("packet") if int(place) < len(frames) else None
+        imp = self.parts.get(f"imp {far}", {})
+        if packet is None or imp is None or (imp and not imp["ports"][self.network.lines_of(far).index(int(line))]["up"]):
+            return
+        kind, source, destination, link, number, piece, *_ = packet.split(" ")
+        if (destination if kind in ("data", "ask") else source).endswith(f"/{far}") and f"{kind} {packet}" not in self.arrived:
+            self.arrived.add(f"{kind} {packet}")
+            yield f"arrives {kind} {source} {destination} {link} {number}"
+
+    def changes(self, part: str, value: Any) -> Iterator[str]:
+        """What is new in an IMP."""
+        before, now = self.parts.get(part) or {"kept": [], "slots": []}, value or {"kept": [], "slots": []}
+        for it in now["kept"]:
+            if it not in before["kept"]:
+                yield f"noted {it}"
+        if len(now["slots"]) != len(before["slots"]):
+            yield f"slots {part[4:]} {len(now['slots'])}"

@@ -1,0 +1,108 @@
+"""Which promise breaks without a rule: random schedules in the independent model that lacks it, and the shortest that breaks something.
+
+The program has all its rules. So this runs in the model in Python, a schedule a process of some milliseconds, and its book is held up to
+the model's audit.
+"""
+
+from __future__ import annotations
+
+import random
+import sys
+import time
+from collections.abc import Sequence
+from typing import Any
+
+from dorydate import model
+from dorydate.explore.kinds import Maker, Pools, chosen, pools
+from dorydate.explore.shrink import Script as Events
+from dorydate.explore.shrink import Shrinker
+from dorydate.network import Network
+from dorydate.script import Event, Script
+
+RAW = Network.joined("LEFT-RIGHT", raw=True)
+PROGRAMS = Network.joined("LEFT", "RIGHT", carrier="plain")
+# rules of the network below hosts with words that tell them, and the kinds of events that matter to them
+OF_NETWORK = {
+    "comes up": ("out", "deliver", "impdown", "impup", "hostup"),
+    "number": ("out", "deliver", "ask", "drop", "giveup"),
+    "given up": ("out", "deliver", "giveup", "drop"),
+    "question": ("out", "deliver", "ask", "drop"),
+}
+LENGTH = 16  # events of a schedule: the model is slow
+
+
+def rules() -> list[str]:
+    return [it for it in model.part("without_rules").LACKING if it]
+
+
+def tell_rules() -> int:
+    print(*rules(), sep="\n")
+    return 0
+
+
+class Lacking:
+    """A network whose model lacks a rule."""
+
+    def __init__(self, rule: str, network: Network) -> None:
+        self.rule, self.network = rule, network
+        self.rules = model.part("without_rules")
+        self.read: dict[Event, Any] = {}
+        self.as_model = network.carrier, network.raw, [(it.number, it.hosts) for it in network.imps], [(it.a, it.b) for it in network.lines]
+
+    def breaks(self, script: Sequence[Event], rule: str | None = None) -> str | None:
+        """The first part of the promise that breaks; with all rules where `rule` is empty."""
+        place = self.rules.opened_without(self.rule if rule is None else None, self.as_model)
+        for event in script:
+            if event not in self.read:
+                self.read[event] = self.rules.read_line(str(event), self.network.raw)
+            place.happen(*self.read[event])
+        found: str | None = self.rules.broken(place)
+        return found
+
+
+def network_for(rule: str) -> tuple[Network, Pools]:
+    """The network and the events in which a rule is sought."""
+    kinds = next((it for words, it in OF_NETWORK.items() if words in rule), None)
+    return (RAW, chosen(pools(RAW), kinds)) if kinds else (PROGRAMS, pools(PROGRAMS))
+
+
+def search(rule: str, seed: int, seconds: float, runs: int) -> tuple[Events | None, str, int, float]:
+    """The shortest script that breaks something, what it breaks, after how many schedules and seconds it was found."""
+    network, found = network_for(rule)
+    lacking, chance = Lacking(rule, network), random.Random(seed)
+    maker = Maker(found, LENGTH if network.raw else 40, opening=1)
+    begun = time.monotonic()
+    for number in range(1, runs + 1):
+        if time.monotonic() - begun > seconds:
+            return None, "", number - 1, time.monotonic() - begun
+        (parts,), calms = maker.batch(chance, 1) if number % 2 else second_of(maker, chance)
+        script = tuple(maker.script(parts, calms))
+        if part := lacking.breaks(script):
+            took = time.monotonic() - begun
+            shrinker = Shrinker(lambda it: lacking.breaks(it) == part, 3000)
+            return shrinker.shrink(script), part, number, took
+    return None, "", runs, time.monotonic() - begun
+
+
+def second_of(maker: Maker, chance: random.Random) -> tuple[list[list[list[int]]], list[int]]:
+    """A schedule with flat weights: of two networks side by side the second has them."""
+    parts, calms = maker.batch(chance, 2)
+    return parts[1:], calms
+
+
+def command(words: str, seed: int, seconds: float, runs: int) -> int:
+    """Tells the shortest script that breaks a promise without the rule that these words name."""
+    meant = [it for it in rules() if words in it]
+    if len(meant) != 1:
+        print(f"explore: {len(meant)} rules have these words; ./explore --rules tells all", file=sys.stderr)
+        return 2
+    (rule,) = meant
+    print(f"explore: without the rule: {rule}", file=sys.stderr)
+    script, part, count, took = search(rule, seed, seconds, runs)
+    if script is None:
+        print(f"explore: nothing broke in {count} schedules and {took:.0f} s", file=sys.stderr)
+        return 1
+    network, _ = network_for(rule)
+    print(f"explore: {part} broke after {count} schedules and {took:.1f} s; shrunk to {len(script)} events", file=sys.stderr)
+    print(Script.of(network, script, [f"lacks: {rule}", f"breaks: {part}"]).text(), end="")
+    return 0

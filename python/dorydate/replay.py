@@ -1,0 +1,430 @@
+"""A replay that one talks to: each call lets an event happen and answers what it printed.
+
+What was done is a plain script at any time (`net.script`), with the reason of each event as a comment, so that whatever was
+tried here can be replayed, explained and audited without this package.
+"""
+
+from __future__ import annotations
+
+from collections.abc import Callable, Iterable, Sequence
+from dataclasses import dataclass
+from typing import Union
+
+from dorydate import script as events
+from dorydate.drawing import drawn
+from dorydate.inside import CannotFollow, state_of, trace_of
+from dorydate.network import Host, HostName, ImpName, Network
+from dorydate.printed import flow_of, kind_of, matches, refusal, without_text
+from dorydate.program import Program, found
+from dorydate.script import Entry, Event, Flow, Script, Text
+from dorydate.state import Frame, State
+
+MOST_ROUNDS = 200  # of one `settle`, `run_until` or `restart` where nothing else is said
+Octets = Union[bytes, str, Text]
+
+
+class Stopped(Exception):
+    """Why a replay can't go on."""
+
+
+@dataclass(frozen=True)
+class Step:
+    """A plain event with what it printed."""
+
+    event: Event
+    printed: tuple[str, ...]
+    texts: tuple[str, ...] = ()  # the same lines, with the octets of messages behind them
+    why: str = ""
+
+    @property
+    def refused(self) -> str | None:
+        """The name of its refusal; it changed nothing then."""
+        return refusal(self.printed)
+
+    def __str__(self) -> str:
+        return "\n".join([str(self.event), *(f"    {it}" for it in self.printed)])
+
+
+@dataclass(frozen=True)
+class Deed:
+    """What a call did: the plain events that it became, those that were tried and refused, and what is to be said of it."""
+
+    steps: tuple[Step, ...]
+    tried: tuple[Step, ...] = ()
+    note: str = ""
+
+    @property
+    def printed(self) -> list[str]:
+        return [line for step in self.steps for line in step.printed]
+
+    @property
+    def refused(self) -> str | None:
+        """The name of the refusal that it came to, None where all was done."""
+        return next((step.refused for step in (*self.steps, *self.tried[-1:] * (not self.steps)) if step.refused), None)
+
+    @property
+    def flow(self) -> Flow | None:
+        """The flow of the message that it sent."""
+        return next((flow_of(it) for it in self.printed if it.startswith("out ")), None)
+
+    def __bool__(self) -> bool:
+        return self.refused is None
+
+    def __str__(self) -> str:
+        tried = [f"(tried: {step.event}: {step.refused})" for step in self.tried]
+        return "\n".join([*map(str, self.steps), *tried, *([self.note] if self.note else [])])
+
+    def __repr__(self) -> str:
+        return str(self)
+
+
+def text_of(octets: Octets) -> Text:
+    if isinstance(octets, Text):
+        return octets
+    return Text.of(octets if isinstance(octets, bytes) else octets.encode("ascii"))
+
+
+class Replay:
+    """A network in which events happen one after another."""
+
+    def __init__(self, network: Network, program: Program | None = None, heading: Sequence[str] = ()) -> None:
+        self.network = network
+        self.program = program or found()
+        self.heading = tuple(heading)
+        self.steps: tuple[Step, ...] = ()
+        self._states: dict[tuple[Event, ...], State] = {}
+
+    @staticmethod
+    def of(script: Script, program: Program | None = None) -> Replay:
+        """The replay of a script, all of whose events have happened."""
+        net = Replay(script.network, program, script.heading)
+        for entry in script.entries:
+            net.do(entry.event, "; ".join(entry.comments))
+        return net
+
+    # ---- going on
+
+    def do(self, event: Event, why: str = "") -> Deed:
+        """Lets a plain event happen."""
+        step = self._try(event, why)
+        self.steps += (step,)
+        return Deed((step,))
+
+    def _try(self, event: Event, why: str = "") -> Step:
+        """What an event would print."""
+        if event.word not in (events.RAW if self.network.raw else events.WORLD):
+            raise Stopped(f"`{event.word}` is an event of {'networks with host programs' if self.network.raw else 'raw networks'}")
+        texts = self._printed([*(it.event for it in self.steps), event])
+        before = sum(len(it.printed) for it in self.steps)
+        new = tuple(texts[before:])
+        return Step(event, tuple(map(without_text, new)), new, why)
+
+    def _printed(self, happened: Sequence[Event]) -> list[str]:
+        """All lines that these events print, with the octets of messages."""
+        octets = Script.of(self.network, happened).text().encode("latin-1")
+        ran = self.program.run(octets, "--texts")
+        if ran.status:
+            raise Stopped(f"the program says: {ran.said.strip()} (status {ran.status})")
+        return ran.output.splitlines()[:-1]
+
+    def _perform(self, wanted: Iterable[Event], why: str) -> tuple[list[Step], list[Step]]:
+        """Lets those of some events happen that are not refused: these, and the others."""
+        done: list[Step] = []
+        tried: list[Step] = []
+        for event in wanted:
+            step = self._try(event, why)
+            (tried if step.refused else done).append(step)
+            if not step.refused:
+                self.steps += (step,)
+        return done, tried
+
+    def back(self, count: int = 1) -> None:
+        """Takes back the last plain events."""
+        self.steps = self.steps[: max(len(self.steps) - count, 0)]
+
+    def branch(self) -> Replay:
+        """Another replay that has come as far as this, and goes its own way from here."""
+        other = Replay(self.network, self.program, self.heading)
+        other.steps, other._states = self.steps, dict(self._states)
+        return other
+
+    # ---- messages, with names in the place of numbers
+
+    def flow(self, source: HostName, destination: HostName, link: int = 0) -> Flow:
+        return Flow(self.network.host(source), self.network.host(destination), link)
+
+    def out(self, source: HostName, destination: HostName, link: int = 0, text: Octets = b"", why: str = "") -> Deed:
+        """A host hands its IMP a message, in a raw network."""
+        return self.do(events.Out(self.flow(source, destination, link), text_of(text)), why)
+
+    def take(self, host: HostName, why: str = "") -> Deed:
+        """A host takes what waits for it."""
+        return self.do(events.Take(self.network.host(host)), why)
+
+    def offer(self, host: HostName, why: str = "") -> Deed:
+        """A host's program hands over the next message that it has."""
+        return self.do(events.Offer(self.network.host(host)), why)
+
+    def give_up(self, source: HostName, destination: HostName, link: int = 0, why: str = "") -> Deed:
+        return self.do(events.GiveUp(self.flow(source, destination, link)), why)
+
+    def ask(self, source: HostName, destination: HostName, link: int = 0, why: str = "") -> Deed:
+        return self.do(events.Ask(self.flow(source, destination, link)), why)
+
+    def host_down(self, host: HostName, why: str = "") -> Deed:
+        return self.do(events.HostDown(self.network.host(host)), why)
+
+    def host_up(self, host: HostName, why: str = "") -> Deed:
+        return self.do(events.HostUp(self.network.host(host)), why)
+
+    # ---- users of hosts with programs
+
+    def contact(self, host: HostName, peer: HostName, why: str = "") -> Deed:
+        return self.do(events.Contact(self.network.host(host), self.network.host(peer)), why)
+
+    def listen(self, host: HostName, socket: int, size: int = 8, why: str = "") -> Deed:
+        return self.do(events.Listen(self.network.host(host), socket, size), why)
+
+    def open_send(self, host: HostName, peer: HostName, own: int, foreign: int, size: int = 8, why: str = "") -> Deed:
+        return self.do(events.OpenSend(self.network.host(host), self.network.host(peer), own, foreign, size), why)
+
+    def open_receive(self, host: HostName, peer: HostName, own: int, foreign: int, why: str = "") -> Deed:
+        return self.do(events.OpenReceive(self.network.host(host), self.network.host(peer), own, foreign), why)
+
+    def send(self, host: HostName, socket: int, text: Octets, why: str = "") -> Deed:
+        return self.do(events.Send(self.network.host(host), socket, text_of(text)), why)
+
+    def grant(self, host: HostName, socket: int, messages: int, bits: int, why: str = "") -> Deed:
+        return self.do(events.Grant(self.network.host(host), socket, messages, bits), why)
+
+    def close(self, host: HostName, socket: int, why: str = "") -> Deed:
+        return self.do(events.Close(self.network.host(host), socket), why)
+
+    def type(self, host: HostName, text: str, why: str = "") -> Deed:
+        """A line is typed at the terminal of a host."""
+        return self.do(events.Type(self.network.host(host), text), why)
+
+    def session(self, user: HostName, server: HostName, socket: int = 7, base: int = 100, own: int = 16) -> Deed:
+        """A user's host contacts a server's, and a line terminal is joined to an echo service there."""
+        done = [self.do(events.Server(self.network.host(server), socket, base), "a session"), self.contact(user, server), self.settle()]
+        done += [self.do(events.User(self.network.host(user), self.network.host(server), socket, own)), self.settle()]
+        return together(done)
+
+    # ---- time
+
+    def calm(self, rounds: int = 1, why: str = "") -> Deed:
+        """Quiet rounds pass."""
+        return self.do(events.Calm(rounds), why)
+
+    def settle(self, limit: int = MOST_ROUNDS, why: str = "") -> Deed:
+        """As many rounds pass as print anything, `limit` at most: more of them print no more. They are at least as many as there
+        are IMPs, so that each knows the ways to all others."""
+        happened = [it.event for it in self.steps]
+        whole = self._printed([*happened, events.Calm(limit)])
+        least, most = 0, limit
+        while least < most:
+            middle = (least + most) // 2
+            if len(self._printed([*happened, events.Calm(middle)])) == len(whole):
+                most = middle
+            else:
+                least = middle + 1
+        deed = self.do(events.Calm(max(least, min(len(self.network.imps), limit))), why or "until nothing more is printed")
+        return Deed(deed.steps, (), f"after {limit} rounds the network had not come to rest" if least == limit else "")
+
+    def run_until(self, wanted: str | Callable[[Replay], object], limit: int = MOST_ROUNDS, why: str = "") -> Deed:
+        """Rounds pass until a line that begins with these words is printed, or until something holds of the replay."""
+        before = self.steps
+        said = why or (f"until `{wanted}`" if isinstance(wanted, str) else "until what was wanted")
+        for rounds in range(1, limit + 1):
+            self.steps = before
+            step = self.calm(rounds, said).steps[0]
+            if any(matches(it, wanted) for it in step.printed) if isinstance(wanted, str) else wanted(self):
+                return Deed((step,))
+        return Deed(self.steps[len(before) :], (), f"not {said} in {limit} rounds")
+
+    # ---- what breaks
+
+    def frames_of(self, message: Deed | Flow) -> list[Frame]:
+        """The live frames that carry a piece of the message that is outstanding on a flow, or that a call sent."""
+        flow = message if isinstance(message, Flow) else message.flow
+        state = self.state
+        return [it for it in state.frames() if it.packet and it.packet.kind == "data" and (it.packet.flow, it.packet.number) == (flow, state.outstanding().get(it.packet.flow))]
+
+    def lose(self, message: Deed | Flow, why: str = "") -> Deed:
+        """All live frames of a message are lost. Its IMP sends it again, until it is acknowledged."""
+        frames = sorted(self.frames_of(message), key=lambda it: -it.place)
+        done, tried = self._perform([events.Drop(it.line, it.way, it.place) for it in frames], why or "the frames of a message are lost")
+        return Deed(tuple(done), tuple(tried), "" if done else "no live frame carries it")
+
+    def cut(self, a: ImpName, b: ImpName, why: str = "") -> Deed:
+        """The line between two IMPs goes down at both ends."""
+        return self._ends(events.EndDown, a, b, why or f"the line {self.network.imp(a)} - {self.network.imp(b)} is cut")
+
+    def mend(self, a: ImpName, b: ImpName, why: str = "") -> Deed:
+        """The line between two IMPs comes up at both ends."""
+        return self._ends(events.EndUp, a, b, why or f"the line {self.network.imp(a)} - {self.network.imp(b)} is mended")
+
+    def _ends(self, kind: Callable[[int, int], Event], a: ImpName, b: ImpName, why: str) -> Deed:
+        line = self.network.line(a, b)
+        done, tried = self._perform([kind(self.network.imp(it).number, line) for it in (a, b)], why)
+        return Deed(tuple(done), tuple(tried))
+
+    def crash(self, imp: ImpName, why: str = "") -> Deed:
+        """An IMP stops, and its neighbours notice: their ends of its lines go down."""
+        number = self.network.imp(imp).number
+        ends = [events.EndDown(self.network.lines[line].far(number), line) for line in self.network.lines_of(number)]
+        done, tried = self._perform([*ends, events.ImpDown(number)], why or f"{self.network.imp(imp)} stops")
+        return Deed(tuple(done), tuple(tried))
+
+    def restart(self, imp: ImpName, limit: int = MOST_ROUNDS, why: str = "") -> Deed:
+        """An IMP stops, starts once nothing of its past is left, and its lines and hosts come up.
+
+        Before it may start, each other IMP forgets the last numbers of its flows, and what is outstanding to it is given up.
+        Where something of it is still alive, rounds pass; `tried` has what was refused, and the note what was in the way.
+        """
+        number, said = self.network.imp(imp).number, why or f"{self.network.imp(imp)} restarts"
+        before = len(self.steps)
+        tried, note = list(self.crash(imp, said).tried), ""
+        for _ in range(limit + 1):
+            done, tried = self._perform([*self._forgets(number), events.ImpUp(number)], said)
+            if done and isinstance(done[-1].event, events.ImpUp):
+                break
+            note = note or self._in_the_way(number)
+            self._one_more_round(said)
+        else:
+            return Deed(self.steps[before:], tuple(tried), f"after {limit} rounds it can't start. {note}")
+        ends = [events.EndUp(self.network.lines[line].far(number), line) for line in self.network.lines_of(number)]
+        hosts = [events.HostUp(it) for it in self.network.hosts() if it.imp == number]
+        _, tried = self._perform([*ends, *hosts], said)
+        return Deed(self.steps[before:], tuple(tried), note)
+
+    def _one_more_round(self, why: str) -> None:
+        """A round passes; a calm that has just passed is one round longer."""
+        rounds = 0
+        if self.steps and isinstance(last := self.steps[-1].event, events.Calm) and self.steps[-1].why == why:
+            rounds = last.rounds
+            self.back()
+        self.calm(rounds + 1, why)
+
+    def _forgets(self, number: int) -> list[Event]:
+        """What has to be forgotten and given up so that an IMP may start: nothing twice."""
+        asked: list[Event] = [events.GiveUp(flow) for flow in self.unanswered() if flow.destination.imp == number]
+        sources = {flow.destination.imp for flow in map(flow_of, self.printed) if flow and flow.source.imp == number}
+        since = max((at for at, it in enumerate(self.steps) if it.event == events.ImpDown(number)), default=0)
+        forgotten = {it.event for it in self.steps[since:]}
+        return asked + [it for it in (events.Forget(other, number) for other in sorted(sources - {number})) if it not in forgotten]
+
+    def _in_the_way(self, number: int) -> str:
+        """What is alive of an IMP's past."""
+        try:
+            alive = [str(it) for it in self.state.alive() if number in (it.flow.source.imp, it.flow.destination.imp)]
+        except CannotFollow:
+            return ""
+        return f"Still alive: {'; '.join(alive[:4])}{f'; and {len(alive) - 4} more' if len(alive) > 4 else ''}." if alive else ""
+
+    # ---- what there is
+
+    @property
+    def events(self) -> tuple[Event, ...]:
+        return tuple(it.event for it in self.steps)
+
+    @property
+    def script(self) -> Script:
+        """What was done, as a plain script; the reason of an event is a comment."""
+        entries, before = [], ""
+        for step in self.steps:
+            entries.append(Entry(step.event, (step.why,) if step.why and step.why != before else ()))
+            before = step.why
+        return Script(self.network, tuple(entries), self.heading)
+
+    @property
+    def text(self) -> str:
+        """The input that replays all this."""
+        return self.script.text()
+
+    @property
+    def printed(self) -> list[str]:
+        """All lines so far."""
+        return [line for step in self.steps for line in step.printed]
+
+    def lines(self, kind: str) -> list[str]:
+        """The lines of a kind: `crossing`, `notice`, `report` or `refused`."""
+        return [it for it in self.printed if kind_of(it) == kind]
+
+    @property
+    def crossings(self) -> list[str]:
+        return self.lines("crossing")
+
+    @property
+    def notices(self) -> list[str]:
+        return self.lines("notice")
+
+    @property
+    def reports(self) -> list[str]:
+        return self.lines("report")
+
+    @property
+    def lives(self) -> list[str]:
+        """The lives of the book."""
+        ran = self.program.run(self.text.encode("latin-1"), "--book")
+        return [it for it in ran.output.splitlines() if it.startswith("life ")]
+
+    @property
+    def log(self) -> str:
+        """The log of the book."""
+        return self.program.run(self.text.encode("latin-1"), "--log").output
+
+    def audit(self) -> str:
+        """What the proved audit says of the log."""
+        ran = self.program.run(self.log.encode("latin-1"), "--audit")
+        return ran.output.strip() or ran.said.strip()
+
+    @property
+    def trace(self) -> str:
+        """The trace; of a network with host programs that of the network below them."""
+        return trace_of(self.program, self.network, self._kept())
+
+    def _kept(self) -> tuple[Event, ...]:
+        """The events that were not refused: the others changed nothing."""
+        return tuple(it.event for it in self.steps if not it.refused)
+
+    @property
+    def state(self) -> State:
+        """The state inside the network, folded from the trace."""
+        kept = self._kept()
+        if kept not in self._states:
+            self._states = {kept: state_of(self.program, self.network, kept)}
+        return self._states[kept]
+
+    def unanswered(self) -> list[Flow]:
+        """The flows whose last message has no answer yet, by what crossed."""
+        waiting: dict[Flow, bool] = {}
+        for line in self.crossings:
+            word, *words = line.split(" ")
+            if (flow := flow_of(line)) and word != "in":
+                waiting[flow] = word == "out"
+            elif word == "down":
+                waiting = {flow: it and flow.source != Host.read(words[0]) for flow, it in waiting.items()}
+        return [flow for flow, it in waiting.items() if it]
+
+    def expect(self, *wanted: str) -> None:
+        """Refuses to go on unless the last event printed exactly these lines."""
+        printed = self.steps[-1].printed if self.steps else ()
+        if printed != wanted:
+            raise Stopped(f"`{self.steps[-1].event if self.steps else 'nothing'}` printed {list(printed)}, and {list(wanted)} were expected")
+
+    def __str__(self) -> str:
+        return "\n".join(map(str, self.steps))
+
+    def _repr_svg_(self) -> str:
+        """A map of the network as it is now, for a notebook."""
+        try:
+            state = self.state
+        except CannotFollow:
+            state = State(self.network, {})
+        return drawn(self.network, state, self.unanswered())
+
+
+def together(deeds: Sequence[Deed]) -> Deed:
+    """Several deeds as one."""
+    return Deed(tuple(it for deed in deeds for it in deed.steps), tuple(it for deed in deeds for it in deed.tried), " ".join(it.note for it in deeds if it.note))

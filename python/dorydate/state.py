@@ -1,0 +1,192 @@
+"""The state of a network, folded from a trace: its IMPs with what they hold, its lines with their frames (docs/trace.md)."""
+
+from __future__ import annotations
+
+import json
+from collections.abc import Iterable, Iterator, Mapping
+from dataclasses import dataclass
+from typing import Any
+
+from dorydate.network import Host, Network
+from dorydate.script import Flow, Text
+
+
+@dataclass(frozen=True)
+class Packet:
+    """A piece of a message, an answer to one, or a question about one."""
+
+    kind: str  # data, rfnm, dead, ask or never
+    flow: Flow
+    number: int  # of its message
+    place: int
+    is_last: bool
+    text: Text
+
+    @staticmethod
+    def read(words: str) -> Packet:
+        kind, source, destination, link, number, place, last, bits, octets = words.split(" ")
+        return Packet(kind, Flow.read(source, destination, link), int(number), int(place), last == "last", Text.read(bits, octets))
+
+    def __str__(self) -> str:
+        what = {"data": "message", "rfnm": "the RFNM for message", "dead": "the Dead for message", "ask": "the question about message", "never": "the Never for message"}
+        piece = f"piece {self.place} of " if self.kind == "data" and not (self.place == 0 and self.is_last) else ""
+        return f"{piece}{what[self.kind]} {self.number} of flow {self.flow}"
+
+    def target(self) -> int:
+        """The IMP that it is for."""
+        return (self.flow.destination if self.kind in ("data", "ask") else self.flow.source).imp
+
+
+@dataclass(frozen=True)
+class Frame:
+    """A frame that is live on a line, at a place of one way. It acknowledges, and may carry a packet or distances."""
+
+    line: int
+    way: str
+    place: int
+    packet: Packet | None
+    channel: int | None
+    has_routes: bool
+
+    def __str__(self) -> str:
+        what = str(self.packet) if self.packet else "distances" if self.has_routes else "acknowledgements"
+        return f"line {self.line} {self.way} {self.place}: {what}"
+
+
+@dataclass(frozen=True)
+class Held:
+    """A packet, or a message, and where it is."""
+
+    what: str
+    flow: Flow
+    number: int
+    where: str
+
+    def __str__(self) -> str:
+        return f"{self.what}, {self.where}"
+
+
+@dataclass(frozen=True)
+class HostState:
+    """A host as its IMP sees it: whether it is up, and what waits for it."""
+
+    up: bool
+    messages: tuple[str, ...]
+    answers: tuple[str, ...]
+
+
+@dataclass(frozen=True)
+class ImpState:
+    """An IMP that is up."""
+
+    hosts: tuple[HostState, ...]
+    ends_up: tuple[bool, ...]  # of its lines, in order
+    sending: tuple[tuple[Packet, ...], ...]  # for each line what its channels hold
+    routes: tuple[Mapping[str, int] | None, ...]
+    store: tuple[Packet, ...]
+    slots: tuple[tuple[Packet, ...], ...]  # the pieces of each message in reassembly
+    sources: Mapping[Flow, tuple[str, int]]  # of each flow from here: idle, outstanding or answered, and the last number
+    kept: Mapping[Flow, tuple[str, int]]  # of each flow to here: the fate of its last message, and its number
+
+    @staticmethod
+    def read(part: Mapping[str, Any]) -> ImpState:
+        hosts = tuple(HostState(it["up"], tuple(it["messages"]), tuple(it["answers"])) for it in part["hosts"])
+        sending = tuple(tuple(Packet.read(it[2:]) for it in port["sending"] if len(it) > 1) for port in part["ports"])
+        return ImpState(
+            hosts,
+            tuple(port["up"] for port in part["ports"]),
+            sending,
+            tuple(part["routes"]),
+            tuple(map(Packet.read, part["store"])),
+            tuple(tuple(map(Packet.read, slot)) for slot in part["slots"]),
+            flows_of(part["sources"]),
+            flows_of(part["kept"]),
+        )
+
+
+def flows_of(words: Iterable[str]) -> dict[Flow, tuple[str, int]]:
+    """What is noted of flows: a word and a number each."""
+    split = (it.split(" ") for it in words)
+    return {Flow.read(*flow): (word, int(number)) for word, *flow, number in split}
+
+
+@dataclass(frozen=True)
+class State:
+    """The parts of a network. One that no event has changed since the start is not there."""
+
+    network: Network
+    parts: Mapping[str, Any]
+
+    def imp(self, number: int) -> ImpState | None:
+        """An IMP; None where it is down, or nothing has happened at it yet."""
+        part = self.parts.get(f"imp {number}")
+        return ImpState.read(part) if part else None
+
+    def is_down(self, number: int) -> bool:
+        return f"imp {number}" in self.parts and self.parts[f"imp {number}"] is None
+
+    def end_is_up(self, imp: int, line: int) -> bool:
+        """Whether an IMP's end of a line is up."""
+        state = self.imp(imp)
+        return not self.is_down(imp) and (state is None or state.ends_up[self.network.lines_of(imp).index(line)])
+
+    def frames(self) -> Iterator[Frame]:
+        """The frames that are live, line by line, the oldest first."""
+        for number in range(len(self.network.lines)):
+            for way in "+-":
+                for place, it in enumerate(self.parts.get(f"line {number}", {}).get(way, [])):
+                    packet = Packet.read(it["packet"]) if "packet" in it else None
+                    yield Frame(number, way, place, packet, it.get("channel"), "routes" in it)
+
+    def alive(self) -> Iterator[Held]:
+        """All packets and messages, with their places."""
+        for imp in self.network.imps:
+            state = self.imp(imp.number)
+            if state:
+                yield from held_by(imp.number, state, self.network)
+        for frame in self.frames():
+            if frame.packet:
+                yield Held(str(frame.packet), frame.packet.flow, frame.packet.number, f"in frame {frame.place} on line {frame.line} {frame.way}")
+
+    def outstanding(self) -> dict[Flow, int]:
+        """The flows with a message that has no answer, with its number."""
+        found: dict[Flow, int] = {}
+        for imp in self.network.imps:
+            state = self.imp(imp.number)
+            found.update({flow: number for flow, (word, number) in (state.sources if state else {}).items() if word == "outstanding"})
+        return found
+
+    def distances(self, imp: int) -> dict[int, int]:
+        """The least distance that an IMP knows to each IMP that it knows a way to."""
+        state = self.imp(imp)
+        told = [it for it in (state.routes if state else ()) if it is not None]
+        return {to: 1 + min(it[str(to)] for it in told if str(to) in it) for to in sorted({int(to) for it in told for to in it}) if to != imp}
+
+
+def held_by(number: int, state: ImpState, network: Network) -> Iterator[Held]:
+    """What an IMP holds."""
+    for it in state.store:
+        yield Held(str(it), it.flow, it.number, f"in the store of IMP {number}")
+    for line, channels in zip(network.lines_of(number), state.sending):
+        for it in channels:
+            yield Held(str(it), it.flow, it.number, f"in a channel of line {line} at IMP {number}")
+    for slot in state.slots:
+        for it in slot:
+            yield Held(str(it), it.flow, it.number, f"in a slot of IMP {number}")
+    for host, waits in enumerate(state.hosts):
+        for words in waits.messages:
+            source, destination, link, message, *_ = words.split(" ")
+            yield Held(f"message {message} of flow {source} {destination} {link}", Flow.read(source, destination, link), int(message), f"waiting for host {Host(host, number)}")
+
+
+def folded(network: Network, trace: str) -> State:
+    """The state after a trace: of each part its last text. The trace is read from its end, until all parts are there."""
+    wanted = {f"imp {it.number}" for it in network.imps} | {f"line {it}" for it in range(len(network.lines))}
+    parts: dict[str, Any] = {}
+    end = len(trace)
+    while end > 0 and not wanted <= parts.keys():
+        begin = trace.rfind("\n", 0, end - 1) + 1
+        for name, part in json.loads(trace[begin:end])["parts"].items():
+            parts.setdefault(name, part)
+        end = begin
+    return State(network, parts)

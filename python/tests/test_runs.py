@@ -1,0 +1,208 @@
+"""Replays, explorations and expectations: what runs the program."""
+
+from __future__ import annotations
+
+import unittest
+
+from dorydate import Network, Replay, Stopped
+from dorydate.expect import differences, expected
+from dorydate.explore.breadth import Walk, lists
+from dorydate.explore.kinds import chosen, pools
+from dorydate.explore.many import CannotRun, Many, One
+from dorydate.explore.named import SEARCHES, TWO, TWO_PLAIN, TWO_RAW
+from dorydate.explore.pattern import read
+from dorydate.explore.search import Search
+from dorydate.inside import CannotFollow, state_of
+from dorydate.program import Program, TookTooLong, found
+from dorydate.script import BadLine, Calm, Contact, Flow, Script
+
+RING = Network.joined("WEST-A-B-EAST-C-D-WEST", hosts={"A": 0, "B": 0, "C": 0, "D": 0})
+
+
+def raw() -> Replay:
+    net = Replay(Network.joined("UCLA-SRI-UTAH-UCLA", raw=True))
+    net.calm(2)
+    return net
+
+
+class Programs(unittest.TestCase):
+    def test_limit_of_time(self) -> None:
+        net = raw()
+        net.cut("UCLA", "UTAH")
+        text = net.text + "enddown 2 0\nout 0/1 0/2 5 8 FF\ncalm 4294967295\n"
+        with self.assertRaises(TookTooLong):
+            found().run(text.encode(), seconds=0.3)
+
+    def test_streams(self) -> None:
+        ran = found().run(b"nothing")
+        self.assertEqual((ran.status, ran.output, ran.said), (1, "", "arpasim: bad topology\n"))
+        self.assertEqual(found().run_by_pipes(b"nothing", [], 5.0), ran)
+
+    def test_program_that_is_not_there(self) -> None:
+        with self.assertRaises(FileNotFoundError):
+            Program("/nowhere/arpasim").run(b"")
+
+
+class Replays(unittest.TestCase):
+    def test_a_message_is_lost_and_comes_again(self) -> None:
+        net = raw()
+        message = net.out("UCLA", "SRI", 5, b"LO")
+        (frame,) = net.frames_of(message)
+        self.assertEqual((frame.line, frame.way, frame.place), (0, "+", 0))
+        self.assertTrue(net.lose(message))
+        self.assertEqual(net.frames_of(message), [])
+        self.assertEqual(net.settle().printed, ["in 0/1 0/2 5 16", "answer rfnm 0/1 0/2 5"])
+        self.assertEqual((net.state.outstanding(), net.unanswered(), net.audit()), ({}, [], "kept"))
+
+    def test_back_and_branch(self) -> None:
+        net = raw()
+        other = net.branch()
+        net.out("UCLA", "SRI", 5)
+        self.assertEqual((len(net.steps), len(other.steps)), (2, 1))
+        net.back()
+        self.assertEqual(net.events, other.events)
+
+    def test_refusals_change_nothing(self) -> None:
+        net = raw()
+        self.assertEqual(net.host_up("UCLA").refused, "IsUp")
+        self.assertFalse(net.host_up("UCLA"))
+        before = net.state.parts
+        net.ask("UCLA", "SRI", 5)
+        self.assertEqual((net.steps[-1].refused, net.state.parts), ("NotOutstanding", before))
+        with self.assertRaises(Stopped):
+            net.contact("UCLA", "SRI")
+
+    def test_settle_is_the_least_that_prints_all(self) -> None:
+        net = raw()
+        net.out("UCLA", "SRI", 5, b"LO")
+        events = net.settle(50).steps[0].event
+        self.assertEqual(events, Calm(3))
+        self.assertEqual(net.settle(50).printed, [])
+
+    def test_restart_says_what_was_in_the_way(self) -> None:
+        net = raw()
+        net.out("UCLA", "SRI", 5, b"LO")
+        deed = net.restart("SRI")
+        self.assertTrue(deed, deed)
+        self.assertIn("Still alive: message 0 of flow 0/1 0/2 5", deed.note)
+        self.assertEqual([str(it.event) for it in deed.steps][-3:], ["endup 1 0", "endup 3 1", "hostup 0/2"])
+        net.calm(2)
+        net.out("UCLA", "SRI", 5, b"HI")
+        self.assertEqual(net.run_until("answer rfnm").printed, ["in 0/1 0/2 5 16", "answer rfnm 0/1 0/2 5"])
+        self.assertEqual(net.audit(), "kept")
+
+    def test_the_made_experiment(self) -> None:
+        net = Replay(RING)
+        net.settle()
+        self.assertEqual(net.session("WEST", "EAST").printed.count("done user 0/1 18 19"), 1)
+        net.type("WEST", "HELLO")
+        self.assertEqual(len(net.lose(net.offer("WEST")).steps), 1)
+        self.assertTrue(net.run_until("line 0/1 HELLO"))
+        net.cut("A", "B")
+        net.type("WEST", "AGAIN")
+        net.settle()
+        net.restart("C")
+        net.settle()
+        net.type("WEST", "THIRD")
+        self.assertIn("line 0/1 THIRD", net.run_until("line 0/1 THIRD", 60).printed)
+        self.assertEqual((net.audit(), len(net.lives)), ("kept", 6))
+        self.assertIn("# C restarts", net.text)
+        self.assertEqual(Replay.of(net.script).printed, net.printed)
+
+    def test_run_until_says_when_it_is_not_reached(self) -> None:
+        net = raw()
+        self.assertIn("in 3 rounds", net.run_until("line", 3).note)
+
+    def test_a_map_is_drawn(self) -> None:
+        net = raw()
+        net.cut("UCLA", "SRI")
+        picture = net._repr_svg_()
+        self.assertTrue(picture.startswith("<svg") and picture.endswith("</svg>"))
+        self.assertIn("stroke-dasharray", picture)
+
+    def test_expectation(self) -> None:
+        net = raw()
+        net.out("UCLA", "SRI", 5)
+        net.expect("out 0/1 0/2 5 0")
+        with self.assertRaises(Stopped):
+            net.expect()
+
+
+class Insides(unittest.TestCase):
+    def test_world_is_the_raw_network_that_its_crossings_drive(self) -> None:
+        net = Replay(RING)
+        net.settle()
+        net.session("WEST", "EAST")
+        state = net.state
+        self.assertEqual(state.distances(1), {2: 1, 3: 2, 4: 3, 5: 2, 6: 1})
+        self.assertEqual(state.outstanding(), {})
+
+    def test_too_many_rounds(self) -> None:
+        with self.assertRaises(CannotFollow):
+            state_of(found(), TWO, [Calm(4_000)])
+
+
+class Explorations(unittest.TestCase):
+    def test_side_by_side_is_alone(self) -> None:
+        script = [*pools(TWO_RAW)["out"], Calm(2)]
+        many, one = Many(TWO_RAW, found()), One(TWO_RAW, found())
+        lines: list[list[list[str]]] = [[[], [many.spelled(copy, it) for it in script[:-1]]] for copy in range(many.copies)]
+        results = many.run(lines, [1, 2])
+        alone = one.of([Calm(1), *script])
+        self.assertEqual({it.lines for it in results}, {alone.lines})
+        self.assertEqual(many.copies, 31)
+
+    def test_searches_find_and_shrink(self) -> None:
+        for name, least in (("taken-and-incomplete", 7), ("resets-in-step", 4), ("noted-before-it-comes", 7)):
+            search = Search(SEARCHES[name].network, read(SEARCHES[name].pattern), found(), 1)
+            script = search.run(8_000, wanted=3)
+            self.assertIsNotNone(script, name)
+            assert script is not None
+            self.assertLessEqual(len(script), least, name)
+            self.assertTrue(search.matches(script))
+
+    def test_logs_are_kept(self) -> None:
+        for network in (TWO_RAW, TWO, TWO_PLAIN):
+            search = Search(network, read(SEARCHES["twice"].pattern), found(), 7, audits=True)
+            self.assertIsNone(search.run(186))
+            self.assertEqual(search.progress.kept, search.progress.schedules)
+
+    def test_no_shorter_script(self) -> None:
+        events = [it for kind in chosen(pools(TWO_RAW, places=2), ("out", "ask", "deliver", "drop")).values() for it in kind]
+        walk = Walk(TWO_RAW, read(SEARCHES["noted-before-it-comes"].pattern), found(), [*events, Calm(1)])
+        script = walk.run(5, 60)
+        assert script is not None
+        self.assertEqual((len(script), [it.states for it in walk.counts]), (5, [6, 7, 11, 46]))
+
+    def test_every_list(self) -> None:
+        contacts = [Contact(a, b) for a, b in zip(TWO.hosts(), reversed(TWO.hosts()))]
+        script, count, whole = lists(TWO, read(SEARCHES["resets-in-step"].pattern), found(), [*contacts, Calm(1)], 4, 60)
+        assert script is not None
+        self.assertEqual((len(script), whole), (4, 3))
+
+    def test_networks_that_do_not_fit(self) -> None:
+        with self.assertRaises(CannotRun):
+            Many(Network.joined(*(f"{it}" for it in range(63)), raw=True), found())
+        with self.assertRaises(CannotRun):
+            Search(TWO, read("arrives data A B N K"), found())
+
+
+class Expectations(unittest.TestCase):
+    def test_first_difference(self) -> None:
+        net = raw()
+        net.out("UCLA", "SRI", 5)
+        net.calm(2)
+        good = expected(net.script)
+        self.assertEqual(differences(good), [])
+        bad = Script.read(good.text().replace("#= in 0/1 0/2 5 0", "#= in 0/1 0/2 5 1"))
+        (difference,) = differences(bad)
+        self.assertIn("in 0/1 0/2 5 1\nand is\n  in 0/1 0/2 5 0", str(difference))
+
+    def test_flow_is_a_value(self) -> None:
+        self.assertEqual({Flow.read("0/1", "0/2", "5")}, {Flow.read("0/1", "0/2", "5")})
+        with self.assertRaises(BadLine):
+            Flow.read("0/1", "0/2", "256")
+
+
+if __name__ == "__main__":
+    unittest.main()
