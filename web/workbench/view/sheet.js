@@ -37,7 +37,11 @@ export class SheetView {
         this.list = [];
         this.open = -2;
         this.drawn = "";
+        /** @type {string[]} what each row looks like */
+        this.looks = [];
+        this.range = { from: 0, to: 0 };
         new ResizeObserver(() => this.sheet && this.drawChart()).observe(this.body);
+        this.scroller.addEventListener("scroll", () => this.sheet && this.isOutside() && this.drawChart());
     }
 
     /**
@@ -49,6 +53,8 @@ export class SheetView {
         this.sheet = sheet;
         this.list = rowsOf(sheet.history, sheet.stops);
         this.open = -2;
+        this.looks = [];
+        this.rows.classList.toggle("many", this.list.length > 400);
         const { network } = sheet.history;
         keep(
             this.heads,
@@ -110,22 +116,31 @@ export class SheetView {
         elements.forEach((element, place) => {
             const row = this.list[place];
             const isPast = row.kind === "comment" || row.kind === "question" ? row.at < position || row.at === 0 : row.at <= position && position > 0;
-            element.hidden = !shown[place] || (hidden && !isPast);
+            const isShown = shown[place] && !(hidden && !isPast);
+            const looks = `${isShown} ${isPast} ${place === current}`;
+            if (looks === this.looks[place]) return;
+            this.looks[place] = looks;
+            element.hidden = !isShown;
             element.classList.toggle("future", !isPast);
             element.classList.toggle("current", place === current);
             element.setAttribute("aria-current", place === current ? "step" : "false");
-            if (row.steps) element.classList.toggle("open", row.event === open);
         });
         this.position = position;
         this.hidden = hidden;
-        const drawn = `${open} ${hidden ? position : ""} ${this.body.clientWidth}`;
-        if (drawn !== this.drawn || this.open === -2) this.drawChart();
-        this.open = open;
-        this.drawn = drawn;
-        this.markPast();
         const element = elements[current];
         if (element) keepInView(this.scroller, element, this.heads.offsetHeight);
         else this.scroller.scrollTop = 0;
+        const drawn = `${open} ${hidden ? position : ""} ${this.body.clientWidth}`;
+        if (drawn !== this.drawn || this.open === -2 || this.isOutside()) this.drawChart();
+        this.open = open;
+        this.drawn = drawn;
+        this.markPast();
+    }
+
+    /** Whether rows are seen for which nothing is drawn. */
+    isOutside() {
+        const { scrollTop, clientHeight } = this.scroller;
+        return scrollTop < this.range.from || scrollTop + clientHeight > this.range.to;
     }
 
     /** Where the middle of the row of each moment is: that of its stop, or of the head of its calm. */
@@ -144,12 +159,20 @@ export class SheetView {
             if (row.stop >= 0) middles[row.stop] = middle;
             else if (row.kind === "event") ofEvent.set(row.event, middle);
         });
+        /** @type {number[]} by moment */
+        const heights = [];
+        stops.forEach((stop, place) => {
+            const middle = middles[place] >= 0 ? middles[place] : (ofEvent.get(stop.event) ?? -1);
+            for (let at = stop.from; at < stop.to; at += 1) heights.push(middle);
+        });
         /** @type {(at: number) => number} */
-        const y = (at) => {
-            const stop = stops.findIndex((it) => it.to > at);
-            return stop < 0 ? -1 : middles[stop] >= 0 ? middles[stop] : (ofEvent.get(stops[stop].event) ?? -1);
-        };
+        const y = (at) => heights[at] ?? -1;
         const height = this.rows.offsetHeight;
+        const { scrollTop, clientHeight } = this.scroller;
+        const from = Math.max(0, scrollTop - 1500);
+        const to = scrollTop + clientHeight + 1500;
+        this.range = { from: from ? scrollTop - 900 : -1, to: to < height ? scrollTop + clientHeight + 900 : Infinity };
+        this.isNear = (/** @type {number} */ one, /** @type {number} */ other) => Math.max(one, other) >= from && Math.min(one, other) <= to;
         const width = this.svg.getBoundingClientRect().width;
         if (!width) return;
         set(this.svg, { viewBox: `0 0 ${width} ${Math.max(height, 1)}`, height });
@@ -174,8 +197,9 @@ export class SheetView {
             const { kind, from, lane, to, end } = arrow;
             const start = y(from);
             if (start < 0 || lane < 0) return [];
-            if (kind === "message") return this.message(arrow, y, x, height);
             const stop = y(to);
+            if (!this.isNear?.(start, stop < 0 ? start + 30 : stop)) return [];
+            if (kind === "message") return this.message(arrow, y, x, height);
             if (stop < 0) return [];
             if (lane !== end) return [s("g", { class: `arrow ${kind}`, "data-at": to }, s("line", { x1: x(lane), y1: start, x2: x(end), y2: stop }))];
             // an answer without a taking: a bow at the source's own lane, or only its end where it is long
@@ -217,7 +241,7 @@ export class SheetView {
         const letters = (/** @type {number} */ lane) => Math.max(4, Math.floor(((lane === last ? 0.82 : 1) * room - 14) / 6.9));
         return (this.sheet?.chart.marks ?? []).flatMap(({ at, lane, kind, words }) => {
             const middle = y(at);
-            if (middle < 0) return [];
+            if (middle < 0 || !this.isNear?.(middle, middle)) return [];
             const text = shortened(words, letters(lane));
             return [s("g", { class: `mark ${kind}`, "data-at": at }, s("title", {}, words), s("circle", { cx: x(lane), cy: middle, r: 3.5 }), s("text", { class: "plate", x: x(lane) + 8, y: middle + 4 }, text), s("text", { x: x(lane) + 8, y: middle + 4 }, text))];
         });
