@@ -136,13 +136,13 @@ LINES = (
 
 
 def lessons() -> list[tuple[str, str, list[str]]]:
-    """The lines of the map: a heading of docs/lessons.md, a colour, and the lessons in the first column of its tables. Of the class, the hour's."""
+    """The lines of the map: a heading of docs/lessons.md, a colour, and the lessons of its list; of the class those of the hour."""
     with open(f"{ROOT}/docs/lessons.md", encoding="utf-8") as file:
         text = file.read()
     found = []
     for heading, colour in LINES:
         part = text.partition(f"\n## {heading}\n")[2].partition("\n## ")[0]
-        cells = r"^\| \d+ \| \[([\w-]+)\]" if heading == "For a class" else r"^\| \[([\w-]+)\]\(\.\./examples"
+        cells = r"^\| \d+ \| \[([\w-]+)\]" if heading == "For a class" else r"^- \*\*\[([\w-]+)\]\(\.\./examples"
         found.append((heading, colour, re.findall(cells, part, re.MULTILINE)))
     return found
 
