@@ -114,12 +114,23 @@ def with_notes(module: bytes, notes: dict[str, bytes]) -> bytes:
     return module_of([*kept, *(Section(CUSTOM, counted(name.encode()) + text) for name, text in notes.items())])
 
 
-def with_greatest(module: bytes, pages: int) -> bytes:
-    """The module with a memory that grows to so many pages of 64 KiB at most, but never below those that it begins with."""
-    sections = sections_of(module)
+def memory_of(sections: list[Section]) -> tuple[int, int]:
+    """The flags of the one memory of a module, and how many pages of 64 KiB it begins with."""
     reader = Reader(content_of(sections, MEMORIES))
     count, flags, least = reader.number(), reader.octet(), reader.number()
     if count != 1:
         raise Refused(f"the module has {count} memories")
+    return flags, least
+
+
+def least_pages(module: bytes) -> int:
+    """How many pages of memory a module begins with."""
+    return memory_of(sections_of(module))[1]
+
+
+def with_greatest(module: bytes, pages: int) -> bytes:
+    """The module with a memory that grows to so many pages at most, but never below those that it begins with."""
+    sections = sections_of(module)
+    flags, least = memory_of(sections)
     limits = number(1) + bytes([flags | 1]) + number(least) + number(max(pages, least))
     return module_of([Section(MEMORIES, limits) if it.number == MEMORIES else it for it in sections])

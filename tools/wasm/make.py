@@ -6,6 +6,7 @@ in a section of its own, of what they come from. The toolchain's clang does the 
 
 from __future__ import annotations
 
+import functools
 import hashlib
 import json
 import os
@@ -25,6 +26,7 @@ STACK = 1 << 20  # octets; 64 KiB are enough for every example
 GREATEST = 1 << 30  # octets that a run may take
 
 
+@functools.lru_cache(maxsize=None)
 def kit() -> str:
     """The folder of the toolchain."""
     return os.path.dirname(subprocess.run(["rt", "doc"], capture_output=True, text=True, check=True).stdout.strip())

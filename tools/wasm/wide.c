@@ -45,10 +45,10 @@ u128 __udivti3(u128 a, u128 b) {
         return low_of(a) / low_of(b);
     u128 quotient = 0, rest = 0;
     for (i32 bit = 127; bit >= 0; bit--) {
-        u64 half = bit < 64 ? low_of(a) : high_of(a), carried = high_of(rest) >> 63;
-        rest = rest << 1 | (half >> (bit & 63) & 1);
+        u64 half = bit < 64 ? low_of(a) : high_of(a);
+        rest = rest << 1 | (half >> (bit & 63) & 1); /* at most the bits of a from this one on */
         quotient <<= 1;
-        if (carried || rest >= b) {
+        if (rest >= b) {
             rest -= b;
             quotient |= 1;
         }

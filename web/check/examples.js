@@ -1,8 +1,8 @@
 /**
- * Holds the module up to the native program: node web/check/examples.js MODULE PROGRAM FILE..
+ * Holds the module up to the native program: node web/check/examples.js MODULE PROGRAM RUNS
  *
- * Each file is an input, and is run with each list of options: standard output, standard error and exit status have to be the native
- * program's, octet for octet.
+ * RUNS is a file of JSON that names inputs, and for each the lists of words that it is run with: standard output, standard error and exit
+ * status have to be the native program's, octet for octet. With the words `--audit` it is the log of the input that is audited.
  */
 
 import { spawnSync } from "node:child_process";
@@ -10,8 +10,6 @@ import { readFileSync } from "node:fs";
 
 import { runModule } from "../run/program.js";
 import { joined } from "../run/runner.js";
-
-const OPTIONS = [[], ["--texts"], ["--book"], ["--check"], ["--check", "--book"], ["--book", "--texts"], ["--log"], ["--trace"], ["--audit"], ["--no"], ["--log", ""], ["é€😀".repeat(300)]];
 
 /** @typedef {{status: number, stdout: Uint8Array, stderr: Uint8Array}} Ended */
 
@@ -56,14 +54,16 @@ function difference(one, other) {
     return Buffer.compare(one.stderr, other.stderr) === 0 ? "" : "standard error";
 }
 
-const [path, program, ...files] = process.argv.slice(2);
+const [path, program, manifest] = process.argv.slice(2);
 const module = new WebAssembly.Module(readFileSync(path));
+/** @type {{file: string, words: string[][]}[]} */
+const inputs = JSON.parse(readFileSync(manifest, "utf8"));
 let runs = 0;
-for (const file of files) {
+for (const { file, words: lists } of inputs) {
     const input = readFileSync(file);
-    for (const words of OPTIONS) {
-        // a log is what an audit reads, so it gets one where there is one
-        const given = words[0] === "--audit" ? endedNatively(program, ["--log"], input).stdout : input;
+    for (const words of lists) {
+        const log = words.join() === "--audit" ? endedNatively(program, ["--log"], input).stdout : input;
+        const given = log.length > 0 ? log : input;
         const differs = difference(ended(module, words, given), endedNatively(program, words, given));
         if (differs) {
             console.log(`${file} with ${JSON.stringify(words).slice(0, 60)}: ${differs}`);
@@ -72,4 +72,4 @@ for (const file of files) {
         runs += 1;
     }
 }
-console.log(`runs: ${runs} of ${files.length} inputs with ${OPTIONS.length} lists of options end as natively`);
+console.log(`runs: ${runs} of ${inputs.length} inputs end as natively`);
