@@ -15,7 +15,8 @@ import { farEnd, linesOf } from "./topology.js";
  * @property {boolean} small whether the map is of so many IMPs that hosts are dots
  * @property {Map<number, Point>} imps
  * @property {Map<string, Point>} hosts
- * @property {{w: number, h: number}} box half the size of an IMP's box
+ * @property {{w: number, h: number}} box half the size of the widest box of an IMP
+ * @property {Map<number, {w: number, h: number}>} boxes half the size of each IMP's box
  * @property {number} radius of a host's circle
  */
 
@@ -28,20 +29,22 @@ import { farEnd, linesOf } from "./topology.js";
 export function placed(network) {
     const numbers = network.sites.map((site) => site.number);
     const small = numbers.length > 12;
-    const longest = Math.max(0, ...network.sites.map((site) => site.name.length));
-    const box = small ? { w: Math.max(15, 4 * longest + 5), h: 11 } : { w: Math.max(34, 5.2 * longest + 14), h: 21 };
+    const sized = (/** @type {number} */ letters) => (small ? { w: Math.max(13, 3.1 * letters + 5), h: 10 } : { w: Math.max(34, 5.2 * letters + 14), h: 21 });
+    const boxes = new Map(network.sites.map((site) => [site.number, sized(site.name.length)]));
+    const box = sized(Math.max(0, ...network.sites.map((site) => site.name.length)));
     const radius = small ? 5 : 15;
     const step = small ? 74 : 172;
     let points = spread(numbers.length, hopCounts(network, numbers), step);
-    points = apart(fitted(turned(points)), 2 * box.w + (small ? 10 : 46), 2 * box.h + (small ? 14 : 52));
+    const widths = numbers.map((number) => boxes.get(number)?.w ?? box.w);
+    points = apart(fitted(turned(points)), widths, small ? 12 : 46, 2 * box.h + (small ? 15 : 52));
     const imps = new Map(numbers.map((number, place) => [number, points[place]]));
-    const hosts = hostsAround(network, imps, box, radius, small);
+    const hosts = hostsAround(network, imps, boxes, radius, small);
     const margin = small ? 12 : 26;
-    const all = [...[...imps.values()].flatMap(({ x, y }) => [{ x: x - box.w, y: y - box.h }, { x: x + box.w, y: y + box.h }]), ...[...hosts.values()].flatMap(({ x, y }) => [{ x: x - radius, y: y - radius }, { x: x + radius, y: y + radius }])];
+    const all = [...[...imps].flatMap(([number, { x, y }]) => [{ x: x - (boxes.get(number)?.w ?? 0), y: y - box.h }, { x: x + (boxes.get(number)?.w ?? 0), y: y + box.h }]), ...[...hosts.values()].flatMap(({ x, y }) => [{ x: x - radius, y: y - radius }, { x: x + radius, y: y + radius }])];
     const left = Math.min(...all.map((it) => it.x)) - margin;
     const top = Math.min(...all.map((it) => it.y)) - margin;
     for (const it of [...imps.values(), ...hosts.values()]) Object.assign(it, { x: Math.round(10 * (it.x - left)) / 10, y: Math.round(10 * (it.y - top)) / 10 });
-    return { width: Math.max(...all.map((it) => it.x)) + margin - left, height: Math.max(...all.map((it) => it.y)) + margin - top, small, imps, hosts, box, radius };
+    return { width: Math.max(...all.map((it) => it.x)) + margin - left, height: Math.max(...all.map((it) => it.y)) + margin - top, small, imps, hosts, box, boxes, radius };
 }
 
 /**
@@ -138,17 +141,18 @@ function fitted(points) {
  * Points pushed apart until their boxes don't overlap.
  *
  * @param {Point[]} points
- * @param {number} w the distance that two need in width
- * @param {number} h or in height
+ * @param {number[]} widths half the width of each
+ * @param {number} gap between two beside each other
+ * @param {number} h the distance that two need in height
  */
-function apart(points, w, h) {
+function apart(points, widths, gap, h) {
     for (let turn = 0; turn < 200; turn += 1) {
         let moved = false;
         for (let a = 0; a < points.length; a += 1) {
             for (let b = a + 1; b < points.length; b += 1) {
                 const dx = points[b].x - points[a].x;
                 const dy = points[b].y - points[a].y;
-                const [over, under] = [w - Math.abs(dx), h - Math.abs(dy)];
+                const [over, under] = [widths[a] + widths[b] + gap - Math.abs(dx), h - Math.abs(dy)];
                 if (over <= 0 || under <= 0) continue;
                 moved = true;
                 const push = over < under ? { x: ((dx < 0 ? -1 : 1) * over) / 2 + 0.1, y: 0 } : { x: 0, y: ((dy < 0 ? -1 : 1) * under) / 2 + 0.1 };
@@ -174,16 +178,17 @@ function sum(points, value) {
  *
  * @param {Network} network
  * @param {Map<number, Point>} imps
- * @param {{w: number, h: number}} box
+ * @param {Map<number, {w: number, h: number}>} boxes
  * @param {number} radius
  * @param {boolean} small
  */
-function hostsAround(network, imps, box, radius, small) {
+function hostsAround(network, imps, boxes, radius, small) {
     /** @type {Map<string, Point>} */
     const hosts = new Map();
     const gap = small ? 4 : 15;
     for (const { number, hosts: count } of network.sites) {
         const at = imps.get(number) ?? { x: 0, y: 0 };
+        const box = boxes.get(number) ?? { w: 0, h: 0 };
         const taken = linesOf(network, number).map((line) => {
             const far = imps.get(farEnd(network, line, number)) ?? at;
             return Math.atan2(far.y - at.y, far.x - at.x);

@@ -207,7 +207,7 @@ const REASONS = {
 
 /** @param {string} name */
 function possessive(name) {
-    return name.endsWith("s") ? `${name}'` : `${name}'s`;
+    return /s$/i.test(name) ? `${name}'` : `${name}'s`;
 }
 
 // ---- what happens inside

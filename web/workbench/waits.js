@@ -87,8 +87,7 @@ export const PACKETS = { data: "the message", rfnm: "its RFNM", dead: "its Dead"
  */
 export function messageName(network, flow) {
     const [source, destination, link] = flow.split(" ");
-    const from = hostName(network, source);
-    return `${from}${from.endsWith("s") ? "'" : "'s"} message to ${hostName(network, destination)} on link ${link}`;
+    return `${possessive(hostName(network, source))} message to ${hostName(network, destination)} on link ${link}`;
 }
 
 /**
@@ -162,6 +161,7 @@ function placeOf(state, held) {
     const { imp, line, place, channel } = held.place;
     const what = held.kind === "data" ? "" : `${PACKETS[held.kind]}: `;
     const far = line >= 0 ? farEnd(network, line, imp) : 0;
+    const room = line >= 0 && state.isEndUp(far, line) ? wantOfRoom(state, far, held) : "";
     switch (held.place.at) {
         case "host": {
             const host = held.flow.split(" ")[1];
@@ -172,16 +172,35 @@ function placeOf(state, held) {
         case "store":
             return { where: `${what}${impName(network, imp)}, in the store`, for: `a free channel towards ${siteName(network, target(held))}`, bad: false, cures: [] };
         case "line":
-            return { where: `${what}on the line from ${siteName(network, imp)} to ${siteName(network, far)}`, for: "the frame to arrive", bad: false, cures: ["calm 1"] };
+            return { where: `${what}on the line from ${siteName(network, imp)} to ${siteName(network, far)}`, for: room || "the frame to arrive", bad: false, cures: ["calm 1"] };
     }
     const isDown = !state.isEndUp(far, line);
     return {
         where: `${what}${impName(network, imp)}, channel ${channel} to ${siteName(network, far)}`,
-        for: isDown ? `the acknowledgement of ${siteName(network, far)}, whose end of line ${line} is down` : `the acknowledgement of ${siteName(network, far)}`,
+        for: isDown ? `the acknowledgement of ${siteName(network, far)}, whose end of line ${line} is down` : room || `the acknowledgement of ${siteName(network, far)}`,
         bad: isDown,
         cures: isDown ? [`enddown ${imp} ${line}`] : [],
     };
 }
+
+/**
+ * For what room a packet waits at the IMP to which it comes next, "" if there is room.
+ *
+ * @param {State} state
+ * @param {number} imp
+ * @param {Held} held
+ */
+function wantOfRoom(state, imp, { packet, flow, kind }) {
+    const it = state.imp(imp);
+    if (!it || !packet) return "";
+    const to = impOf(flow.split(" ")[kind === "data" || kind === "ask" ? 1 : 0]);
+    if (to === imp && kind === "data" && !(packet.last && packet.place === 0) && it.slots.length >= SLOTS && !it.slots.some((pieces) => pieces[0].flow === flow)) return `a free slot at ${impName(state.network, imp)}: all ${SLOTS} are held`;
+    const stored = it.store.length + it.ports.reduce((sum, port) => sum + port.sending.filter((channel) => channel.packet).length, 0);
+    return to !== imp && stored >= PLACES ? `room at ${impName(state.network, imp)}: its ${PLACES} places are taken` : "";
+}
+
+/** How many messages an IMP reassembles at a time, and how many packets it stores. */
+const [SLOTS, PLACES] = [8, 32];
 
 /**
  * What connections and contacts wait for.
@@ -248,7 +267,7 @@ function deadNeighbours(state) {
 
 /** @param {string} name */
 function possessive(name) {
-    return name.endsWith("s") ? `${name}'` : `${name}'s`;
+    return /s$/i.test(name) ? `${name}'` : `${name}'s`;
 }
 
 /**

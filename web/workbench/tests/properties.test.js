@@ -70,9 +70,9 @@ for (const name of NAMES) {
         assert(history);
         const chart = chartOf(history);
         assert.deepEqual(withoutLane(history, chart.lanes), []);
-        const { imps, box, hosts } = placed(history.network);
-        const points = [...imps.values()];
-        points.forEach((a, at) => points.slice(at + 1).forEach((b) => assert(Math.abs(a.x - b.x) >= 2 * box.w || Math.abs(a.y - b.y) >= 2 * box.h)));
+        const { imps, boxes, hosts } = placed(history.network);
+        const points = [...imps].map(([imp, point]) => ({ ...point, ...(boxes.get(imp) ?? { w: 0, h: 0 }) }));
+        points.forEach((a, at) => points.slice(at + 1).forEach((b) => assert(Math.abs(a.x - b.x) >= a.w + b.w || Math.abs(a.y - b.y) >= a.h + b.h)));
         assert.equal(hosts.size, history.network.hosts.length);
     });
 }

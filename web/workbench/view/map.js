@@ -75,7 +75,17 @@ export class MapView {
      */
     ends(line) {
         const [a, b] = this.network.lines[line].map((imp) => this.imp(imp));
-        return [leaving(a, b, this.layout.box), leaving(b, a, this.layout.box)];
+        const [one, other] = this.network.lines[line].map((imp) => this.box(imp));
+        return [leaving(a, b, one), leaving(b, a, other)];
+    }
+
+    /**
+     * Half the size of an IMP's box.
+     *
+     * @param {number} imp
+     */
+    box(imp) {
+        return this.layout.boxes.get(imp) ?? this.layout.box;
     }
 
     drawLines() {
@@ -92,9 +102,9 @@ export class MapView {
     }
 
     drawImps() {
-        const { w, h } = this.layout.box;
         for (const { number, name } of this.network.sites) {
             const { x, y } = this.imp(number);
+            const { w, h } = this.box(number);
             const small = this.layout.small;
             const title = s("text", { class: "title", x, y: small ? y + 3.5 : y - 2 }, small ? name || String(number) : name || `IMP ${number}`);
             const below = s("text", { class: "below", x, y: y + 13 }, name ? `IMP ${number}` : "");
