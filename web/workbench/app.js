@@ -137,6 +137,7 @@ export class Workbench {
         document.addEventListener("keydown", (event) => this.key(event));
         window.addEventListener("hashchange", () => void this.fromAddress());
         window.addEventListener("beforeprint", () => this.history && fillHandout(byId("handout"), this.history, this.title(), headComment(this.history.replay.input)));
+        window.addEventListener("afterprint", () => byId("handout").replaceChildren());
         window.addEventListener("resize", () => this.draw());
     }
 

@@ -4,6 +4,7 @@ import { notesOf } from "../script.js";
 import { sentenceOf } from "../sentences.js";
 import { stopWords } from "../sheet.js";
 import { stopsOf } from "../stops.js";
+import { count } from "../words.js";
 import { h, sayWithCode } from "./dom.js";
 
 /** @typedef {import("../fold.js").History} History */
@@ -22,21 +23,45 @@ export function fillHandout(element, history, title, intro) {
     const notes = notesOf(input);
     const rows = h("tbody");
     let note = 0;
-    stops.forEach((stop, place) => {
-        for (; note < notes.length && notes[note].before <= stop.event; note += 1) {
-            const { kind, text } = notes[note];
-            if (kind === "answer") continue;
-            rows.append(h("tr", { class: "note" }, h("td", { colspan: 3 }, text)));
-            if (kind === "question") rows.append(h("tr", { class: "blank" }, h("td", { colspan: 3 })));
-        }
-        const isFirst = place === 0 || stops[place - 1].event !== stop.event;
-        if (stop.main < 0 && !isFirst) return;
-        const event = input.events[stop.event];
-        const sentence = h("td");
-        sayWithCode(sentence, stop.main < 0 ? "Nothing crosses a host's interface in its first round." : sentenceOf(history, stop.main));
-        const words = isFirst && !(stop.round && stop.main >= 0) ? event.words.join(" ") : `${isFirst ? `${event.words.join(" ")}, ` : ""}round ${stop.round}: ${stop.main < 0 ? "nothing" : stopWords(history, stop)}`;
-        rows.append(h("tr", {}, h("td", {}, isFirst ? String(event.line) : ""), h("td", {}, words), sentence));
+    let from = 0;
+    input.events.forEach((event, place) => {
+        for (; note < notes.length && notes[note].before <= place; note += 1) rows.append(...noteRows(notes[note]));
+        let to = from;
+        while (to < stops.length && stops[to].event === place) to += 1;
+        const mine = stops.slice(from, to).filter((stop) => stop.main >= 0);
+        from = to;
+        const [kind, rounds] = event.words;
+        if (mine.length === 0) rows.append(row(String(event.line), event.text, kind === "calm" ? `${count(Number(rounds), "round")} ${rounds === "1" ? "passes" : "pass"}, and nothing crosses a host's interface.` : ""));
+        mine.forEach((stop, at) => {
+            const start = at === 0 ? `${event.text}${stop.round ? ", " : ""}` : "";
+            rows.append(row(at === 0 ? String(event.line) : "", stop.round ? `${start}round ${stop.round}: ${stopWords(history, stop)}` : start, sentenceOf(history, stop.main)));
+        });
     });
-    if (moments.length === 0) rows.append(h("tr", {}, h("td", { colspan: 3 }, "The script is empty.")));
-    element.replaceChildren(h("h1", {}, title), h("p", { class: "intro" }, intro), h("table", {}, h("thead", {}, h("tr", {}, h("th", { scope: "col" }, ""), h("th", { scope: "col" }, "script"), h("th", { scope: "col" }, "what happens"))), rows));
+    for (; note < notes.length; note += 1) rows.append(...noteRows(notes[note]));
+    if (moments.length === 0) rows.append(row("", "", "The script is empty."));
+    const head = h("thead", {}, h("tr", {}, h("th", { scope: "col" }, ""), h("th", { scope: "col" }, "script"), h("th", { scope: "col" }, "what happens")));
+    const map = document.getElementById("network")?.cloneNode(true) ?? "";
+    element.replaceChildren(h("h1", {}, title), h("p", { class: "intro" }, intro), map, h("table", {}, head, rows));
+}
+
+/**
+ * A comment, or a question with room for its answer.
+ *
+ * @param {import("../script.js").Note} note
+ */
+function noteRows({ kind, text }) {
+    if (kind === "answer") return [];
+    const told = h("tr", { class: "note" }, h("td", { colspan: 3 }, text));
+    return kind === "question" ? [told, h("tr", { class: "blank" }, h("td", { colspan: 3 }))] : [told];
+}
+
+/**
+ * @param {string} number
+ * @param {string} words
+ * @param {string} sentence
+ */
+function row(number, words, sentence) {
+    const told = h("td");
+    sayWithCode(told, sentence);
+    return h("tr", {}, h("td", {}, number), h("td", {}, words), told);
 }
