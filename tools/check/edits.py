@@ -18,6 +18,7 @@ import glob
 import os
 import re
 import shutil
+import signal
 import subprocess
 import sys
 import tempfile
@@ -193,7 +194,10 @@ class Copy:
     def check(self, functions):
         """How a check of these functions ends, or of the crate where there are none: its status and what it said."""
         words = [*self.command(), *(word for it in functions for word in ("--only", it))]
-        ran = subprocess.run(words, cwd=self.own, stdin=subprocess.DEVNULL, stdout=subprocess.PIPE, stderr=subprocess.STDOUT, text=True, errors="replace")
+        how = {"stdin": subprocess.DEVNULL, "stdout": subprocess.PIPE, "stderr": subprocess.STDOUT, "text": True, "errors": "replace"}
+        ran = subprocess.run(words, cwd=self.own, **how)
+        if ran.returncode == -signal.SIGKILL:  # most likely for memory
+            ran = subprocess.run(words, cwd=self.own, **how)
         return ran.returncode, ran.stdout
 
     def keep(self, functions):
