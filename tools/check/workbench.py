@@ -107,7 +107,7 @@ def check_browsers(command: str) -> None:
     made = subprocess.run([f"{ROOT}/build", "--wasm"], stdout=subprocess.PIPE, text=True)
     if made.returncode:
         raise Wrong("./build --wasm made no page")
-    page = made.stdout.strip().splitlines()[-1].removesuffix(".html") + "-workbench.html"
+    page = made.stdout.strip().splitlines()[-1]
     if subprocess.run([command, f"{ROOT}/web/check/workbench.js", page, *browsers]).returncode:
         raise Wrong("the page in a browser")
 
