@@ -77,7 +77,7 @@ def imp() -> Drawing:
     drawing.arrow(130, 36, 130, 82)
     drawing.arrow(350, 82, 350, 38)
     drawing.label(34, 84, 192, 56, ["source of a flow", "the number begun last,", "answered or not"], "green", soft_after=1)
-    drawing.label(34, 164, 192, 46, ["cut", f"1 to {shown('most_pieces')} packets of {shown('piece_bits')} bits"], "green", soft_after=1)
+    drawing.label(34, 164, 192, 46, ["cut", f"1 to {shown('most_pieces')} pieces, ≤ {shown('piece_bits')} bits"], "green", soft_after=1)
     drawing.label(254, 84, 192, 46, ["queue of each host", f"{shown('queue_places')} messages, and answers"], "blue", soft_after=1)
     drawing.label(254, 150, 192, 46, [f"{shown('most_slots')} slots", "where messages are joined"], "blue", soft_after=1)
     drawing.label(254, 216, 192, 56, ["destination of a flow", "the number noted last:", "is this one new?"], "blue", soft_after=1)
