@@ -16,6 +16,8 @@ pub mod Reported
 pub mod RunLoop
 pub mod SafeRow
 pub mod Undoing
+pub mod Unformed
+pub mod Untold
 pub mod Unsafe
 pub mod UnsafeEnded
 pub mod Unhanded

@@ -18,4 +18,5 @@ pub mod Clean
 pub mod WorkedResets
 pub mod Told
 pub mod WorkedMoments
+pub mod SmallLogs
 pub mod WorkedReports
