@@ -1,12 +1,14 @@
 -- Small subnets, for the worked rows.
-use Rattle.std.specs.Prelude.{ℕ, true, false, List, [], ◌∷◌, Option, Some, None, replicate}
+use Rattle.std.specs.Prelude.{ℕ, ◌-◌, true, false, List, [], ◌∷◌, Option, Some, None, replicate}
 use Rattle.std.specs.FinMap as map
+use Rattle.leader1822.specs.Host.{most_imps}
 use Rattle.leader1822.specs.declared.address.Flow.{Flow}
 use Rattle.leader1822.specs.declared.message.HostMessage.{HostMessage}
 use Rattle.link_table.specs.Flows.{begun, noted}
 use Rattle.link_table.specs.declared.destination.Fate.TheVariants as fate
 use Rattle.link_table.specs.declared.source.Standing.TheVariants as standing
 use Rattle.packetiser.specs.declared.packet.PacketKind.TheVariants as kind
+use Rattle.routing.specs.Vector.{infinite}
 use Rattle.imp_channel.specs.Line as line
 use Rattle.imp_channel.specs.declared.frame.Frame.{Frame}
 use Rattle.imp_node.specs.declared.waiting.Message.{Message}
@@ -80,6 +82,13 @@ opened_pair = opening_subnet (hosts_from 0 sites) sites (record { a = 1; b = 2 }
 abbrev pub begun_up_to : ℕ → State
 begun_up_to last = record imp_1 { sources = map.insert map.empty ours (standing.Idle last) }
 
+-- IMP 1 while this number of our flow is outstanding, and while the answer to it waits for the host
+abbrev pub outstanding_up_to : ℕ → State
+outstanding_up_to last = record imp_1 { sources = map.insert map.empty ours (standing.Outstanding last) }
+
+abbrev pub answered_up_to : ℕ → State
+answered_up_to last = record imp_1 { sources = map.insert map.empty ours (standing.Answered last) }
+
 -- IMP 1 while number 0 of our flow is outstanding
 abbrev pub expecting : State
 expecting = record imp_1 { sources = begun map.empty ours }
@@ -107,9 +116,12 @@ cut_off = record imp_2 { ports = down_port ∷ [] }
 abbrev pub serving_ours : State
 serving_ours = record imp_2 { hosts = record up_host { queue = our_queued 0 ∷ [] } ∷ up_host ∷ [] }
 
--- IMP 2 that has noted number 0 of our flow, whose message was taken
+-- IMP 2 that has noted this number of our flow, whose message was taken, and number 0
+abbrev pub keeping_up_to : ℕ → State
+keeping_up_to last = record imp_2 { kept = noted map.empty ours last fate.Taken }
+
 abbrev pub keeping_ours : State
-keeping_ours = record imp_2 { kept = noted map.empty ours 0 fate.Taken }
+keeping_ours = keeping_up_to 0
 
 -- IMP 1 that has noted number 0 of a flow between its own hosts
 abbrev pub keeping_own : State
@@ -122,6 +134,53 @@ sending_ours = (pump [] (imp 1 (Some from_2 ∷ []) (only_packet ours 0 ∷ []))
 -- IMP 2 that took a packet from channel 0 of the line
 abbrev pub past_one : State
 past_one = record imp_2 { ports = record { up = true; line = record line.opening_end { expected = true ∷ replicate 7 false } } ∷ [] }
+
+-- ---- three IMPs in a row: line 0 from IMP 1 to IMP 2, and line 1 from IMP 3 to IMP 2
+
+-- the distances of IMPs 1, 2 and 3
+abbrev pub told_1 : List ℕ
+told_1 = 0 ∷ 1 ∷ 2 ∷ replicate (most_imps - 3) infinite
+
+abbrev pub told_2 : List ℕ
+told_2 = 1 ∷ 0 ∷ 1 ∷ replicate (most_imps - 3) infinite
+
+abbrev pub told_3 : List ℕ
+told_3 = 2 ∷ 1 ∷ 0 ∷ replicate (most_imps - 3) infinite
+
+-- each has heard the distances of its neighbours
+abbrev pub first_in_row : State
+first_in_row = imp 1 (Some told_2 ∷ []) []
+
+abbrev pub middle_in_row : State
+middle_in_row = imp 2 (Some told_1 ∷ Some told_3 ∷ []) []
+
+abbrev pub last_in_row : State
+last_in_row = imp 3 (Some told_2 ∷ []) []
+
+-- the flows from end to end
+abbrev pub flow_1_3 : Flow
+flow_1_3 = flow (host 0 1) (host 0 3) 7
+
+abbrev pub flow_3_1 : Flow
+flow_3_1 = flow (host 0 3) (host 0 1) 7
+
+-- the three, where they are up, with these frames from IMP 1 and from IMP 3
+abbrev pub row : Option State → Option State → Option State → List Frame → List Frame → Net
+row one two three from_1 from_3 = record {
+  hosts = hosts_from 0 (None ∷ Some 2 ∷ Some 2 ∷ Some 2 ∷ []);
+  sites = None ∷ Some 2 ∷ Some 2 ∷ Some 2 ∷ [];
+  imps = None ∷ one ∷ two ∷ three ∷ [];
+  lines = wire from_1 [] ∷ record { a = 3; b = 2; forward = from_3; back = [] } ∷ [];
+  log = [];
+}
+
+-- IMP 3 while a message of its host 0 to host 0 at IMP 2 is outstanding
+abbrev pub expecting_at_3 : State
+expecting_at_3 = record last_in_row { sources = begun map.empty (flow (host 0 3) (host 0 2) 7) }
+
+-- IMP 3 that has noted number 0 of the flow from IMP 1
+abbrev pub keeping_at_3 : State
+keeping_at_3 = record last_in_row { kept = noted map.empty flow_1_3 0 fate.Taken }
 
 -- ---- lines alone
 

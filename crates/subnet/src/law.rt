@@ -20,13 +20,13 @@ ghost use Rattle.leader1822.specs.declared.event.NetEvent.TheVariants as event;
 ghost use Rattle.leader1822.specs.declared.message.HostMessage.{HostMessage};
 ghost use Rattle.imp_channel.specs.declared.frame.Content.TheVariants as content;
 ghost use Rattle.routing.specs.Vector.{infinite};
-ghost use Rattle.imp_node.specs.Examples.{host, flow, packets_to, no_acks, ack_frame};
+ghost use Rattle.imp_node.specs.Examples.{host, flow, only_packet, packets_to, packet_frame, no_acks, ack_frame};
 ghost use Rattle.imp_node.specs.Lines.{on_port};
 ghost use Rattle.imp_node.specs.State.{State, opening_node, no_host, port_at};
 ghost use Rattle.subnet.specs.Calls.{Kept, running, step_grows, round_grows};
 ghost use Rattle.subnet.specs.Alive.{packets, messages, is_alive};
 ghost use Rattle.subnet.specs.Events.{offer_refusal, offer_out, take_refusal, taken_by_host, gives, crossings_of, take_in, deliver, drop_frame, giving_up_refusal, forgetting_refusal, starting_refusal, imp_stopped, imp_started, refreshed, quiet_round, step_refusal, stepped};
-ghost use Rattle.subnet.specs.Examples.{ours, our_message, our_queued, data_frame, rfnm_frame, ask_frame, never_frame, passing_frame, imp_1, imp_2, wire, pair, opened_pair, begun_up_to, expecting, expecting_cut_off, expecting_full, one_host_down, hosts_down, cut_off, serving_ours, keeping_ours, keeping_own, sending_ours, past_one, full_of, triangle};
+ghost use Rattle.subnet.specs.Examples.{ours, our_message, our_queued, data_frame, rfnm_frame, ask_frame, never_frame, passing_frame, imp_1, imp_2, wire, pair, opened_pair, begun_up_to, outstanding_up_to, answered_up_to, expecting, expecting_cut_off, expecting_full, one_host_down, hosts_down, cut_off, serving_ours, keeping_up_to, keeping_ours, keeping_own, sending_ours, past_one, first_in_row, middle_in_row, last_in_row, flow_1_3, flow_3_1, row, expecting_at_3, keeping_at_3, full_of, triangle};
 ghost use Rattle.subnet.specs.Flows.{host_is_up};
 ghost use Rattle.subnet.specs.Making.{NothingNew, OnlyNew, offer_makes, take_makes, deliver_makes, asking_makes, stop_makes};
 ghost use Rattle.subnet.specs.Net.{Net, imp_at, wire_at, port_of, line_from, put_one, frames_on};
@@ -320,6 +320,36 @@ pub fn worked_still_alive()
     ensures start_awaited { starting_refusal (pair (Some expecting) None [] []) 2 ≡ Some fault.StillAlive }
 {}
 
+/// What an offer looks at before packets: whether its flow is idle. And which number that the destination's IMP keeps is in the
+/// way.
+pub fn worked_offers()
+    // a flow whose message is outstanding, or whose answer waits, begins no number: the offer is blocked, and not `StillAlive`,
+    // though the number 32,767 before the last is alive
+    ensures outstanding { offer_refusal (pair (Some (outstanding_up_to 32767)) (Some imp_2) (data_frame 0 ∷ []) []) our_message ≡ Some fault.Blocked }
+    ensures answered { offer_refusal (pair (Some (answered_up_to 32767)) (Some imp_2) (data_frame 0 ∷ []) []) our_message ≡ Some fault.Blocked }
+
+    // and so it is though the destination's IMP keeps the number that comes next
+    ensures outstanding_kept { offer_refusal (pair (Some (outstanding_up_to 65535)) (Some keeping_ours) [] []) our_message ≡ Some fault.Blocked }
+    ensures answered_kept { offer_refusal (pair (Some (answered_up_to 65535)) (Some keeping_ours) [] []) our_message ≡ Some fault.Blocked }
+
+    // the number that would be begun is in the way, and not a greater one: number 65,535 was begun last and is kept, and 0 comes next
+    ensures kept_above { offer_refusal (pair (Some (begun_up_to 65535)) (Some (keeping_up_to 65535)) [] []) our_message ≡ None }
+{}
+
+/// What is alive or remembered at a third IMP. Three IMPs stand in a row.
+pub fn worked_third_imps()
+    // IMP 2 forgets what came from IMP 1: a message of IMP 3's host to a host there is not in the way, nor is its data
+    ensures forget_others { step_refusal (row (Some first_in_row) (Some middle_in_row) (Some expecting_at_3) [] (passing_frame ∷ [])) (event.Forget 2 1) ≡ None }
+
+    // it does not forget what came from IMP 3 then
+    ensures forget_awaited { step_refusal (row (Some first_in_row) (Some middle_in_row) (Some expecting_at_3) [] []) (event.Forget 2 3) ≡ Some fault.StillAlive }
+
+    // an IMP comes up only where no IMP keeps a number of a flow from it, or waits for an answer from it, not only its neighbours
+    ensures start_kept { starting_refusal (row None (Some middle_in_row) (Some keeping_at_3) [] []) 1 ≡ Some fault.StillAlive }
+    ensures start_awaited { starting_refusal (row (Some first_in_row) None (Some expecting_at_3) [] []) 2 ≡ Some fault.StillAlive }
+    ensures start_others { starting_refusal (row None (Some middle_in_row) (Some expecting_at_3) [] []) 1 ≡ None }
+{}
+
 /// An IMP asks what became of a message.
 pub fn worked_asking()
     // the question goes on the line to the destination's IMP. Without a live route nothing does
@@ -395,6 +425,13 @@ pub fn worked_rounds()
 
     // a packet that came before is sent again and acknowledged, and its acknowledgement is delivered in the same round
     ensures acknowledged { (packets (quiet_round (pair (Some sending_ours) (Some past_one) [] [])) ≡ []) × ((quiet_round (pair (Some sending_ours) (Some past_one) [] [])).lines ≡ wire [] [] ∷ []) }
+
+    // lines have their turns in order, one direction after the other. So what IMP 1 sends by IMP 2 to IMP 3, which is down, has
+    // gone over both lines after one round
+    ensures passed_on { frames_on way.Back (wire_at (quiet_round (row (Some first_in_row) (Some middle_in_row) None (packet_frame 0 (only_packet flow_1_3 0) ∷ []) [])).lines 1) ≡ [] }
+
+    // and what comes over the second line is on the first one after it
+    ensures too_late { frames_on way.Back (wire_at (quiet_round (row (Some first_in_row) (Some middle_in_row) (Some last_in_row) [] (packet_frame 0 (only_packet flow_3_1 0) ∷ []))).lines 0) ≡ packet_frame 0 (only_packet flow_3_1 0) ∷ [] }
 
     // an IMP that is down tells nothing, and frames to it are dropped
     ensures down { quiet_round (pair (Some imp_1) None (data_frame 0 ∷ []) []) ≡ pair (Some imp_1) None [] [] }

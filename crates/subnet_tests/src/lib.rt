@@ -12,6 +12,8 @@ mod acts;
 #[cfg(test)]
 mod imps;
 #[cfg(test)]
+mod numbers;
+#[cfg(test)]
 mod resting;
 #[cfg(test)]
 mod subnets;

@@ -14,7 +14,7 @@ use subnet::{Ends, Subnet};
 
 /// The hosts of the rows.
 #[derive(Clone, Copy)]
-enum Who {
+pub(crate) enum Who {
     /// Host 0/1, from which all flows of the rows go.
     Here,
     /// Host 1/1.
@@ -50,7 +50,7 @@ fn flow_to(who: Who, link: u8) -> Flow {
 /// Something done to a subnet, or asked of it. Flows are told by their destination, and are on link 5 where no
 /// link is told.
 #[derive(Clone, Copy)]
-enum Act {
+pub(crate) enum Act {
     /// A message on this link is offered, with so many bits of octets that are all this one.
     Offer(Who, u8, usize, u8),
     /// This host takes what waits for it.
@@ -67,7 +67,7 @@ enum Act {
 
 /// The IMPs of the rows, by their numbers.
 #[derive(Clone, Copy)]
-enum At {
+pub(crate) enum At {
     One,
     Two,
     Three,
@@ -84,7 +84,7 @@ fn imp_of(at: At) -> ImpNumber {
 
 /// Something that happens in a subnet.
 #[derive(Clone, Copy)]
-enum Event {
+pub(crate) enum Event {
     /// The frame at this place of line 0 this way arrives.
     Deliver(Direction, u32),
     /// The frame at this place of line 0 this way is lost.
@@ -160,7 +160,7 @@ fn event_of(event: Event) -> NetEvent {
 
 /// What has to come of an act.
 #[derive(Clone, Copy)]
-enum Want {
+pub(crate) enum Want {
     /// It is done.
     Done,
     /// It is refused.
@@ -179,7 +179,7 @@ enum Want {
 
 /// What came of an act.
 #[derive(Clone, Copy, PartialEq)]
-enum Outcome {
+pub(crate) enum Outcome {
     /// It is done.
     Done,
     /// It is refused.
@@ -268,10 +268,10 @@ fn acted(alloc: Global, subnet: &mut Subnet, act: Act) -> Outcome {
 }
 
 /// An act, and what has to come of it.
-type Row = (Act, Want);
+pub(crate) type Row = (Act, Want);
 
 /// How many rows go as they have to, from the first on.
-fn fitting(alloc: Global, subnet: &mut Subnet, rows: &[Row]) -> usize {
+pub(crate) fn fitting(alloc: Global, subnet: &mut Subnet, rows: &[Row]) -> usize {
     for (place, row) in rows.iter().enumerate() {
         if acted(alloc, subnet, row.0) != outcome_of(row.1) {
             return place;
@@ -281,7 +281,7 @@ fn fitting(alloc: Global, subnet: &mut Subnet, rows: &[Row]) -> usize {
 }
 
 /// The three IMPs in a row, at their opening.
-fn row(alloc: Global) -> Result<Subnet, AllocError> {
+pub(crate) fn row(alloc: Global) -> Result<Subnet, AllocError> {
     let hosts = vec![in alloc;
         HostAddr::new(0, 1).unwrap(),
         HostAddr::new(1, 1).unwrap(),
@@ -308,7 +308,7 @@ fn is_log(alloc: Global, subnet: &Subnet, log: &str) -> Result<bool, AllocError>
 }
 
 /// IMPs 1 and 2 and the line between them, at their opening.
-fn pair(alloc: Global) -> Result<Subnet, AllocError> {
+pub(crate) fn pair(alloc: Global) -> Result<Subnet, AllocError> {
     let hosts = vec![in alloc; HostAddr::new(0, 1).unwrap(), HostAddr::new(0, 2).unwrap()]?;
     let sites = vec![in alloc; None, Some(1), Some(1)]?;
     Subnet::new(alloc, hosts, sites, &[Ends { a: 1, b: 2 }])
@@ -693,75 +693,6 @@ const WHO_ASKS: [Row; 13] = [
 fn a_source_that_is_down_may_be_asked_for(rt: HostRuntime) {
     let log = "out 0/1 0/2 5 8\ndown 0/1\nup 0/1\ndown 0/1\n";
     assert_eq!(rt; played_by_two(rt.alloc(), &WHO_ASKS, log), Ok((13, true)));
-}
-
-/// Message 0 to a host two lines away is taken and answered. Then IMP 2 forgets what IMP 1 told it, tells IMP 1 its own
-/// distances once more, and is cut off from that host's IMP.
-const FIRST: [Row; 14] = [
-    (Act::Rounds(2), Want::Done),
-    (Act::Offer(Who::Far, 5, 0, 0), Want::Done),
-    (Act::Rounds(1), Want::Done),
-    (Act::Take(Who::Far), Want::Given(Who::Far, 5, 0, 0)),
-    (Act::Rounds(4), Want::Done),
-    (Act::Take(Who::Here), Want::Answered(Answer::Rfnm, Who::Far)),
-    (Act::Step(Event::EndDown(At::One)), Want::Done),
-    (Act::Step(Event::EndDown(At::Two)), Want::Done),
-    (Act::Step(Event::EndUp(At::One)), Want::Done),
-    (Act::Step(Event::EndUp(At::Two)), Want::Done),
-    (Act::Step(Event::Route), Want::Done),
-    (Act::Step(Event::Deliver(Direction::Back, 0)), Want::Done),
-    (Act::Step(Event::Drop(Direction::Back, 0)), Want::Done),
-    (Act::Step(Event::CutOff), Want::Done),
-];
-
-/// A further one is acknowledged by IMP 2 and dropped there, since no route leads on, and its source gives it up.
-const LOST: [Row; 7] = [
-    (Act::Offer(Who::Far, 5, 0, 0), Want::Done),
-    (Act::Step(Event::Deliver(Direction::Forward, 0)), Want::Done),
-    (Act::Step(Event::Drop(Direction::Forward, 0)), Want::Done),
-    (Act::Step(Event::Deliver(Direction::Back, 0)), Want::Done),
-    (Act::Step(Event::Drop(Direction::Back, 0)), Want::Done),
-    (Act::Step(Event::GiveUp(Who::Far)), Want::Done),
-    (
-        Act::Take(Who::Here),
-        Want::Answered(Answer::Incomplete, Who::Far),
-    ),
-];
-
-/// The next one would be message 0 again, whose number the destination's IMP still keeps.
-const AGAIN: [Row; 5] = [
-    (
-        Act::Offer(Who::Far, 5, 0, 0),
-        Want::Refused(CarrierFault::StillAlive),
-    ),
-    (Act::Step(Event::Forget(At::Three)), Want::Done),
-    (Act::IsAlive(Who::Far, 0), Want::Alive(false)),
-    (Act::Offer(Who::Far, 5, 0, 0), Want::Done),
-    (Act::IsAlive(Who::Far, 0), Want::Alive(true)),
-];
-
-/// How many of so many messages are lost as they have to be, from the first on.
-fn lost(alloc: Global, subnet: &mut Subnet, count: usize) -> usize {
-    for place in 0..count {
-        if fitting(alloc, subnet, &LOST) != LOST.len() {
-            return place;
-        }
-    }
-    count
-}
-
-/// How many rows go as they have to before all other numbers, how many of these, and how many rows after them.
-fn come_round(alloc: Global) -> Result<[usize; 3], AllocError> {
-    let mut subnet = row(alloc)?;
-    let before = fitting(alloc, &mut subnet, &FIRST);
-    let others = lost(alloc, &mut subnet, 65_535);
-    Ok([before, others, fitting(alloc, &mut subnet, &AGAIN)])
-}
-
-// a tenth of a second as `rt test` builds it; `rt try`, which looks at each step, runs out of time here
-#[test]
-fn a_number_comes_round_after_all_others(rt: HostRuntime) {
-    assert_eq!(rt; come_round(rt.alloc()), Ok([14, 65_535, 5]));
 }
 
 /// The network rests once its IMPs have told their distances, and no longer when a message goes out: not while its packet is on a

@@ -19,3 +19,11 @@ returns-clause-down c = refl
 pub returns-clause-told_first : goal.returns-clause-told_first
 unfolding next_of submitted distance_to vector_of is_new oldest modulus window
 returns-clause-told_first c = refl
+
+pub returns-clause-passed_on : goal.returns-clause-passed_on
+unfolding next_of submitted distance_to vector_of is_new oldest modulus window
+returns-clause-passed_on c = refl
+
+pub returns-clause-too_late : goal.returns-clause-too_late
+unfolding next_of submitted distance_to vector_of is_new oldest modulus window
+returns-clause-too_late c = refl
