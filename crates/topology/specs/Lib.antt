@@ -1,2 +1,3 @@
 pub mod Topology
 pub mod Reading
+pub mod Examples

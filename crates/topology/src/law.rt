@@ -1,10 +1,13 @@
 //! What topologies promise, as laws over their definitions. The functions here do nothing: their clauses are the
 //! laws.
 
-ghost use Rattle.std.specs.Prelude.{◌≡◌, ◌≤◌, length, take, true, Some, None, ◌∷◌, []};
+ghost use Rattle.std.specs.Prelude.{◌≡◌, ◌≤◌, length, take, true, false, Some, None, ◌∷◌, [], codes, pos, negsuc};
+ghost use Rattle.toml.specs.Data.{no_items, item, no_members, member, integer, array, table, string, boolean};
 ghost use Rattle.leader1822.specs.Host.{Host, is_host};
 ghost use Rattle.topology.specs.declared.network.CarrierKind.{CarrierKind};
-ghost use Rattle.topology.specs.Topology.{AreSites, TopologyFields, most_network_lines, IsTopology, hosts_from, hosts_of, has_host, sites_of};
+ghost use Rattle.topology.specs.declared.network.CarrierKind.TheVariants as kind;
+ghost use Rattle.topology.specs.Examples.{document, raw_document, imp_table, line_table, two_imps, one_imp, one_line, imp_hosts, line, five_lines};
+ghost use Rattle.topology.specs.Topology.{AreSites, TopologyFields, most_network_lines, IsTopology, hosts_from, hosts_of, has_host, has_ports, imp_of, sites_of, topology_of};
 
 /// The hosts of a topology are those that its IMPs have.
 pub fn hosts_of_imps()
@@ -25,6 +28,37 @@ pub fn sites()
 pub fn worked_sites()
     ensures sites { (carrier : CarrierKind) → take 5 (sites_of (record { carrier = carrier; raw = true; imps = record { imp = 1; hosts = 1 } ∷ record { imp = 3; hosts = 2 } ∷ []; lines = [] })) ≡ None ∷ Some 1 ∷ None ∷ Some 2 ∷ None ∷ [] }
     ensures hosts { hosts_from 0 (None ∷ Some 1 ∷ None ∷ Some 2 ∷ []) ≡ record { imp = 1; host = 0 } ∷ record { imp = 3; host = 0 } ∷ record { imp = 3; host = 1 } ∷ [] }
+{}
+
+/// Small documents, and what they describe.
+pub fn worked_documents()
+    // IMPs by rising number, lines as they are listed; without their keys the carrier is a subnet, and there are host programs
+    ensures subnet { topology_of (document two_imps (one_line 2 1)) ≡ Some (record { carrier = kind.Subnet; raw = false; imps = imp_hosts 1 2 ∷ imp_hosts 2 1 ∷ []; lines = line 2 1 ∷ [] }) }
+    ensures plain { topology_of (raw_document (codes "plain") two_imps) ≡ Some (record { carrier = kind.Plain; raw = true; imps = imp_hosts 1 2 ∷ imp_hosts 2 1 ∷ []; lines = [] }) }
+    ensures no_lines { topology_of (document (one_imp 63 0) no_items) ≡ Some (record { carrier = kind.Subnet; raw = false; imps = imp_hosts 63 0 ∷ []; lines = [] }) }
+
+    // another carrier, another key, no IMP, the key of the IMPs missing
+    ensures carrier { topology_of (raw_document (codes "Plain") two_imps) ≡ None }
+    ensures other_key { topology_of (table (member (codes "imp") (array two_imps) (member (codes "name") (string []) no_members))) ≡ None }
+    ensures no_imp { (topology_of (document no_items no_items) ≡ None) × (topology_of (table (member (codes "raw") (boolean true) no_members)) ≡ None) }
+
+    // numbers of IMPs: 0, 64, 257, one that is negative, and one that stands twice; five hosts
+    ensures numbers { (topology_of (document (one_imp 0 1) no_items) ≡ None) × (topology_of (document (one_imp 64 1) no_items) ≡ None) × (topology_of (document (one_imp 257 1) no_items) ≡ None) }
+    ensures negative { imp_of (table (member (codes "hosts") (integer (pos 1)) (member (codes "id") (integer (negsuc 0)) no_members))) ≡ None }
+    ensures twice { topology_of (document (item (imp_table 1 1) (item (imp_table 1 2) no_items)) no_items) ≡ None }
+    ensures five_hosts { topology_of (document (one_imp 1 5) no_items) ≡ None }
+
+    // a third key of an IMP, or a missing one
+    ensures third_key { imp_of (table (member (codes "hosts") (integer (pos 1)) (member (codes "id") (integer (pos 1)) (member (codes "name") (string []) no_members)))) ≡ None }
+    ensures missing_key { imp_of (table (member (codes "id") (integer (pos 1)) no_members)) ≡ None }
+
+    // a line to itself, to an IMP that isn't there, from one, and a second line between the same IMPs
+    ensures to_itself { topology_of (document two_imps (one_line 1 1)) ≡ None }
+    ensures open_end { (topology_of (document two_imps (one_line 1 3)) ≡ None) × (topology_of (document two_imps (one_line 3 1)) ≡ None) }
+    ensures second_line { (topology_of (document two_imps (item (line_table 1 2) (one_line 1 2))) ≡ None) × (topology_of (document two_imps (item (line_table 1 2) (one_line 2 1))) ≡ None) }
+
+    // five lines at an IMP, and six
+    ensures ports { (has_ports (imp_hosts 1 0 ∷ []) five_lines ≡ true) × (has_ports (imp_hosts 1 0 ∷ []) (line 7 1 ∷ five_lines) ≡ false) }
 {}
 
 /// There are at most 157 lines: each has two ends, and each of 63 IMPs has five at most.
