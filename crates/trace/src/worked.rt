@@ -1,15 +1,16 @@
 //! Worked examples of traces. The functions here do nothing: each clause is a row, computed over the definitions.
 
-ghost use Rattle.std.specs.Prelude.{◌≡◌, List, [], ◌∷◌, codes};
+ghost use Rattle.std.specs.Prelude.{◌≡◌, List, [], ◌∷◌, codes, true, false};
+ghost use Rattle.std.specs.FinMap as map;
 ghost use Rattle.leader1822.specs.declared.carrier.CarrierFault.TheVariants as fault;
 ghost use Rattle.leader1822.specs.declared.crossing.Answer.TheVariants as answer;
 ghost use Rattle.leader1822.specs.declared.crossing.Crossing.TheVariants as crossing;
 ghost use Rattle.leader1822.specs.declared.event.NetEvent.TheVariants as net;
-ghost use Rattle.leader1822.specs.Boxes.{opening_boxes};
+ghost use Rattle.leader1822.specs.Boxes.{opening_boxes, with_queue};
 ghost use Rattle.replay.specs.Output.{Crossed, Refused};
 ghost use Rattle.script.specs.declared.event.RawEvent.TheVariants as event;
 ghost use Rattle.trace.specs.Elements.{elements_of};
-ghost use Rattle.trace.specs.Parts.{Down, Waiting, parts_of};
+ghost use Rattle.trace.specs.Parts.{Down, Waiting, SamePart, is_named, parts_of};
 ghost use Rattle.trace.specs.Texts.{changed_text, part_name, part_text, queues_text, trace_line, waiting_answer_text};
 ghost use Rattle.trace.specs.Worked.{empty, first, flow, hosts, one_waits, second, short, third, with_down};
 
@@ -51,6 +52,19 @@ pub fn worked_parts()
     ensures stop { parts_of hosts (event.Net (net.HostDown second)) (crossing.Down second ∷ []) ≡ Down ∷ Waiting first ∷ Waiting second ∷ Waiting third ∷ [] }
     ensures start { parts_of hosts (event.Net (net.HostUp second)) (crossing.Up second ∷ []) ≡ Down ∷ [] }
     ensures other { parts_of hosts (event.Net (net.Resend 1)) [] ≡ [] }
+{}
+
+/// Which parts are named, and what it means that one is the same.
+pub fn worked_names()
+    ensures named { (is_named Down (Waiting first ∷ Down ∷ []) ≡ true) × (is_named (Waiting second) (Down ∷ Waiting first ∷ Waiting second ∷ []) ≡ true) }
+
+    // another host is not named, be it at the same IMP or of the same number
+    ensures not_named { (is_named Down (Waiting first ∷ []) ≡ false) × (is_named (Waiting first) (Down ∷ Waiting second ∷ Waiting third ∷ []) ≡ false) × (is_named Down [] ≡ false) }
+
+    // a part isn't the same where another host is down, or another message or answer waits for the host
+    ensures other_down { SamePart Down (with_down []) (with_down (first ∷ [])) → ⊥ }
+    ensures other_messages { SamePart (Waiting third) (opening_boxes hosts) (record (opening_boxes hosts) { messages = with_queue map.empty third (short ∷ []) }) → ⊥ }
+    ensures other_answers { SamePart (Waiting first) (opening_boxes hosts) (record (opening_boxes hosts) { answers = with_queue map.empty first ((answer.Rfnm, flow) ∷ []) }) → ⊥ }
 {}
 
 /// A line of a trace.
