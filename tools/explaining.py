@@ -4,8 +4,7 @@ For each line of the script it tells the line's number in the file, what the pro
 also what a message says, and what an event does inside the network. For a refused event it tells the cause. For an input
 that the program refuses it tells what is probably wrong. With --chart it writes a sequence chart in Mermaid's language
 instead, which GitHub and GitLab draw; with --short it draws one arrow for each message, and leaves out RFNMs and most of
-what users are told. With --page it writes a page for a browser (docs/page.md). Its exit status is that of the program.
-`./explain --serve FILE` is another command: it shows the file's script in a browser, to be changed and run (tools/serve.py).
+what users are told. With --page it writes a page for a browser (docs/workbench.md). Its exit status is that of the program.
 
 How it knows which script line printed what: it runs the program on the whole input, and then once more for each event,
 on the input cut off after that event's line. The program replays events in order and its output depends on its input
@@ -30,8 +29,7 @@ import beside
 import charts
 import log_words
 import refused
-import serve
-from page import topology
+import topology
 from refused import ASKED, INSIDE, MOST_OCTETS, shown  # noqa: F401 (some are for the page and the checks)
 
 ROOT = os.path.dirname(os.path.dirname(os.path.realpath(__file__)))
@@ -527,12 +525,10 @@ def audited(words):
 
 def main():
     options = sys.argv[1:]
-    if "--serve" in options:
-        return serve.main(ROOT, options)
     if "--page" in options:
-        from page import command
+        import paged
 
-        return command.main(sys.modules[__name__], options)
+        return paged.main(standard_input(), options)
     if options in (["--log"], ["--audit"]):
         return audited(options)
     if options[:1] == ["--expect"]:
@@ -540,7 +536,7 @@ def main():
 
         return expect(options[1:])
     if sorted(options) not in ([], ["--chart"], ["--chart", "--short"]):
-        print(f"usage: ./explain [--chart [--short] | --page [--inside] [OTHER-FILE]] < FILE\nusage: ./explain --audit < LOG\nusage: ./explain --expect FILE..\n{serve.USAGE}", file=sys.stderr)
+        print(f"usage: ./explain [--chart [--short] | --page [OTHER-FILE]] < FILE\nusage: ./explain --audit < LOG\nusage: ./explain --expect FILE..", file=sys.stderr)
         if files := [it for it in options if os.path.isfile(it)]:
             print(f"explain: the input is standard input, so put `<` before the file: ./explain < {files[0]}", file=sys.stderr)
         return 1

@@ -6,7 +6,7 @@ It was written from docs/trace.md over the independent model of the subnet. `tra
 from functools import cache
 
 from imp_rules import ASK, CHANNELS, DATA, DEAD, INFINITE, MOST_IMPS, NEVER, RFNM, in_order, spell_flow
-from script_rules import read_bits, read_flow, read_line, spelled_text
+from script_rules import read_bits, read_flow, spelled_text
 from subnet_rules import Subnet
 
 KINDS = {DATA: "data", RFNM: "rfnm", DEAD: "dead", ASK: "ask", NEVER: "never"}
@@ -246,70 +246,3 @@ def subnet_of(imps, lines, parts):
     for name, told in parts.items():
         put(subnet, name, told)
     return subnet
-
-
-class OtherTrace(Exception):
-    """A trace that is not of the events that happen."""
-
-
-class Told(Subnet):
-    """A subnet that is what the records of a trace tell, one after another, wherever they are from."""
-
-    def __init__(self, imps, lines, records):
-        super().__init__(imps, lines)
-        self.parts = {name: part(self, name) for name in every_name(self)}
-        self.records = iter(records)
-        self.next = next(self.records, None)
-
-    def happen(self, *event):
-        """An elementary event, which the next record is of."""
-        record, self.next = self.next, next(self.records, None)
-        if record is None or read_line(record["event"]) != event:
-            raise OtherTrace(f"the trace goes on with {record and record['event']} in the place of {event}")
-        self.log += self.crossings(event, record["printed"])
-        self.printed += record["printed"]
-        number = imp_named(self, event) if event[0] != "drop" else None
-        ways = [(line, "+-"[self.ends[line].index(number)]) for line in self.at.get(number, [])]
-        were = [len(self.live[line][way]) for line, way in ways]
-        accepted = self.accepted_after(event)
-        for name, told in record["parts"].items():
-            if told != self.parts[name]:
-                self.parts[name] = told
-                put(self, name, told)
-        self.keep_accepted(accepted, event, number)
-        if self.imps.get(number) is not None:
-            sent = [(port, self.live[line][way][count:]) for port, ((line, way), count) in enumerate(zip(ways, were))]
-            self.imps[number].frames = [(port, *frame) for port, frames in sent for frame in frames]
-
-    def accepted_after(self, event):
-        """For each IMP that is up what its ports have accepted; and with a frame that arrives fresh, that too, if it has room."""
-        return {number: [(port.accepted, list(port.line.expected)) for port in imp.ports] for number, imp in self.imps.items() if imp is not None}
-
-    def keep_accepted(self, accepted, event, number):
-        """Gives each IMP back what its ports had accepted, with the packet that one of them accepts in this event."""
-        for other, ports in accepted.items():
-            imp = self.imps[other]
-            for port, (were, expected) in zip(imp.ports if imp is not None else [], ports):
-                port.accepted = were
-                if event[0] == "deliver" and other == number and port.line.expected != expected:
-                    port.accepted = were | {self.live[event[1]][event[2]][event[3]][1][3][:4]}
-                if event[0] == "impup" and other != event[1] and accepted.get(event[1]) is None and self.imps[event[1]] is not None:
-                    port.accepted = {it for it in were if event[1] not in (it[1][0][1], it[1][1][1])}
-
-    def crossings(self, event, printed):
-        """What crosses where these lines are printed, before the event has happened."""
-        for line in printed:
-            word, *words = line.split(" ")
-            match word:
-                case "out":
-                    yield event
-                case "in":
-                    flow, _, text = self.waiting(event[1]).messages[0]
-                    yield "in", flow, text
-                case "answer":
-                    yield "answer", *self.waiting(event[1]).answers[0]
-                case "down" | "up":
-                    yield word, tuple(map(int, words[0].split("/")))
-
-    def waiting(self, host):
-        return self.imps[host[1]].hosts[host[0]]

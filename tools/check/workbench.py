@@ -21,7 +21,7 @@ import sys
 import tempfile
 
 import script_rules
-from page import topology
+import topology
 from parts import ROOT, any_program
 from subnet_rules import Subnet
 from trace_subnet import every_name, part

@@ -3,8 +3,8 @@
 
 FOLDER has `page.html`, `page.css` and `main.js`, the module of JavaScript that the page begins with (web/page, or another one). In
 `page.html` four comments say where what is packed goes: `<!-- policy -->`, `<!-- style -->`, `<!-- data -->` and `<!-- script -->`. The
-data are blocks that no browser runs: `program` (MODULE, by gzip and base64), `worker` (web/run/worker.js) and `examples` (JSON: a name, a
-title and the text of each input in examples/).
+data are blocks that no browser runs: `program` (MODULE, by gzip and base64), `worker` (web/run/worker.js), `examples` (JSON: a name, a
+title and the text of each input in examples/) and `opened` (inputs like these with which the page opens, if any).
 
 Modules are joined to one script, each in a function of its own, so names of two never meet. They may import names, or all names as one
 (`import * as it`), from other files, and export declarations and lists of names; anything else is refused. The policy of the page forbids
@@ -136,14 +136,15 @@ def hash_of(text: str) -> str:
     return f"'sha256-{base64.b64encode(hashlib.sha256(text.encode()).digest()).decode()}'"
 
 
-def page(folder: str, module: bytes) -> str:
-    """The page, whole."""
+def page(folder: str, module: bytes, first: list[dict[str, str]] | None = None) -> str:
+    """The page, whole. `first` are inputs that it has before the examples, and that it opens with."""
     style, script = f"\n{read(f'{folder}/page.css')}", f"\n{joined(f'{folder}/main.js')}"
     if "</style" in style or "</script" in script:
         raise Refused("the style or the script would end too early")
     policy = f"default-src 'none'; script-src {hash_of(script)} 'wasm-unsafe-eval'; style-src {hash_of(style)}; worker-src blob:; base-uri 'none'; form-action 'none'"
     data = block("program", "application/octet-stream", base64.b64encode(gzip.compress(module, 9, mtime=0)).decode())
     data += block("worker", "text/plain", joined(f"{ROOT}/web/run/worker.js"))
+    data += block("opened", "application/json", json.dumps(first or [], ensure_ascii=False).replace("<", "\\u003c"))
     data += block("examples", "application/json", json.dumps(examples_in(f"{ROOT}/examples"), ensure_ascii=False).replace("<", "\\u003c"))
     parts = {
         "policy": f'<meta http-equiv="Content-Security-Policy" content="{policy}">',
