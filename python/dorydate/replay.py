@@ -11,6 +11,7 @@ from dataclasses import dataclass
 from typing import Union
 
 from dorydate import script as events
+from dorydate import sentences
 from dorydate.drawing import drawn
 from dorydate.inside import CannotFollow, state_of, trace_of
 from dorydate.network import Host, HostName, ImpName, Network
@@ -40,6 +41,13 @@ class Step:
     def refused(self) -> str | None:
         """The name of its refusal; it changed nothing then."""
         return refusal(self.printed)
+
+    @property
+    def told(self) -> list[str]:
+        """What its lines mean, a sentence each; of an event that printed nothing, what that means."""
+        if not self.printed:
+            return [sentences.silence(str(self.event).split(" "))]
+        return [sentences.meaning(it) for it in self.printed]
 
     def __str__(self) -> str:
         return "\n".join([str(self.event), *(f"    {it}" for it in self.printed)])

@@ -54,6 +54,12 @@ class Replays(unittest.TestCase):
         self.assertEqual(net.settle().printed, ["in 0/1 0/2 5 16", "answer rfnm 0/1 0/2 5"])
         self.assertEqual((net.state.outstanding(), net.unanswered(), net.audit()), ({}, [], "kept"))
 
+    def test_sentences(self) -> None:
+        net = raw()
+        self.assertEqual(net.steps[0].told, ["2 rounds pass, in which no host takes anything."])
+        self.assertIn("hands its IMP a message of 8 bits for host 0/2, on link 5", net.out("UCLA", "SRI", 5, b"A").steps[0].told[0])
+        self.assertEqual(net.out("UCLA", "SRI", 5).steps[0].told, ["A message of this flow is outstanding, or an answer about one waits for its source."])
+
     def test_back_and_branch(self) -> None:
         net = raw()
         other = net.branch()
@@ -143,6 +149,11 @@ class Insides(unittest.TestCase):
 
 
 class Explorations(unittest.TestCase):
+    @classmethod
+    def setUpClass(cls) -> None:
+        if found().path.endswith("-unproved"):
+            raise unittest.SkipTest("the program without proofs is too slow for explorations")
+
     def test_side_by_side_is_alone(self) -> None:
         script = [*pools(TWO_RAW)["out"], Calm(2)]
         many, one = Many(TWO_RAW, found()), One(TWO_RAW, found())

@@ -133,7 +133,7 @@ class Patterns(unittest.TestCase):
         self.assertIsNone(self.found("out .. and calm 5: 2 lines, no in", ["out 0/1"], ("in 0/1", "in 0/1")))
 
     def test_bad_patterns(self) -> None:
-        for text in ("", "A B", "in .. A .. B", "not in A", "in A where A", "out .. and calm 5: quiet"):
+        for text in ("", "A B", "in .. A .. B", "in a B ..", "not in A", "in A where A", "out .. and calm 5: quiet"):
             with self.subTest(text), self.assertRaises(pattern.BadPattern):
                 pattern.read(text)
 

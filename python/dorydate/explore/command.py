@@ -18,6 +18,7 @@ from dorydate.explore.named import SEARCHES
 from dorydate.explore.pattern import BadPattern, Pattern, read
 from dorydate.explore.search import MATCHES, NotKept, Progress, Search
 from dorydate.explore.shrink import Script as Found
+from dorydate.model import NoModel
 from dorydate.network import BadNetwork, Network
 from dorydate.program import NoProgram, Program, found
 from dorydate.script import BadLine, Script
@@ -81,10 +82,22 @@ def pools_of(words: argparse.Namespace, network: Network) -> Pools:
     return chosen(every, kinds) if kinds else every
 
 
-def shown(progress: Progress, pattern: Pattern) -> None:
-    """The line of progress, written over the one before on a terminal."""
-    end = "\r" if sys.stderr.isatty() else "\n"
-    print(f"explore: {progress.line(pattern.length())}", end=end, file=sys.stderr, flush=True)
+SELDOM = 10  # where nobody watches, one line of progress in so many is written
+
+
+class Shown:
+    """Writes the line of progress: over the one before on a terminal, and more seldom elsewhere."""
+
+    def __init__(self, pattern: Pattern) -> None:
+        self.pattern, self.count = pattern, 0
+
+    def __call__(self, progress: Progress) -> None:
+        self.count += 1
+        line = f"explore: {progress.line(self.pattern.length())}"
+        if sys.stderr.isatty():
+            print(f"\r{line}\033[K", end="", file=sys.stderr, flush=True)
+        elif self.count % SELDOM == 0:
+            print(line, file=sys.stderr, flush=True)
 
 
 def written(network: Network, pattern: Pattern, script: Found, program: Program) -> str:
@@ -109,7 +122,7 @@ def searched(words: argparse.Namespace, program: Program) -> int:
     """A search by random schedules."""
     network, pattern = network_of(words), pattern_of(words)
     search = Search(network, pattern, program, words.seed, pools_of(words, network), audits=words.audit)
-    best = search.run(words.runs, words.seconds, words.matches, None if words.quiet else lambda it: shown(it, pattern))
+    best = search.run(words.runs, words.seconds, words.matches, None if words.quiet else Shown(pattern))
     if sys.stderr.isatty() and not words.quiet:
         print(file=sys.stderr)
     progress = search.progress
@@ -147,7 +160,7 @@ def main(options: Sequence[str] | None = None) -> int:
     except NotKept as why:
         print(f"explore: {why}", file=sys.stderr)
         return WRONG
-    except (Wrong, BadPattern, BadNetwork, BadLine, CannotRun, NoProgram) as why:
+    except (Wrong, BadPattern, BadNetwork, BadLine, CannotRun, NoProgram, NoModel) as why:
         print(f"explore: {why}", file=sys.stderr)
         return WRONG
 

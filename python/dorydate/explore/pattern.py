@@ -41,6 +41,8 @@ class Part:
             raise BadPattern(f"`{text.strip()}` is not a line: its words, and `..` for any words once")
         if not re.fullmatch("[a-z]+", words[0]):
             raise BadPattern(f"`{text.strip()}` does not begin with the first word of a printed line, such as `in` or `answer`")
+        if small := next((it for it in words if re.fullmatch("[a-z]", it)), None):
+            raise BadPattern(f"`{small}` in `{text.strip()}` can't be bound: a name is a single capital, and no printed word is a single letter")
         return Part(tuple(words[:at]), at < len(words), tuple(ending))
 
     def match(self, words: Sequence[str], names: Names) -> Names | None:

@@ -2,6 +2,7 @@
 
 from __future__ import annotations
 
+import io
 import os
 import signal
 import sys
@@ -41,7 +42,8 @@ def run(name: str, main: Callable[[], int | None]) -> int:
         print(f"{name}: {' and '.join(closed)} {'are' if len(closed) > 1 else 'is'} closed", file=sys.stderr)
         return 1
     try:
-        sys.stdout.reconfigure(errors="backslashreplace")  # type: ignore[union-attr]
+        if isinstance(sys.stdout, io.TextIOWrapper):
+            sys.stdout.reconfigure(errors="backslashreplace")
         status = main() or 0
         sys.stdout.flush()
         return status
