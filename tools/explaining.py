@@ -394,7 +394,7 @@ def main():
 
         return expect(options[1:])
     if sorted(options) not in ([], ["--chart"], ["--chart", "--short"]):
-        print(f"usage: ./explain [--chart [--short] | --page [OTHER-FILE]] < FILE\nusage: ./explain --audit < LOG\nusage: ./explain --expect FILE..", file=sys.stderr)
+        print("usage: ./explain [--chart [--short] | --page [OTHER-FILE]] < FILE\nusage: ./explain --audit < LOG\nusage: ./explain --expect FILE..", file=sys.stderr)
         if files := [it for it in options if os.path.isfile(it)]:
             print(f"explain: the input is standard input, so put `<` before the file: ./explain < {files[0]}", file=sys.stderr)
         return 1

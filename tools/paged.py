@@ -6,7 +6,7 @@ import os
 import subprocess
 import sys
 
-from ending import shown_name
+from dorydate.ending import shown_name
 from parts import ROOT
 from wasm import pack
 
