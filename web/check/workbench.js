@@ -164,7 +164,7 @@ async function trial(browser, body) {
 /** Faults for the page, and words of what has to be found. */
 const PLANTED = /** @type {[string, (page: string) => string, string, string][]} */ ([
     ["the sheet has no height where the page is low", (page) => page.replace("</style>", "@media (max-height: 500px) { main { grid-template-rows: minmax(10rem, 36%) 0 0 !important; height: 0 } }</style>"), "MEASURED 720 450", "has room"],
-    ["a head that does not wrap", (page) => page.replace("</style>", "@media (max-width: 560px) { #foot .group button { min-width: 9rem } }</style>"), "MEASURED 390 844", "wide at 390"],
+    ["buttons that do not fit", (page) => page.replace("</style>", "@media (max-width: 560px) { #foot .group button { min-width: 14rem } }</style>"), "MEASURED 390 844", "wide at"],
     ["a step takes the focus", (page) => page.replace('press("next", () => this.step(1));', 'press("next", () => { this.step(1); byId("next").blur(); });'), "KEYS", "takes the focus"],
     ["space plays on a button, too", (page) => page.replace('isButton ? {} : { " ": () => this.play() }', '{ " ": () => this.play() }'), "KEYS", "space on a button plays"],
     ["pale rows", (page) => page.replace("</style>", ".row.future { opacity: 0.34 !important }</style>"), "CONTRAST", "contrast"],
@@ -209,6 +209,12 @@ async function whole(browser, address) {
                 places += 1;
             }
         }
+    }
+    for (const [width, height] of /** @type {[number, number][]} */ ([[1024, 768], [1440, 900]])) {
+        await browser.resize(width, height);
+        const larger = (/** @type {string} */ body) => trial(browser, `await load("arpanet-of-december-1969"); press("larger"); press("larger"); $("slider").value = 100; $("slider").dispatchEvent(new Event("input")); await pause(150); ${body} press("larger");`);
+        wrong.push(...(await larger(MEASURED)).map((it) => `the largest text at ${width} by ${height}: ${it}`));
+        places += 1;
     }
     return { wrong, steps, places, lessons: names.length };
 }

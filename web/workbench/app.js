@@ -5,13 +5,14 @@ import { choicesFor, partTitle } from "./choices.js";
 import { addedLines, goOn } from "./edits.js";
 import { faultOf } from "./faults.js";
 import { History } from "./fold.js";
+import { stopsOfFlow, stopsWith } from "./follow.js";
 import { isReplay, replay } from "./runs.js";
 import { headComment, notesOf, readInput } from "./script.js";
 import { quietSentence, sentenceOf } from "./sentences.js";
 import { fragment, placeIn } from "./share.js";
 import { stopAt, stopsOf } from "./stops.js";
 import { Talk } from "./talk.js";
-import { waitsOf } from "./waits.js";
+import { messageName, waitsOf } from "./waits.js";
 import { byId, h, say, sayWithCode, set } from "./view/dom.js";
 import { Editor } from "./view/editor.js";
 import { fillHandout } from "./view/handout.js";
@@ -82,10 +83,14 @@ export class Workbench {
         this.asked = new Set();
         this.runs = 0;
         this.topology = "";
+        /** @type {string} the flow that is followed, "" for none */
+        this.flow = "";
+        /** @type {number[]} the stops of that flow */
+        this.ofFlow = [];
         this.menu = new Menu(byId("menu"));
         this.toast = new Toast(byId("toast"));
         this.sheet = new SheetView(byId("sheet"), (position) => this.go(position));
-        this.panes = new Panes(byId("pane"), { choose: (imp) => this.choose(imp), add: (lines, words) => this.change(lines, words), tap: (part, element) => this.openMenu(part, element) });
+        this.panes = new Panes(byId("pane"), { choose: (imp) => this.choose(imp), add: (lines, words) => this.change(lines, words), tap: (part, element) => this.openMenu(part, element), follow: (flow) => this.follow(this.flow === flow ? "" : flow) });
         this.printed = new Printed(runner);
         this.editor = new Editor(byId("editor"), { changed: (text) => this.typed(text), run: () => this.runNow(), close: () => this.edit(false) });
         this.network = /** @type {SVGElement} */ (/** @type {unknown} */ (byId("network")));
@@ -133,12 +138,27 @@ export class Workbench {
         byId("lesson").addEventListener("change", (event) => void this.load(/** @type {HTMLSelectElement} */ (event.target).value));
         byId("grain").addEventListener("change", (event) => this.setGrain(/** @type {Grain} */ (/** @type {HTMLSelectElement} */ (event.target).value)));
         byId("slider").addEventListener("input", (event) => this.goStop(Number(/** @type {HTMLInputElement} */ (event.target).value)));
+        byId("find").addEventListener("keydown", (event) => {
+            event.stopPropagation();
+            if (event.key === "Enter") this.find(event.shiftKey ? -1 : 1);
+            if (event.key === "Escape") byId("next").focus();
+        });
         this.network.addEventListener("keydown", (event) => this.mapKey(event));
         document.addEventListener("keydown", (event) => this.key(event));
         window.addEventListener("hashchange", () => void this.fromAddress());
         window.addEventListener("beforeprint", () => this.history && fillHandout(byId("handout"), this.history, this.title(), headComment(this.history.replay.input)));
         window.addEventListener("afterprint", () => byId("handout").replaceChildren());
-        window.addEventListener("resize", () => this.draw());
+        window.addEventListener("resize", () => this.arrange());
+        this.arrange();
+    }
+
+    /** Arranges the regions by the room that there is for text of the chosen size. */
+    arrange() {
+        const root = document.documentElement;
+        const width = (window.innerWidth * 16) / parseFloat(getComputedStyle(root).fontSize);
+        root.dataset.layout = width >= 960 ? "wide" : width > 560 ? "mid" : "narrow";
+        root.toggleAttribute("data-tight", width < 1160);
+        this.draw();
     }
 
     /** @param {string} name */
@@ -148,7 +168,7 @@ export class Workbench {
     }
 
     isNarrow() {
-        return window.matchMedia("(max-width: 899.9px)").matches;
+        return document.documentElement.dataset.layout !== "wide";
     }
 
     title() {
@@ -194,6 +214,7 @@ export class Workbench {
         if (!example) return;
         this.example = name;
         this.origin = example.text;
+        this.flow = "";
         this.past = [];
         this.undone = [];
         this.to = 0;
@@ -265,6 +286,7 @@ export class Workbench {
         const added = addedLines(readInput(this.origin).lines.map((it) => it.text), this.history.replay.input.lines.map((it) => it.text));
         this.sheet.show({ history: this.history, stops: this.stops, chart: this.chart, added });
         set(byId("slider"), { max: this.stops.length });
+        this.follow(this.flow);
     }
 
     /** @param {Grain} grain */
@@ -293,8 +315,51 @@ export class Workbench {
     step(by) {
         const at = stopAt(this.stops, this.position);
         if (by > 0 && this.ask(at)) return;
-        this.goStop(at + by);
+        this.goStop(this.flow ? this.nextOfFlow(at, by) : at + by);
         if (by === 1) this.travel();
+    }
+
+    /**
+     * How many stops are done after the next one of the flow that is followed, or the one before.
+     *
+     * @param {number} at
+     * @param {number} by
+     */
+    nextOfFlow(at, by) {
+        if (by > 0) return (this.ofFlow.find((place) => place >= at) ?? this.stops.length - 1) + 1;
+        return ([...this.ofFlow].reverse().find((place) => place + 1 < at) ?? -1) + 1;
+    }
+
+    /**
+     * Follows a flow, so that steps go through what happens to it; none for "".
+     *
+     * @param {string} flow
+     */
+    follow(flow) {
+        if (!this.history) return;
+        this.ofFlow = flow ? stopsOfFlow(this.history, this.stops, flow) : [];
+        this.flow = this.ofFlow.length ? flow : "";
+        this.sheet.mark(new Set(this.ofFlow));
+        const told = byId("following");
+        told.hidden = !this.flow;
+        if (this.flow) told.replaceChildren(h("span", {}, `Steps follow ${messageName(this.history.network, this.flow)}.`), h("button", { type: "button", onclick: () => this.follow("") }, "Stop following"));
+    }
+
+    /**
+     * Goes to the next stop that has what is looked for, or the one before.
+     *
+     * @param {number} by
+     */
+    find(by) {
+        const { value } = /** @type {HTMLInputElement} */ (byId("find"));
+        if (!this.history || !value.trim()) return;
+        const at = stopAt(this.stops, this.position);
+        const seen = this.hidden ? this.stops.slice(0, at) : this.stops;
+        const found = stopsWith(this.history, seen, value);
+        const next = by > 0 ? (found.find((place) => place >= at) ?? found[0]) : ([...found].reverse().find((place) => place + 1 < at) ?? found[found.length - 1]);
+        if (next === undefined) return this.toast.show(`No step has “${value}”.`, null);
+        this.goStop(next + 1);
+        this.toast.show(`${found.indexOf(next) + 1} of ${found.length} steps with “${value}”. Enter goes on.`, null);
     }
 
     /**
@@ -445,7 +510,7 @@ export class Workbench {
     larger() {
         const size = (Number(document.documentElement.dataset.size ?? 0) + 1) % 3;
         document.documentElement.dataset.size = String(size);
-        window.requestAnimationFrame(() => this.draw());
+        this.arrange();
     }
 
     /** @param {number} imp */
@@ -541,6 +606,9 @@ export class Workbench {
                 else if (part.kind === "imp") this.choose(part.imp);
             },
         }));
+        const frame = part.kind === "frame" ? state.line(part.line)[part.way][part.place] : null;
+        const { packet } = frame ?? { packet: null };
+        if (packet) items.push({ words: "Follow its message", lines: [], act: () => this.follow(packet.flow) });
         const at = stopAt(this.stops, this.position);
         const toggle = h("button", { type: "button" }, this.cutOff ? "is cut off" : "stays");
         toggle.addEventListener("click", () => {
@@ -573,6 +641,7 @@ export class Workbench {
             h: () => this.hide(),
             c: () => void this.change(["calm 1"], "A round passes"),
             r: () => this.nextRefusal(),
+            "/": () => byId("find").focus(),
             ...(isButton ? {} : { " ": () => this.play() }),
         };
         const act = does[event.key];

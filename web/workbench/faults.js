@@ -172,7 +172,7 @@ function wrongWord(name, word) {
     if (["S", "D", "H", "P"].includes(name)) {
         const parts = word.split("/");
         if (parts.length !== 2) return `\`${word}\` is not a host. A host is its number, a slash and the number of its IMP, as in 0/1.`;
-        const swapped = /^[1-9]\d*\/[0-3]$/.test(word) && Number(parts[0]) > 3 ? ` Is \`${parts[1]}/${parts[0]}\` meant?` : "";
+        const swapped = /^[1-9]\d*\/[0-3]$/.test(word) && (Number(parts[0]) > 3 || parts[1] === "0") ? ` Is \`${parts[1]}/${parts[0]}\` meant?` : "";
         const why = wrongNumber(parts[0], "the host's number", 0, 3) ?? wrongNumber(parts[1], "the IMP's number", 1, 63);
         return why && why + swapped;
     }

@@ -4,10 +4,12 @@ import assert from "node:assert/strict";
 import { test } from "node:test";
 
 import { faultOf, wrongLine } from "../faults.js";
+import { stopsOfFlow, stopsWith } from "../follow.js";
 import { withQuestions } from "../lessons.js";
 import { notesOf, readInput } from "../script.js";
 import { sentenceOf } from "../sentences.js";
 import { fragment, packed, placeIn, unpacked } from "../share.js";
+import { stopsOf } from "../stops.js";
 import { Talk } from "../talk.js";
 import { saying } from "../texts.js";
 import { grouped, waitsOf } from "../waits.js";
@@ -93,7 +95,7 @@ const BAD_LINES = /** @type {[string, string][]} */ ([
     ["take", "needs 1 word after it: take H. This line has 0"],
     ["take 1", "`1` is not a host"],
     ["take 4/1", "the host's number is 0 to 3"],
-    ["out 1/0 2/0 5 8 41", "the IMP's number is 1 to 63"],
+    ["out 1/0 2/0 5 8 41", "the IMP's number is 1 to 63. Is `0/1` meant?"],
     ["take 00/1", "without leading zeros"],
     ["calm 2 # settle", "a comment stands on a line of its own"],
     ["calm 4294967296", "is 0 to 4294967295"],
@@ -141,6 +143,17 @@ test("what texts say", () => {
     assert.equal(saying(false, 0, 120, "0008000A0001000000100000002105"), "RTS 16 from 33 on link 5");
     assert.equal(saying(false, 0, 120, "0008000A0002000000210000001008"), "STR 33 to 16, bytes of 8 bits");
     assert.equal(saying(false, 5, 48, "00080001004C"), "“L”");
+});
+
+test("a message is followed, and steps are found by a text", async () => {
+    const history = await historyOf("arpanet-of-december-1969");
+    assert(history);
+    const stops = stopsOf(history, "arrival");
+    const followed = stopsOfFlow(history, stops, "0/1 0/4 5").map((place) => stops[place].event);
+    assert.equal(history.replay.input.events[followed[0]].text, "out 0/1 0/4 5 32 55434C41");
+    assert(followed.length > 60 && followed.every((event, at) => at === 0 || event >= followed[at - 1]));
+    assert.deepEqual(stopsWith(history, stops, "ENDDOWN 2 3").map((place) => stops[place].event), [8]);
+    assert.deepEqual(stopsWith(history, stops, "no such thing"), []);
 });
 
 test("an address brings the same text, step and view elsewhere", async () => {

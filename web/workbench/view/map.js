@@ -120,10 +120,11 @@ export class MapView {
         for (const host of this.network.hosts) {
             const { x, y } = this.host(host);
             const imp = this.imp(impOf(host));
-            this.spokes.append(s("line", { class: "spoke", x1: imp.x, y1: imp.y, x2: x, y2: y }));
+            const edge = leaving(imp, { x: imp.x + 9 * (x - imp.x), y: imp.y + 9 * (y - imp.y) }, this.box(impOf(host)));
+            this.spokes.append(s("line", { class: "spoke", x1: edge.x, y1: edge.y, x2: x, y2: y }));
             const parts = [s("circle", { class: "disc", cx: x, cy: y, r: radius }), s("path", { class: "crossed", d: crossPath(x, y, radius * 0.6) })];
             if (!small) parts.push(s("text", { class: "name", x, y: y + 3.5 }, host));
-            parts.push(badge(x + radius * 0.75, y - radius * 0.75, small ? 5 : 7.5));
+            parts.push(badge(x + radius * 0.86, y - radius * 0.98, small ? 5 : 7.5));
             this.hosts.append(this.part({ kind: "host", host }, `host ${host}`, parts));
         }
     }
@@ -136,7 +137,7 @@ export class MapView {
      * @param {SVGElement[]} children
      */
     part(part, key, children) {
-        const element = s("g", { class: `part ${part.kind}`, "data-part": key, role: "button", tabindex: -1, "aria-label": "" }, ...children);
+        const element = s("g", { class: `part ${part.kind}`, "data-part": key, role: "button", tabindex: -1, "aria-label": "" }, s("title"), ...children);
         element.addEventListener("click", (event) => {
             event.stopPropagation();
             this.tap(JSON.parse(element.dataset.what ?? JSON.stringify(part)), element);
@@ -166,11 +167,11 @@ export class MapView {
             const imps = this.network.lines[line];
             const up = imps.map((imp) => !inside || state.isEndUp(imp, line));
             imps.forEach((_, place) => {
-                element.children[place].classList.toggle("down", !up[place]);
-                element.children[place + 2].classList.toggle("shown", !up[place]);
+                element.children[place + 1].classList.toggle("down", !up[place]);
+                element.children[place + 3].classList.toggle("shown", !up[place]);
             });
             const downAt = imps.filter((_, place) => !up[place]).map((imp) => siteName(this.network, imp));
-            set(element, { "aria-label": `${partTitle(state, { kind: "line", line })}${downAt.length ? `, down at ${downAt.join(" and ")}` : ""}` });
+            label(element, `${partTitle(state, { kind: "line", line })}${downAt.length ? `, down at ${downAt.join(" and ")}` : ""}`);
         });
     }
 
@@ -194,7 +195,7 @@ export class MapView {
                 if (title) set(title, { y: this.imp(number).y + (below.textContent ? -2 : 4) });
             }
             const told = distance < 0 ? "" : distance === FAR ? ", no way" : `, distance ${distance}`;
-            set(element, { "aria-label": `${siteName(this.network, number)}${isUp ? "" : ", down"}${told}${held ? `, holds ${held}` : ""}` });
+            label(element, `${siteName(this.network, number)}${isUp ? "" : ", down"}${told}${held ? `, holds ${held}` : ""}`);
         });
     }
 
@@ -207,7 +208,7 @@ export class MapView {
             const box = inside ? state.box(host) : null;
             const waits = box ? box.messages.length + box.answers.length : 0;
             updateBadge(element, waits);
-            set(element, { "aria-label": `Host ${host}${isUp ? "" : ", down"}${waits ? `, ${waits} wait for it` : ""}` });
+            label(element, `Host ${host}${isUp ? "" : ", down"}${waits ? `, ${waits} wait for it` : ""}`);
         });
     }
 
@@ -291,12 +292,13 @@ export class MapView {
         const angle = (Math.atan2(to.y - from.y, to.x - from.x) * 180) / Math.PI;
         const kind = frame.packet ? frame.packet.kind : frame.routes ? "routes" : "ack";
         const scale = this.layout.small ? 0.6 : 1;
-        set(element, { class: `part frame ${kind}`, style: `transform: translate(${x.toFixed(1)}px, ${y.toFixed(1)}px)`, "data-way": wayOf(this.network, line, way).join(" "), "aria-label": partTitle(state, { kind: "frame", line, way, place }) });
+        set(element, { class: `part frame ${kind}`, style: `transform: translate(${x.toFixed(1)}px, ${y.toFixed(1)}px)`, "data-way": wayOf(this.network, line, way).join(" ") });
+        label(element, partTitle(state, { kind: "frame", line, way, place }));
         const turn = kind === "data" || kind === "routes" ? `rotate(${angle.toFixed(1)}) scale(${scale})` : `scale(${scale})`;
-        set(element.children[1], { d: SIGNS[kind], transform: turn });
-        set(element.children[2], { d: STROKES[kind] ?? "", transform: `scale(${scale})` });
-        say(element.children[3], more ? `+${more}` : "");
-        set(element.children[3], { x: (-14 * (to.x - from.x)) / length, y: (-14 * (to.y - from.y)) / length + 3 });
+        set(element.children[2], { d: SIGNS[kind], transform: turn });
+        set(element.children[3], { d: STROKES[kind] ?? "", transform: `scale(${scale})` });
+        say(element.children[4], more ? `+${more}` : "");
+        set(element.children[4], { x: (-14 * (to.x - from.x)) / length, y: (-14 * (to.y - from.y)) / length + 3 });
     }
 
     /**
@@ -327,6 +329,17 @@ export class MapView {
     parts() {
         return /** @type {SVGElement[]} */ ([...this.imps.children, ...this.hosts.children, ...this.lines.children, ...this.frames.children]);
     }
+}
+
+/**
+ * Names a part, for who hears and for who points.
+ *
+ * @param {Element} element
+ * @param {string} text
+ */
+function label(element, text) {
+    set(element, { "aria-label": text });
+    say(element.children[0], text);
 }
 
 /** Shapes that differ without colour, drawn around the origin. */

@@ -55,7 +55,7 @@ export class Menu {
     /** @param {Element} from */
     place(from) {
         this.element.style.left = this.element.style.top = "";
-        if (window.matchMedia("(max-width: 560px)").matches) return;
+        if (document.documentElement.dataset.layout === "narrow") return;
         const at = from.getBoundingClientRect();
         const { offsetWidth: width, offsetHeight: height } = this.element;
         const left = at.right + 10 + width < window.innerWidth ? at.right + 10 : Math.max(8, at.left - width - 10);

@@ -32,7 +32,7 @@ import { h, keep, s, say, sayWithCode, set } from "./dom.js";
 export class Panes {
     /**
      * @param {HTMLElement} element
-     * @param {{choose: (imp: number) => void, add: (lines: string[], words: string) => void, tap: (part: Part, element: Element) => void}} does
+     * @param {{choose: (imp: number) => void, add: (lines: string[], words: string) => void, tap: (part: Part, element: Element) => void, follow: (flow: string) => void}} does
      */
     constructor(element, does) {
         this.does = does;
@@ -74,9 +74,9 @@ export class Panes {
                 element.classList.toggle("bad", it.bad);
                 keep(
                     cures,
-                    it.cures.length && (it.bad || it.cures[0].startsWith("take")) ? it.cures : [],
-                    (line) => String(line),
-                    (line) => h("button", { class: "cure", type: "button", onclick: () => this.does.add([String(line)], String(line)) }, h("code", {}, String(line))),
+                    [...(it.cures.length && (it.bad || it.cures[0].startsWith("take")) ? it.cures : []), ...(it.flow && it.count === 1 ? [`follow ${it.flow}`] : [])],
+                    (line) => line,
+                    (line) => (line.startsWith("follow ") ? h("button", { type: "button", onclick: () => this.does.follow(line.slice(7)) }, "Follow it") : h("button", { class: "cure", type: "button", onclick: () => this.does.add([line], line) }, h("code", {}, line))),
                 );
             },
         );
@@ -128,7 +128,7 @@ export class Panes {
         const isUp = state.imp(imp) !== null;
         cell.className = `${to === chosen ? "chosen " : ""}${isChanged ? "changed " : ""}${!isUp || way.distance === FAR ? "nowhere" : ""}`;
         say(cell.children[0], !isUp ? "down" : way.distance === FAR ? "no way" : String(way.distance));
-        say(cell.children[1], isUp && way.line >= 0 && way.distance < FAR ? ` by line ${way.line}` : "");
+        say(cell.children[1], isUp && way.line >= 0 && way.distance < FAR ? ` line ${way.line}` : "");
     }
 
     /** @param {string} why */

@@ -127,6 +127,7 @@ export class SheetView {
         });
         this.position = position;
         this.hidden = hidden;
+        this.current = current >= 0 ? stops[this.list[current].stop] : null;
         const element = elements[current];
         if (element) keepInView(this.scroller, element, this.heads.offsetHeight);
         else this.scroller.scrollTop = 0;
@@ -135,6 +136,15 @@ export class SheetView {
         this.open = open;
         this.drawn = drawn;
         this.markPast();
+    }
+
+    /**
+     * Marks the rows of stops.
+     *
+     * @param {Set<number>} stops
+     */
+    mark(stops) {
+        [...this.rows.children].forEach((element, place) => element.classList.toggle("of-flow", stops.has(this.list[place].stop)));
     }
 
     /** Whether rows are seen for which nothing is drawn. */
@@ -252,6 +262,7 @@ export class SheetView {
             const at = element.getAttribute("data-at");
             if (at === null) continue;
             const isFuture = Number(at) >= (this.position ?? 0);
+            element.classList.toggle("here", Number(at) >= (this.current?.from ?? 0) && Number(at) < (this.current?.to ?? 0));
             element.classList.toggle("future", isFuture);
             element.classList.toggle("gone", isFuture && (this.hidden ?? false));
             const until = element.getAttribute("data-until");
