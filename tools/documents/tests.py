@@ -3,6 +3,7 @@
 from __future__ import annotations
 
 import os
+import subprocess
 import tempfile
 import unittest
 from unittest import mock
@@ -100,6 +101,20 @@ class Pages(unittest.TestCase):
         direct: dict[str, list[str]] = {"low": [], "middle": ["low"], "high": ["low", "middle"]}
         self.assertEqual(crates_page.nearest("high", direct), ["middle"])
         self.assertEqual(crates_page.below("high", direct), {"low", "middle"})
+
+
+class Hook(unittest.TestCase):
+    def status(self, message: str) -> int:
+        with tempfile.NamedTemporaryFile("w", encoding="utf-8") as file:
+            file.write(message)
+            file.flush()
+            return subprocess.run([f"{facts.ROOT}/.githooks/commit-msg", file.name], stderr=subprocess.DEVNULL).returncode
+
+    def test_a_subject_has_at_most_72_columns_and_an_empty_line_after_it(self) -> None:
+        self.assertEqual(self.status(f"{'x' * 72}\n\nwhy\n# a comment of git\n"), 0)
+        self.assertEqual(self.status(f"{'x' * 73}\n"), 1)
+        self.assertEqual(self.status("a subject\nthat goes over\n"), 1)
+        self.assertEqual(self.status("# only a comment\n"), 1)
 
 
 if __name__ == "__main__":
