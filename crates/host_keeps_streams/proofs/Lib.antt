@@ -22,6 +22,7 @@ pub mod Requests
 pub mod EachCall
 pub mod Concerns
 pub mod Meets
+pub mod Firsts
 pub mod Chain
 pub mod Boxes
 pub mod CallBoxes

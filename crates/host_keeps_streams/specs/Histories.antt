@@ -1,5 +1,5 @@
 -- All that happens to the ends of a host with one peer while they stay together, and what it is on one link.
-use Rattle.std.specs.Prelude.{◌≡◌, ℕ, zero, suc, ◌+◌, ◌*◌, ◌&&◌, not, Bool, true, false, if◌then◌else◌, List, [], ◌∷◌, ◌++◌, find, Some, None, is_some}
+use Rattle.std.specs.Prelude.{◌≡◌, ◌⊎◌, ℕ, zero, suc, ◌+◌, ◌*◌, ◌&&◌, not, Bool, true, false, if◌then◌else◌, List, [], ◌∷◌, ◌++◌, find, Some, None, is_some}
 use Rattle.leader1822.specs.Host.{Host}
 use Rattle.ncp_control.specs.Command.{IsCommand}
 use Rattle.ncp_control.specs.DataHeader.{header_of}
@@ -14,7 +14,7 @@ use Rattle.host_pairs.specs.Asked.{closed_end, passes, receiver_requested, reque
 use Rattle.host_pairs.specs.Commands.{asked_with_size, granted, desk_taken}
 use Rattle.host_pairs.specs.Data.{data_taken}
 use Rattle.host_pairs.specs.Desk.{desk_of, settled}
-use Rattle.host_pairs.specs.Entries.{called_off, entry_at, free_link, is_busy, is_mine_on, is_open, receiving_end, sending_end, was_closed}
+use Rattle.host_pairs.specs.Entries.{called_off, entry_at, free_link, is_busy, is_mine_on, is_open, receives_on, receiving_end, sending_end, was_closed}
 use Rattle.host_pairs.specs.Pair.{PairState, opening_pair}
 use Rattle.host_pairs.specs.Parcels.{Bytes, asked_at, command_gone, next_of, parcel_gone}
 use Rattle.host_pairs.specs.Turn.{freed}
@@ -163,6 +163,18 @@ MaySendAll number peer link [] = Unit {0}
 MaySendAll number peer link (m ∷ moments) =
     MayAllSend (sent_at (name_now number peer moments) link m.call m.pair m.listening (sender_now number peer link moments)) (sender_now number peer link moments) × MaySendAll number peer link moments
 
+-- ---- whose CLS was first
+
+-- a user closes the end of this connection, which receives on the link
+abbrev pub IsClosing : (ℕ → ℕ → ℕ) → ℕ → ℕ → Call → Type 0
+IsClosing name link c (Closes socket e) = (receives_on link e ≡ true) × (named name e ≡ c)
+IsClosing name link c call = ⊥
+
+-- a user has closed it
+abbrev pub HasClosed : (ℕ → ℕ → ℕ → ℕ) → Host → ℕ → ℕ → List Moment → Type 0
+HasClosed number peer link c [] = ⊥
+HasClosed number peer link c (m ∷ moments) = IsClosing (name_now number peer moments) link c m.call ⊎ HasClosed number peer link c moments
+
 -- ---- one message at a time
 
 -- a message goes out where none is outstanding on the link, and an end that has opened closes where none is
@@ -224,3 +236,7 @@ closing_moments =
     moment (OpensReceiver 16 33) [] ∷ moment (Hears 9 0 (command.Cls 33 16)) (record opened_end { closing = closing.Sent } ∷ []) ∷ moment (Says 8 (command.Cls 16 33)) (record opened_end { closing = closing.Queued } ∷ [])
     ∷ moment (Closes 16 opened_end) (opened_end ∷ [])
     ∷ opening_moments
+
+-- the same end, closed by its partner
+abbrev pub ended_moments : List Moment
+ended_moments = moment (Hears 9 0 (command.Cls 33 16)) (opened_end ∷ []) ∷ opening_moments

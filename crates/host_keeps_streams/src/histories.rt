@@ -8,7 +8,7 @@ ghost use Rattle.stream_law.specs.Senders as senders;
 ghost use Rattle.host_pairs.specs.Entries.{sending_end};
 ghost use Rattle.host_keeps_streams.specs.Ends.{HasReceiver};
 ghost use Rattle.host_keeps_streams.specs.Formed.{AreSound};
-ghost use Rattle.host_keeps_streams.specs.Histories.{Closes, IsHistory, IsTelling, KeepBox, KeepBoxAll, AreAllowed, MayReceiveAll, MaySendAll, Moment, OpensReceiver, OpensSender, Says, closing_moments, ends_now, gone_now, moment, name_now, numbered, numbered_by_gone, numbered_by_own, opening_moments, receiver_now, sender_now, waiting};
+ghost use Rattle.host_keeps_streams.specs.Histories.{Closes, HasClosed, IsHistory, IsTelling, KeepBox, KeepBoxAll, AreAllowed, MayReceiveAll, MaySendAll, Moment, OpensReceiver, OpensSender, Says, closing_moments, ended_moments, ends_now, gone_now, moment, name_now, numbered, numbered_by_gone, numbered_by_own, opening_moments, receiver_now, sender_now, waiting};
 ghost use Rattle.host_keeps_streams.specs.Names.{IsSending};
 
 /// Whatever happens to the ends of a host with one peer while the two stay together, call after call, from where there were none. What is
@@ -25,6 +25,9 @@ pub fn histories()
     ensures receiver { (number : ℕ → ℕ → ℕ → ℕ) (peer : Host) (link : ℕ) (moments : List Moment) → IsTelling number → IsHistory peer moments → AreAllowed number peer link moments → HasReceiver (name_now number peer moments) link (ends_now peer moments) (receiver_now number peer link moments) }
     ensures sender { (number : ℕ → ℕ → ℕ → ℕ) (peer : Host) (link : ℕ) (moments : List Moment) → IsTelling number → IsHistory peer moments → AreAllowed number peer link moments → IsSending (name_now number peer moments) link (ends_now peer moments) (sender_now number peer link moments) }
     ensures sound { (number : ℕ → ℕ → ℕ → ℕ) (peer : Host) (link : ℕ) (moments : List Moment) → IsTelling number → IsHistory peer moments → AreAllowed number peer link moments → AreSound (name_now number peer moments) (ends_now peer moments) }
+
+    // the law's receiver says the CLS of a connection before it hears the sender's only where a user closed its end
+    ensures closed { (number : ℕ → ℕ → ℕ → ℕ) (peer : Host) (link c : ℕ) (moments : List Moment) → (receiver_now number peer link moments).first c ≡ true → HasClosed number peer link c moments }
 
     // there are such numbers of connections
     ensures telling { IsTelling numbered }
@@ -52,6 +55,13 @@ pub fn worked_histories()
     // the law lets it, and wouldn't if the next had the number of the last
     ensures may { (peer : Host) → MayReceiveAll numbered_by_gone peer 2 closing_moments }
     ensures again { (peer : Host) → MayReceiveAll numbered_by_own peer 2 closing_moments → ⊥ }
+
+    // a user closed it, so its CLS is first; where its partner's is taken first, nobody closed it here
+    ensures quit { (peer : Host) → ((receiver_now numbered_by_gone peer 2 closing_moments).first 0 ≡ true) × HasClosed numbered_by_gone peer 2 0 closing_moments }
+    ensures ended { (peer : Host) → ((receiver_now numbered_by_gone peer 2 ended_moments).closed ≡ true) × ((receiver_now numbered_by_gone peer 2 ended_moments).first 0 ≡ false) }
+    ensures unclosed { (peer : Host) → HasClosed numbered_by_gone peer 2 0 ended_moments → ⊥ }
+    ensures another { (peer : Host) → HasClosed numbered_by_gone peer 2 1 closing_moments → ⊥ }
+    ensures link { (peer : Host) → HasClosed numbered_by_gone peer 3 0 closing_moments → ⊥ }
 
     // such numbers tell one connection from another
     ensures alike { IsTelling numbered_by_own → ⊥ }

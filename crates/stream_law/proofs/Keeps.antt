@@ -6,7 +6,7 @@ use Rattle.stream_law.specs.Receivers as receivers
 use Rattle.stream_law.specs.Receivers.{Receiver}
 use Rattle.stream_law.specs.Senders.{Sender}
 use Rattle.stream_law.specs.Streams.{Stream, Box, Empty, Waiting, Taken}
-use Rattle.stream_law.specs.Within.{IsFront}
+use Rattle.stream_law.specs.Within.{IsFront, waiting_in}
 use Rattle.stream_law.proofs.Amounts.{unlike, some_is, Counter, Messages, Bits, number, cost, total, total_of, granted_in, returned_in, held}
 use Rattle.stream_law.proofs.Words.{unless, NoRts, DownFits, UpFits}
 
@@ -54,11 +54,6 @@ Sized r = (c : ℕ) → r.end ≡ Some c → r.opened ≡ true → is_some (r.si
 
 -- ---- data
 
-abbrev pub waits : Box → List (List Bool)
-waits Empty = []
-waits (Waiting c z bits) = bits ∷ []
-waits Taken = []
-
 -- what waits is of an end that isn't closed
 abbrev pub Waits : Sender → Box → Type 0
 Waits s Empty = Unit {0}
@@ -67,7 +62,15 @@ Waits s Taken = Unit {0}
 
 -- an end that isn't closing took all but what waits
 abbrev pub Whole : Receiver → Sender → Box → Type 0
-Whole r s box = (c : ℕ) → r.end ≡ Some c → r.closed ≡ false → r.over c ≡ false → s.sent c ≡ r.taken c ++ waits box
+Whole r s box = (c : ℕ) → r.end ≡ Some c → r.closed ≡ false → r.over c ≡ false → s.sent c ≡ r.taken c ++ waiting_in box
+
+-- an end that closes, and that hasn't heard the sender's CLS, said its own first
+abbrev pub Firsts : Receiver → Type 0
+Firsts r = (c : ℕ) → r.end ≡ Some c → r.closed ≡ true → r.over c ≡ false → r.first c ≡ true
+
+-- where it heard the sender's first, it has taken all that was sent
+abbrev pub Settled : Receiver → Sender → Type 0
+Settled r s = (c : ℕ) → r.over c ≡ true → r.first c ≡ false → r.taken c ≡ s.sent c
 
 abbrev pub Fronts : Receiver → Sender → Type 0
 Fronts r s = (c : ℕ) → IsFront (r.taken c) (s.sent c)
@@ -105,6 +108,8 @@ pub record Inv (x : Stream) : Type 0 where
   pub sized : Sized x.receiver
   pub waiting : Waits x.sender x.box
   pub whole : Whole x.receiver x.sender x.box
+  pub firsts : Firsts x.receiver
+  pub settled : Settled x.receiver x.sender
   pub fronts : Fronts x.receiver x.sender
   pub unsent : Unsent x.receiver x.sender
   pub account : (u : Counter) (c : ℕ) → Account u c x.receiver x.sender x.to_sender x.to_receiver
@@ -128,7 +133,7 @@ sole x h c asked none = elim (h.known c asked) [
   | inr o ↦ absurd (unlike (x.sender.closed c) (h.passed c o) none)
 ]
 
-waits_for : (x : Stream) → Inv x → (c z : ℕ) (bits : List Bool) → x.box ≡ Waiting c z bits → Waits x.sender (Waiting c z bits)
+pub waits_for : (x : Stream) → Inv x → (c z : ℕ) (bits : List Bool) → x.box ≡ Waiting c z bits → Waits x.sender (Waiting c z bits)
 waits_for x h c z bits e = subst (λ (b : Box). Waits x.sender b) e h.waiting
 
 pub waits_of : (x : Stream) → Inv x → (c z : ℕ) (bits : List Bool) → x.box ≡ Waiting c z bits → x.receiver.end ≡ Some c
@@ -175,7 +180,7 @@ pub acceptable : (x : Stream) → Inv x → (c z : ℕ) (bits : List Bool) → x
 acceptable x h c z bits e closed over =
     let w : Waits x.sender (Waiting c z bits) = waits_for x h c z bits e in
     let end : x.receiver.end ≡ Some c = waits_of x h c z bits e in
-    let sent : x.sender.sent c ≡ x.receiver.taken c ++ bits ∷ [] = subst (λ (b : Box). x.sender.sent c ≡ x.receiver.taken c ++ waits b) e (h.whole c end closed over) in
+    let sent : x.sender.sent c ≡ x.receiver.taken c ++ bits ∷ [] = subst (λ (b : Box). x.sender.sent c ≡ x.receiver.taken c ++ waiting_in b) e (h.whole c end closed over) in
     let opened : x.receiver.opened ≡ true = opens end sent x.receiver.opened refl in
     let sized : x.receiver.size c ≡ Some z = only_some (x.receiver.size c) (h.sized c end opened) z (λ y there. some_is y z (sym (h.told c y there) ∙ w.3)) in
     let right : is_size z (x.receiver.size c) ≡ true = ap (is_size z) sized ∙ eq-eqb z z refl in

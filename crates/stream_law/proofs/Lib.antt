@@ -4,4 +4,5 @@ pub mod Keeps
 pub mod Receives
 pub mod Sends
 pub mod Runs
+pub mod Exact
 pub mod lemmas

@@ -6,20 +6,20 @@ use Rattle.stream_law.specs.Receivers as receivers
 use Rattle.stream_law.specs.Receivers.{Receiver}
 use Rattle.stream_law.specs.Senders.{Sender}
 use Rattle.stream_law.specs.Streams.{Stream, Box, Empty, Waiting, Taken}
-use Rattle.stream_law.specs.Within.{IsFront}
+use Rattle.stream_law.specs.Within.{IsFront, waiting_in}
 use Rattle.stream_law.proofs.Amounts.{parts, not_true, unlike, some_is, at, for_here, for_more, for_less, mine, mine_same, mine_most, number, amount, cost, total, number_all, number_spent, number_less, number_for, total_for, granted_in, granted_more}
 use Rattle.stream_law.proofs.Words.{unless, unless_none, DownFits, down_more, no_rts_said, down_said, down_asked, up_more, closed_more}
-use Rattle.stream_law.proofs.Keeps.{made, waits, Account, Inv, all_over, sole, waits_of, acceptable}
+use Rattle.stream_law.proofs.Keeps.{made, Firsts, Settled, Account, Inv, all_over, sole, waits_for, waits_of, acceptable}
 
 -- the last connection of which anything was said
 last_of : (r : Receiver) (c : ℕ) → r.end ≡ Some c → r.closed ≡ false → unless r.closed r.end ≡ Some c
 last_of r c end closed = ap (λ (v : Bool). unless v r.end) closed ∙ end
 
 -- two connections that are the end's
-both_are : (o : Option ℕ) (c k : ℕ) → o ≡ Some c → o ≡ Some k → k ≡ c
+pub both_are : (o : Option ℕ) (c k : ℕ) → o ≡ Some c → o ≡ Some k → k ≡ c
 both_are o c k e f = some_is k c (sym f ∙ e)
 
-opens : (c : ℕ) (r : Receiver) → receivers.is_open c r ≡ true → (r.opened ≡ true) × (r.closed ≡ false) × (r.over c ≡ false)
+pub opens : (c : ℕ) (r : Receiver) → receivers.is_open c r ≡ true → (r.opened ≡ true) × (r.closed ≡ false) × (r.over c ≡ false)
 opens c r e =
     let p : ((r.opened && not r.closed) ≡ true) × (not (r.over c) ≡ true) = parts (r.opened && not r.closed) (not (r.over c)) e in
     let q : (r.opened ≡ true) × (not r.closed ≡ true) = parts r.opened (not r.closed) p.0 in
@@ -30,10 +30,56 @@ no_front [] f = refl
 no_front (x ∷ xs) f = let e : x ∷ (xs ++ f.0) ≡ [] = f.1 in absurd (cc)
 
 -- nothing waits where the link is free
-none_waits : (x : Stream) → Inv x → x.receiver.end ≡ None → (b : Box) → x.box ≡ b → waits b ≡ []
+none_waits : (x : Stream) → Inv x → x.receiver.end ≡ None → (b : Box) → x.box ≡ b → waiting_in b ≡ []
 none_waits x h none Empty e = refl
 none_waits x h none (Waiting c z bits) e = let both : None ≡ Some c = sym none ∙ waits_of x h c z bits e in absurd (cc)
 none_waits x h none Taken e = refl
+
+-- nothing waits of a connection that the sender has closed
+none_closed : (x : Stream) → Inv x → (c : ℕ) → x.receiver.end ≡ Some c → x.sender.closed c ≡ true → (b : Box) → x.box ≡ b → waiting_in b ≡ []
+none_closed x h c end closed Empty e = refl
+none_closed x h c end closed (Waiting k z bits) e =
+    let same : k ≡ c = both_are x.receiver.end c k end (waits_of x h k z bits e) in
+    absurd (unlike (x.sender.closed k) (ap x.sender.closed same ∙ closed) (waits_for x h k z bits e).2)
+none_closed x h c end closed Taken e = refl
+
+-- ---- whose CLS was first
+
+-- an end that says its CLS, and has heard none, says it first
+firsts_closed : (c : ℕ) (r : Receiver) → r.end ≡ Some c → Firsts (receivers.closes c r)
+firsts_closed c r end k e f g =
+    let same : k ≡ c = both_are r.end c k end e in
+    let before : r.over c ≡ false = ap r.over (sym same) ∙ g in
+    subst (λ (v : Bool). (if v then r.first else for c true r.first) k ≡ true) (sym before) (ap (for c true r.first) same ∙ for_here c true r.first)
+
+settled_closed : (c : ℕ) (r : Receiver) (s : Sender) → Settled r s → Settled (receivers.closes c r) s
+settled_closed c r s h k over first = by (r.over c) first where
+  by : (v : Bool) → (if v then r.first else for c true r.first) k ≡ false → r.taken k ≡ s.sent k
+  by true f = h k over f
+  by false f = h k over (for_less c r.first k f)
+
+-- where the sender's CLS comes to be heard first, all that was sent was taken
+settled_heard : (x : Stream) → Inv x → (c : ℕ) → x.sender.closed c ≡ true → x.receiver.first c ≡ false → x.receiver.taken c ≡ x.sender.sent c
+settled_heard x h c closed first = by_over (x.receiver.over c) refl where
+  open_whole : x.receiver.end ≡ Some c → x.receiver.over c ≡ false → (v : Bool) → x.receiver.closed ≡ v → x.receiver.taken c ≡ x.sender.sent c
+  open_whole end over true e = absurd (unlike (x.receiver.first c) (h.firsts c end e over) first)
+  open_whole end over false e =
+      let sent : x.sender.sent c ≡ x.receiver.taken c ++ waiting_in x.box = h.whole c end e over in
+      let none : waiting_in x.box ≡ [] = none_closed x h c end closed x.box refl in
+      sym (sent ∙ ap (λ (l : List (List Bool)). x.receiver.taken c ++ l) none ∙ append-nil (x.receiver.taken c))
+
+  by_asked : x.receiver.over c ≡ false → (v : Bool) → x.receiver.asked c ≡ v → x.receiver.taken c ≡ x.sender.sent c
+  by_asked over true e = elim (h.known c e) [
+    | inl end ↦ open_whole end over x.receiver.closed refl
+    | inr o ↦ absurd (unlike (x.receiver.over c) o over)
+  ]
+  by_asked over false e =
+      let unsent : x.sender.sent c ≡ [] = h.unsent c e in
+      no_front (x.receiver.taken c) (subst (λ (l : List (List Bool)). IsFront (x.receiver.taken c) l) unsent (h.fronts c)) ∙ sym unsent
+
+  by_over : (v : Bool) → x.receiver.over c ≡ v → x.receiver.taken c ≡ x.sender.sent c
+  by_over true e = h.settled c e first
+  by_over false e = by_asked e (x.receiver.asked c) refl
 
 module _ (r : Receiver) (s : Sender) (d u : List Word) (b : Box) (h : Inv (made r s d u b)) where
   pub kept_ask : (c : ℕ) → r.end ≡ None → r.asked c ≡ false → Inv (made (receivers.asks c r) s (d ++ Rts c ∷ []) u b)
@@ -49,7 +95,9 @@ module _ (r : Receiver) (s : Sender) (d u : List Word) (b : Box) (h : Inv (made 
     told = h.told;
     sized = λ k e f. absurd (cc);
     waiting = h.waiting;
-    whole = λ k e f g. subst (λ (j : ℕ). s.sent j ≡ r.taken j ++ waits b) (some_is c k e) (h.unsent c fresh ∙ sym (ap (λ (l : List (List Bool)). l ++ waits b) untaken ∙ none_waits (made r s d u b) h none b refl));
+    whole = λ k e f g. subst (λ (j : ℕ). s.sent j ≡ r.taken j ++ waiting_in b) (some_is c k e) (h.unsent c fresh ∙ sym (ap (λ (l : List (List Bool)). l ++ waiting_in b) untaken ∙ none_waits (made r s d u b) h none b refl));
+    firsts = λ k e f g. absurd (cc);
+    settled = h.settled;
     fronts = h.fronts;
     unsent = λ k e. h.unsent k (for_less c r.asked k e);
     account = λ u' k. (let a : Account u' k r s d u = h.account u' k in let g : granted_in u' k (d ++ Rts c ∷ []) ≡ granted_in u' k d + 0 = granted_more u' k d (Rts c) in omega (arith, a, g));
@@ -80,6 +128,8 @@ module _ (r : Receiver) (s : Sender) (d u : List Word) (b : Box) (h : Inv (made 
     sized = λ k e f. subst (λ (j : ℕ). is_some (r.size j) ≡ true) (some_is c k (sym end ∙ e)) size;
     waiting = h.waiting;
     whole = h.whole;
+    firsts = h.firsts;
+    settled = h.settled;
     fronts = h.fronts;
     unsent = h.unsent;
     account = h.account;
@@ -103,6 +153,8 @@ module _ (r : Receiver) (s : Sender) (d u : List Word) (b : Box) (h : Inv (made 
     sized = h.sized;
     waiting = h.waiting;
     whole = h.whole;
+    firsts = h.firsts;
+    settled = h.settled;
     fronts = h.fronts;
     unsent = h.unsent;
     account = λ u' k. (
@@ -139,6 +191,8 @@ module _ (r : Receiver) (s : Sender) (d u : List Word) (b : Box) (h : Inv (made 
     sized = h.sized;
     waiting = h.waiting;
     whole = h.whole;
+    firsts = h.firsts;
+    settled = h.settled;
     fronts = h.fronts;
     unsent = h.unsent;
     account = λ u' k. (let a : Account u' k r s d u = h.account u' k in let g : granted_in u' k (d ++ Gvb c m n ∷ []) ≡ granted_in u' k d + 0 = granted_more u' k d (Gvb c m n) in omega (arith, a, g));
@@ -149,7 +203,7 @@ module _ (r : Receiver) (s : Sender) (d u : List Word) (b : Box) (h : Inv (made 
     last : unless r.closed r.end ≡ Some c
     last = last_of r c end (opens c r is_open).1
 
-  pub kept_close : (c : ℕ) → r.end ≡ Some c → r.closed ≡ false → Inv (made (record r { closed = true }) s (d ++ Cls c ∷ []) u b)
+  pub kept_close : (c : ℕ) → r.end ≡ Some c → r.closed ≡ false → Inv (made (receivers.closes c r) s (d ++ Cls c ∷ []) u b)
   kept_close c end closed = record {
     known = h.known;
     own = h.own;
@@ -163,6 +217,8 @@ module _ (r : Receiver) (s : Sender) (d u : List Word) (b : Box) (h : Inv (made 
     sized = h.sized;
     waiting = h.waiting;
     whole = λ k e f g. absurd (cc);
+    firsts = firsts_closed c r end;
+    settled = settled_closed c r s h.settled;
     fronts = h.fronts;
     unsent = h.unsent;
     account = λ u' k. (let a : Account u' k r s d u = h.account u' k in let g : granted_in u' k (d ++ Cls c ∷ []) ≡ granted_in u' k d + 0 = granted_more u' k d (Cls c) in omega (arith, a, g));
@@ -188,6 +244,8 @@ module _ (r : Receiver) (s : Sender) (d u : List Word) (b : Box) (h : Inv (made 
     sized = λ k e f. absurd (cc);
     waiting = h.waiting;
     whole = λ k e f g. absurd (cc);
+    firsts = λ k e f g. absurd (cc);
+    settled = h.settled;
     fronts = h.fronts;
     unsent = h.unsent;
     account = h.account;
@@ -218,6 +276,8 @@ module _ (r : Receiver) (s : Sender) (d rest : List Word) (b : Box) where
     ];
     waiting = h.waiting;
     whole = h.whole;
+    firsts = h.firsts;
+    settled = h.settled;
     fronts = h.fronts;
     unsent = h.unsent;
     account = h.account;
@@ -240,6 +300,11 @@ module _ (r : Receiver) (s : Sender) (d rest : List Word) (b : Box) where
     sized = h.sized;
     waiting = h.waiting;
     whole = λ k e f g. h.whole k e f (for_less c r.over k g);
+    firsts = λ k e f g. h.firsts k e f (for_less c r.over k g);
+    settled = λ k e f. elim (at c true r.over k) [
+      | inl t ↦ subst (λ (j : ℕ). r.taken j ≡ s.sent j) (sym t.0) (settled_heard (made r s d (Cls c ∷ rest) b) h c h.up.0 (ap r.first (sym t.0) ∙ f))
+      | inr t ↦ h.settled k (sym t.1 ∙ e) f
+    ];
     fronts = h.fronts;
     unsent = h.unsent;
     account = h.account;
@@ -263,6 +328,8 @@ module _ (r : Receiver) (s : Sender) (d rest : List Word) (b : Box) where
     sized = h.sized;
     waiting = h.waiting;
     whole = h.whole;
+    firsts = h.firsts;
+    settled = h.settled;
     fronts = h.fronts;
     unsent = h.unsent;
     account = λ u' k. (
@@ -292,6 +359,8 @@ module _ (r : Receiver) (s : Sender) (d rest : List Word) (b : Box) where
     sized = h.sized;
     waiting = h.waiting;
     whole = h.whole;
+    firsts = h.firsts;
+    settled = h.settled;
     fronts = h.fronts;
     unsent = h.unsent;
     account = λ u' k. (let a : Account u' k r s d (Ret c m n ∷ rest) = h.account u' k in omega (arith, a));
@@ -330,6 +399,11 @@ module _ (r : Receiver) (s : Sender) (d u : List Word) (c z : ℕ) (bits : List 
     sized = h.sized;
     waiting = tt;
     whole = λ k i f g. (same k (both_are r.end c k end_is i) ∙ sym (append-nil (for c (r.taken c ++ bits ∷ []) r.taken k)));
+    firsts = h.firsts;
+    settled = λ k e f. elim (at c (r.taken c ++ bits ∷ []) r.taken k) [
+      | inl t ↦ absurd (unlike (r.over k) e (ap r.over t.0 ∙ opened.2))
+      | inr t ↦ (t.1 ∙ h.settled k e f)
+    ];
     fronts = λ k. elim (at c (r.taken c ++ bits ∷ []) r.taken k) [
       | inl t ↦ ([], append-nil (for c (r.taken c ++ bits ∷ []) r.taken k) ∙ sym (same k t.0))
       | inr t ↦ subst (λ (l : List (List Bool)). IsFront l (s.sent k)) (sym t.1) (h.fronts k)
@@ -370,6 +444,8 @@ module _ (r : Receiver) (s : Sender) (d u : List Word) (c z : ℕ) (bits : List 
     waiting = tt;
     whole = λ k i f g. absurd (unlike (receivers.is_open c r && is_size z (r.size c) && covers r.allocation (length bits))
         (acceptable (made r s d u (Waiting c z bits)) h c z bits refl f (ap r.over (sym (both_are r.end c k end_is i)) ∙ g)) e);
+    firsts = h.firsts;
+    settled = h.settled;
     fronts = h.fronts;
     unsent = h.unsent;
     account = h.account;

@@ -28,6 +28,8 @@ inv_opening = record {
   sized = λ c e f. absurd (cc);
   waiting = tt;
   whole = λ c e f g. absurd (cc);
+  firsts = λ c e f g. absurd (cc);
+  settled = λ c e f. absurd (cc);
   fronts = λ c. ([], refl);
   unsent = λ c e. refl;
   account = λ u c. (let none : number u counters.nothing ≡ 0 = number_nothing u in omega (arith, none));
@@ -100,6 +102,7 @@ granted_as x h c ms less =
 pub safe_inv : (x : Stream) → Inv x → (c : ℕ) → IsSafe x c
 safe_inv x h c = record {
   front = h.fronts c;
+  whole = h.settled c;
   taken = granted_as x h c (x.receiver.taken c) (λ u. total_front u (x.receiver.taken c) (x.sender.sent c) (h.fronts c));
   sent = granted_as x h c (x.sender.sent c) (λ u. omega arith);
 }

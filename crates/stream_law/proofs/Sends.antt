@@ -14,7 +14,7 @@ use Rattle.stream_law.proofs.Amounts.{parts, not_true, unlike, never, some_is, a
 use Rattle.stream_law.proofs.Words.{unless, unless_none, unless_some, DownFits, up_more, up_said}
 use Rattle.stream_law.proofs.Keeps.{made, Waits, Account, Inv, sole, link_free}
 
-opens : (c : ℕ) (s : Sender) → senders.is_open c s ≡ true → (s.opened ≡ true) × (s.shut ≡ false) × (s.closed c ≡ false)
+pub opens : (c : ℕ) (s : Sender) → senders.is_open c s ≡ true → (s.opened ≡ true) × (s.shut ≡ false) × (s.closed c ≡ false)
 opens c s e =
     let p : ((s.opened && not s.shut) ≡ true) × (not (s.closed c) ≡ true) = parts (s.opened && not s.shut) (not (s.closed c)) e in
     let q : (s.opened ≡ true) × (not s.shut ≡ true) = parts s.opened (not s.shut) p.0 in
@@ -46,13 +46,13 @@ goes_some c v (Some own) k e =
     let t : (own ≡ k) × ((own == c && v) ≡ false) = goes_by (own == c && v) own k e in
     (ap (λ (n : ℕ). Some n) t.0, subst (λ (n : ℕ). (n == c && v) ≡ false) t.0 t.1)
 
-away : (k c : ℕ) → k ≢ c → (k == c) ≡ false
+pub away : (k c : ℕ) → k ≢ c → (k == c) ≡ false
 away k c other = by (k == c) refl where
   by : (v : Bool) → (k == c) ≡ v → (k == c) ≡ false
   by true e = absurd (other (eqb-true k c e))
   by false e = e
 
-goes_other : (c : ℕ) (v : Bool) (o : Option ℕ) (k : ℕ) → k ≢ c → o ≡ Some k → senders.goes c v o ≡ Some k
+pub goes_other : (c : ℕ) (v : Bool) (o : Option ℕ) (k : ℕ) → k ≢ c → o ≡ Some k → senders.goes c v o ≡ Some k
 goes_other c v o k other e = subst (λ (p : Option ℕ). senders.goes c v p ≡ Some k) (sym e) (let f : (k == c) ≡ false = away k c other in rw f refl)
 
 and_false : (v : Bool) → (v && false) ≡ false
@@ -130,6 +130,8 @@ module _ (r : Receiver) (s : Sender) (d u : List Word) (b : Box) (h : Inv (made 
     sized = h.sized;
     waiting = waits_sized s c z none b h.waiting;
     whole = h.whole;
+    firsts = h.firsts;
+    settled = h.settled;
     fronts = h.fronts;
     unsent = h.unsent;
     account = λ u' k. (let a : Account u' k r s d u = h.account u' k in let g : returned_in u' k (u ++ Str c z ∷ []) ≡ returned_in u' k u + 0 = returned_more u' k u (Str c z) in omega (arith, a, g));
@@ -152,6 +154,8 @@ module _ (r : Receiver) (s : Sender) (d u : List Word) (b : Box) (h : Inv (made 
     sized = h.sized;
     waiting = waits_opened s b h.waiting;
     whole = h.whole;
+    firsts = h.firsts;
+    settled = h.settled;
     fronts = h.fronts;
     unsent = h.unsent;
     account = h.account;
@@ -182,6 +186,8 @@ module _ (r : Receiver) (s : Sender) (d u : List Word) (b : Box) (h : Inv (made 
     sized = h.sized;
     waiting = waits_closed s c b drained h.waiting;
     whole = h.whole;
+    firsts = h.firsts;
+    settled = h.settled;
     fronts = h.fronts;
     unsent = h.unsent;
     account = λ u' k. (
@@ -215,6 +221,11 @@ module _ (r : Receiver) (s : Sender) (d u : List Word) (h : Inv (made r s d u Em
     whole = λ k e f g. elim (at c (s.sent c ++ bits ∷ []) s.sent k) [
       | inl t ↦ (t.1 ∙ ap (λ (l : List (List Bool)). l ++ bits ∷ []) (h.whole c there f (ap r.over (sym t.0) ∙ g) ∙ append-nil (r.taken c)) ∙ ap (λ (j : ℕ). r.taken j ++ bits ∷ []) (sym t.0))
       | inr t ↦ absurd (t.0 (both_are r.end c k there e))
+    ];
+    firsts = h.firsts;
+    settled = λ k e f. elim (at c (s.sent c ++ bits ∷ []) s.sent k) [
+      | inl t ↦ absurd (unlike (s.closed c) (ap s.closed (sym t.0) ∙ h.passed k e) not_closed)
+      | inr t ↦ (h.settled k e f ∙ sym t.1)
     ];
     fronts = λ k. elim (at c (s.sent c ++ bits ∷ []) s.sent k) [
       | inl t ↦ subst (λ (l : List (List Bool)). IsFront (r.taken k) l) (ap (λ (j : ℕ). s.sent j ++ bits ∷ []) t.0 ∙ sym t.1) (front_more (r.taken k) (s.sent k) bits (h.fronts k))
@@ -257,6 +268,8 @@ kept_told r s d u h = record {
   sized = h.sized;
   waiting = tt;
   whole = h.whole;
+  firsts = h.firsts;
+  settled = h.settled;
   fronts = h.fronts;
   unsent = h.unsent;
   account = h.account;
@@ -284,6 +297,8 @@ module _ (r : Receiver) (s : Sender) (rest u : List Word) (b : Box) where
     sized = h.sized;
     waiting = waits_begun s (senders.begins c None s) b none h.waiting;
     whole = h.whole;
+    firsts = h.firsts;
+    settled = h.settled;
     fronts = h.fronts;
     unsent = h.unsent;
     account = λ u' k. (
@@ -318,6 +333,8 @@ module _ (r : Receiver) (s : Sender) (rest u : List Word) (b : Box) where
     sized = h.sized;
     waiting = h.waiting;
     whole = h.whole;
+    firsts = h.firsts;
+    settled = h.settled;
     fronts = h.fronts;
     unsent = h.unsent;
     account = λ u' k. (
@@ -344,6 +361,8 @@ module _ (r : Receiver) (s : Sender) (rest u : List Word) (b : Box) where
     sized = h.sized;
     waiting = h.waiting;
     whole = h.whole;
+    firsts = h.firsts;
+    settled = h.settled;
     fronts = h.fronts;
     unsent = h.unsent;
     account = λ u' k. (let a : Account u' k r s (All c m n ∷ rest) u = h.account u' k in omega (arith, a));
@@ -376,6 +395,8 @@ module _ (r : Receiver) (s : Sender) (rest u : List Word) (b : Box) where
     sized = h.sized;
     waiting = h.waiting;
     whole = h.whole;
+    firsts = h.firsts;
+    settled = h.settled;
     fronts = h.fronts;
     unsent = h.unsent;
     account = λ u' k. (
@@ -407,6 +428,8 @@ module _ (r : Receiver) (s : Sender) (rest u : List Word) (b : Box) where
     sized = h.sized;
     waiting = h.waiting;
     whole = h.whole;
+    firsts = h.firsts;
+    settled = h.settled;
     fronts = h.fronts;
     unsent = h.unsent;
     account = h.account;
@@ -436,6 +459,8 @@ module _ (r : Receiver) (s : Sender) (rest u : List Word) (b : Box) where
     sized = h.sized;
     waiting = waits_over s (record s { end = None }) c b end closed h.waiting;
     whole = h.whole;
+    firsts = h.firsts;
+    settled = h.settled;
     fronts = h.fronts;
     unsent = h.unsent;
     account = λ u' k. (let a : Account u' k r s (Cls c ∷ rest) u = h.account u' k in omega (arith, a));
@@ -456,6 +481,8 @@ module _ (r : Receiver) (s : Sender) (rest u : List Word) (b : Box) where
     sized = h.sized;
     waiting = h.waiting;
     whole = h.whole;
+    firsts = h.firsts;
+    settled = h.settled;
     fronts = h.fronts;
     unsent = h.unsent;
     account = h.account;

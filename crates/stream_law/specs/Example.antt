@@ -44,6 +44,28 @@ next =
     Sends (senders.Hear (Rts 2)) ∷ Sends (senders.Close 2) ∷ Sends (senders.Ask 2 8) ∷ Sends (senders.Hear (Cls 1)) ∷ Sends (senders.Hear (All 1 1 3)) ∷ Receives (receivers.Ask 2)
     ∷ closed_events
 
+-- the sender closes, and the receiver hears it before it closes itself
+abbrev pub ended_events : List Event
+ended_events = Receives (receivers.Close 1) ∷ Receives (receivers.Hear (Cls 1)) ∷ Sends (senders.Close 1) ∷ returned_events
+
+-- the receiver closes first: what waits is dropped, though the sender is told that it was taken
+abbrev pub quit_events : List Event
+quit_events =
+    Receives (receivers.Free 1) ∷ Receives (receivers.Hear (Cls 1)) ∷ Sends (senders.Close 1) ∷ Sends senders.Told ∷ Receives (receivers.Take 1 two) ∷ Receives (receivers.Close 1)
+    ∷ sent_events
+
+-- the late grant is heard: nothing is in transit any more
+abbrev pub rested_events : List Event
+rested_events = Sends (senders.Hear (All 1 1 3)) ∷ returned_events
+
+-- a grant comes before the sender's end opens
+abbrev pub late_events : List Event
+late_events =
+    Sends (senders.Open 1) ∷ Sends (senders.Hear (All 1 2 10)) ∷ Receives (receivers.Grant 1 2 10) ∷ Receives (receivers.Open 1) ∷ Receives (receivers.Hear (Str 1 1)) ∷ Sends (senders.Ask 1 1)
+    ∷ Sends (senders.Hear (Rts 1))
+    ∷ Receives (receivers.Ask 1)
+    ∷ []
+
 -- ---- what may not happen
 
 -- a sender that closes while its message has no answer: the link is asked for again, and what waits is taken in the next connection

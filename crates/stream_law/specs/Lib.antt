@@ -3,4 +3,5 @@ pub mod Receivers
 pub mod Senders
 pub mod Streams
 pub mod Within
+pub mod Agreed
 pub mod Example

@@ -11,10 +11,12 @@ pub record Receiver : Type 0 where
   pub closed : Bool
   -- what that end may still take
   pub allocation : Allocation
-  -- of each connection: whether it was asked for on this link; the byte size that its STR told; whether its CLS was heard
+  -- of each connection: whether it was asked for on this link; the byte size that its STR told; whether its CLS was heard; and whether the own
+  -- CLS was said before that
   pub asked : ℕ → Bool
   pub size : ℕ → Option ℕ
   pub over : ℕ → Bool
+  pub first : ℕ → Bool
   -- and what was granted in it and what was returned; and the messages that were taken, the oldest first
   pub granted : ℕ → Allocation
   pub returned : ℕ → Allocation
@@ -29,6 +31,7 @@ opening_receiver = record {
   asked = λ c. false;
   size = λ c. None;
   over = λ c. false;
+  first = λ c. false;
   granted = λ c. counters.nothing;
   returned = λ c. counters.nothing;
   taken = λ c. [];
@@ -68,6 +71,10 @@ says m = None
 abbrev pub asks : ℕ → Receiver → Receiver
 asks c r = record r { end = Some c; opened = false; closed = false; allocation = counters.nothing; asked = for c true r.asked }
 
+-- it says its CLS: before it heard the sender's, or after
+abbrev pub closes : ℕ → Receiver → Receiver
+closes c r = record r { closed = true; first = if r.over c then r.first else for c true r.first }
+
 abbrev pub grants : ℕ → ℕ → ℕ → Receiver → Receiver
 grants c messages bits r = record r {
   allocation = counters.granted r.allocation messages bits;
@@ -103,7 +110,7 @@ moved (Ask c) r = asks c r
 moved (Open c) r = record r { opened = true }
 moved (Grant c messages bits) r = grants c messages bits r
 moved (AskBack c messages bits) r = r
-moved (Close c) r = record r { closed = true }
+moved (Close c) r = closes c r
 moved (Free c) r = record r { end = None }
 moved (Hear w) r = hears w r
 moved (Take size bits) r = takes size bits r.end r

@@ -1,8 +1,8 @@
 -- What is promised of streams.
-use Rattle.std.specs.Prelude.{◌≡◌, ℕ, ◌+◌, ◌≤◌, Bool, true, List, [], ◌∷◌, ◌++◌, length, Some}
+use Rattle.std.specs.Prelude.{◌≡◌, ℕ, ◌+◌, ◌≤◌, Bool, true, false, List, [], ◌∷◌, ◌++◌, length, Some}
 use Rattle.ncp_control.specs.declared.allocation.Allocation.{Allocation}
 use Rattle.stream_law.specs.Words.{Word, Ret}
-use Rattle.stream_law.specs.Streams.{Stream, Waiting}
+use Rattle.stream_law.specs.Streams.{Stream, Box, Empty, Waiting, Taken}
 
 -- these messages are the first of those
 abbrev pub IsFront : List (List Bool) → List (List Bool) → Type 0
@@ -18,9 +18,17 @@ pub record AreGranted (messages : List (List Bool)) (returned granted : Allocati
   pub in_messages : length messages + returned.messages ≤ granted.messages
   pub in_bits : message_bits messages + returned.bits ≤ granted.bits
 
--- of each connection: what was taken is a prefix of what was sent; and both are granted
+-- the messages that wait in a mailbox
+abbrev pub waiting_in : Box → List (List Bool)
+waiting_in Empty = []
+waiting_in (Waiting c size bits) = bits ∷ []
+waiting_in Taken = []
+
+-- of each connection: what was taken is a prefix of what was sent, and all of it once the receiver has heard the sender's CLS without having
+-- said its own before; and both are granted
 pub record IsSafe (x : Stream) (c : ℕ) : Type 0 where
   pub front : IsFront (x.receiver.taken c) (x.sender.sent c)
+  pub whole : x.receiver.over c ≡ true → x.receiver.first c ≡ false → x.receiver.taken c ≡ x.sender.sent c
   pub taken : AreGranted (x.receiver.taken c) (x.receiver.returned c) (x.receiver.granted c)
   pub sent : AreGranted (x.sender.sent c) (x.receiver.returned c) (x.receiver.granted c)
 

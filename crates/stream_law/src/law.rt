@@ -6,14 +6,15 @@ ghost use Rattle.stream_law.specs.Words.{Rts, Str, All, Gvb, Ret, Cls};
 ghost use Rattle.stream_law.specs.Receivers as receivers;
 ghost use Rattle.stream_law.specs.Senders as senders;
 ghost use Rattle.stream_law.specs.Streams.{Event, Receives, Sends, Empty, Waiting, Taken, stream, IsRun};
-ghost use Rattle.stream_law.specs.Within.{IsFront, message_bits, AreGranted, IsSafe, NoneReturned, NothingLeft};
-ghost use Rattle.stream_law.specs.Example.{two, three, opened_events, granted_events, sent_events, taken_events, returned_events, closed_events, next, hasty, early};
+ghost use Rattle.stream_law.specs.Within.{IsFront, message_bits, waiting_in, AreGranted, IsSafe, NoneReturned, NothingLeft};
+ghost use Rattle.stream_law.specs.Agreed.{ArePrompt, IsAtRest, AreAgreed};
+ghost use Rattle.stream_law.specs.Example.{two, three, opened_events, granted_events, sent_events, taken_events, returned_events, closed_events, ended_events, quit_events, rested_events, late_events, next, hasty, early};
 
 /// Whatever the two hosts of a link do while they stay together, connection after connection. What is assumed of them stands in
 /// `IsRun`: their own rules, and that what one said is heard in order.
 pub fn streams()
-    // in each connection what was taken is a prefix of what was sent. What was taken and what was returned are granted, and so are what was
-    // sent and what was returned
+    // in each connection what was taken is a prefix of what was sent, and all of it where the sender's CLS was heard and the own wasn't said
+    // before. What was taken and what was returned are granted, and so are what was sent and what was returned
     ensures safe { (events : List Event) (c : ℕ) → IsRun events → IsSafe (stream events) c }
 
     // where the link is asked for, nothing of a connection before is left over
@@ -21,6 +22,12 @@ pub fn streams()
 
     // what waits for an end that doesn't close is taken by it: it is open, the byte size is the one that it was told, and it granted as much
     ensures accepted { (events : List Event) (c size : ℕ) (bits : List Bool) → IsRun (Receives (receivers.Take size bits) ∷ events) → (stream events).receiver.end ≡ Some c → (stream events).receiver.closed ≡ false → (stream events).receiver.over c ≡ false → (stream (Receives (receivers.Take size bits) ∷ events)).receiver.taken c ≡ (stream events).receiver.taken c ++ bits ∷ [] }
+
+    // an end that doesn't close has taken all that was sent, except for what waits
+    ensures caught_up { (events : List Event) (c : ℕ) → IsRun events → (stream events).receiver.end ≡ Some c → (stream events).receiver.closed ≡ false → (stream events).receiver.over c ≡ false → (stream events).sender.sent c ≡ (stream events).receiver.taken c ++ waiting_in (stream events).box }
+
+    // where nothing is in transit the two open ends of a connection agree, if no ALL was heard before the sender's end opened
+    ensures agreed { (events : List Event) (c : ℕ) → IsRun events → ArePrompt events → IsAtRest (stream events) c → AreAgreed (stream events) c }
 {}
 
 /// Data, ALL, GVB and RET name the link alone. Whoever takes one has on that link the end of the connection in which it was said.
@@ -50,6 +57,11 @@ pub fn worked_stream()
     // the link is free at the receiver, and the sender hasn't heard of it yet
     ensures closed { ((stream closed_events).receiver.end ≡ None) × ((stream closed_events).sender.end ≡ Some 1) × ((stream closed_events).to_sender ≡ All 1 1 3 ∷ Cls 1 ∷ []) }
 
+    // the sender's CLS came first, so all that was sent was taken. A receiver that closes before has lost what waited
+    ensures settled { ((stream ended_events).receiver.first 1 ≡ false) × ((stream ended_events).receiver.over 1 ≡ true) × ((stream ended_events).receiver.taken 1 ≡ (stream ended_events).sender.sent 1) }
+    ensures quit { ((stream quit_events).receiver.first 1 ≡ true) × ((stream quit_events).receiver.over 1 ≡ true) }
+    ensures quit_drops { (stream quit_events).receiver.taken 1 ≡ (stream quit_events).sender.sent 1 → ⊥ }
+
     // the late grant is nobody's, and the next end doesn't open, since it was closed before its request was heard
     ensures next { ((stream next).sender.end ≡ Some 2) × ((stream next).sender.allocation ≡ counters.nothing) × (senders.is_open 2 (stream next).sender ≡ false) }
 {}
@@ -57,6 +69,8 @@ pub fn worked_stream()
 /// Lists of events that may be, so the laws don't speak of nothing; and two that may not, which would break them.
 pub fn worked_runs()
     ensures next { IsRun next }
+    ensures quit { IsRun quit_events }
+    ensures late { IsRun late_events }
 
     // a sender that closes while its message has no answer: the next connection takes it
     ensures hasty { IsRun hasty → ⊥ }
@@ -142,4 +156,20 @@ pub fn worked_within()
     ensures waiting { NothingLeft (stream sent_events) → ⊥ }
     ensures unclosed { NothingLeft (stream granted_events) → ⊥ }
     ensures left { NothingLeft (stream closed_events) }
+
+    // two open ends between which nothing is in transit agree: they may carry two more messages and seven bits
+    ensures rested { IsAtRest (stream rested_events) 1 }
+    ensures agreed { AreAgreed (stream rested_events) 1 }
+    ensures agreed_taken { AreAgreed (stream taken_events) 1 }
+
+    // where data wait or a grant is in transit they aren't at rest, and don't agree; nor are they where an end closes
+    ensures waits { (IsAtRest (stream sent_events) 1 → ⊥) × (AreAgreed (stream sent_events) 1 → ⊥) }
+    ensures transit { (IsAtRest (stream returned_events) 1 → ⊥) × (AreAgreed (stream returned_events) 1 → ⊥) }
+    ensures closing { IsAtRest (stream ended_events) 1 → ⊥ }
+
+    // a grant that is heard too early is lost, and then two open ends at rest don't agree
+    ensures prompt { ArePrompt rested_events }
+    ensures late_prompt { ArePrompt late_events → ⊥ }
+    ensures late_rests { IsAtRest (stream late_events) 1 }
+    ensures late_disagrees { AreAgreed (stream late_events) 1 → ⊥ }
 {}

@@ -1,5 +1,6 @@
 use Rattle.host_keeps_streams.specs.Histories.{ends_now, gone_now, receiver_now, sender_now}
 use Rattle.host_keeps_streams.proofs.Chain.{Holds, all_keep_box, all_may_receive, all_may_send, holds_now, numbered_tells}
+use Rattle.host_keeps_streams.proofs.Firsts.{closed_first}
 use Rattle.host_keeps_streams.proofs.histories.histories.Goals as goal
 
 pub returns-clause-received : goal.returns-clause-received
@@ -28,3 +29,6 @@ returns-clause-telling c = numbered_tells
 
 pub returns-clause-one_message : goal.returns-clause-one_message
 returns-clause-one_message c number peer link moments tells chain allowed = all_keep_box number tells peer link moments chain allowed
+
+pub returns-clause-closed : goal.returns-clause-closed
+returns-clause-closed c = closed_first

@@ -1,4 +1,5 @@
 use Rattle.stream_law.specs.Streams.{stream}
+use Rattle.stream_law.proofs.Exact.{agreed_run}
 use Rattle.stream_law.proofs.Runs.{inv_run, safe_run, fresh_run, accepted_run}
 use Rattle.stream_law.proofs.law.streams.Goals as goal
 
@@ -10,3 +11,9 @@ returns-clause-fresh c events k run = fresh_run (stream events) (inv_run events 
 
 pub returns-clause-accepted : goal.returns-clause-accepted
 returns-clause-accepted c events k z bits run end closed over = accepted_run (stream events) (inv_run events run.1) k z bits run.0.1 end closed over
+
+pub returns-clause-caught_up : goal.returns-clause-caught_up
+returns-clause-caught_up c events k run end closed over = (inv_run events run).whole k end closed over
+
+pub returns-clause-agreed : goal.returns-clause-agreed
+returns-clause-agreed c = agreed_run

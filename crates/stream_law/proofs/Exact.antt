@@ -1,0 +1,493 @@
+-- While both ends of a connection are open nothing that was granted is lost.
+use Rattle.std.proofs.Common.{◌≡◌, ◌≢◌, ℕ, ◌+◌, ◌-◌, ◌≤◌, ◌==◌, Bool, true, false, ◌&&◌, List, [], ◌∷◌, ◌++◌, length, Option, Some, None, refl, ap, sym, subst, ◌∙◌, inl, inr, if◌then◌else◌, eq-eqb, append-nil, nat_le, ◌⊎◌, arith}
+use Rattle.std.proofs.lemmas.Bool.{eqb-true, le-leb}
+use Rattle.std.proofs.Math.Nat.{min-eq_left}
+use Rattle.ncp_control.specs.Allocation as counters
+use Rattle.ncp_control.specs.declared.allocation.Allocation.{Allocation}
+use Rattle.stream_law.specs.Words.{Word, Rts, Str, All, Gvb, Ret, Cls, for, covers, holds, is_size}
+use Rattle.stream_law.specs.Receivers as receivers
+use Rattle.stream_law.specs.Receivers.{Receiver}
+use Rattle.stream_law.specs.Senders as senders
+use Rattle.stream_law.specs.Senders.{Sender}
+use Rattle.stream_law.specs.Streams.{Stream, Box, Empty, Waiting, Taken, Event, Receives, Sends, happens, word_queued, behind, opening_stream, stream, MayHappen, IsRun}
+use Rattle.stream_law.specs.Within.{message_bits}
+use Rattle.stream_law.specs.Agreed.{IsPrompt, ArePrompt, IsAtRest, AreAgreed}
+use Rattle.stream_law.proofs.Amounts.{parts, unlike, never, some_is, at, mine, mine_same, mine_most, mine_add, Counter, Messages, Bits, number, amount, cost, total, number_all, number_spent, number_less, number_back, number_nothing, number_for, total_for, total_front, total_messages, total_bits, granted_in, granted_more, returned_in, returned_more, held, held_is}
+use Rattle.stream_law.proofs.Words.{unless_some}
+use Rattle.stream_law.proofs.Keeps.{made, Account, Inv, waits_of, link_free}
+use Rattle.stream_law.proofs.Receives as receives
+use Rattle.stream_law.proofs.Sends as sends
+use Rattle.stream_law.proofs.Runs.{inv_run}
+
+-- ---- what is kept
+
+-- what a receiving end may still take is what was granted and neither taken nor returned
+abbrev pub Holds : Counter → ℕ → Receiver → Type 0
+Holds u c r = r.end ≡ Some c → number u r.allocation + total u (r.taken c) + number u (r.returned c) ≤ number u (r.granted c)
+
+abbrev pub Fits : Receiver → Type 0
+Fits r = (r.allocation.messages ≤ 65535) × (r.allocation.bits ≤ 4294967295)
+
+-- no end of the connection closes
+pub record IsOpen (c : ℕ) (r : Receiver) (s : Sender) : Type 0 where
+  pub end : r.end ≡ Some c
+  pub receiver : r.closed ≡ false
+  pub sender : s.closed c ≡ false
+  pub unshut : s.end ≡ Some c → s.shut ≡ false
+
+abbrev pub AtMostAll : Counter → ℕ → Receiver → Sender → List Word → List Word → Type 0
+AtMostAll u c r s down up = number u (r.granted c) ≤ total u (s.sent c) + held u c s.end s.allocation + granted_in u c down + returned_in u c up + number u (r.returned c)
+
+pub record Exact (x : Stream) : Type 0 where
+  pub holds : (u : Counter) (c : ℕ) → Holds u c x.receiver
+  pub fits : Fits x.receiver
+  pub all : (u : Counter) (c : ℕ) → IsOpen c x.receiver x.sender → AtMostAll u c x.receiver x.sender x.to_sender x.to_receiver
+
+pub exact_opening : Exact opening_stream
+exact_opening = record {
+  holds = λ u c e. absurd (cc);
+  fits = (omega arith, omega arith);
+  all = λ u c o. (let e : None ≡ Some c = o.end in absurd (cc));
+}
+
+-- ---- amounts
+
+other_by : (v : Bool) (n : ℕ) → v ≡ false → (if v then n else 0) ≡ 0
+other_by true n e = absurd (cc)
+other_by false n e = refl
+
+mine_other : (k c n : ℕ) → k ≢ c → mine k c n ≡ 0
+mine_other k c n other = other_by (k == c) n (sends.away k c other)
+
+fits_in : (u : Counter) (a : Allocation) (m n : ℕ) → number u a + amount u m n ≤ number u (record { messages = 65535; bits = 4294967295 }) → number u (counters.granted a m n) ≡ number u a + amount u m n
+fits_in Messages a m n l = min-eq_left l
+fits_in Bits a m n l = min-eq_left l
+
+fits_of : (u : Counter) (r : Receiver) → Fits r → number u r.allocation ≤ number u (record { messages = 65535; bits = 4294967295 })
+fits_of Messages r f = f.0
+fits_of Bits r f = f.1
+
+-- ---- what the receiver does
+
+module _ (r : Receiver) (s : Sender) (d u : List Word) (b : Box) (h : Inv (made r s d u b)) (x : Exact (made r s d u b)) where
+  exact_ask : (c : ℕ) → r.asked c ≡ false → Exact (made (receivers.asks c r) s (d ++ Rts c ∷ []) u b)
+  exact_ask c fresh = record {
+    holds = λ u' k e. (
+        let a : Account u' k r s d u = h.account u' k in
+        let t : total u' (r.taken k) ≤ total u' (s.sent k) = total_front u' (r.taken k) (s.sent k) (h.fronts k) in
+        let n : number u' counters.nothing ≡ 0 = number_nothing u' in
+        omega (arith, a, t, n));
+    fits = (omega arith, omega arith);
+    all = λ u' k o. (let g : number u' (r.granted k) ≡ 0 = subst (λ (j : ℕ). number u' (r.granted j) ≡ 0) (some_is c k o.end) (h.ungranted u' c fresh) in omega (arith, g));
+  }
+
+  exact_grant : (c m n : ℕ) → r.end ≡ Some c → r.allocation.messages + m ≤ 65535 → r.allocation.bits + n ≤ 4294967295 → Exact (made (receivers.grants c m n r) s (d ++ All c m n ∷ []) u b)
+  exact_grant c m n end messages bits = record {
+    holds = λ u' k e. (
+        let l : number u' r.allocation + total u' (r.taken k) + number u' (r.returned k) ≤ number u' (r.granted k) = x.holds u' k e in
+        let f : number u' (for c (counters.added (r.granted c) m n) r.granted k) ≡ number u' (r.granted k) + mine k c (amount u' m n) = number_for u' k c m n r.granted in
+        let same : mine k c (amount u' m n) ≡ amount u' m n = mine_same k c (amount u' m n) (receives.both_are r.end c k end e) in
+        let all : number u' (counters.granted r.allocation m n) ≡ number u' r.allocation + amount u' m n = number_all u' r.allocation m n messages bits in
+        omega (arith, l, f, same, all));
+    fits = (
+      (let e : (counters.granted r.allocation m n).messages ≡ r.allocation.messages + m = number_all Messages r.allocation m n messages bits in omega (arith, e, messages)),
+      (let e : (counters.granted r.allocation m n).bits ≡ r.allocation.bits + n = number_all Bits r.allocation m n messages bits in omega (arith, e, bits)),
+    );
+    all = λ u' k o. (
+        let a : AtMostAll u' k r s d u = x.all u' k (record { end = o.end; receiver = o.receiver; sender = o.sender; unshut = o.unshut }) in
+        let g : granted_in u' k (d ++ All c m n ∷ []) ≡ granted_in u' k d + (mine k c (amount u' m n) + 0) = granted_more u' k d (All c m n) in
+        let f : number u' (for c (counters.added (r.granted c) m n) r.granted k) ≡ number u' (r.granted k) + mine k c (amount u' m n) = number_for u' k c m n r.granted in
+        omega (arith, a, g, f));
+  }
+
+  exact_ask_back : (c m n : ℕ) → Exact (made r s (d ++ Gvb c m n ∷ []) u b)
+  exact_ask_back c m n = record {
+    holds = x.holds;
+    fits = x.fits;
+    all = λ u' k o. (
+        let a : AtMostAll u' k r s d u = x.all u' k o in
+        let g : granted_in u' k (d ++ Gvb c m n ∷ []) ≡ granted_in u' k d + 0 = granted_more u' k d (Gvb c m n) in
+        omega (arith, a, g));
+  }
+
+  exact_close : (c : ℕ) → Exact (made (receivers.closes c r) s (d ++ Cls c ∷ []) u b)
+  exact_close c = record { holds = x.holds; fits = x.fits; all = λ u' k o. (let e : true ≡ false = o.receiver in absurd (cc)) }
+
+  exact_free : Exact (made (record r { end = None }) s d u b)
+  exact_free = record { holds = λ u' k e. absurd (cc); fits = x.fits; all = λ u' k o. (let e : None ≡ Some k = o.end in absurd (cc)) }
+
+  exact_opened : Exact (made (record r { opened = true }) s d u b)
+  exact_opened = record { holds = x.holds; fits = x.fits; all = λ u' k o. x.all u' k (record { end = o.end; receiver = o.receiver; sender = o.sender; unshut = o.unshut }) }
+
+-- what it hears
+module _ (r : Receiver) (s : Sender) (d rest : List Word) (b : Box) where
+  exact_str : (c z : ℕ) → Exact (made r s d (Str c z ∷ rest) b) → Exact (made (receivers.hears (Str c z) r) s d rest b)
+  exact_str c z x = record { holds = x.holds; fits = x.fits; all = λ u' k o. x.all u' k (record { end = o.end; receiver = o.receiver; sender = o.sender; unshut = o.unshut }) }
+
+  exact_over : (c : ℕ) → Exact (made r s d (Cls c ∷ rest) b) → Exact (made (receivers.hears (Cls c) r) s d rest b)
+  exact_over c x = record { holds = x.holds; fits = x.fits; all = λ u' k o. x.all u' k (record { end = o.end; receiver = o.receiver; sender = o.sender; unshut = o.unshut }) }
+
+  -- an end that doesn't close holds what is returned to it
+  room_for : (c m n : ℕ) → r.end ≡ Some c → Inv (made r s d (Ret c m n ∷ rest) b) → (u : Counter) → amount u m n ≤ number u r.allocation
+  room_for c m n end h u =
+      let a : Account u c r s d (Ret c m n ∷ rest) = h.account u c in
+      let l : number u (r.granted c) ≤ number u r.allocation + total u (r.taken c) + number u (r.returned c) = h.left u c end in
+      let t : total u (r.taken c) ≤ total u (s.sent c) = total_front u (r.taken c) (s.sent c) (h.fronts c) in
+      let own : mine c c (amount u m n) ≡ amount u m n = mine_same c c (amount u m n) refl in
+      omega (arith, a, l, t, own)
+
+  opened_for : (c m n : ℕ) → r.end ≡ Some c → Inv (made r s d (Ret c m n ∷ rest) b) → (u : Counter) → r.opened ≡ false → amount u m n ≡ 0
+  opened_for c m n end h u unopened =
+      let a : Account u c r s d (Ret c m n ∷ rest) = h.account u c in
+      let none : number u (r.granted c) ≡ 0 = h.unopened u c end unopened in
+      let own : mine c c (amount u m n) ≡ amount u m n = mine_same c c (amount u m n) refl in
+      omega (arith, a, none, own)
+
+  ret_opened : (c m n : ℕ) → r.end ≡ Some c → Inv (made r s d (Ret c m n ∷ rest) b) → r.closed ≡ false → r.over c ≡ false → r.opened ≡ true → (receivers.is_open c r && holds r.allocation m n) ≡ true
+  ret_opened c m n end h closed over opened =
+      let many : nat_le m r.allocation.messages ≡ true = le-leb m r.allocation.messages (room_for c m n end h Messages) in
+      let much : nat_le n r.allocation.bits ≡ true = le-leb n r.allocation.bits (room_for c m n end h Bits) in
+      rw (opened, closed, over, many, much) refl
+
+  -- what isn't taken back was nothing
+  ret_nothing : (c m n : ℕ) → r.end ≡ Some c → Inv (made r s d (Ret c m n ∷ rest) b) → (receivers.is_open c r && holds r.allocation m n) ≡ false → r.closed ≡ false → s.closed c ≡ false
+      → (u : Counter) → amount u m n ≡ 0
+  ret_nothing c m n end h dropped closed unsaid u = by r.opened refl where
+    over : r.over c ≡ false
+    over = never (r.over c) (λ o. unlike (s.closed c) (h.passed c o) unsaid)
+
+    by : (v : Bool) → r.opened ≡ v → amount u m n ≡ 0
+    by true e = absurd (unlike (receivers.is_open c r && holds r.allocation m n) (ret_opened c m n end h closed over e) dropped)
+    by false e = opened_for c m n end h u e
+
+  exact_ret_if : (c m n : ℕ) → r.end ≡ Some c → Inv (made r s d (Ret c m n ∷ rest) b) → Exact (made r s d (Ret c m n ∷ rest) b) → (v : Bool) → (receivers.is_open c r && holds r.allocation m n) ≡ v
+      → Exact (made (if v then record r { allocation = record { messages = r.allocation.messages - m; bits = r.allocation.bits - n }; returned = for c (counters.added (r.returned c) m n) r.returned } else r) s d rest b)
+  exact_ret_if c m n end h x true e = record {
+    holds = λ u' k i. (
+        let l : number u' r.allocation + total u' (r.taken k) + number u' (r.returned k) ≤ number u' (r.granted k) = x.holds u' k i in
+        let f : number u' (for c (counters.added (r.returned c) m n) r.returned k) ≡ number u' (r.returned k) + mine k c (amount u' m n) = number_for u' k c m n r.returned in
+        let same : mine k c (amount u' m n) ≡ amount u' m n = mine_same k c (amount u' m n) (receives.both_are r.end c k end i) in
+        let less : number u' (record { messages = r.allocation.messages - m; bits = r.allocation.bits - n }) + amount u' m n ≡ number u' r.allocation
+        = number_less u' r.allocation m n (parts (receivers.is_open c r) (holds r.allocation m n) e).1 in
+        omega (arith, l, f, same, less));
+    fits = ((let l : r.allocation.messages ≤ 65535 = x.fits.0 in omega (arith, l)), (let l : r.allocation.bits ≤ 4294967295 = x.fits.1 in omega (arith, l)));
+    all = λ u' k o. (
+        let a : AtMostAll u' k r s d (Ret c m n ∷ rest) = x.all u' k (record { end = o.end; receiver = o.receiver; sender = o.sender; unshut = o.unshut }) in
+        let f : number u' (for c (counters.added (r.returned c) m n) r.returned k) ≡ number u' (r.returned k) + mine k c (amount u' m n) = number_for u' k c m n r.returned in
+        omega (arith, a, f));
+  }
+  exact_ret_if c m n end h x false e = record {
+    holds = x.holds;
+    fits = x.fits;
+    all = λ u' k o. (
+        let a : AtMostAll u' k r s d (Ret c m n ∷ rest) = x.all u' k o in
+        let same : k ≡ c = receives.both_are r.end c k end o.end in
+        let none : amount u' m n ≡ 0 = ret_nothing c m n end h e o.receiver (ap s.closed (sym same) ∙ o.sender) u' in
+        let less : mine k c (amount u' m n) ≤ amount u' m n = mine_most k c (amount u' m n) in
+        omega (arith, a, none, less));
+  }
+
+  exact_ret : (c m n : ℕ) → Inv (made r s d (Ret c m n ∷ rest) b) → Exact (made r s d (Ret c m n ∷ rest) b) → Exact (made (receivers.takes_back m n r.end r) s d rest b)
+  exact_ret c m n h x =
+      let end : r.end ≡ Some c = receives.returned_to r s d rest b c m n h in
+      subst (λ (o : Option ℕ). Exact (made (receivers.takes_back m n o r) s d rest b)) (sym end) (exact_ret_if c m n end h x (receivers.is_open c r && holds r.allocation m n) refl)
+
+-- it takes data
+module _ (r : Receiver) (s : Sender) (d u : List Word) (c z : ℕ) (bits : List Bool) (h : Inv (made r s d u (Waiting c z bits))) (x : Exact (made r s d u (Waiting c z bits))) where
+  end_is : r.end ≡ Some c
+  end_is = waits_of (made r s d u (Waiting c z bits)) h c z bits refl
+
+  exact_taken_if : (v : Bool) → (receivers.is_open c r && is_size z (r.size c) && covers r.allocation (length bits)) ≡ v
+      → Exact (made (if v then record r { allocation = counters.spent r.allocation (length bits); taken = for c (r.taken c ++ bits ∷ []) r.taken } else r) s d u Taken)
+  exact_taken_if true e = record {
+    holds = λ u' k i. (
+        let l : number u' r.allocation + total u' (r.taken k) + number u' (r.returned k) ≤ number u' (r.granted k) = x.holds u' k i in
+        let f : total u' (for c (r.taken c ++ bits ∷ []) r.taken k) ≡ total u' (r.taken k) + mine k c (cost u' bits) = total_for u' k c bits r.taken in
+        let own : mine k c (cost u' bits) ≡ cost u' bits = mine_same k c (cost u' bits) (receives.both_are r.end c k end_is i) in
+        let less : number u' (counters.spent r.allocation (length bits)) + cost u' bits ≡ number u' r.allocation
+        = number_spent u' r.allocation bits (parts (receivers.is_open c r && is_size z (r.size c)) (covers r.allocation (length bits)) e).1 in
+        omega (arith, l, f, own, less));
+    fits = ((let l : r.allocation.messages ≤ 65535 = x.fits.0 in omega (arith, l)), (let l : r.allocation.bits ≤ 4294967295 = x.fits.1 in omega (arith, l)));
+    all = λ u' k o. x.all u' k (record { end = o.end; receiver = o.receiver; sender = o.sender; unshut = o.unshut });
+  }
+  exact_taken_if false e = record { holds = x.holds; fits = x.fits; all = x.all }
+
+  exact_take : Exact (made (receivers.takes z bits r.end r) s d u Taken)
+  exact_take =
+      subst (λ (o : Option ℕ). Exact (made (receivers.takes z bits o r) s d u Taken)) (sym end_is)
+      (exact_taken_if (receivers.is_open c r && is_size z (r.size c) && covers r.allocation (length bits)) refl)
+
+-- ---- what the sender does
+
+held_stays : (u : Counter) (k c : ℕ) (v : Bool) (o : Option ℕ) (a : Allocation) → k ≢ c → held u k o a ≤ held u k (senders.goes c v o) a
+held_stays u k c v None a other = omega arith
+held_stays u k c v (Some own) a other = by (own == c) refl v where
+  by : (w : Bool) → (own == c) ≡ w → (v' : Bool) → mine k own (number u a) ≤ held u k (if w && v' then None else Some own) a
+  by true e true = let none : mine k own (number u a) ≡ 0 = mine_other k own (number u a) (λ same. other (same ∙ eqb-true own c e)) in omega (arith, none)
+  by true e false = omega arith
+  by false e v' = omega arith
+
+is_same : (k c : ℕ) → (k ≡ c) ⊎ (k ≢ c)
+is_same k c = by (k == c) refl where
+  by : (v : Bool) → (k == c) ≡ v → (k ≡ c) ⊎ (k ≢ c)
+  by true e = inl (eqb-true k c e)
+  by false e = inr (λ same. unlike (k == c) (eq-eqb k c same) e)
+
+module _ (r : Receiver) (s : Sender) (d u : List Word) (b : Box) (x : Exact (made r s d u b)) where
+  exact_asks : (c z : ℕ) → Exact (made r (record s { size = for c (Some z) s.size }) d (u ++ Str c z ∷ []) b)
+  exact_asks c z = record {
+    holds = x.holds;
+    fits = x.fits;
+    all = λ u' k o. (
+        let a : AtMostAll u' k r s d u = x.all u' k (record { end = o.end; receiver = o.receiver; sender = o.sender; unshut = o.unshut }) in
+        let g : returned_in u' k (u ++ Str c z ∷ []) ≡ returned_in u' k u + 0 = returned_more u' k u (Str c z) in
+        omega (arith, a, g));
+  }
+
+  exact_opens : Exact (made r (record s { opened = true }) d u b)
+  exact_opens = record { holds = x.holds; fits = x.fits; all = λ u' k o. x.all u' k (record { end = o.end; receiver = o.receiver; sender = o.sender; unshut = o.unshut }) }
+
+  exact_boxed : (b' : Box) → Exact (made r s d u b')
+  exact_boxed b' = record { holds = x.holds; fits = x.fits; all = x.all }
+
+  exact_closes : (c : ℕ) → Exact (made r (record s { end = senders.goes c s.shut s.end; closed = for c true s.closed }) d (u ++ Cls c ∷ []) b)
+  exact_closes c = record {
+    holds = x.holds;
+    fits = x.fits;
+    all = λ u' k o. elim (at c true s.closed k) [
+      | inl t ↦ absurd (unlike (for c true s.closed k) t.1 o.sender)
+      | inr t ↦ (
+          let a : AtMostAll u' k r s d u = x.all u' k (record { end = o.end; receiver = o.receiver; sender = sym t.1 ∙ o.sender; unshut = λ e. o.unshut (sends.goes_other c s.shut s.end k t.0 e) }) in
+          let g : returned_in u' k (u ++ Cls c ∷ []) ≡ returned_in u' k u + 0 = returned_more u' k u (Cls c) in
+          let l : held u' k s.end s.allocation ≤ held u' k (senders.goes c s.shut s.end) s.allocation = held_stays u' k c s.shut s.end s.allocation t.0 in
+          omega (arith, a, g, l))
+    ];
+  }
+
+  exact_sends : (c : ℕ) (bits : List Bool) (b' : Box) → s.end ≡ Some c → covers s.allocation (length bits) ≡ true
+      → Exact (made r (record s { allocation = counters.spent s.allocation (length bits); sent = for c (s.sent c ++ bits ∷ []) s.sent }) d u b')
+  exact_sends c bits b' end covered = record {
+    holds = x.holds;
+    fits = x.fits;
+    all = λ u' k o. (
+        let a : AtMostAll u' k r s d u = x.all u' k (record { end = o.end; receiver = o.receiver; sender = o.sender; unshut = o.unshut }) in
+        let f : total u' (for c (s.sent c ++ bits ∷ []) s.sent k) ≡ total u' (s.sent k) + mine k c (cost u' bits) = total_for u' k c bits s.sent in
+        let before : held u' k s.end s.allocation ≡ mine k c (number u' s.allocation) = held_is u' k c s.end s.allocation end in
+        let after : held u' k s.end (counters.spent s.allocation (length bits)) ≡ mine k c (number u' (counters.spent s.allocation (length bits))) = held_is u' k c s.end (counters.spent s.allocation (length bits)) end in
+        let less : mine k c (number u' (counters.spent s.allocation (length bits))) + mine k c (cost u' bits) ≡ mine k c (number u' s.allocation)
+        = mine_add k c (number u' (counters.spent s.allocation (length bits))) (cost u' bits) (number u' s.allocation) (number_spent u' s.allocation bits covered) in
+        omega (arith, a, f, before, after, less));
+  }
+
+-- what it hears
+module _ (r : Receiver) (s : Sender) (rest u : List Word) (b : Box) where
+  exact_rts : (c : ℕ) → Inv (made r s (Rts c ∷ rest) u b) → Exact (made r s (Rts c ∷ rest) u b) → Exact (made r (senders.begins c s.end s) rest u b)
+  exact_rts c h x = subst (λ (o : Option ℕ). Exact (made r (senders.begins c o s) rest u b)) (sym none) begun where
+    none : s.end ≡ None
+    none = link_free (made r s (Rts c ∷ rest) u b) c rest h refl
+
+    begun : Exact (made r (senders.begins c None s) rest u b)
+    begun = record {
+      holds = x.holds;
+      fits = x.fits;
+      all = λ u' k o. (
+          let a : AtMostAll u' k r s (Rts c ∷ rest) u = x.all u' k (record { end = o.end; receiver = o.receiver; sender = o.sender; unshut = λ e. (let both : None ≡ Some k = sym none ∙ e in absurd (cc)) }) in
+          let before : held u' k s.end s.allocation ≡ 0 = ap (λ (p : Option ℕ). held u' k p s.allocation) none in
+          omega (arith, a, before));
+    }
+
+  opened_of : (c : ℕ) → s.opened ≡ true → s.shut ≡ false → s.closed c ≡ false → senders.is_open c s ≡ true
+  opened_of c opened shut closed = rw (opened, shut, closed) refl
+
+  -- the sender's end can count all that is granted to it
+  counts : (c m n : ℕ) → s.end ≡ Some c → r.end ≡ Some c → Inv (made r s (All c m n ∷ rest) u b) → Exact (made r s (All c m n ∷ rest) u b)
+      → (u' : Counter) → number u' (counters.granted s.allocation m n) ≡ number u' s.allocation + amount u' m n
+  counts c m n end there h x u' =
+      let a : Account u' c r s (All c m n ∷ rest) u = h.account u' c in
+      let l : number u' (r.granted c) ≤ number u' r.allocation + total u' (r.taken c) + number u' (r.returned c) = h.left u' c there in
+      let t : total u' (r.taken c) ≤ total u' (s.sent c) = total_front u' (r.taken c) (s.sent c) (h.fronts c) in
+      let own : mine c c (amount u' m n) ≡ amount u' m n = mine_same c c (amount u' m n) refl in
+      let all : held u' c s.end s.allocation ≡ mine c c (number u' s.allocation) = held_is u' c c s.end s.allocation end in
+      let same : mine c c (number u' s.allocation) ≡ number u' s.allocation = mine_same c c (number u' s.allocation) refl in
+      let most : number u' r.allocation ≤ number u' (record { messages = 65535; bits = 4294967295 }) = fits_of u' r x.fits in
+      fits_in u' s.allocation m n (omega (arith, a, l, t, own, all, same, most))
+
+  exact_all_if : (c m n : ℕ) → s.end ≡ Some c → s.opened ≡ true → Inv (made r s (All c m n ∷ rest) u b) → Exact (made r s (All c m n ∷ rest) u b) → (v : Bool) → senders.is_open c s ≡ v
+      → Exact (made r (if v then record s { allocation = counters.granted s.allocation m n } else s) rest u b)
+  exact_all_if c m n end opened h x true e = record {
+    holds = x.holds;
+    fits = x.fits;
+    all = λ u' k o. (
+        let a : AtMostAll u' k r s (All c m n ∷ rest) u = x.all u' k (record { end = o.end; receiver = o.receiver; sender = o.sender; unshut = o.unshut }) in
+        let before : held u' k s.end s.allocation ≡ mine k c (number u' s.allocation) = held_is u' k c s.end s.allocation end in
+        let after : held u' k s.end (counters.granted s.allocation m n) ≡ mine k c (number u' (counters.granted s.allocation m n)) = held_is u' k c s.end (counters.granted s.allocation m n) end in
+        let more : mine k c (number u' s.allocation) + mine k c (amount u' m n) ≤ mine k c (number u' (counters.granted s.allocation m n)) = grows u' k o.end (is_same k c) in
+        omega (arith, a, before, after, more));
+  } where
+    grows : (u' : Counter) (k : ℕ) → r.end ≡ Some k → (k ≡ c) ⊎ (k ≢ c) → mine k c (number u' s.allocation) + mine k c (amount u' m n) ≤ mine k c (number u' (counters.granted s.allocation m n))
+    grows u' k there (inl same) =
+        let all : number u' (counters.granted s.allocation m n) ≡ number u' s.allocation + amount u' m n = counts c m n end (there ∙ ap (λ (j : ℕ). Some j) same) h x u' in
+        let one : mine k c (number u' s.allocation) ≡ number u' s.allocation = mine_same k c (number u' s.allocation) same in
+        let two : mine k c (amount u' m n) ≡ amount u' m n = mine_same k c (amount u' m n) same in
+        let three : mine k c (number u' (counters.granted s.allocation m n)) ≡ number u' (counters.granted s.allocation m n) = mine_same k c (number u' (counters.granted s.allocation m n)) same in
+        omega (arith, all, one, two, three)
+    grows u' k there (inr other) =
+        let one : mine k c (number u' s.allocation) ≡ 0 = mine_other k c (number u' s.allocation) other in
+        let two : mine k c (amount u' m n) ≡ 0 = mine_other k c (amount u' m n) other in
+        omega (arith, one, two)
+  exact_all_if c m n end opened h x false e = record {
+    holds = x.holds;
+    fits = x.fits;
+    all = λ u' k o. elim (is_same k c) [
+      | inl same ↦ absurd (unlike (senders.is_open c s) (opened_of c opened (o.unshut (end ∙ ap (λ (j : ℕ). Some j) (sym same))) (ap s.closed (sym same) ∙ o.sender)) e)
+      | inr other ↦ (
+          let a : AtMostAll u' k r s (All c m n ∷ rest) u = x.all u' k o in
+          let none : mine k c (amount u' m n) ≡ 0 = mine_other k c (amount u' m n) other in
+          omega (arith, a, none))
+    ];
+  }
+
+  exact_all : (c m n : ℕ) → s.opened ≡ true → Inv (made r s (All c m n ∷ rest) u b) → Exact (made r s (All c m n ∷ rest) u b)
+      → Exact (made r (senders.with_allocation s.end (λ a. counters.granted a m n) s) rest u b)
+  exact_all c m n opened h x =
+      let end : s.end ≡ Some c = sends.granted_to r s rest u b c m n h in
+      subst (λ (o : Option ℕ). Exact (made r (senders.with_allocation o (λ a. counters.granted a m n) s) rest u b)) (sym end) (exact_all_if c m n end opened h x (senders.is_open c s) refl)
+
+  exact_gvb_if : (c m n : ℕ) → s.end ≡ Some c → Exact (made r s (Gvb c m n ∷ rest) u b) → (v : Bool)
+      → Exact (made r (if v then record s { allocation = counters.given_back s.allocation m n } else s) rest (word_queued (if v then Some (Ret c (counters.share s.allocation.messages m) (counters.share s.allocation.bits n)) else None) u) b)
+  exact_gvb_if c m n end x true = record {
+    holds = x.holds;
+    fits = x.fits;
+    all = λ u' k o. (
+        let a : AtMostAll u' k r s (Gvb c m n ∷ rest) u = x.all u' k (record { end = o.end; receiver = o.receiver; sender = o.sender; unshut = o.unshut }) in
+        let before : held u' k s.end s.allocation ≡ mine k c (number u' s.allocation) = held_is u' k c s.end s.allocation end in
+        let after : held u' k s.end (counters.given_back s.allocation m n) ≡ mine k c (number u' (counters.given_back s.allocation m n)) = held_is u' k c s.end (counters.given_back s.allocation m n) end in
+        let less : mine k c (number u' (counters.given_back s.allocation m n)) + mine k c (amount u' (counters.share s.allocation.messages m) (counters.share s.allocation.bits n)) ≡ mine k c (number u' s.allocation)
+        = mine_add k c (number u' (counters.given_back s.allocation m n)) (amount u' (counters.share s.allocation.messages m) (counters.share s.allocation.bits n)) (number u' s.allocation) (number_back u' s.allocation m n) in
+        let g : returned_in u' k (u ++ Ret c (counters.share s.allocation.messages m) (counters.share s.allocation.bits n) ∷ [])
+        ≡ returned_in u' k u + (mine k c (amount u' (counters.share s.allocation.messages m) (counters.share s.allocation.bits n)) + 0)
+        = returned_more u' k u (Ret c (counters.share s.allocation.messages m) (counters.share s.allocation.bits n)) in
+        omega (arith, a, before, after, less, g));
+  }
+  exact_gvb_if c m n end x false = record { holds = x.holds; fits = x.fits; all = x.all }
+
+  exact_gvb : (c m n : ℕ) → Inv (made r s (Gvb c m n ∷ rest) u b) → Exact (made r s (Gvb c m n ∷ rest) u b)
+      → Exact (made r (senders.with_allocation s.end (λ a. counters.given_back a m n) s) rest (word_queued (senders.returns m n s.end s) u) b)
+  exact_gvb c m n h x =
+      let end : s.end ≡ Some c = sends.asked_of r s rest u b c m n h in
+      subst (λ (o : Option ℕ). Exact (made r (senders.with_allocation o (λ a. counters.given_back a m n) s) rest (word_queued (senders.returns m n o s) u) b)) (sym end)
+      (exact_gvb_if c m n end x (senders.is_open c s))
+
+  exact_shut_if : (c : ℕ) → s.end ≡ Some c → Exact (made r s (Cls c ∷ rest) u b) → (v : Bool) → s.closed c ≡ v → Exact (made r (if v then record s { end = None } else record s { shut = true }) rest u b)
+  exact_shut_if c end x true closed = record {
+    holds = x.holds;
+    fits = x.fits;
+    all = λ u' k o. (
+        let other : k ≢ c = λ same. unlike (s.closed c) closed (ap s.closed (sym same) ∙ o.sender) in
+        let a : AtMostAll u' k r s (Cls c ∷ rest) u = x.all u' k (record { end = o.end; receiver = o.receiver; sender = o.sender; unshut = λ e. absurd (other (receives.both_are s.end c k end e)) }) in
+        let before : held u' k s.end s.allocation ≡ mine k c (number u' s.allocation) = held_is u' k c s.end s.allocation end in
+        let none : mine k c (number u' s.allocation) ≡ 0 = mine_other k c (number u' s.allocation) other in
+        omega (arith, a, before, none));
+  }
+  exact_shut_if c end x false closed = record {
+    holds = x.holds;
+    fits = x.fits;
+    all = λ u' k o. (
+        let other : s.end ≡ Some k → s.shut ≡ false = λ e. (let both : true ≡ false = o.unshut e in absurd (cc)) in
+        x.all u' k (record { end = o.end; receiver = o.receiver; sender = o.sender; unshut = other }));
+  }
+
+  exact_cls : (c : ℕ) → Inv (made r s (Cls c ∷ rest) u b) → Exact (made r s (Cls c ∷ rest) u b) → Exact (made r (senders.shuts c s.end s) rest u b)
+  exact_cls c h x =
+      let view : (s.end ≡ Some c) × (s.shut ≡ false) = unless_some s.shut s.end c h.down.0 in
+      subst (λ (o : Option ℕ). Exact (made r (senders.shuts c o s) rest u b)) (sym view.0)
+      (subst (λ (v : Bool). Exact (made r (if v then (if s.closed c then record s { end = None } else record s { shut = true }) else s) rest u b)) (sym (eq-eqb c c refl)) (exact_shut_if c view.0 x (s.closed c) refl))
+
+-- ---- all that may happen
+
+exact_heard : (r : Receiver) (s : Sender) (d rest : List Word) (b : Box) (w : Word) → Inv (made r s d (w ∷ rest) b) → Exact (made r s d (w ∷ rest) b) → Exact (made (receivers.hears w r) s d rest b)
+exact_heard r s d rest b (Str c z) h x = exact_str r s d rest b c z x
+exact_heard r s d rest b (Ret c m n) h x = exact_ret r s d rest b c m n h x
+exact_heard r s d rest b (Cls c) h x = exact_over r s d rest b c x
+exact_heard r s d rest b (Rts c) h x = absurd (h.up)
+exact_heard r s d rest b (All c m n) h x = absurd (h.up)
+exact_heard r s d rest b (Gvb c m n) h x = absurd (h.up)
+
+exact_told : (r : Receiver) (s : Sender) (rest u : List Word) (b : Box) (w : Word) → IsPrompt (Sends (senders.Hear w)) (made r s (w ∷ rest) u b) → Inv (made r s (w ∷ rest) u b) → Exact (made r s (w ∷ rest) u b)
+    → Exact (made r (senders.hears w s) rest (word_queued (senders.says (senders.Hear w) s) u) b)
+exact_told r s rest u b (Rts c) p h x = exact_rts r s rest u b c h x
+exact_told r s rest u b (All c m n) p h x = exact_all r s rest u b c m n p h x
+exact_told r s rest u b (Gvb c m n) p h x = exact_gvb r s rest u b c m n h x
+exact_told r s rest u b (Cls c) p h x = exact_cls r s rest u b c h x
+exact_told r s rest u b (Str c z) p h x = absurd (h.down)
+exact_told r s rest u b (Ret c m n) p h x = absurd (h.down)
+
+exact_kept : (e : Event) (y : Stream) → MayHappen e y → IsPrompt e y → Inv y → Exact y → Exact (happens e y)
+exact_kept (Receives (receivers.Ask c)) y m p h x = exact_ask y.receiver y.sender y.to_sender y.to_receiver y.box h x c m.0.1
+exact_kept (Receives (receivers.Open c)) y m p h x = exact_opened y.receiver y.sender y.to_sender y.to_receiver y.box h x
+exact_kept (Receives (receivers.Grant c n b)) y m p h x = exact_grant y.receiver y.sender y.to_sender y.to_receiver y.box h x c n b m.0.0 m.0.2 m.0.3
+exact_kept (Receives (receivers.AskBack c n b)) y m p h x = exact_ask_back y.receiver y.sender y.to_sender y.to_receiver y.box h x c n b
+exact_kept (Receives (receivers.Close c)) y m p h x = exact_close y.receiver y.sender y.to_sender y.to_receiver y.box h x c
+exact_kept (Receives (receivers.Free c)) y m p h x = exact_free y.receiver y.sender y.to_sender y.to_receiver y.box h x
+exact_kept (Receives (receivers.Hear w)) y m p h x =
+    subst (λ (u : List Word). Inv (made y.receiver y.sender y.to_sender u y.box) → Exact (made y.receiver y.sender y.to_sender u y.box) → Exact (made (receivers.hears w y.receiver) y.sender y.to_sender (behind u) y.box)) (sym m.1.1)
+    (exact_heard y.receiver y.sender y.to_sender m.1.0 y.box w) h x
+exact_kept (Receives (receivers.Take z bits)) y m p h x =
+    subst (λ (b : Box). Inv (made y.receiver y.sender y.to_sender y.to_receiver b) → Exact (made y.receiver y.sender y.to_sender y.to_receiver b) → Exact (made (receivers.takes z bits y.receiver.end y.receiver) y.sender y.to_sender y.to_receiver Taken)) (sym m.1.1)
+    (exact_take y.receiver y.sender y.to_sender y.to_receiver m.1.0 z bits) h x
+exact_kept (Sends (senders.Ask c z)) y m p h x = exact_asks y.receiver y.sender y.to_sender y.to_receiver y.box x c z
+exact_kept (Sends (senders.Open c)) y m p h x = exact_opens y.receiver y.sender y.to_sender y.to_receiver y.box x
+exact_kept (Sends (senders.Send c z bits)) y m p h x = exact_sends y.receiver y.sender y.to_sender y.to_receiver y.box x c bits (Waiting c z bits) m.0.0 m.0.3
+exact_kept (Sends (senders.Close c)) y m p h x = exact_closes y.receiver y.sender y.to_sender y.to_receiver y.box x c
+exact_kept (Sends (senders.Hear w)) y m p h x =
+    subst (λ (d : List Word). IsPrompt (Sends (senders.Hear w)) (made y.receiver y.sender d y.to_receiver y.box) → Inv (made y.receiver y.sender d y.to_receiver y.box) → Exact (made y.receiver y.sender d y.to_receiver y.box)
+    → Exact (made y.receiver (senders.hears w y.sender) (behind d) (word_queued (senders.says (senders.Hear w) y.sender) y.to_receiver) y.box)) (sym m.1.1)
+    (exact_told y.receiver y.sender m.1.0 y.to_receiver y.box w) p h x
+exact_kept (Sends senders.Told) y m p h x = exact_boxed y.receiver y.sender y.to_sender y.to_receiver y.box x Empty
+
+exact_run : (events : List Event) → IsRun events → ArePrompt events → Exact (stream events)
+exact_run [] run prompt = exact_opening
+exact_run (e ∷ events) run prompt = exact_kept e (stream events) run.0 prompt.0 (inv_run events run.1) (exact_run events run.1 prompt.1)
+
+-- ---- two ends at rest
+
+same_allocation : (a b : Allocation) → ((u : Counter) → number u a ≡ number u b) → a ≡ b
+same_allocation a b f =
+    let many : record { messages = a.messages; bits = a.bits } ≡ record { messages = b.messages; bits = a.bits } = ap (λ (n : ℕ). record { messages = n; bits = a.bits }) (f Messages) in
+    let much : record { messages = b.messages; bits = a.bits } ≡ record { messages = b.messages; bits = b.bits } = ap (λ (n : ℕ). record { messages = b.messages; bits = n }) (f Bits) in
+    many ∙ much
+
+module _ (x : Stream) (c : ℕ) (h : Inv x) (e : Exact x) (q : IsAtRest x c) where
+  receiver_open : (x.receiver.opened ≡ true) × (x.receiver.closed ≡ false) × (x.receiver.over c ≡ false)
+  receiver_open = receives.opens c x.receiver q.receives
+
+  sender_open : (x.sender.opened ≡ true) × (x.sender.shut ≡ false) × (x.sender.closed c ≡ false)
+  sender_open = sends.opens c x.sender q.sends
+
+  rest_taken : x.receiver.taken c ≡ x.sender.sent c
+  rest_taken = sym (h.whole c q.receiver receiver_open.1 receiver_open.2 ∙ ap (λ (l : List (List Bool)). x.receiver.taken c ++ l) q.box ∙ append-nil (x.receiver.taken c))
+
+  -- the amounts of a counter: all of them, and those of the receiver
+  amounts : (u : Counter) → (total u (x.receiver.taken c) + number u (x.receiver.returned c) + number u x.sender.allocation ≡ number u (x.receiver.granted c)) × (number u x.sender.allocation ≡ number u x.receiver.allocation)
+  amounts u =
+      let all : AtMostAll u c x.receiver x.sender x.to_sender x.to_receiver = e.all u c (record { end = q.receiver; receiver = receiver_open.1; sender = sender_open.2; unshut = λ end. sender_open.1 }) in
+      let less : Account u c x.receiver x.sender x.to_sender x.to_receiver = h.account u c in
+      let left : number u (x.receiver.granted c) ≤ number u x.receiver.allocation + total u (x.receiver.taken c) + number u (x.receiver.returned c) = h.left u c q.receiver in
+      let holds : number u x.receiver.allocation + total u (x.receiver.taken c) + number u (x.receiver.returned c) ≤ number u (x.receiver.granted c) = e.holds u c q.receiver in
+      let down : granted_in u c x.to_sender ≡ 0 = ap (granted_in u c) q.to_sender in
+      let up : returned_in u c x.to_receiver ≡ 0 = ap (returned_in u c) q.to_receiver in
+      let taken : total u (x.receiver.taken c) ≡ total u (x.sender.sent c) = ap (total u) rest_taken in
+      let of : held u c x.sender.end x.sender.allocation ≡ mine c c (number u x.sender.allocation) = held_is u c c x.sender.end x.sender.allocation q.sender in
+      let own : mine c c (number u x.sender.allocation) ≡ number u x.sender.allocation = mine_same c c (number u x.sender.allocation) refl in
+      (omega (arith, all, less, down, up, taken, of, own), omega (arith, all, less, left, holds, down, up, taken, of, own))
+
+  pub agreed_of : AreAgreed x c
+  agreed_of = record {
+    taken = rest_taken;
+    allocation = same_allocation x.sender.allocation x.receiver.allocation (λ u. (amounts u).1);
+    in_messages = (let n : total Messages (x.receiver.taken c) ≡ length (x.receiver.taken c) = total_messages (x.receiver.taken c) in let a : total Messages (x.receiver.taken c) + (x.receiver.returned c).messages + x.sender.allocation.messages ≡ (x.receiver.granted c).messages = (amounts Messages).0 in omega (arith, n, a));
+    in_bits = (let n : total Bits (x.receiver.taken c) ≡ message_bits (x.receiver.taken c) = total_bits (x.receiver.taken c) in let a : total Bits (x.receiver.taken c) + (x.receiver.returned c).bits + x.sender.allocation.bits ≡ (x.receiver.granted c).bits = (amounts Bits).0 in omega (arith, n, a));
+  }
+
+pub agreed_run : (events : List Event) (c : ℕ) → IsRun events → ArePrompt events → IsAtRest (stream events) c → AreAgreed (stream events) c
+agreed_run events c run prompt q = agreed_of (stream events) c (inv_run events run) (exact_run events run prompt) q
