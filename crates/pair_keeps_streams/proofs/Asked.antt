@@ -17,10 +17,8 @@ use Rattle.host_pairs.specs.declared.entry.Closing.TheVariants as closing
 use Rattle.host_pairs.specs.declared.entry.Entry.{Entry}
 use Rattle.host_pairs.specs.declared.listener.Listener.{Listener}
 use Rattle.host_keeps_streams.specs.Closings.{all_received, received_close, received_gone, received_open}
-use Rattle.host_keeps_streams.specs.Histories.{Call, IsAllowed, IsTelling}
 use Rattle.host_keeps_streams.specs.Moves.{answers_str, asked_received, asks_for, closed_received, closes_on, cls_received, data_received, received_out, str_received}
 use Rattle.host_keeps_streams.specs.Names.{named}
-use Rattle.stream_law.specs.Senders.{Sender}
 
 -- ---- moves that ask for nothing
 

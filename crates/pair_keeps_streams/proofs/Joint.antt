@@ -1,5 +1,5 @@
 -- The two programs of a pair of hosts on one link, each way, beside two runs of the law of streams.
-use Rattle.std.proofs.Common.{◌≡◌, ℕ, Bool, true, false, List, [], ◌∷◌, ◌++◌, map, None, Some}
+use Rattle.std.proofs.Common.{◌≡◌, ℕ, Bool, true, false, List, [], ◌∷◌, ◌++◌, drop, map, None, Some}
 use Rattle.leader1822.specs.Host.{Host}
 use Rattle.ncp_control.specs.DataHeader.{header_of, data_bits}
 use Rattle.ncp_control.specs.Numbers.{is_receive_socket, is_send_socket}
@@ -114,7 +114,7 @@ pub record Line (number : ℕ → ℕ → ℕ → ℕ) (link : ℕ) (heard : ℕ
 
 abbrev pub IsPosted : Post → Box → Type 0
 IsPosted Free Empty = Unit {0}
-IsPosted (Lies text) (Waiting c size bits) = (h : DataHeader) × (header_of text ≡ Some h) × (h.size ≡ size) × (data_of (data_bits h) text ≡ bits)
+IsPosted (Lies text) (Waiting c size bits) = (h : DataHeader) × (header_of text ≡ Some h) × (h.size ≡ size) × (data_of (data_bits h) text ≡ bits) × (drop 40 text ≡ bits)
 IsPosted Fetched Taken = Unit {0}
 IsPosted post box = ⊥
 

@@ -38,9 +38,13 @@ text_read h bits r e =
     let all : take (40 + data_bits h) (header_bits h ++ bits) ≡ header_bits h ++ bits = ap (λ (n : ℕ). take n (header_bits h ++ bits)) (sym long) ∙ take-length (header_bits h ++ bits) in
     ap (λ (t : List Bool). drop 40 t) all ∙ ap (λ (n : ℕ). drop n (header_bits h ++ bits)) (sym four) ∙ drop-append_seam (header_bits h) bits
 
+-- a program sends nothing behind what a header announces
+all_behind : (h : DataHeader) (bits : List Bool) → drop 40 (header_bits h ++ bits) ≡ bits
+all_behind h bits = let four : length (header_bits h) ≡ 40 = refl in ap (λ (n : ℕ). drop n (header_bits h ++ bits)) (sym four) ∙ drop-append_seam (header_bits h) bits
+
 text_posted : (c size count : ℕ) (bits : List Bool) → IsHeader (record { size = size; count = count }) → length bits ≡ size * count → IsPosted (Lies (data_text size count bits)) (Waiting c size bits)
 text_posted c size count bits r e =
-    (record { size = size; count = count }, header_again (record { size = size; count = count }) bits r (omega (arith, e)), refl, text_read (record { size = size; count = count }) bits r e)
+    (record { size = size; count = count }, header_again (record { size = size; count = count }) bits r (omega (arith, e)), refl, text_read (record { size = size; count = count }) bits r e, all_behind (record { size = size; count = count }) bits)
 
 -- ---- moves
 

@@ -4,8 +4,10 @@ ghost use Rattle.std.specs.Prelude.{◌≡◌, ℕ, ◌==◌, true, false, List,
 ghost use Rattle.std.specs.List.{Contains};
 ghost use Rattle.leader1822.specs.Host.{Host};
 ghost use Rattle.leader1822.specs.Mailboxes as mail;
+ghost use Rattle.leader1822.specs.declared.crossing.Crossing.TheVariants as crossing;
+ghost use Rattle.leader1822.specs.declared.message.HostMessage.{HostMessage};
 ghost use Rattle.host_keeps_streams.specs.Ends.{HasReceiver};
-ghost use Rattle.host_keeps_streams.specs.Histories.{AreAllowed, IsHistory, ends_now, name_now, numbered, receiver_now, sender_now};
+ghost use Rattle.host_keeps_streams.specs.Histories.{AreAllowed, HasClosed, IsHistory, ends_now, name_now, numbered, receiver_now, sender_now};
 ghost use Rattle.host_keeps_streams.specs.Names.{IsSending};
 ghost use Rattle.stream_law.specs.Within.{AreGranted, IsFront};
 ghost use Rattle.reset_law.specs.Stays as stay;
@@ -15,12 +17,15 @@ ghost use Rattle.sockets.specs.declared.request.Request.TheVariants as request;
 ghost use Rattle.net_sim.specs.declared.life.Life.{Life};
 ghost use Rattle.net_sim.specs.Clean.{HaveAddresses, IsLawful};
 ghost use Rattle.net_sim.specs.Safe.{IsGranted, Match, Source, receives};
-ghost use Rattle.net_sim.specs.Story.{Asked, Moment, events_of, program};
+ghost use Rattle.net_sim.specs.Story.{Asked, Crossed, Moment, events_of, program};
 ghost use Rattle.net_sim.specs.Timeline.{IsTimeline, crossings_of};
-ghost use Rattle.net_sim.specs.Told.{kept_in};
+ghost use Rattle.net_sim.specs.Told.{kept_in, notices_by};
 ghost use Rattle.net_sim.specs.World.{WorldState};
-ghost use Rattle.net_sim.specs.WorkedMoments.{connected};
+ghost use Rattle.net_sim.specs.WorkedMoments.{bits_sent, connected, eight_sent, sent_moments};
+ghost use Rattle.world_keeps_streams.specs.Worked.{ended_moments, quit_moments, took, took_eight};
+ghost use Rattle.world_keeps_streams.specs.Arrivals.{AllArrive, Arrives, ComesFor};
 ghost use Rattle.world_keeps_streams.specs.Calls.{own_calls, numbered_by_peer};
+ghost use Rattle.world_keeps_streams.specs.Closes.{AllClose, IsClosedByPartner, TookAll};
 
 use leader1822::Carrier;
 
@@ -43,6 +48,9 @@ pub fn streams()
     // what the one has taken in a connection is a prefix of what the other has sent in it
     ensures front { (hosts : List Host) (moments : List Moment) → HaveAddresses hosts → mail.IsRun hosts (crossings_of moments) → IsTimeline hosts moments → (a b : Host) (link : ℕ) → (link == 0) ≡ false → stay.stays a b (events_of moments) ≡ true → stay.stays b a (events_of moments) ≡ true → (c : ℕ) → IsFront ((receiver_now numbered b link (own_calls a b moments)).taken c) ((sender_now numbered_by_peer a link (own_calls b a moments)).sent c) }
 
+    // and all of it, where it has heard the other's CLS and its own user hasn't closed the end
+    ensures whole { (hosts : List Host) (moments : List Moment) → HaveAddresses hosts → mail.IsRun hosts (crossings_of moments) → IsTimeline hosts moments → (a b : Host) (link : ℕ) → (link == 0) ≡ false → stay.stays a b (events_of moments) ≡ true → stay.stays b a (events_of moments) ≡ true → (c : ℕ) → (receiver_now numbered b link (own_calls a b moments)).over c ≡ true → (HasClosed numbered b link c (own_calls a b moments) → ⊥) → (receiver_now numbered b link (own_calls a b moments)).taken c ≡ (sender_now numbered_by_peer a link (own_calls b a moments)).sent c }
+
     // with what was returned, what was taken is within what was granted, and so is what was sent
     ensures taken { (hosts : List Host) (moments : List Moment) → HaveAddresses hosts → mail.IsRun hosts (crossings_of moments) → IsTimeline hosts moments → (a b : Host) (link : ℕ) → (link == 0) ≡ false → stay.stays a b (events_of moments) ≡ true → stay.stays b a (events_of moments) ≡ true → (c : ℕ) → AreGranted ((receiver_now numbered b link (own_calls a b moments)).taken c) ((receiver_now numbered b link (own_calls a b moments)).returned c) ((receiver_now numbered b link (own_calls a b moments)).granted c) }
     ensures sent { (hosts : List Host) (moments : List Moment) → HaveAddresses hosts → mail.IsRun hosts (crossings_of moments) → IsTimeline hosts moments → (a b : Host) (link : ℕ) → (link == 0) ≡ false → stay.stays a b (events_of moments) ≡ true → stay.stays b a (events_of moments) ≡ true → (c : ℕ) → AreGranted ((sender_now numbered_by_peer a link (own_calls b a moments)).sent c) ((receiver_now numbered b link (own_calls a b moments)).returned c) ((receiver_now numbered b link (own_calls a b moments)).granted c) }
@@ -53,6 +61,12 @@ pub fn lives()
     // what a receiving life took is a prefix of what its one partner sent: where it took any bit there is one
     ensures source { (hosts : List Host) (moments : List Moment) → HaveAddresses hosts → mail.IsRun hosts (crossings_of moments) → IsTimeline hosts moments → (receiver : Life) → Contains (kept_in moments).book.lives receiver → receives receiver ≡ true → (receiver.bits ≡ [] → ⊥) → Source (crossings_of moments) (kept_in moments).book.lives receiver }
 
+    // a receiving life whose end its partner has closed, and no user of its host, took all that its partner sent
+    ensures closes { (hosts : List Host) (moments : List Moment) → HaveAddresses hosts → mail.IsRun hosts (crossings_of moments) → IsTimeline hosts moments → (receiver : Life) → IsClosedByPartner moments receiver → TookAll (crossings_of moments) (kept_in moments).book.lives receiver }
+
+    // data that are taken where they come for a receiving life whose end is open arrive there, all of them
+    ensures arrives { (hosts : List Host) (moments : List Moment) (m : HostMessage) → HaveAddresses hosts → mail.IsRun hosts (crossings_of (Crossed (crossing.In m) ∷ moments)) → IsTimeline hosts (Crossed (crossing.In m) ∷ moments) → (receiver : Life) → ComesFor m moments receiver → Arrives m moments receiver }
+
     // what a sending life sent that it matches, with what was returned, is within what it granted
     ensures sent { (hosts : List Host) (moments : List Moment) → HaveAddresses hosts → mail.IsRun hosts (crossings_of moments) → IsTimeline hosts moments → (receiver sender : Life) → Contains (kept_in moments).book.lives receiver → Contains (kept_in moments).book.lives sender → Match (crossings_of moments) receiver sender → IsGranted receiver sender.messages (length sender.bits) }
 {}
@@ -60,7 +74,26 @@ pub fn lives()
 /// The same of the book of every world, whatever its carrier is made of.
 pub fn worlds<C: Carrier>()
     ensures source { (hosts : List Host) (w : WorldState C) → IsLawful C.seen hosts w → (receiver : Life) → Contains w.kept.book.lives receiver → receives receiver ≡ true → (receiver.bits ≡ [] → ⊥) → Source w.kept.book.crossings w.kept.book.lives receiver }
+    ensures closes { (hosts : List Host) (w : WorldState C) → (lawful : IsLawful C.seen hosts w) → AllClose lawful.whole.moments }
+    ensures arrives { (hosts : List Host) (w : WorldState C) → (lawful : IsLawful C.seen hosts w) → AllArrive lawful.whole.moments }
     ensures sent { (hosts : List Host) (w : WorldState C) → IsLawful C.seen hosts w → (receiver sender : Life) → Contains w.kept.book.lives receiver → Contains w.kept.book.lives sender → Match w.kept.book.crossings receiver sender → IsGranted receiver sender.messages (length sender.bits) }
+{}
+
+/// Data that are taken: eight bits, for an end that is open, and for one that its user has closed.
+pub fn worked_arrivals()
+    ensures open { ComesFor eight_sent bits_sent took }
+    ensures arrives { Arrives eight_sent bits_sent took }
+
+    // where its user has closed the end, they don't come for the life, though it goes on; and nobody is told of them
+    ensures closing { ComesFor eight_sent (Asked dialogue.first (request.Close 16) ∷ bits_sent) took → ⊥ }
+    ensures dropped { notices_by (Crossed (crossing.In eight_sent)) (Asked dialogue.first (request.Close 16) ∷ bits_sent) ≡ [] }
+{}
+
+/// A connection that its partner closes: after all was taken, and after the receiving user had closed it and eight bits were dropped.
+pub fn worked_closes()
+    ensures ended { IsClosedByPartner ended_moments took_eight }
+    ensures open { IsClosedByPartner sent_moments took_eight → ⊥ }
+    ensures quit { IsClosedByPartner quit_moments took → ⊥ }
 {}
 
 /// The calls of two programs: the first asks for a connection, and the second's socket listens. Here a connection is told by its receiving socket.

@@ -25,7 +25,7 @@ module _ (hosts : List Host) where
   two_lives a b =
       lives hosts a b (λ ms l. carries_numbered hosts l.0 a b ms l.1 l.2) (λ ms l. carries_turned hosts l.0 b a ms l.1 l.2) (none_begins hosts a b) (none_begins hosts b a) (leaves hosts a b) (leaves hosts b a)
 
-  all_given : (a b : Host) → Given hosts a b (Own a b) (Heard a b)
+  pub all_given : (a b : Host) → Given hosts a b (Own a b) (Heard a b)
   all_given a b = given hosts a b (two_lives a b)
 
   -- ---- moments

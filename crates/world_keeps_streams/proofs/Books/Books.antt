@@ -50,7 +50,7 @@ module _ (hosts : List Host) (Own Heard : Host → Host → List Moment → ℕ 
     partners = let c : Coupled hosts ms = coupled_in hosts ms l in safe_partners hosts ms c.story c.run l.1 (served_in hosts ms l.2)
 
     -- a sending life matches one receiving life at most
-    one_receiver : (x y s : Life) → IsOf x (lives_in ms) → IsOf y (lives_in ms) → Match (crossings_of ms) x s → Match (crossings_of ms) y s → x ≡ y
+    pub one_receiver : (x y s : Life) → IsOf x (lives_in ms) → IsOf y (lives_in ms) → Match (crossings_of ms) x s → Match (crossings_of ms) y s → x ≡ y
     one_receiver x y s i j m n =
         let e : own_request x ≡ own_request y = same_name (own_request x) (own_request y) (sym m.answered ∙ n.answered) in
         elim (one_or_two x y (lives_in ms) i j) [
@@ -58,6 +58,18 @@ module _ (hosts : List Host) (Own Heard : Host → Host → List Moment → ℕ 
           | inr two ↦ elim two [
             | inl front ↦ absurd (partners.own_once x y front e)
             | inr back ↦ absurd (partners.own_once y x back (sym e))
+          ]
+        ]
+
+    -- and a receiving life matches one sending life at most
+    pub one_sender : (x s t : Life) → IsOf s (lives_in ms) → IsOf t (lives_in ms) → Match (crossings_of ms) x s → Match (crossings_of ms) x t → s ≡ t
+    one_sender x s t i j m n =
+        let e : own_request s ≡ own_request t = same_name (own_request s) (own_request t) (sym m.asked ∙ n.asked) in
+        elim (one_or_two s t (lives_in ms) i j) [
+          | inl same ↦ same
+          | inr two ↦ elim two [
+            | inl front ↦ absurd (partners.own_once s t front e)
+            | inr back ↦ absurd (partners.own_once t s back (sym e))
           ]
         ]
 

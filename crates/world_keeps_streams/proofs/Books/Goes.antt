@@ -56,6 +56,7 @@ module _ (a b : Host) (Own Heard : List Moment → ℕ → ℕ → ℕ → ℕ �
     returned_bits = p.returned_bits ∙ ap (λ (v : Allocation). v.bits) (sym ((keeps p.link).returned off (numbered x.socket x.foreign p.g)));
     own = own_on x.socket x.foreign x.own_stamp p.g p.own;
     over = λ o. refl;
+    going = λ goes. absurd (let both : true ≡ false = goes in cc);
   }
 
   abbrev leaving_s : (s : Life) → IsOf s (lives_in ms) → s.host ≡ b → s.peer ≡ a → stay.stays b a (events_of (y ∷ ms)) ≡ false → PresentS a b Own Heard ms j s → PresentS a b Own Heard (y ∷ ms) k (life_ended s)

@@ -42,7 +42,7 @@ module _ (a b : Host) (Own Heard : List Moment → ℕ → ℕ → ℕ → ℕ �
   module _ (matched : (x s : Life) (g : ℕ) → IsOf x (lives_in ms) → IsOf s (lives_in ms) → (x.host ≡ a) × (x.peer ≡ b) → (s.host ≡ b) × (s.peer ≡ a) → (x.socket ≡ s.foreign) × (x.foreign ≡ s.socket) → receives x ≡ true
       → Own ms x.socket x.foreign x.own_stamp g → Heard ms s.foreign s.socket s.partner_stamp g → Match (crossings_of ms) x s) (w : Whole a b Own Heard ms) where
     -- one connection
-    one_matches : (x s : Life) (g k : ℕ) → IsOf x (present_in a b ms) → IsOf s (present_in a b ms) → (x.host ≡ a) × (x.peer ≡ b) → (s.host ≡ b) × (s.peer ≡ a) → receives x ≡ true
+    pub one_matches : (x s : Life) (g k : ℕ) → IsOf x (present_in a b ms) → IsOf s (present_in a b ms) → (x.host ≡ a) × (x.peer ≡ b) → (s.host ≡ b) × (s.peer ≡ a) → receives x ≡ true
         → numbered s.foreign s.socket k ≡ numbered x.socket x.foreign g → Own ms x.socket x.foreign x.own_stamp g → Heard ms s.foreign s.socket s.partner_stamp k → Match (crossings_of ms) x s
     one_matches x s g k i j f h q name own heard =
         matched x s g (of_drop (since a b ms) x (lives_in ms) i) (of_drop (since a b ms) s (lives_in ms) j) f h

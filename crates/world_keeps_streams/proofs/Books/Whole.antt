@@ -1,18 +1,21 @@
 -- What the book has of two hosts, one that receives and one that sends, beside the streams of their links.
-use Rattle.std.proofs.Common.{◌≡◌, inl, inr, ℕ, suc, ◌≤◌, Bool, true, false, List, [], ◌∷◌, ◌++◌, length, map, drop, if◌then◌else◌, refl, ap, sym, subst, ◌∙◌}
+use Rattle.std.proofs.Common.{◌≡◌, inl, inr, ℕ, suc, ◌≤◌, Bool, true, false, List, [], ◌∷◌, ◌++◌, length, map, drop, if◌then◌else◌, Some, refl, ap, sym, subst, ◌∙◌}
 use Rattle.leader1822.specs.Host.{Host}
 use Rattle.stream_law.specs.Receivers.{Receiver}
 use Rattle.stream_law.specs.Senders.{Sender}
-use Rattle.host_keeps_streams.specs.Histories.{numbered, receiver_now, sender_now}
+use Rattle.host_pairs.specs.declared.entry.Entry.{Entry}
+use Rattle.host_keeps_streams.specs.Histories.{gone_now, numbered, receiver_now, sender_now}
 use Rattle.reset_law.specs.Stays as stay
+use Rattle.sockets.specs.Pairs.{pair_with}
 use Rattle.net_sim.specs.Book.{life_ended}
 use Rattle.net_sim.specs.Safe as book
 use Rattle.net_sim.specs.Safe.{IsGranted, Match, receives, sends}
-use Rattle.net_sim.specs.Story.{Moment, event_in, events_of}
+use Rattle.net_sim.specs.Story.{Moment, event_in, events_of, program}
 use Rattle.net_sim.specs.declared.life.Life.{Life}
 use Rattle.world_keeps_streams.specs.Calls.{own_calls}
 use Rattle.world_keeps_streams.proofs.Steps.Joined.{Joined, numbered_by_peer}
 use Rattle.world_keeps_streams.proofs.Carried.Streams.{all_bits}
+use Rattle.world_keeps_streams.proofs.Deeds.Effects.{Among}
 use Rattle.world_keeps_streams.proofs.Lives.Lists.{IsOf, of_drop, of_either, of_left, of_map, of_mapped, drop_grown}
 use Rattle.world_keeps_streams.proofs.Requests.Sides.{lives_in}
 
@@ -27,6 +30,7 @@ present_in a b ms = drop (since a b ms) (lives_in ms)
 -- a receiving life has what the law's receiver has of its connection
 pub record Took (x : Life) (r : Receiver) (c : ℕ) : Type 0 where
   pub bits : x.bits ≡ all_bits (r.taken c)
+  pub messages : x.messages ≡ length (r.taken c)
   pub granted_messages : x.granted.messages ≡ (r.granted c).messages
   pub granted_bits : x.granted.bits ≡ (r.granted c).bits
   pub returned_messages : x.returned.messages ≡ (r.returned c).messages
@@ -68,6 +72,8 @@ module _ (a b : Host) (Own Heard : List Moment → ℕ → ℕ → ℕ → ℕ �
     pub g : ℕ
     pub took : Took x (receiver_now numbered b (suc link) (own_calls a b ms)) (numbered x.socket x.foreign g)
     pub own : Own ms x.socket x.foreign x.own_stamp g
+    pub gone : x.ended ≡ false → g ≡ gone_now b (own_calls a b ms) x.socket x.foreign
+    pub linked : x.ended ≡ false → (e : Entry) → Among e (pair_with b (program a ms).peers).entries → e.mine ≡ true → e.own ≡ x.socket → e.link ≡ Some (suc link)
 
   pub record Sends (ms : List Moment) (s : Life) : Type 0 where
     pub link : ℕ
@@ -95,6 +101,13 @@ module _ (a b : Host) (Own Heard : List Moment → ℕ → ℕ → ℕ → ℕ �
     pub link : is.link ≡ n
     pub name : numbered life.foreign life.socket is.g ≡ c
 
+  -- one that goes on is of the connection of its end, and has all that the law's receiver took
+  pub record GoesOn (ms : List Moment) (j : (n : ℕ) → Joined a b (suc n) ms) (link g : ℕ) (x : Life) : Type 0 where
+    pub bits : x.bits ≡ all_bits ((j link).x.receiver.taken (numbered x.socket x.foreign g))
+    pub messages : x.messages ≡ length ((j link).x.receiver.taken (numbered x.socket x.foreign g))
+    pub gone : g ≡ gone_now b (own_calls a b ms) x.socket x.foreign
+    pub linked : (e : Entry) → Among e (pair_with b (program a ms).peers).entries → e.mine ≡ true → e.own ≡ x.socket → e.link ≡ Some (suc link)
+
   -- a life since both met, whether its host stays or not
   pub record PresentR (ms : List Moment) (j : (n : ℕ) → Joined a b (suc n) ms) (x : Life) : Type 0 where
     pub link : ℕ
@@ -106,6 +119,7 @@ module _ (a b : Host) (Own Heard : List Moment → ℕ → ℕ → ℕ → ℕ �
     pub returned_bits : x.returned.bits ≡ ((j link).x.receiver.returned (numbered x.socket x.foreign g)).bits
     pub own : Own ms x.socket x.foreign x.own_stamp g
     pub over : stay.stays a b (events_of ms) ≡ false → x.ended ≡ true
+    pub going : x.ended ≡ false → GoesOn ms j link g x
 
   pub record PresentS (ms : List Moment) (j : (n : ℕ) → Joined a b (suc n) ms) (s : Life) : Type 0 where
     pub link : ℕ
@@ -160,6 +174,7 @@ module _ (a b : Host) (Own Heard : List Moment → ℕ → ℕ → ℕ → ℕ �
           returned_bits = t.returned_bits;
           own = r.own;
           over = λ off. absurd (let both : true ≡ false = sym stays ∙ off in cc);
+          going = λ goes. record { bits = t.bits; messages = t.messages; gone = r.gone goes; linked = r.linked goes };
         }
 
     abbrev pub staying_s : (s : Life) → stay.stays b a (events_of ms) ≡ true → Sends ms s → PresentS ms j s

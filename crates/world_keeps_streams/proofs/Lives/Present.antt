@@ -104,12 +104,15 @@ module _ (hosts : List Host) (a b : Host) (mine : (ms : List Moment) → Lawful 
           g = g;
           took = record {
             bits = t.bits;
+            messages = t.messages;
             granted_messages = t.granted_messages;
             granted_bits = t.granted_bits;
             returned_messages = t.returned_messages;
             returned_bits = t.returned_bits;
           };
           own = own_request stays (suc n) g x i f k r c;
+          gone = c.goes;
+          linked = c.linked;
         }
 
     abbrev sends_on : stay.stays b a (events_of ms) ≡ true → (n g : ℕ) (x : Life) → IsOf x (lives_in ms) → sends x ≡ true → Theirs ms (suc n) g x → Sends a b (Own a b) (Heard a b) ms x

@@ -49,7 +49,7 @@ use Rattle.world_keeps_streams.proofs.Carried.Still.{still_next}
 use Rattle.world_keeps_streams.proofs.Calls.Chain.{chain}
 
 -- what a host tells its user of a message
-notices_there : (s : NcpState) (m : HostMessage) (stamp : ℕ) → same_host s.own m.flow.destination ≡ true
+pub notices_there : (s : NcpState) (m : HostMessage) (stamp : ℕ) → same_host s.own m.flow.destination ≡ true
     → (accepted s (inbound.Message m) stamp).1 ≡ (message_taken m.flow.source stamp m.flow.link.0 m.text (turn_of s m.flow.source)).notices
 unfolding accepted
 notices_there s m stamp own = rw own refl

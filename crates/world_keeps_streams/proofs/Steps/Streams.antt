@@ -1,12 +1,12 @@
 -- What two programs of a world that stay together have of each link, as the law of streams has it.
-use Rattle.std.proofs.Common.{◌≡◌, ℕ, ◌==◌, true, false, List, subst}
+use Rattle.std.proofs.Common.{◌≡◌, ℕ, ◌==◌, Bool, true, false, List, refl, ap, sym, subst, ◌∙◌}
 use Rattle.leader1822.specs.Host.{Host}
 use Rattle.leader1822.specs.Mailboxes as mail
 use Rattle.host_pairs.specs.declared.entry.Entry.{Entry}
 use Rattle.host_keeps_streams.specs.Ends.{HasReceiver}
-use Rattle.host_keeps_streams.specs.Histories.{AreAllowed, gone_now, name_now, numbered, receiver_now, sender_now}
+use Rattle.host_keeps_streams.specs.Histories.{AreAllowed, HasClosed, gone_now, name_now, numbered, receiver_now, sender_now}
 use Rattle.host_keeps_streams.specs.Names.{IsSending}
-use Rattle.host_keeps_streams.proofs.lemmas.{Holds, holds_now, numbered_tells}
+use Rattle.host_keeps_streams.proofs.lemmas.{Holds, closed_first, holds_now, numbered_tells}
 use Rattle.stream_law.specs.Receivers.{Receiver}
 use Rattle.stream_law.specs.Senders.{Sender}
 use Rattle.stream_law.specs.Within.{AreGranted, IsFront, IsSafe}
@@ -63,6 +63,15 @@ module _ (hosts : List Host) (addresses : HaveAddresses hosts) (link : ℕ) (off
     both_front =
         subst (λ (s : Sender). IsFront ((receiver_now numbered b link (own_calls a b moments)).taken c) (s.sent c)) sent
         (subst (λ (r : Receiver). IsFront (r.taken c) ((joined link off hosts addresses a b moments run time).x.sender.sent c)) received safe.front)
+
+    -- and all of it, where the sender's CLS was heard and no user closed the end here
+    pub both_whole : (receiver_now numbered b link (own_calls a b moments)).over c ≡ true → (HasClosed numbered b link c (own_calls a b moments) → ⊥)
+        → (receiver_now numbered b link (own_calls a b moments)).taken c ≡ (sender_now numbered_by_peer a link (own_calls b a moments)).sent c
+    both_whole over none = by ((receiver_now numbered b link (own_calls a b moments)).first c) refl where
+      by : (v : Bool) → (receiver_now numbered b link (own_calls a b moments)).first c ≡ v → (receiver_now numbered b link (own_calls a b moments)).taken c ≡ (sender_now numbered_by_peer a link (own_calls b a moments)).sent c
+      by true e = absurd (none (closed_first numbered b link c (own_calls a b moments) e))
+      by false e =
+          ap (λ (r : Receiver). r.taken c) (sym received) ∙ safe.whole (ap (λ (r : Receiver). r.over c) received ∙ over) (ap (λ (r : Receiver). r.first c) received ∙ e) ∙ ap (λ (s : Sender). s.sent c) sent
 
     pub both_taken : AreGranted ((receiver_now numbered b link (own_calls a b moments)).taken c) ((receiver_now numbered b link (own_calls a b moments)).returned c) ((receiver_now numbered b link (own_calls a b moments)).granted c)
     both_taken = subst (λ (r : Receiver). AreGranted (r.taken c) (r.returned c) (r.granted c)) received safe.taken

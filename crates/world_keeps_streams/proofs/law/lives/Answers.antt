@@ -1,4 +1,6 @@
 use Rattle.world_keeps_streams.proofs.Books.All.{sent, source}
+use Rattle.world_keeps_streams.proofs.Books.Arrives.{arrives}
+use Rattle.world_keeps_streams.proofs.Books.Closes.{closes}
 use Rattle.world_keeps_streams.proofs.law.lives.Goals as goal
 
 pub returns-clause-source : goal.returns-clause-source
@@ -6,3 +8,9 @@ returns-clause-source c hosts moments addresses run time receiver there q some =
 
 pub returns-clause-sent : goal.returns-clause-sent
 returns-clause-sent c hosts moments addresses run time receiver sender here there m = sent hosts moments addresses run time receiver sender here there m
+
+pub returns-clause-arrives : goal.returns-clause-arrives
+returns-clause-arrives c hosts moments m addresses run time receiver comes = arrives hosts addresses m moments run time receiver comes
+
+pub returns-clause-closes : goal.returns-clause-closes
+returns-clause-closes c hosts moments addresses run time receiver closed = closes hosts moments (addresses, run, time) receiver closed

@@ -1,4 +1,4 @@
-use Rattle.world_keeps_streams.proofs.Steps.Streams.{both_front, both_sent, both_taken}
+use Rattle.world_keeps_streams.proofs.Steps.Streams.{both_front, both_sent, both_taken, both_whole}
 use Rattle.world_keeps_streams.proofs.law.streams.Goals as goal
 
 pub returns-clause-front : goal.returns-clause-front
@@ -9,3 +9,6 @@ returns-clause-taken c hosts moments addresses run time a b link off mine theirs
 
 pub returns-clause-sent : goal.returns-clause-sent
 returns-clause-sent c hosts moments addresses run time a b link off mine theirs k = both_sent hosts addresses link off a b moments run time mine theirs k
+
+pub returns-clause-whole : goal.returns-clause-whole
+returns-clause-whole c hosts moments addresses run time a b link off mine theirs k over none = both_whole hosts addresses link off a b moments run time mine theirs k over none

@@ -1,4 +1,6 @@
 use Rattle.world_keeps_streams.proofs.Books.All.{world_sent, world_source}
+use Rattle.world_keeps_streams.proofs.Books.Arrives.{world_arrives}
+use Rattle.world_keeps_streams.proofs.Books.Closes.{world_closes}
 use Rattle.world_keeps_streams.proofs.law.worlds.Goals as goal
 
 pub returns-clause-source : goal.returns-clause-source
@@ -6,3 +8,9 @@ returns-clause-source g c hosts w lawful receiver there q some = world_source ho
 
 pub returns-clause-sent : goal.returns-clause-sent
 returns-clause-sent g c hosts w lawful receiver sender here there m = world_sent hosts g.C.Carrier.seen w lawful receiver sender here there m
+
+pub returns-clause-arrives : goal.returns-clause-arrives
+returns-clause-arrives g c hosts w lawful = world_arrives g.C.Carrier.seen hosts w lawful
+
+pub returns-clause-closes : goal.returns-clause-closes
+returns-clause-closes g c hosts w lawful = world_closes g.C.Carrier.seen hosts w lawful

@@ -1,0 +1,243 @@
+-- Data that are taken where they come for a receiving life whose end is open arrive there.
+use Rattle.std.proofs.Common.{◌≡◌, ◌⊎◌, inl, inr, ◌==◌, ◌&&◌, not, ℕ, Bool, true, false, List, [], ◌∷◌, ◌++◌, length, filter, find, drop, Option, Some, None, refl, ap, sym, subst, ◌∙◌, eq-eqb}
+use Rattle.std.proofs.lemmas.Bool.{eqb-true}
+use Rattle.std.specs.List.{Contains}
+use Rattle.leader1822.specs.Calls.{Seen}
+use Rattle.leader1822.specs.Host.{Host, same_host}
+use Rattle.leader1822.specs.Mailboxes as mail
+use Rattle.leader1822.specs.declared.crossing.Crossing.TheVariants as crossing
+use Rattle.leader1822.specs.declared.crossing.Inbound.TheVariants as inbound
+use Rattle.leader1822.specs.declared.message.HostMessage.{HostMessage}
+use Rattle.leader1822.proofs.lemmas.{same_host-refl}
+use Rattle.ncp_control.specs.DataHeader.{data_bits, header_of}
+use Rattle.ncp_control.specs.Numbers.{is_receive_socket}
+use Rattle.ncp_control.specs.declared.data_header.DataHeader.{DataHeader}
+use Rattle.stream_law.specs.Words as words
+use Rattle.stream_law.specs.Words.{covers}
+use Rattle.stream_law.specs.Receivers as receivers
+use Rattle.stream_law.specs.Receivers.{Receiver}
+use Rattle.stream_law.specs.Streams.{Box, Empty, Waiting, Taken}
+use Rattle.stream_law.proofs.lemmas.{acceptable, some_is, waits_of}
+use Rattle.host_pairs.specs.Commands.{Found, Open, found_in}
+use Rattle.host_pairs.specs.Data.{arrived_if, data_found, data_of, data_taken, is_acceptable}
+use Rattle.host_pairs.specs.Desk.{DeskState, desk_of}
+use Rattle.host_pairs.specs.Entries.{is_ending, is_link, is_mine_on, is_open, receives_on}
+use Rattle.host_pairs.specs.Phases as phases
+use Rattle.host_pairs.specs.Turn.{TurnState, message_taken, with_desk}
+use Rattle.host_pairs.specs.declared.entry.Entry.{Entry}
+use Rattle.host_pairs.specs.declared.notice.Notice.{Notice}
+use Rattle.host_pairs.specs.declared.notice.Notice.TheVariants as notice
+use Rattle.host_pairs.proofs.lemmas.{both}
+use Rattle.host_keeps_streams.specs.Ends.{AreReceiver, HasReceiver, IsReceiver}
+use Rattle.host_keeps_streams.specs.Histories.{name_now, numbered, receiver_now}
+use Rattle.host_keeps_streams.proofs.lemmas.{accept_same, bits_there, first_is, open_found, open_same}
+use Rattle.pair_keeps_streams.proofs.lemmas.{IsPosted, Lies, Post}
+use Rattle.reset_law.specs.Boxes as reset
+use Rattle.reset_law.specs.Boxes.{boxes}
+use Rattle.reset_law.specs.Events.{Message, Other}
+use Rattle.reset_law.specs.Stays as stay
+use Rattle.sockets.specs.Accepting.{accepted, turn_of}
+use Rattle.sockets.specs.Pairs.{NcpState, pair_with}
+use Rattle.net_sim.specs.Clean.{HaveAddresses, IsLawful}
+use Rattle.net_sim.specs.Projection.{message_on}
+use Rattle.net_sim.specs.Safe.{receives}
+use Rattle.net_sim.specs.Story.{Crossed, Moment, events_of, places, program}
+use Rattle.net_sim.specs.Timeline.{IsTimeline, crossings_of}
+use Rattle.net_sim.specs.World.{WorldState}
+use Rattle.net_sim.specs.declared.life.Life.{Life}
+use Rattle.net_sim.proofs.lemmas.{coupled, program_own}
+use Rattle.world_keeps_lives.specs.Lives.{HasOpenEnd}
+use Rattle.world_keeps_lives.proofs.lemmas.{held}
+use Rattle.world_keeps_pairing.proofs.lemmas.{book_run, mail_below, waiting}
+use Rattle.world_keeps_streams.specs.Arrivals.{AllArrive, Arrives, ComesFor}
+use Rattle.world_keeps_streams.specs.Calls.{own_calls}
+use Rattle.world_keeps_streams.proofs.Books.Run.{below}
+use Rattle.world_keeps_streams.proofs.Deeds.Effects.{Among, among_filter, among_kept}
+use Rattle.world_keeps_streams.proofs.Lives.Left.{over_when_left}
+use Rattle.world_keeps_streams.proofs.Lives.Lists.{is_of}
+use Rattle.world_keeps_streams.proofs.Moments.In.{notices_there}
+use Rattle.world_keeps_streams.proofs.Requests.Sides.{Lawful, lives_in}
+use Rattle.world_keeps_streams.proofs.Steps.Joined.{Joined, post_in}
+use Rattle.world_keeps_streams.proofs.Steps.JoinedAll.{joined}
+use Rattle.world_keeps_streams.proofs.Steps.Streams.{has_receiver}
+
+pub unlike : (v : Bool) → v ≡ true → v ≡ false → ⊥
+unlike v e f = let same : true ≡ false = sym e ∙ f in absurd (cc)
+
+-- ---- the one end on a link
+
+-- of the ends on a link there is one, so one that is among them is the law's
+pub one_end : (name : ℕ → ℕ → ℕ) (e : Entry) (xs : List Entry) (r : Receiver) → AreReceiver name xs r → Among e xs → (xs ≡ e ∷ []) × IsReceiver (name e.own e.foreign) e r
+one_end name e [] r h there = absurd there
+one_end name e (y ∷ []) r h (inl same) = (ap (λ (z : Entry). z ∷ []) same, subst (λ (z : Entry). IsReceiver (name z.own z.foreign) z r) same h)
+one_end name e (y ∷ []) r h (inr there) = absurd there
+one_end name e (y ∷ z ∷ zs) r h there = absurd h
+
+-- a life that goes on has its end among those of its host's program
+pub end_at : (x : Life) (s : NcpState) (h : HasOpenEnd s x) → Among h.end (pair_with x.peer s.peers).entries × (is_mine_on x.socket h.end ≡ true)
+end_at x s h = among_filter (is_mine_on x.socket) (pair_with x.peer s.peers).entries h.end (subst (λ (xs : List Entry). Among h.end xs) (sym h.one) (inl refl))
+
+pub on_link : (link : ℕ) (e : Entry) (x : Life) → e.own ≡ x.socket → receives x ≡ true → e.link ≡ Some link → receives_on link e ≡ true
+on_link link e x own receiving is =
+    let kind : is_receive_socket e.own ≡ true = ap is_receive_socket own ∙ receiving in
+    let linked : is_link link e.link ≡ true = ap (is_link link) is ∙ eq-eqb link link refl in
+    rw (kind, linked) refl
+
+-- and its host stays with the peer
+pub stays_of : (hosts : List Host) (ms : List Moment) → Lawful hosts ms → (x : Life) → Contains (lives_in ms) x → x.ended ≡ false → stay.stays x.host x.peer (events_of ms) ≡ true
+stays_of hosts ms l x there goes = by (stay.stays x.host x.peer (events_of ms)) refl where
+  by : (v : Bool) → stay.stays x.host x.peer (events_of ms) ≡ v → stay.stays x.host x.peer (events_of ms) ≡ true
+  by true e = e
+  by false e = absurd (unlike x.ended (over_when_left hosts ms l x.host x.peer e x (is_of x (lives_in ms) there) refl refl) goes)
+
+-- what is told of data that an open end finds acceptable
+told_open : (link : ℕ) (text : List Bool) (e : Entry) (h : DataHeader) (d : DeskState) → find (receives_on link) d.entries ≡ Some e → is_open e ≡ true → header_of text ≡ Some h → is_acceptable e h ≡ true
+    → (data_taken link text d).notices ≡ d.notices ++ notice.Arrived e.own (data_of (data_bits h) text) ∷ []
+told_open link text e h d found is header good =
+    subst (λ (o : Option Entry). (data_found link text (found_in o) d).notices ≡ d.notices ++ notice.Arrived e.own (data_of (data_bits h) text) ∷ []) (sym found)
+    (open_found (λ (w : Found). (data_found link text w d).notices ≡ d.notices ++ notice.Arrived e.own (data_of (data_bits h) text) ∷ []) e is
+    (subst (λ (o : Option DataHeader). (arrived_if link e text o d).notices ≡ d.notices ++ notice.Arrived e.own (data_of (data_bits h) text) ∷ []) (sym header) (rw good refl)))
+
+-- what waits in the law's box
+record Boxed (text : List Bool) (box : Box) : Type 0 where
+  connection : ℕ
+  size : ℕ
+  bits : List Bool
+  header : DataHeader
+  is : box ≡ Waiting connection size bits
+  header_is : header_of text ≡ Some header
+  size_is : header.size ≡ size
+  data_is : data_of (data_bits header) text ≡ bits
+  whole : drop 40 text ≡ bits
+
+boxed : (text : List Bool) (box : Box) → IsPosted (Lies text) box → Boxed text box
+boxed text Empty p = absurd p
+boxed text (Waiting c z bits) p = record { connection = c; size = z; bits = bits; header = p.0; is = refl; header_is = p.1; size_is = p.2; data_is = p.3; whole = p.4 }
+boxed text Taken p = absurd p
+
+open_parts : (c : ℕ) (r : Receiver) → receivers.is_open c r ≡ true → (r.closed ≡ false) × (r.over c ≡ false)
+open_parts c r e = by r.opened r.closed (r.over c) e where
+  by : (u v w : Bool) → (u && not v && not w) ≡ true → (v ≡ false) × (w ≡ false)
+  by true false false e = (refl, refl)
+  by true true w e = absurd (let no : false ≡ true = e in cc)
+  by true false true e = absurd (let no : false ≡ true = e in cc)
+  by false v w e = absurd (let no : false ≡ true = e in cc)
+
+-- ---- a message that is taken
+
+module _ (hosts : List Host) (addresses : HaveAddresses hosts) (m : HostMessage) (ms : List Moment) (run : mail.IsRun hosts (crossings_of (Crossed (crossing.In m) ∷ ms))) (time : IsTimeline hosts (Crossed (crossing.In m) ∷ ms)) (x : Life) (f : ComesFor m ms x) where
+  abbrev link : ℕ
+  link = m.flow.link.0
+
+  abbrev es : List Entry
+  es = (pair_with x.peer (program x.host ms).peers).entries
+
+  abbrev d : DeskState
+  d = desk_of (pair_with x.peer (program x.host ms).peers) (program x.host ms).listening
+
+  lawful : Lawful hosts ms
+  lawful = (addresses, mail_below hosts (Crossed (crossing.In m)) ms run, time.1)
+
+  stays : stay.stays x.host x.peer (events_of ms) ≡ true
+  stays = stays_of hosts ms lawful x f.there f.goes
+
+  -- ---- the life's end
+
+  at_it : Among f.end.end es × (is_mine_on x.socket f.end.end ≡ true)
+  at_it = end_at x (program x.host ms) f.end
+
+  own : f.end.end.own ≡ x.socket
+  own = eqb-true f.end.end.own x.socket (both f.end.end.mine (f.end.end.own == x.socket) at_it.1).1
+
+  here : receives_on link f.end.end ≡ true
+  here = on_link link f.end.end x own f.receiving f.link
+
+  j : Joined x.host x.peer link ms
+  j = joined link f.off_control hosts addresses x.host x.peer ms lawful.1 time.1
+
+  has : HasReceiver (name_now numbered x.peer (own_calls x.host x.peer ms)) link es (joined link f.off_control hosts addresses x.host x.peer ms lawful.1 time.1).x.receiver
+  has = subst (λ (r : Receiver). HasReceiver (name_now numbered x.peer (own_calls x.host x.peer ms)) link es r) (sym ((joined link f.off_control hosts addresses x.host x.peer ms lawful.1 time.1).received_a stays))
+      (has_receiver hosts addresses link f.off_control x.host x.peer ms lawful.1 time.1)
+
+  the_end : (filter (receives_on link) es ≡ f.end.end ∷ []) × IsReceiver (name_now numbered x.peer (own_calls x.host x.peer ms) f.end.end.own f.end.end.foreign) f.end.end (joined link f.off_control hosts addresses x.host x.peer ms lawful.1 time.1).x.receiver
+  the_end =
+      one_end (name_now numbered x.peer (own_calls x.host x.peer ms)) f.end.end (filter (receives_on link) es) (joined link f.off_control hosts addresses x.host x.peer ms lawful.1 time.1).x.receiver has
+      (among_kept (receives_on link) es f.end.end at_it.0 here)
+
+  -- ---- what waits on the link
+
+  text_is : message_on link m.text ≡ Other m.text
+  text_is = rw f.off_control refl
+
+  waits : (n : ℕ) × (boxes x.peer x.host (events_of ms) link ≡ reset.Waiting n (message_on link m.text))
+  waits =
+      waiting (boxes x.peer x.host (events_of ms) link) (message_on link m.text)
+      (subst (λ (g : Host). reset.WaitsWith (boxes g x.host (events_of ms) link) (message_on link m.text)) (sym f.peer)
+      (subst (λ (g : Host). reset.WaitsWith (boxes m.flow.source g (events_of ms) link) (message_on link m.text)) (sym f.host) (coupled hosts addresses (Crossed (crossing.In m) ∷ ms) run time).run.0.1))
+
+  lies : post_in (boxes x.peer x.host (events_of ms) link) ≡ Lies m.text
+  lies = ap post_in waits.1 ∙ ap (λ (n : Message). post_in (reset.Waiting waits.0 n)) text_is
+
+  in_box : Boxed m.text (joined link f.off_control hosts addresses x.host x.peer ms lawful.1 time.1).x.box
+  in_box = boxed m.text (joined link f.off_control hosts addresses x.host x.peer ms lawful.1 time.1).x.box (by (stay.stays x.peer x.host (events_of ms)) refl) where
+    by : (v : Bool) → stay.stays x.peer x.host (events_of ms) ≡ v → IsPosted (Lies m.text) (joined link f.off_control hosts addresses x.host x.peer ms lawful.1 time.1).x.box
+    by true e = subst (λ (p : Post). IsPosted p (joined link f.off_control hosts addresses x.host x.peer ms lawful.1 time.1).x.box) lies ((joined link f.off_control hosts addresses x.host x.peer ms lawful.1 time.1).joint.box_x.whole e)
+    by false e = (joined link f.off_control hosts addresses x.host x.peer ms lawful.1 time.1).joint.box_x.left e stays m.text lies
+
+  -- ---- the end finds it acceptable
+
+  abbrev r : Receiver
+  r = (joined link f.off_control hosts addresses x.host x.peer ms lawful.1 time.1).x.receiver
+
+  abbrev c : ℕ
+  c = name_now numbered x.peer (own_calls x.host x.peer ms) f.end.end.own f.end.end.foreign
+
+  opened : receivers.is_open c r ≡ true
+  opened = open_same c f.end.end r the_end.1 ∙ f.opened
+
+  fits : (receivers.is_open c r && words.is_size in_box.size (r.size c) && covers r.allocation (length in_box.bits)) ≡ true
+  fits =
+      let same : in_box.connection ≡ c = some_is in_box.connection c (sym (waits_of (joined link f.off_control hosts addresses x.host x.peer ms lawful.1 time.1).x (joined link f.off_control hosts addresses x.host x.peer ms lawful.1 time.1).joint.inv_x in_box.connection in_box.size in_box.bits in_box.is) ∙ the_end.1.end) in
+      acceptable (joined link f.off_control hosts addresses x.host x.peer ms lawful.1 time.1).x (joined link f.off_control hosts addresses x.host x.peer ms lawful.1 time.1).joint.inv_x c in_box.size in_box.bits
+      (in_box.is ∙ ap (λ (k : ℕ). Waiting k in_box.size in_box.bits) same) (open_parts c r opened).0 (open_parts c r opened).1
+
+  good : is_acceptable f.end.end in_box.header ≡ true
+  good =
+      let long : length in_box.bits ≡ data_bits in_box.header = ap length (sym in_box.data_is) ∙ bits_there m.text in_box.header in_box.header_is in
+      sym (accept_same c f.end.end r in_box.header in_box.bits the_end.1 f.opened long) ∙ ap (λ (z : ℕ). receivers.is_open c r && words.is_size z (r.size c) && covers r.allocation (length in_box.bits)) in_box.size_is ∙ fits
+
+  -- ---- what is told
+
+  ready : phases.is_ready (pair_with x.peer (program x.host ms).peers).phase ≡ true
+  ready = by (phases.is_ready (pair_with x.peer (program x.host ms).peers).phase) refl where
+    by : (v : Bool) → phases.is_ready (pair_with x.peer (program x.host ms).peers).phase ≡ v → phases.is_ready (pair_with x.peer (program x.host ms).peers).phase ≡ true
+    by true e = e
+    by false e = absurd (subst (λ (xs : List Entry). Among f.end.end xs) ((held x.host 0 hosts addresses ms lawful.1 time.1).steady.idle x.peer e) at_it.0)
+
+  told : (message_taken x.peer (places ms) link m.text (turn_of (program x.host ms) x.peer)).notices ≡ notice.Arrived x.socket (drop 40 m.text) ∷ []
+  told =
+      let all : (data_taken link m.text d).notices ≡ notice.Arrived f.end.end.own (data_of (data_bits in_box.header) m.text) ∷ [] = told_open link m.text f.end.end in_box.header d (first_is (receives_on link) f.end.end [] es the_end.0) f.opened in_box.header_is good in
+      let bits : data_of (data_bits in_box.header) m.text ≡ drop 40 m.text = in_box.data_is ∙ sym in_box.whole in
+      rw (f.off_control, ready) (all ∙ ap (λ (k : ℕ). notice.Arrived k (data_of (data_bits in_box.header) m.text) ∷ []) own ∙ ap (λ (b : List Bool). notice.Arrived x.socket b ∷ []) bits)
+
+  pub arrives : Arrives m ms x
+  arrives =
+      subst (λ (g : Host). (accepted (program g ms) (inbound.Message m) (places ms)).1 ≡ notice.Arrived x.socket (drop 40 m.text) ∷ []) f.host
+      (notices_there (program x.host ms) m (places ms) (ap (λ (g : Host). same_host g m.flow.destination) (program_own x.host ms ∙ f.host) ∙ same_host-refl m.flow.destination)
+      ∙ subst (λ (g : Host). (message_taken g (places ms) link m.text (turn_of (program x.host ms) g)).notices ≡ notice.Arrived x.socket (drop 40 m.text) ∷ []) f.peer told)
+
+-- ---- over a list of moments
+
+pub rest_lawful : (hosts : List Host) (later ms : List Moment) → Lawful hosts (later ++ ms) → Lawful hosts ms
+rest_lawful hosts [] ms l = l
+rest_lawful hosts (y ∷ later) ms l = rest_lawful hosts later ms (below hosts y (later ++ ms) l)
+
+all_arrive : (hosts : List Host) (ms : List Moment) → Lawful hosts ms → AllArrive ms
+all_arrive hosts ms l m later earlier is x f =
+    let k : Lawful hosts (Crossed (crossing.In m) ∷ earlier) = rest_lawful hosts later (Crossed (crossing.In m) ∷ earlier) (subst (λ (ns : List Moment). Lawful hosts ns) is l) in
+    arrives hosts k.0 m earlier k.1 k.2 x f
+
+-- ---- worlds
+
+pub world_arrives : {C : Type 0} (seen : C → Seen) (hosts : List Host) (w : WorldState C) → (lawful : IsLawful seen hosts w) → AllArrive lawful.whole.moments
+world_arrives seen hosts w lawful = all_arrive hosts lawful.whole.moments (lawful.addresses, book_run seen hosts w lawful, lawful.whole.timeline)

@@ -1,0 +1,231 @@
+-- A receiving life whose end its partner has closed, and no user of its host, took all that its partner sent.
+use Rattle.std.proofs.Common.{◌≡◌, ◌⊎◌, inl, inr, ℕ, suc, ◌+◌, ◌≤◌, ◌==◌, Bool, true, false, List, [], ◌∷◌, ◌++◌, length, filter, Some, refl, ap, sym, subst, ◌∙◌, arith}
+use Rattle.std.proofs.lemmas.Bool.{eqb-true, ne_eqb}
+use Rattle.std.specs.List.{Contains}
+use Rattle.leader1822.specs.Calls.{Seen}
+use Rattle.leader1822.specs.Host.{Host}
+use Rattle.stream_law.specs.Receivers.{Receiver}
+use Rattle.stream_law.specs.Within.{IsSafe}
+use Rattle.stream_law.proofs.lemmas.{safe_inv, some_is}
+use Rattle.host_pairs.specs.Entries.{is_mine_on, receives_on}
+use Rattle.host_pairs.specs.declared.entry.Entry.{Entry}
+use Rattle.host_pairs.proofs.lemmas.{both}
+use Rattle.host_keeps_streams.specs.Ends.{HasReceiver, IsReceiver}
+use Rattle.host_keeps_streams.specs.Histories.{HasClosed, name_now, numbered, receiver_now}
+use Rattle.host_keeps_streams.proofs.lemmas.{closed_first}
+use Rattle.reset_law.specs.Stays as stay
+use Rattle.sockets.specs.Pairs.{pair_with}
+use Rattle.net_sim.specs.Clean.{IsLawful}
+use Rattle.net_sim.specs.Safe.{Match}
+use Rattle.net_sim.specs.Story.{Moment, events_of, program}
+use Rattle.net_sim.specs.Timeline.{crossings_of}
+use Rattle.net_sim.specs.World.{WorldState}
+use Rattle.net_sim.specs.declared.life.Life.{Life}
+use Rattle.world_keeps_pairing.proofs.lemmas.{book_run}
+use Rattle.world_keeps_streams.specs.Calls.{own_calls}
+use Rattle.world_keeps_streams.specs.Closes.{AllClose, IsClosedByPartner, TookAll}
+use Rattle.world_keeps_streams.proofs.Books.All.{all_given}
+use Rattle.world_keeps_streams.proofs.Books.Arrives.{end_at, on_link, one_end, rest_lawful, stays_of, unlike}
+use Rattle.world_keeps_streams.proofs.Books.Books.{one_receiver, one_sender}
+use Rattle.world_keeps_streams.proofs.Books.Clauses.{OldGranter, settled_r, settled_s}
+use Rattle.world_keeps_streams.proofs.Books.Run.{Given, whole}
+use Rattle.world_keeps_streams.proofs.Books.Source.{one_matches}
+use Rattle.world_keeps_streams.proofs.Books.Whole.{GoesOn, HasR, HasS, PresentR, PresentS, Whole, present_in, since}
+use Rattle.world_keeps_streams.proofs.Carried.Streams.{all_bits}
+use Rattle.world_keeps_streams.proofs.Deeds.Effects.{Among, among_kept}
+use Rattle.world_keeps_streams.proofs.Lives.Lists.{IsOf, is_of, of_drop, of_parts}
+use Rattle.world_keeps_streams.proofs.Requests.Sides.{Heard, Lawful, Own, lives_in}
+use Rattle.world_keeps_streams.proofs.Steps.Streams.{has_receiver}
+
+suc_is : (m n : ℕ) → suc m ≡ suc n → m ≡ n
+suc_is m n e = omega (arith, e)
+
+module _ (hosts : List Host) (ms : List Moment) (l : Lawful hosts ms) (x : Life) (f : IsClosedByPartner ms x) where
+  given : Given hosts x.host x.peer (Own x.host x.peer) (Heard x.host x.peer)
+  given = all_given hosts x.host x.peer
+
+  w : Whole x.host x.peer (Own x.host x.peer) (Heard x.host x.peer) ms
+  w = whole hosts x.host x.peer (Own x.host x.peer) (Heard x.host x.peer) (all_given hosts x.host x.peer) ms l
+
+  stays : stay.stays x.host x.peer (events_of ms) ≡ true
+  stays = stays_of hosts ms l x f.there f.goes
+
+  here : IsOf x (lives_in ms)
+  here = is_of x (lives_in ms) f.there
+
+  late : IsOf x (present_in x.host x.peer ms)
+  late = elim (of_parts (since x.host x.peer ms) x (lives_in ms) here) [
+    | inl early ↦ absurd (unlike x.ended (settled_r hosts x.host x.peer (Own x.host x.peer) (Heard x.host x.peer) given ms l x early refl refl f.receiving).over f.goes)
+    | inr there ↦ there
+  ]
+
+  -- ---- its end and its connection
+
+  at_it : Among f.end.end (pair_with x.peer (program x.host ms).peers).entries × (is_mine_on x.socket f.end.end ≡ true)
+  at_it = end_at x (program x.host ms) f.end
+
+  parts : (f.end.end.mine ≡ true) × ((f.end.end.own == x.socket) ≡ true)
+  parts = both f.end.end.mine (f.end.end.own == x.socket) at_it.1
+
+  own : f.end.end.own ≡ x.socket
+  own = eqb-true f.end.end.own x.socket parts.1
+
+  -- the life's own connection on its link, by whatever way it is known
+  is_here : (n g : ℕ) → GoesOn x.host x.peer (Own x.host x.peer) (Heard x.host x.peer) ms w.j n g x → (f.link ≡ suc n) × (numbered x.socket x.foreign g ≡ name_now numbered x.peer (own_calls x.host x.peer ms) x.socket x.foreign)
+  is_here n g o =
+      (some_is f.link (suc n) (sym f.linked ∙ o.linked f.end.end at_it.0 parts.0 own), ap (λ (k : ℕ). numbered x.socket x.foreign k) o.gone)
+
+  abbrev known : PresentR x.host x.peer (Own x.host x.peer) (Heard x.host x.peer) ms w.j x
+  known = w.receiving x late refl refl f.receiving
+
+  abbrev n : ℕ
+  n = (w.receiving x late refl refl f.receiving).link
+
+  abbrev c : ℕ
+  c = numbered x.socket x.foreign (w.receiving x late refl refl f.receiving).g
+
+  going : GoesOn x.host x.peer (Own x.host x.peer) (Heard x.host x.peer) ms w.j n (w.receiving x late refl refl f.receiving).g x
+  going = (w.receiving x late refl refl f.receiving).going f.goes
+
+  place : (f.link ≡ suc n) × (c ≡ name_now numbered x.peer (own_calls x.host x.peer ms) x.socket x.foreign)
+  place = is_here n (w.receiving x late refl refl f.receiving).g going
+
+  off : (suc n == 0) ≡ false
+  off = ne_eqb (suc n) 0 (λ e. absurd (cc))
+
+  -- the law's receiver of the link has it as the program has its end
+  law : IsReceiver (name_now numbered x.peer (own_calls x.host x.peer ms) f.end.end.own f.end.end.foreign) f.end.end (receiver_now numbered x.peer (suc n) (own_calls x.host x.peer ms))
+  law =
+      let has : HasReceiver (name_now numbered x.peer (own_calls x.host x.peer ms)) (suc n) (pair_with x.peer (program x.host ms).peers).entries (receiver_now numbered x.peer (suc n) (own_calls x.host x.peer ms)) =
+      has_receiver hosts l.0 (suc n) off x.host x.peer ms l.1 l.2 in
+      (one_end (name_now numbered x.peer (own_calls x.host x.peer ms)) f.end.end (filter (receives_on (suc n)) (pair_with x.peer (program x.host ms).peers).entries) (receiver_now numbered x.peer (suc n) (own_calls x.host x.peer ms)) has
+      (among_kept (receives_on (suc n)) (pair_with x.peer (program x.host ms).peers).entries f.end.end at_it.0 (on_link (suc n) f.end.end x own f.receiving (f.linked ∙ ap (λ (k : ℕ). Some k) place.0)))).1
+
+  name_is : name_now numbered x.peer (own_calls x.host x.peer ms) f.end.end.own f.end.end.foreign ≡ c
+  name_is =
+      ap (λ (k : ℕ). name_now numbered x.peer (own_calls x.host x.peer ms) k f.end.end.foreign) own
+      ∙ ap (λ (k : ℕ). name_now numbered x.peer (own_calls x.host x.peer ms) x.socket k) f.end.foreign ∙ sym place.1
+
+  over : (receiver_now numbered x.peer (suc n) (own_calls x.host x.peer ms)).over c ≡ true
+  over = ap (λ (k : ℕ). (receiver_now numbered x.peer (suc n) (own_calls x.host x.peer ms)).over k) (sym name_is) ∙ law.over ∙ f.closed
+
+  late_cls : (receiver_now numbered x.peer (suc n) (own_calls x.host x.peer ms)).first c ≡ false
+  late_cls = by ((receiver_now numbered x.peer (suc n) (own_calls x.host x.peer ms)).first c) refl where
+    none : HasClosed numbered x.peer (suc n) c (own_calls x.host x.peer ms) → ⊥
+    none h =
+        f.unclosed (subst (λ (k : ℕ). HasClosed numbered x.peer k (name_now numbered x.peer (own_calls x.host x.peer ms) x.socket x.foreign) (own_calls x.host x.peer ms)) (sym place.0)
+        (subst (λ (k : ℕ). HasClosed numbered x.peer (suc n) k (own_calls x.host x.peer ms)) place.1 h))
+
+    by : (v : Bool) → (receiver_now numbered x.peer (suc n) (own_calls x.host x.peer ms)).first c ≡ v → (receiver_now numbered x.peer (suc n) (own_calls x.host x.peer ms)).first c ≡ false
+    by true e = absurd (none (closed_first numbered x.peer (suc n) c (own_calls x.host x.peer ms) e))
+    by false e = e
+
+  -- ---- so all was taken
+
+  abbrev sent : List (List Bool)
+  sent = (w.j n).x.sender.sent c
+
+  same : (w.j n).x.receiver ≡ receiver_now numbered x.peer (suc n) (own_calls x.host x.peer ms)
+  same = (w.j n).received_a stays
+
+  all : (w.j n).x.receiver.taken c ≡ (w.j n).x.sender.sent c
+  all =
+      let safe : IsSafe (w.j n).x c = safe_inv (w.j n).x (w.j n).joint.inv_x c in
+      safe.whole (ap (λ (r : Receiver). r.over c) same ∙ over) (ap (λ (r : Receiver). r.first c) same ∙ late_cls)
+
+  bits_are : x.bits ≡ all_bits ((w.j n).x.sender.sent c)
+  bits_are = going.bits ∙ ap all_bits all
+
+  messages_are : x.messages ≡ length ((w.j n).x.sender.sent c)
+  messages_are = going.messages ∙ ap (λ (ts : List (List Bool)). length ts) all
+
+  -- ---- the sending life
+
+  some_sent : (ts : List (List Bool)) → (ts ≡ [] → ⊥) → 1 ≤ length ts
+  some_sent [] some = absurd (some refl)
+  some_sent (t ∷ ts) some = omega arith
+
+  module _ (s : Life) (there : Contains (lives_in ms) s) (m : Match (crossings_of ms) x s) where
+    s_in : IsOf s (lives_in ms)
+    s_in = is_of s (lives_in ms) there
+
+    only : (r : Life) → IsOf r (lives_in ms) → Match (crossings_of ms) r s → x ≡ r
+    only r i k = one_receiver hosts Own Heard (λ a b. all_given hosts a b) ms l x r s here i m k
+
+    -- where something was sent in the connection
+    some_there : (((w.j n).x.sender.sent c) ≡ [] → ⊥) → (x.bits ≡ s.bits) × (x.messages ≡ s.messages)
+    some_there some =
+        let h : HasS x.host x.peer (Own x.host x.peer) (Heard x.host x.peer) ms w.j n c = w.has_sender n c some in
+        let matches : Match (crossings_of ms) x h.life =
+        one_matches x.host x.peer (Own x.host x.peer) (Heard x.host x.peer) ms (given.matched ms l) w x h.life known.g h.is.g late h.there (refl, refl) (h.host, h.peer) f.receiving h.name known.own h.is.heard in
+        let one : h.life ≡ s = one_sender hosts Own Heard (λ a b. all_given hosts a b) ms l x h.life s (of_drop (since x.host x.peer ms) h.life (lives_in ms) h.there) s_in matches m in
+        let bits : h.life.bits ≡ all_bits ((w.j n).x.sender.sent c) = h.is.gave.bits ∙ ap (λ (k : ℕ). all_bits ((w.j k).x.sender.sent (numbered h.life.foreign h.life.socket h.is.g))) h.link ∙ ap (λ (k : ℕ). all_bits ((w.j n).x.sender.sent k)) h.name in
+        let messages : h.life.messages ≡ length ((w.j n).x.sender.sent c) =
+        h.is.gave.messages ∙ ap (λ (k : ℕ). length ((w.j k).x.sender.sent (numbered h.life.foreign h.life.socket h.is.g))) h.link ∙ ap (λ (k : ℕ). length ((w.j n).x.sender.sent k)) h.name in
+        (bits_are ∙ sym bits ∙ ap (λ (y : Life). y.bits) one, messages_are ∙ sym messages ∙ ap (λ (y : Life). y.messages) one)
+
+    -- a sending life that sent something did so in the connection of the life
+    module _ (p : PresentS x.host x.peer (Own x.host x.peer) (Heard x.host x.peer) ms w.j s) (i : IsOf s (present_in x.host x.peer ms)) (some : (w.j p.link).x.sender.sent (numbered s.foreign s.socket p.g) ≡ [] → ⊥) where
+      granter : HasR x.host x.peer (Own x.host x.peer) (Heard x.host x.peer) ms w.j p.link (numbered s.foreign s.socket p.g)
+      granter =
+          let safe : IsSafe (w.j p.link).x (numbered s.foreign s.socket p.g) = safe_inv (w.j p.link).x (w.j p.link).joint.inv_x (numbered s.foreign s.socket p.g) in
+          let one : 1 ≤ length ((w.j p.link).x.sender.sent (numbered s.foreign s.socket p.g)) = some_sent ((w.j p.link).x.sender.sent (numbered s.foreign s.socket p.g)) some in
+          let in_messages : length ((w.j p.link).x.sender.sent (numbered s.foreign s.socket p.g)) + ((w.j p.link).x.receiver.returned (numbered s.foreign s.socket p.g)).messages ≤ ((w.j p.link).x.receiver.granted (numbered s.foreign s.socket p.g)).messages
+          = safe.sent.in_messages in
+          w.has_receiver p.link (numbered s.foreign s.socket p.g) (omega (arith, one, in_messages))
+
+      it_is : x ≡ granter.life
+      it_is =
+          only granter.life (of_drop (since x.host x.peer ms) granter.life (lives_in ms) granter.there)
+          (one_matches x.host x.peer (Own x.host x.peer) (Heard x.host x.peer) ms (given.matched ms l) w granter.life s granter.is.g p.g granter.there i (granter.host, granter.peer) (sym m.peers.0, m.peers.1) granter.kind (sym granter.name) granter.is.own p.heard)
+
+      found : (link k : ℕ) (y : Life) → x ≡ y → GoesOn x.host x.peer (Own x.host x.peer) (Heard x.host x.peer) ms w.j link k y → (f.link ≡ suc link) × (numbered y.socket y.foreign k ≡ name_now numbered x.peer (own_calls x.host x.peer ms) x.socket x.foreign)
+      found link k y e o =
+          subst (λ (z : Life). GoesOn x.host x.peer (Own x.host x.peer) (Heard x.host x.peer) ms w.j link k z → (f.link ≡ suc link) × (numbered z.socket z.foreign k ≡ name_now numbered x.peer (own_calls x.host x.peer ms) x.socket x.foreign)) e (is_here link k) o
+
+      at : (f.link ≡ suc granter.is.link) × (numbered granter.life.socket granter.life.foreign granter.is.g ≡ name_now numbered x.peer (own_calls x.host x.peer ms) x.socket x.foreign)
+      at = found granter.is.link granter.is.g granter.life it_is (granter.is.going (ap (λ (y : Life). y.ended) (sym it_is) ∙ f.goes))
+
+      link_same : p.link ≡ n
+      link_same = sym granter.link ∙ suc_is granter.is.link n (sym at.0 ∙ place.0)
+
+      name_same : numbered s.foreign s.socket p.g ≡ c
+      name_same = sym granter.name ∙ at.1 ∙ sym place.1
+
+      some_here : (w.j n).x.sender.sent c ≡ [] → ⊥
+      some_here none = some (ap (λ (k : ℕ). (w.j k).x.sender.sent (numbered s.foreign s.socket p.g)) link_same ∙ ap (λ (k : ℕ). (w.j n).x.sender.sent k) name_same ∙ none)
+
+    -- where nothing was
+    none_there : (w.j n).x.sender.sent c ≡ [] → (s.messages ≡ 0) × (s.bits ≡ [])
+    none_there none = elim (of_parts (since x.host x.peer ms) s (lives_in ms) s_in) [
+      | inl early ↦ old (settled_s hosts x.host x.peer (Own x.host x.peer) (Heard x.host x.peer) given ms l s early (sym m.peers.0) m.peers.1 m.sending).granted
+      | inr i ↦ new (w.sending s i (sym m.peers.0) m.peers.1 m.sending) i
+    ] where
+      old : ((s.messages ≡ 0) × (s.bits ≡ [])) ⊎ OldGranter ms s → (s.messages ≡ 0) × (s.bits ≡ [])
+      old (inl e) = e
+      old (inr o) = absurd (unlike x.ended (ap (λ (y : Life). y.ended) (only o.receiver o.there o.matches) ∙ o.over) f.goes)
+
+      new : (p : PresentS x.host x.peer (Own x.host x.peer) (Heard x.host x.peer) ms w.j s) → IsOf s (present_in x.host x.peer ms) → (s.messages ≡ 0) × (s.bits ≡ [])
+      new p i = by ((w.j p.link).x.sender.sent (numbered s.foreign s.socket p.g)) refl where
+        by : (ts : List (List Bool)) → (w.j p.link).x.sender.sent (numbered s.foreign s.socket p.g) ≡ ts → (s.messages ≡ 0) × (s.bits ≡ [])
+        by [] e = (p.gave.messages ∙ ap (λ (ts : List (List Bool)). length ts) e, p.gave.bits ∙ ap all_bits e)
+        by (t ∷ ts) e = absurd (some_here p i (λ empty. absurd (let no : t ∷ ts ≡ [] = sym e ∙ empty in cc)) none)
+
+    one_close : (x.bits ≡ s.bits) × (x.messages ≡ s.messages)
+    one_close = by ((w.j n).x.sender.sent c) refl where
+      by : (ts : List (List Bool)) → (w.j n).x.sender.sent c ≡ ts → (x.bits ≡ s.bits) × (x.messages ≡ s.messages)
+      by [] e =
+          let z : (s.messages ≡ 0) × (s.bits ≡ []) = none_there e in
+          (bits_are ∙ ap all_bits e ∙ sym z.1, messages_are ∙ ap (λ (ts : List (List Bool)). length ts) e ∙ sym z.0)
+      by (t ∷ ts) e = some_there (λ empty. absurd (let no : t ∷ ts ≡ [] = sym e ∙ empty in cc))
+
+  pub closes : TookAll (crossings_of ms) (lives_in ms) x
+  closes s there m = one_close s there m
+
+-- ---- at all moments, and in worlds
+
+all_close : (hosts : List Host) (ms : List Moment) → Lawful hosts ms → AllClose ms
+all_close hosts ms l later earlier is x f = closes hosts earlier (rest_lawful hosts later earlier (subst (λ (ns : List Moment). Lawful hosts ns) is l)) x f
+
+pub world_closes : {C : Type 0} (seen : C → Seen) (hosts : List Host) (w : WorldState C) → (lawful : IsLawful seen hosts w) → AllClose lawful.whole.moments
+world_closes seen hosts w lawful = all_close hosts lawful.whole.moments (lawful.addresses, book_run seen hosts w lawful, lawful.whole.timeline)

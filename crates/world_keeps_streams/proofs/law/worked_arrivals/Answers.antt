@@ -1,0 +1,43 @@
+use Rattle.std.proofs.Common.{◌≡◌, Bool, true, false, List, [], ◌∷◌, refl, ap, ◌∙◌, arith}
+use Rattle.bit_messages.specs.Octets.{octets_of}
+use Rattle.ncp_control.specs.Packing.{packed_count}
+use Rattle.ncp_control.specs.Reading.{read_of, command_of}
+use Rattle.host_pairs.specs.Control.{orders_of}
+use Rattle.host_pairs.specs.Commands.{asked_with_size, granted}
+use Rattle.host_pairs.specs.Entries.{is_open, receiving_end}
+use Rattle.host_pairs.specs.Parcels.{asked_at}
+use Rattle.host_pairs.specs.declared.entry.Entry.{Entry}
+use Rattle.sockets.specs.Accepting.{accepted}
+use Rattle.sockets.specs.Requests.{refusal, served, served_notices}
+use Rattle.sockets.specs.Sending.{next_out, offered}
+use Rattle.world_keeps_streams.proofs.law.worked_arrivals.Goals as goal
+
+first_open : List Entry → Bool
+first_open [] = true
+first_open (e ∷ es) = is_open e
+
+pub returns-clause-open : goal.returns-clause-open
+unfolding octets_of orders_of read_of command_of packed_count accepted refusal served served_notices next_out offered
+returns-clause-open c = record {
+  there = (1, omega arith, refl);
+  receiving = refl;
+  goes = refl;
+  host = refl;
+  peer = refl;
+  end = record { end = granted 2 100 (asked_with_size 10 8 (asked_at 6 (receiving_end 16 33 2))); one = refl; others = λ other away. rw away refl; foreign = refl; own = refl; partner = refl };
+  opened = refl;
+  link = refl;
+  off_control = refl;
+}
+
+pub returns-clause-arrives : goal.returns-clause-arrives
+unfolding octets_of orders_of read_of command_of packed_count accepted refusal served served_notices next_out offered
+returns-clause-arrives c = refl
+
+pub returns-clause-closing : goal.returns-clause-closing
+unfolding octets_of orders_of read_of command_of packed_count accepted refusal served served_notices next_out offered first_open
+returns-clause-closing c f = let both : false ≡ true = ap first_open f.end.one ∙ f.opened in absurd (cc)
+
+pub returns-clause-dropped : goal.returns-clause-dropped
+unfolding octets_of orders_of read_of command_of packed_count accepted refusal served served_notices next_out offered
+returns-clause-dropped c = refl

@@ -1,0 +1,101 @@
+use Rattle.std.proofs.Common.{◌≡◌, ◌⊎◌, ℕ, Bool, true, false, List, [], ◌∷◌, Option, Some, None, refl, ap, sym, subst, ◌∙◌, inl, inr, arith}
+use Rattle.bit_messages.specs.Octets.{octets_of}
+use Rattle.leader1822.specs.Host.{Host}
+use Rattle.ncp_control.specs.Packing.{packed_count}
+use Rattle.ncp_control.specs.Reading.{read_of, command_of}
+use Rattle.stream_law.proofs.lemmas.{some_is}
+use Rattle.host_pairs.specs.Control.{orders_of}
+use Rattle.host_pairs.specs.Commands.{asked_with_size, granted}
+use Rattle.host_pairs.specs.Data.{spent}
+use Rattle.host_pairs.specs.Entries.{receiving_end}
+use Rattle.host_pairs.specs.Parcels.{asked_at}
+use Rattle.host_pairs.specs.declared.entry.Closing.TheVariants as closing
+use Rattle.host_pairs.specs.declared.entry.Entry.{Entry}
+use Rattle.host_keeps_streams.specs.Histories as calls
+use Rattle.host_keeps_streams.specs.Histories.{AsksBack, Answered, Closes, Gives, Grants, HasClosed, Hears, OpensReceiver, OpensSender, Says, Sends, Takes, name_now, numbered}
+use Rattle.sockets.specs.Accepting.{accepted}
+use Rattle.sockets.specs.Requests.{refusal, served, served_notices}
+use Rattle.sockets.specs.Sending.{next_out, offered}
+use Rattle.sockets.specs.Worked.{first, second}
+use Rattle.world_keeps_streams.specs.Calls.{own_calls}
+use Rattle.world_keeps_streams.specs.Worked.{ended_moments, quit_moments}
+use Rattle.world_keeps_streams.proofs.law.worked_closes.Goals as goal
+
+-- calls of which none closes an end
+is_other : calls.Call → Bool
+is_other (Closes socket e) = false
+is_other (Hears stamp said c) = true
+is_other (Takes link text) = true
+is_other (Says stamp c) = true
+is_other (Sends stamp e size count) = true
+is_other (Answered link) = true
+is_other (OpensReceiver own foreign) = true
+is_other (OpensSender own foreign size) = true
+is_other (Grants socket messages bits e) = true
+is_other (AsksBack socket messages bits e) = true
+is_other (Gives socket bits e) = true
+
+are_others : List calls.Moment → Bool
+are_others [] = true
+are_others (m ∷ ms) = if is_other m.call then are_others ms else false
+
+not_closing : (name : ℕ → ℕ → ℕ) (link c : ℕ) (k : calls.Call) → is_other k ≡ true → calls.IsClosing name link c k → ⊥
+unfolding is_other
+not_closing name link c (Closes socket e) o i = absurd (let no : false ≡ true = o in cc)
+not_closing name link c (Hears stamp said w) o i = i
+not_closing name link c (Takes l text) o i = i
+not_closing name link c (Says stamp w) o i = i
+not_closing name link c (Sends stamp e size count) o i = i
+not_closing name link c (Answered l) o i = i
+not_closing name link c (OpensReceiver own foreign) o i = i
+not_closing name link c (OpensSender own foreign size) o i = i
+not_closing name link c (Grants socket messages bits e) o i = i
+not_closing name link c (AsksBack socket messages bits e) o i = i
+not_closing name link c (Gives socket bits e) o i = i
+
+none_closes : (peer : Host) (link c : ℕ) (ms : List calls.Moment) → are_others ms ≡ true → HasClosed numbered peer link c ms → ⊥
+unfolding are_others
+none_closes peer link c [] o h = h
+none_closes peer link c (m ∷ ms) o h = by (is_other m.call) refl o h where
+  by : (v : Bool) → is_other m.call ≡ v → (if v then are_others ms else false) ≡ true → HasClosed numbered peer link c (m ∷ ms) → ⊥
+  by true e f (inl i) = not_closing (name_now numbered peer ms) link c m.call e i
+  by true e f (inr i) = none_closes peer link c ms f i
+  by false e f i = absurd (let no : false ≡ true = f in cc)
+
+first_closed : List Entry → Bool
+first_closed [] = true
+first_closed (e ∷ es) = e.partner_closed
+
+first_link : List Entry → Option ℕ
+first_link [] = None
+first_link (e ∷ es) = e.link
+
+pub returns-clause-ended : goal.returns-clause-ended
+unfolding octets_of orders_of read_of command_of packed_count accepted refusal served served_notices next_out offered is_other are_others
+returns-clause-ended c = record {
+  there = (1, omega arith, refl);
+  receiving = refl;
+  goes = refl;
+  end = record {
+    end = record (spent 8 (granted 2 100 (asked_with_size 10 8 (asked_at 6 (receiving_end 16 33 2))))) { closing = closing.Queued; partner_closed = true };
+    one = refl;
+    others = λ other away. rw away refl;
+    foreign = refl;
+    own = refl;
+    partner = refl;
+  };
+  closed = refl;
+  link = 2;
+  linked = refl;
+  unclosed = none_closes second 2 (name_now numbered second (own_calls first second ended_moments) 16 33) (own_calls first second ended_moments) refl;
+}
+
+pub returns-clause-open : goal.returns-clause-open
+unfolding octets_of orders_of read_of command_of packed_count accepted refusal served served_notices next_out offered first_closed
+returns-clause-open c f = let both : false ≡ true = ap first_closed f.end.one ∙ f.closed in absurd (cc)
+
+pub returns-clause-quit : goal.returns-clause-quit
+unfolding octets_of orders_of read_of command_of packed_count accepted refusal served served_notices next_out offered first_link
+returns-clause-quit c f =
+    let link_is : 2 ≡ f.link = some_is 2 f.link (ap first_link f.end.one ∙ f.linked) in
+    f.unclosed (subst (λ (k : ℕ). HasClosed numbered second k (name_now numbered second (own_calls first second quit_moments) 16 33) (own_calls first second quit_moments)) link_is (inr (inr (inl (refl, refl)))))

@@ -1,0 +1,33 @@
+-- What becomes of data that a host takes (BBN Report 1822, RFNM; NIC 8246, messages of data).
+use Rattle.std.specs.Prelude.{◌≡◌, ◌==◌, false, true, List, [], ◌∷◌, ◌++◌, drop, Some}
+use Rattle.std.specs.List.{Contains}
+use Rattle.leader1822.specs.declared.crossing.Crossing.TheVariants as crossing
+use Rattle.leader1822.specs.declared.message.HostMessage.{HostMessage}
+use Rattle.host_pairs.specs.Entries.{is_open}
+use Rattle.host_pairs.specs.declared.notice.Notice.TheVariants as notice
+use Rattle.net_sim.specs.Safe.{receives}
+use Rattle.net_sim.specs.Story.{Moment, Crossed, program}
+use Rattle.net_sim.specs.Told.{kept_in, notices_by}
+use Rattle.net_sim.specs.declared.life.Life.{Life}
+use Rattle.world_keeps_lives.specs.Lives.{HasOpenEnd}
+
+-- a message of data comes from the peer of a receiving life that goes on. The life's end has the message's link, and is open: neither a user here nor the
+-- partner has closed it
+pub record ComesFor (m : HostMessage) (moments : List Moment) (receiver : Life) : Type 0 where
+  pub there : Contains (kept_in moments).book.lives receiver
+  pub receiving : receives receiver ≡ true
+  pub goes : receiver.ended ≡ false
+  pub host : receiver.host ≡ m.flow.destination
+  pub peer : receiver.peer ≡ m.flow.source
+  pub end : HasOpenEnd (program receiver.host moments) receiver
+  pub opened : is_open end.end ≡ true
+  pub link : end.end.link ≡ Some m.flow.link.0
+  pub off_control : (m.flow.link.0 == 0) ≡ false
+
+-- where it is taken its user is told of all its data, which stand behind the 40 bits of its header, and of nothing else
+abbrev pub Arrives : HostMessage → List Moment → Life → Type 0
+Arrives m moments receiver = notices_by (Crossed (crossing.In m)) moments ≡ notice.Arrived receiver.socket (drop 40 m.text) ∷ []
+
+-- each message that was taken where it came for such a life arrived there
+abbrev pub AllArrive : List Moment → Type 0
+AllArrive moments = (m : HostMessage) (later earlier : List Moment) → moments ≡ later ++ Crossed (crossing.In m) ∷ earlier → (receiver : Life) → ComesFor m earlier receiver → Arrives m earlier receiver

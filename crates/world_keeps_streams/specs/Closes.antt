@@ -1,0 +1,31 @@
+-- What the end of a connection by CLS tells the user who receives (NIC 8246, CLS).
+use Rattle.std.specs.Prelude.{◌≡◌, ℕ, false, true, List, ◌++◌, Some}
+use Rattle.std.specs.List.{Contains}
+use Rattle.leader1822.specs.declared.crossing.Crossing.{Crossing}
+use Rattle.host_keeps_streams.specs.Histories.{HasClosed, name_now, numbered}
+use Rattle.net_sim.specs.Safe.{Match, receives}
+use Rattle.net_sim.specs.Story.{Moment, program}
+use Rattle.net_sim.specs.Timeline.{crossings_of}
+use Rattle.net_sim.specs.Told.{kept_in}
+use Rattle.net_sim.specs.declared.life.Life.{Life}
+use Rattle.world_keeps_lives.specs.Lives.{HasOpenEnd}
+use Rattle.world_keeps_streams.specs.Calls.{own_calls}
+
+-- a receiving life goes on, its end has taken the partner's CLS, and none of its host's users has closed it
+pub record IsClosedByPartner (moments : List Moment) (receiver : Life) : Type 0 where
+  pub there : Contains (kept_in moments).book.lives receiver
+  pub receiving : receives receiver ≡ true
+  pub goes : receiver.ended ≡ false
+  pub end : HasOpenEnd (program receiver.host moments) receiver
+  pub closed : end.end.partner_closed ≡ true
+  pub link : ℕ
+  pub linked : end.end.link ≡ Some link
+  pub unclosed : HasClosed numbered receiver.peer link (name_now numbered receiver.peer (own_calls receiver.host receiver.peer moments) receiver.socket receiver.foreign) (own_calls receiver.host receiver.peer moments) → ⊥
+
+-- it took all that the life which it matches sent
+abbrev pub TookAll : List Crossing → List Life → Life → Type 0
+TookAll log lives receiver = (sender : Life) → Contains lives sender → Match log receiver sender → (receiver.bits ≡ sender.bits) × (receiver.messages ≡ sender.messages)
+
+-- so it is at every moment
+abbrev pub AllClose : List Moment → Type 0
+AllClose moments = (later earlier : List Moment) → moments ≡ later ++ earlier → (receiver : Life) → IsClosedByPartner earlier receiver → TookAll (crossings_of earlier) (kept_in earlier).book.lives receiver

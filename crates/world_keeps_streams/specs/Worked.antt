@@ -1,0 +1,34 @@
+-- A receiving life, and how its connection ends: words for worked examples. All moments are read newest first.
+use Rattle.std.specs.Prelude.{List, [], ◌∷◌}
+use Rattle.leader1822.specs.declared.crossing.Answer.TheVariants as answer
+use Rattle.leader1822.specs.declared.crossing.Crossing.TheVariants as crossing
+use Rattle.leader1822.specs.declared.message.HostMessage.{HostMessage}
+use Rattle.sockets.specs.Worked.{control, first, on_link, second}
+use Rattle.sockets.specs.declared.request.Request.TheVariants as request
+use Rattle.net_sim.specs.Story.{Asked, Crossed, Moment}
+use Rattle.net_sim.specs.Worked.{eight, receiver}
+use Rattle.net_sim.specs.WorkedMoments.{bits_sent, eight_sent, sent_moments}
+use Rattle.net_sim.specs.declared.life.Life.{Life}
+
+-- before anything was taken: the RTS of the first host's socket 16 went out at place 6, and the STR of the second's socket 33 came in at place 10. Two
+-- messages and 100 bits are granted
+abbrev pub took : Life
+took = record receiver { own_stamp = 6; partner_stamp = 10; granted = record { messages = 2; bits = 100 } }
+
+-- and after eight bits were
+abbrev pub took_eight : Life
+took_eight = record took { bits = eight; messages = 1 }
+
+-- the sending user closes, and the CLS is taken
+abbrev pub close_sent : HostMessage
+close_sent = control second first (3 ∷ 0 ∷ 0 ∷ 0 ∷ 33 ∷ 0 ∷ 0 ∷ 0 ∷ 16 ∷ [])
+
+abbrev pub closed_by_sender : List Moment → List Moment
+closed_by_sender moments = Crossed (crossing.In close_sent) ∷ Crossed (crossing.Out close_sent) ∷ Asked second (request.Close 33) ∷ Crossed (crossing.Answer answer.Rfnm (on_link second first 2)) ∷ moments
+
+-- after the bits were taken; and where the receiving user had closed before they came
+abbrev pub ended_moments : List Moment
+ended_moments = closed_by_sender sent_moments
+
+abbrev pub quit_moments : List Moment
+quit_moments = closed_by_sender (Crossed (crossing.In eight_sent) ∷ Asked first (request.Close 16) ∷ bits_sent)
