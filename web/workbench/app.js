@@ -724,7 +724,9 @@ export class Workbench {
 
     /** @param {Note} question */
     drawQuestion(question) {
-        const answer = this.asking ? null : this.notes.find((it) => it.kind === "answer" && it.before === question.before);
+        const at = stopAt(this.stops, this.position);
+        const isOver = !this.asking && this.stops[at]?.event !== question.before;
+        const answer = isOver ? this.notes.find((it) => it.kind === "answer" && it.before === question.before) : null;
         byId("question").replaceChildren(h("span", {}, question.text), this.asking ? h("button", { type: "button", onclick: () => this.step(1) }, "Show what happens") : "", answer ? h("span", { class: "answer" }, answer.text) : "");
     }
 

@@ -1,6 +1,6 @@
 /** The editor: the whole input with line numbers as the program counts them, and faults at their lines while one types. */
 
-import { h, keep, say } from "./dom.js";
+import { h, keep, say, sayWithCode } from "./dom.js";
 
 /** The editor of an input. */
 export class Editor {
@@ -60,7 +60,7 @@ export class Editor {
      */
     showFault(text, line) {
         this.bad = line - 1;
-        say(this.fault, text);
+        sayWithCode(this.fault, text);
         this.fault.classList.toggle("bad", text !== "");
         this.number();
     }
