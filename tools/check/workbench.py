@@ -5,6 +5,7 @@ With Node (Debian's package `nodejs`), over the native program:
 - what each event leaves inside is what the independent model in Python has then, part for part;
 - packets that are thrown away are told as repeats or as lost, as rows written by hand say;
 - what waits is told at every stop, each message has its lane, each sentence is whole, and faults, texts and addresses are as by hand;
+- lines that are made by chance have a fault here exactly where the reader in Python finds one, and sentences that both say are the same;
 - planted faults in all of these are found.
 
 TypeScript (`node-typescript`) checks the types where it is there. With --browser the page of `./build --wasm` is opened in Chromium and
@@ -15,13 +16,16 @@ from __future__ import annotations
 
 import json
 import os
+import random
 import shutil
 import subprocess
 import sys
 import tempfile
 
+import refused
 import script_rules
 import topology
+from dorydate import sentences
 from parts import ROOT, any_program
 from subnet_rules import Subnet
 from trace_subnet import every_name, part
@@ -69,6 +73,31 @@ def model_states() -> dict[str, object]:
     return found
 
 
+def lines_by_chance(count: int) -> list[tuple[str, bool, bool]]:
+    """Lines of scripts, most of them changed at one place; whether the network is raw, and whether the line is bad."""
+    chance = random.Random(59)
+    known = []
+    for name in sorted(os.listdir(f"{ROOT}/examples")):
+        if "." not in name:
+            with open(f"{ROOT}/examples/{name}", encoding="utf-8") as file:
+                head, _, script = file.read().partition("\n%\n")
+            known += [(line, "raw = true" in head) for line in script.split("\n") if line and not line.startswith("#") and len(line) < 200]
+    found = []
+    for _ in range(count):
+        line, raw = chance.choice(known)
+        at = chance.randrange(len(line) + 1)
+        changes = [line, line[:at] + chance.choice("0123456789/+-ABf ") + line[at:], line[:at] + line[at + 1 :], line[:at], chance.choice(known)[0]]
+        line = chance.choice(changes)
+        if line and not line.startswith("#"):
+            found.append((line, raw, refused.wrong_with_line(line.encode(), raw) is not None))
+    return found
+
+
+def said_by_both() -> dict[str, object]:
+    """Sentences of `explain` that the page says, too."""
+    return {"refusals": sentences.IN_A_HOST, "errors": ["", *sentences.ERRORS.values()], "reasons": sentences.REASONS}
+
+
 def check_types() -> None:
     command = shutil.which("tsc")
     if not command:
@@ -83,7 +112,7 @@ def check_types() -> None:
 def check_modules(command: str, program: str) -> None:
     """The tests in Node, with the states of the independent model in a file."""
     with tempfile.NamedTemporaryFile("w", suffix=".json") as states:
-        json.dump(model_states(), states)
+        json.dump({"states": model_states(), "lines": lines_by_chance(4000), "said": said_by_both()}, states)
         states.flush()
         folder = f"{ROOT}/web/workbench/tests"
         tests = [f"{folder}/{it}" for it in sorted(os.listdir(folder)) if it.endswith(".test.js")]

@@ -8,7 +8,7 @@ import { capital, count, listed } from "./words.js";
 /** @typedef {import("./state.js").Held} Held */
 
 /** What a refusal of a host's program means. */
-const IN_A_HOST = /** @type {{[name: string]: string}} */ ({
+export const IN_A_HOST = /** @type {{[name: string]: string}} */ ({
     NotContacted: "The two hosts aren't ready: one of them has to `contact` the other, and RST and RRP have to pass.",
     WrongEnd: "The socket is of the wrong kind: even ones receive and odd ones send, and the two of a connection differ.",
     InUse: "The socket listens already, or has a connection, or had a request refused that is still on its way out.",

@@ -194,10 +194,10 @@ export function notice(network, kind, words) {
     return "";
 }
 
-const ERRORS = ["", "no command has this code", "a command was cut off", "a command or a message had wrong parts", "no connection has these sockets", "no connection has this link"];
+export const ERRORS = ["", "no command has this code", "a command was cut off", "a command or a message had wrong parts", "no connection has these sockets", "no connection has this link"];
 
 /** @type {{[name: string]: string}} */
-const REASONS = {
+export const REASONS = {
     badsocket: "its sockets have the wrong parity, or don't exist",
     refused: "a connection that it needs was refused, or ended before it was complete",
     reset: "the pair of hosts was reset",

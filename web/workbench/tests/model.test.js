@@ -4,12 +4,16 @@ import assert from "node:assert/strict";
 import { readFileSync } from "node:fs";
 import { test } from "node:test";
 
+import { wrongLine } from "../faults.js";
+import { IN_A_HOST } from "../refusals.js";
+import { ERRORS, REASONS } from "../sentences.js";
 import { partIn } from "../trace.js";
 import { historyOf } from "./examples.js";
 
 const file = process.env.STATES ?? "";
-/** @type {{[name: string]: {[part: string]: any}[]}} */
-const model = file ? JSON.parse(readFileSync(file, "utf8")) : {};
+/** @type {{states: {[name: string]: {[part: string]: any}[]}, lines: [string, boolean, boolean][], said: any}} */
+const given = file ? JSON.parse(readFileSync(file, "utf8")) : { states: {}, lines: [], said: null };
+const model = given.states;
 
 /**
  * The position behind an event.
@@ -36,6 +40,15 @@ for (const [name, states] of Object.entries(model)) {
 }
 
 if (file) {
+    test("lines have a fault exactly where the reader in Python finds one", () => {
+        assert(given.lines.length > 1000);
+        for (const [line, raw, isBad] of given.lines) assert.equal(wrongLine(line, raw) !== null, isBad, `${raw ? "raw" : "programs"}: ${line}`);
+    });
+
+    test("sentences that explain and the page say are the same", () => {
+        assert.deepEqual({ refusals: IN_A_HOST, errors: ERRORS, reasons: REASONS }, given.said);
+    });
+
     test("a fold that forgets a part is found", async () => {
         const history = await historyOf("rerouted-over-a-triangle");
         assert(history);
