@@ -2,19 +2,23 @@
 
 from __future__ import annotations
 
+import os
 import unittest
 
 from dorydate import Network, Replay, Stopped
+from dorydate.ending import shown_name
 from dorydate.expect import differences, expected
 from dorydate.explore.breadth import Walk, lists
 from dorydate.explore.kinds import chosen, pools
+from dorydate.explore.lockup import SOURCE, Climb
+from dorydate.explore.lockup import events as outs
 from dorydate.explore.many import CannotRun, Many, One
 from dorydate.explore.named import SEARCHES, TWO, TWO_PLAIN, TWO_RAW
 from dorydate.explore.pattern import read
 from dorydate.explore.search import Search
 from dorydate.inside import CannotFollow, state_of
 from dorydate.program import Program, TookTooLong, found
-from dorydate.script import BadLine, Calm, Contact, Flow, Script
+from dorydate.script import BadLine, Calm, Contact, Event, Flow, Out, Script, read_event
 
 RING = Network.joined("WEST-A-B-EAST-C-D-WEST", hosts={"A": 0, "B": 0, "C": 0, "D": 0})
 
@@ -41,6 +45,11 @@ class Programs(unittest.TestCase):
     def test_program_that_is_not_there(self) -> None:
         with self.assertRaises(FileNotFoundError):
             Program("/nowhere/arpasim").run(b"")
+
+
+class Names(unittest.TestCase):
+    def test_a_name_that_is_not_utf_8(self) -> None:
+        self.assertEqual(shown_name(os.fsdecode(b"/tmp/first-\xff")), "first-\ufffd")
 
 
 class Replays(unittest.TestCase):
@@ -196,6 +205,36 @@ class Explorations(unittest.TestCase):
             Many(Network.joined(*(f"{it}" for it in range(63)), raw=True), found())
         with self.assertRaises(CannotRun):
             Search(TWO, read("arrives data A B N K"), found())
+
+
+LOCKUP = """out 0 | deliver 0 + 0 | out 1 | deliver 0 + 2 | out 2 | deliver 0 + 4 | deliver 0 - 0 | out 3 | deliver 0 + 6 | out 4 | deliver 0 + 8
+| deliver 0 - 4 | out 5 | deliver 0 + 10 | out 6 | deliver 0 + 12 | deliver 0 - 0 | out 7 | deliver 0 + 14 | beside"""
+
+
+class Lockups(unittest.TestCase):
+    """The climb to the lockup: what it measures on a script that is known to come to one."""
+
+    def script(self) -> tuple[Event, ...]:
+        links = {f"out {it.flow.link}" if it.flow.source == SOURCE else "beside": it for it in outs() if isinstance(it, Out)}
+        return tuple(links.get(it.strip()) or read_event(it.strip()) for it in LOCKUP.split("|"))
+
+    def test_a_known_script_locks(self) -> None:
+        climb, script = Climb(found(), 1), self.script()
+        self.assertTrue(climb.locks(script))
+        for at in (0, 1, 19):
+            self.assertFalse(climb.locks(script[:at] + script[at + 1 :]), script[at])
+
+    def test_the_measure_grows(self) -> None:
+        climb, script = Climb(found(), 1), self.script()
+        measures = climb.measures([script[:at] for at in (0, 2, 4, 6, 9, 13, 19, 20)])
+        self.assertEqual(measures, sorted(measures))
+        self.assertEqual((measures[0], len({*measures}) >= 7), (0, True))
+
+    def test_what_the_measure_needs_stays(self) -> None:
+        climb, script = Climb(found(), 1), self.script()
+        padded = (*script[:6], read_event("deliver 1 - 3"), read_event("deliver 1 - 5"), *script[6:9])
+        (value,) = climb.measures([padded])
+        self.assertLessEqual(len(climb.trimmed(padded, value)), 9)
 
 
 class Expectations(unittest.TestCase):

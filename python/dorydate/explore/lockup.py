@@ -32,7 +32,7 @@ SLOTS = 8
 LAST = 20  # rounds of the last calm, in which nothing may be printed
 PLACES = 16
 MOST_EVENTS = 120  # of a script: longer ones are cut
-STALE = 600  # batches without a better script, after which the search begins anew
+STALE = 200  # batches without a better script, after which the search begins anew
 OPENING = Calm(2)
 
 
@@ -134,7 +134,7 @@ class Climb:
         """A script that ends in a lockup; None where time is up."""
         begun = told = time.monotonic()
         edge: list[tuple[int, Events]] = [(0, ())]
-        stale = 0
+        stale = 0  # batches since the best was found
         while time.monotonic() - begun < seconds:
             scripts = [self.changed(self.chance.choice(edge)[1]) for _ in range(self.many.copies)]
             best = max(value for value, _ in edge)
@@ -143,13 +143,32 @@ class Climb:
                 if value > 4 * SLOTS and self.locks(script):
                     return script
             edge = self.kept(edge)
-            stale = 0 if edge[0][0] > best else stale + 1
+            if edge[0][0] > best:
+                edge = [(edge[0][0], self.trimmed(edge[0][1], edge[0][0]))]
+                stale = 0
+            stale += 1
             if stale > STALE:
                 edge, stale = [(0, ())], 0
             if tell and time.monotonic() - told > 1:
                 told = time.monotonic()
                 print(f"explore: {self.tried} schedules, {self.tried / (told - begun):.0f} a second; nearest {edge[0][0]} of {6 * SLOTS}", file=sys.stderr, flush=True)
         return None
+
+    def trimmed(self, script: Events, value: int) -> Events:
+        """A script without what its measure doesn't need: short ones are run faster, and changes of them do more."""
+        part = max(len(script) // 4, 1)
+        while part:
+            shorter = [script[:at] + script[at + part :] for at in range(0, len(script), part)]
+            measures = [it for at in range(0, len(shorter), self.many.copies) for it in self.measures(shorter[at : at + self.many.copies])]
+            kept = [at for at, it in enumerate(measures) if it >= value]
+            without = tuple(event for at, event in enumerate(script) if at // part not in kept)
+            if kept and self.measures([without])[0] >= value:
+                script = without  # all of them together
+            elif kept:
+                script = shorter[kept[-1]]
+                continue
+            part //= 2
+        return script
 
     def kept(self, scripts: list[tuple[int, Events]], most: int = 16) -> list[tuple[int, Events]]:
         """The nearest scripts; among equals any, the last ones first, so that they go on changing."""
