@@ -25,9 +25,7 @@ import copy
 import os
 import random
 import re
-import shutil
 import subprocess
-import tempfile
 import time
 from collections import Counter
 
@@ -584,12 +582,6 @@ def check_ends():
             same((ran.returncode, said in ran.stderr, "Traceback" in ran.stderr), (1, True, False), f"{command} {ending}: {ran.stderr}")
         ran = subprocess.run([f"{ROOT}/{command}".encode(), *([b"--page"] if command == "explain" else []), name], capture_output=True, text=True, input="")
         same((ran.returncode, ran.stderr.count("\n"), "Traceback" in ran.stderr), (1, 1, False), f"{command} and a name that is not UTF-8: {ran.stderr}")
-    with tempfile.TemporaryDirectory() as room:
-        named = os.path.join(os.fsencode(room), b"first-\xff")
-        shutil.copy(f"{ROOT}/examples/first-message", named)
-        with open(named, "rb") as file:
-            ran = subprocess.run([f"{ROOT}/explain", "--page", named], stdin=file, capture_output=True)
-        same((ran.returncode, "first \ufffd".encode() in ran.stdout.lower(), b"Traceback" in ran.stderr), (0, True, False), "a page of a file whose name is not UTF-8")
     begin = time.monotonic()
     ran = subprocess.run([f"{ROOT}/explain"], input=b"\n" * 40_000 + GOOD + b"%\ntake 0/1\n", capture_output=True)
     same((ran.returncode, time.monotonic() - begin < 8), (0, True), "40,000 blank lines before a topology")
