@@ -13,6 +13,7 @@ import { chromium, firefox } from "./browser.js";
 /** @typedef {import("./browser.js").Browser} Browser */
 
 const SIZES = /** @type {[number, number][]} */ ([[390, 844], [720, 450], [1024, 768], [1280, 720], [1440, 900]]);
+const MOST_OCTETS = 900_000;
 const SHOWN = ["lo-of-login", "arpanet-of-december-1969", "reassembly-lockup", "rerouted-over-a-triangle", "from-a-terminal-to-a-server"];
 
 /** What each trial begins with: names for what is asked of the page. */
@@ -134,6 +135,8 @@ press("hide");
 /** Faults while one types, and nothing lost on reload. */
 const TYPED = `
 await load("first-message");
+await changed(() => press("round")); await load("a-message-given-up"); await changed(() => press("undo")); want([...document.querySelectorAll(".row.added .text")].some((it) => it.textContent.startsWith("calm 1")) && $("lesson").value === "first-message", "what was changed is lost with another lesson");
+await load("first-message");
 press("edit"); want(!$("editor").hidden, "no editor");
 const area = document.querySelector("textarea"); const good = area.value;
 area.value = good.replace("take 0/2", "tak 0/2"); await changed(() => area.dispatchEvent(new Event("input")));
@@ -246,7 +249,9 @@ async function planted(browser, page, file) {
 
 async function main() {
     const [page, ...programs] = process.argv.slice(2);
-    let failed = false;
+    const octets = new TextEncoder().encode(readFileSync(page, "utf8")).length;
+    let failed = octets > MOST_OCTETS;
+    console.log(`the page has ${octets} octets${failed ? `, more than ${MOST_OCTETS}` : ""}`);
     for (const program of programs) {
         const browser = await (program.includes("firefox") ? firefox : chromium)(program);
         try {

@@ -28,7 +28,7 @@ import { SheetView } from "./view/sheet.js";
 /** @typedef {import("./choices.js").Part} Part */
 /** @typedef {import("./script.js").Note} Note */
 /** @typedef {{name: string, title: string, group: string, text: string}} Example */
-/** @typedef {{text: string, position: number}} Kept */
+/** @typedef {{text: string, position: number, example: string, origin: string}} Kept */
 
 const TABS = [
     ["script", "Script"],
@@ -155,7 +155,7 @@ export class Workbench {
     /** Arranges the regions by the room that there is for text of the chosen size. */
     arrange() {
         const root = document.documentElement;
-        const width = (window.innerWidth * 16) / parseFloat(getComputedStyle(root).fontSize);
+        const width = (root.clientWidth * 16) / parseFloat(getComputedStyle(root).fontSize);
         root.dataset.layout = width >= 960 ? "wide" : width > 560 ? "mid" : "narrow";
         root.toggleAttribute("data-tight", width < 1160);
         this.draw();
@@ -212,14 +212,28 @@ export class Workbench {
     async load(name) {
         const example = this.examples.find((it) => it.name === name);
         if (!example) return;
+        this.leave();
         this.example = name;
         this.origin = example.text;
         this.flow = "";
-        this.past = [];
-        this.undone = [];
         this.to = 0;
         await this.show(example.text, 0);
-        history.replaceState(null, "", window.location.pathname + window.location.search);
+    }
+
+    /**
+     * What one has here, so that it can be brought back.
+     *
+     * @returns {Kept}
+     */
+    here() {
+        return { text: this.text, position: this.position, example: this.example, origin: this.origin };
+    }
+
+    /** Leaves the script for another one: what was changed in it can be brought back by Undo. */
+    leave() {
+        if (this.text && this.text !== this.origin) this.past.push(this.here());
+        else this.past = [];
+        this.undone = [];
     }
 
     /**
@@ -237,6 +251,7 @@ export class Workbench {
             const outcome = await replay(this.runner.run, text);
             if (run !== this.runs) return false;
             keepText(text, this.example);
+            if (window.location.hash && text !== this.text && this.text) history.replaceState(null, "", window.location.pathname + window.location.search);
             if (!isReplay(outcome)) {
                 const fault = faultOf(outcome);
                 this.editor.showFault(fault.text, fault.line);
@@ -431,7 +446,7 @@ export class Workbench {
      */
     async change(lines, words) {
         if (!this.history) return;
-        const before = { text: this.text, position: this.position };
+        const before = this.here();
         const refused = this.refusals();
         const edit = goOn(this.history, this.position, lines, this.cutOff);
         const moments = this.history.length;
@@ -454,15 +469,22 @@ export class Workbench {
     async undo() {
         const it = this.past.pop();
         if (!it) return;
-        this.undone.push({ text: this.text, position: this.position });
+        this.undone.push(this.here());
         this.toast.hide();
-        await this.show(it.text, it.position);
+        await this.bringBack(it);
     }
 
     async redo() {
         const it = this.undone.pop();
         if (!it) return;
-        this.past.push({ text: this.text, position: this.position });
+        this.past.push(this.here());
+        await this.bringBack(it);
+    }
+
+    /** @param {Kept} it */
+    async bringBack(it) {
+        this.example = it.example;
+        this.origin = it.origin;
         await this.show(it.text, it.position);
     }
 
@@ -474,7 +496,7 @@ export class Workbench {
         if (on) {
             this.tab = "script";
             this.editor.show(this.text);
-            this.before = { text: this.text, position: this.position };
+            this.before = this.here();
             this.editor.area.focus();
         } else byId("edit").focus();
         this.draw();
@@ -494,7 +516,7 @@ export class Workbench {
 
     /** @param {string} text */
     async runTyped(text) {
-        const before = this.before ?? { text: this.text, position: this.position };
+        const before = this.before ?? this.here();
         if (!(await this.show(text, this.position))) return;
         if (this.past[this.past.length - 1]?.text !== before.text) this.past.push(before);
         this.undone = [];
@@ -547,10 +569,9 @@ export class Workbench {
         const octets = await file.arrayBuffer();
         try {
             const text = new TextDecoder("utf-8", { fatal: true }).decode(octets);
+            this.leave();
             this.example = "";
             this.origin = text;
-            this.past = [];
-            this.undone = [];
             await this.show(text, 0);
         } catch {
             this.toast.show(`${file.name} is not UTF-8, so it is not opened. Save it as UTF-8 first.`, null);
