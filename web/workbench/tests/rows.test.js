@@ -5,7 +5,7 @@ import { test } from "node:test";
 
 import { faultOf, wrongLine } from "../faults.js";
 import { stopsOfFlow, stopsWith } from "../follow.js";
-import { withQuestions } from "../lessons.js";
+import { arranged, QUESTIONS, withQuestions } from "../lessons.js";
 import { notesOf, readInput } from "../script.js";
 import { sentenceOf } from "../sentences.js";
 import { fragment, packed, placeIn, unpacked } from "../share.js";
@@ -13,7 +13,7 @@ import { stopsOf } from "../stops.js";
 import { Talk } from "../talk.js";
 import { saying } from "../texts.js";
 import { grouped, waitsOf } from "../waits.js";
-import { historyOf, historyOfText, run, twoImps } from "./examples.js";
+import { exampleText, historyOf, historyOfText, run, twoImps } from "./examples.js";
 import { isReplay, replay } from "../runs.js";
 
 /** @typedef {import("../fold.js").History} History */
@@ -172,6 +172,20 @@ test("questions and answers are comments before their line", () => {
         { kind: "question", line: 2, last: 2, before: 1, text: "What comes?" },
         { kind: "answer", line: 3, last: 3, before: 1, text: "That." },
     ]);
+});
+
+test("each question stands before an event of its lesson, and changes nothing that is printed", async () => {
+    const names = Object.keys(QUESTIONS);
+    const lessons = arranged(names.map((name) => ({ name, title: name, text: exampleText(name) })));
+    assert.equal(lessons.length, names.length);
+    for (const { name, text } of lessons) {
+        const { lines } = readInput(exampleText(name));
+        for (const { line } of QUESTIONS[name]) assert.equal(lines[line - 1].kind, "event", `${name}: line ${line}`);
+        const asked = notesOf(readInput(text)).filter((it) => it.kind !== "comment");
+        assert.equal(asked.length, 2 * QUESTIONS[name].length);
+        const [asking, without] = [await historyOfText(text), await historyOf(name)];
+        assert.deepEqual(asking.replay.moments.map((it) => it.printed), without?.replay.moments.map((it) => it.printed));
+    }
 });
 
 test("an endless calm is cut, and what was printed till then is there", async () => {
