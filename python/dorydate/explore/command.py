@@ -9,11 +9,13 @@ from __future__ import annotations
 import argparse
 import sys
 from collections.abc import Sequence
+from dataclasses import replace
 from pathlib import Path
 
+from dorydate.expect import expected
 from dorydate.explore import breadth, lockup, without
 from dorydate.explore.kinds import Pools, chosen, pools
-from dorydate.explore.many import CannotRun, One
+from dorydate.explore.many import CannotRun
 from dorydate.explore.named import SEARCHES
 from dorydate.explore.pattern import BadPattern, Pattern, read
 from dorydate.explore.search import MATCHES, NotKept, Progress, Search
@@ -21,8 +23,9 @@ from dorydate.explore.shrink import Script as Found
 from dorydate.model import NoModel
 from dorydate.network import BadNetwork, Network
 from dorydate.program import NoProgram, Program, found
-from dorydate.script import BadLine, Script
+from dorydate.script import BadLine, Calm, Script
 
+MOST_EXPECTED = 40  # lines of one event that are written as its expectation
 FOUND, NOT_FOUND, WRONG = 0, 1, 2  # exit statuses; with --never the first two are exchanged
 
 
@@ -48,6 +51,7 @@ def parser() -> argparse.ArgumentParser:
     made.add_argument("--all", type=int, metavar="EVENTS", help="run every list of so many events, from the shortest, states that were seen before cut off")
     made.add_argument("--without", metavar="RULE", help="the independent model without one rule in the place of the program: which promise breaks")
     made.add_argument("--rules", action="store_true", help="tell which rules can be left out")
+    made.add_argument("--save", metavar="FILE", help="write the script there too, and what it prints beside it")
     made.add_argument("--quiet", action="store_true", help="tell no progress")
     return made
 
@@ -101,14 +105,19 @@ class Shown:
 
 
 def written(network: Network, pattern: Pattern, script: Found, program: Program) -> str:
-    """A script with what each event prints as a comment behind it."""
-    calm = pattern.calm.rounds
+    """A script, with the last calm that the pattern is about, and with what each event prints as its expectation (`#=`)."""
+    last = (Calm(pattern.calm.rounds),) if pattern.calm.rounds else ()
     heading = [f"Found by ./explore: {pattern.text}"]
-    if calm:
-        heading.append(f"The pattern is about a last `calm {calm}` behind these events.")
-    text = Script.of(network, script, heading).text()
-    last = One(network, program).of(script, 0).lines
-    return text + "".join(f"# prints: {it}\n" for it in last[-6:])
+    told = expected(Script.of(network, (*script, *last), heading), program)
+    short = tuple(it if len(it.expected or ()) <= MOST_EXPECTED else replace(it, expected=None) for it in told.entries)
+    return replace(told, entries=short).text()
+
+
+def saved(path: str, text: str, program: Program) -> None:
+    """Writes a script as an example: the file, and beside it what it prints."""
+    Path(path).write_text(text, encoding="utf-8")
+    Path(f"{path}.stdout").write_text(program.run(text.encode()).output, encoding="utf-8")
+    print(f"explore: {path} has the script, and {path}.stdout what it prints; ./explain --page < {path} makes a page of it", file=sys.stderr)
 
 
 def tell_list() -> int:
@@ -131,7 +140,10 @@ def searched(words: argparse.Namespace, program: Program) -> int:
         print("explore: nothing found", file=sys.stderr)
         return FOUND if words.never else NOT_FOUND
     print(f"explore: the first match after {progress.first_after} schedules and {progress.first:.2f} s; shrunk to {len(best)} events in {progress.shrinking} runs", file=sys.stderr)
-    print(written(network, pattern, best, program), end="")
+    text = written(network, pattern, best, program)
+    print(text, end="")
+    if words.save:
+        saved(words.save, text, program)
     return NOT_FOUND if words.never else FOUND
 
 
@@ -160,7 +172,7 @@ def main(options: Sequence[str] | None = None) -> int:
     except NotKept as why:
         print(f"explore: {why}", file=sys.stderr)
         return WRONG
-    except (Wrong, BadPattern, BadNetwork, BadLine, CannotRun, NoProgram, NoModel) as why:
+    except (OSError, Wrong, BadPattern, BadNetwork, BadLine, CannotRun, NoProgram, NoModel) as why:
         print(f"explore: {why}", file=sys.stderr)
         return WRONG
 
