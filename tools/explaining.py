@@ -372,11 +372,11 @@ def audited(words):
         print(f"explain: more than {MOST_OF_LOG} octets", file=sys.stderr)
         return 1
     ran = subprocess.run([f"{ROOT}/arpasim", *words], input=octets, capture_output=True, check=False)
-    sys.stderr.buffer.write(ran.stderr)
-    sys.stderr.flush()
+    said = [it for it in ran.stderr.decode("latin-1").splitlines() if "./explain" not in it]
+    print(*said, sep="\n", end="\n" if said else "", file=sys.stderr, flush=True)
     sys.stdout.buffer.write(ran.stdout)
     if words == ["--audit"]:
-        verdict = (ran.stdout.decode("latin-1") or ran.stderr.decode("latin-1").removesuffix("\n").rpartition("\n")[2].removeprefix("arpasim: ")).strip()
+        verdict = ran.stdout.decode("latin-1").strip() or (said or [""])[-1].removeprefix("arpasim: ")
         print(log_words.explained(octets, verdict))
     return ran.returncode
 

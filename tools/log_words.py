@@ -108,7 +108,7 @@ def wrong_with_entry(line: bytes) -> str | None:
         return unknown_entry(name)
     names, form = FORMS[name].split(), f"The form is `{f'{name} {WRITTEN.get(name, FORMS[name])}'.rstrip()}`"
     if len(words) != 1 + len(names):
-        return f"It has {len(words) - 1} words behind `{name}`, and {len(names)} are needed. {form}."
+        return f"It has {counted(len(words) - 1, 'word')} behind `{name}`, and {len(names)} are needed. {form}."
     causes = [wrong_with_part(what, word) for what, word in zip(names, words[1:])]
     cause = next(filter(None, causes), None) or wrong_with_octets(name, words) or wrong_with_kind(name, words)
     return f"{cause} {form}." if cause else None
