@@ -267,6 +267,7 @@ export class Workbench {
             this.history = new History(outcome);
             this.fresh();
             this.go(Math.min(position, this.history.length));
+            if (outcome.cut) this.toast.show(outcome.cut, null);
             return true;
         } finally {
             window.clearTimeout(slow);
@@ -739,7 +740,8 @@ export class Workbench {
         const rounds = stop.round ? ` · round ${stop.round === stop.last ? stop.round : `${stop.round} to ${stop.last}`}` : "";
         say(byId("label"), this.asking ? "Before you go on" : `${event.words.join(" ").slice(0, 90)}${rounds}`);
         const text = this.asking ? "" : stop.main < 0 ? quietSentence(this.history, stop) : sentenceOf(this.history, stop.main);
-        sayWithCode(sentence, text);
+        const isCut = at === this.stops.length && !this.hidden && this.history.replay.cut !== "";
+        sayWithCode(sentence, isCut ? `${text} ${this.history.replay.cut}` : text);
         sentence.classList.toggle("refused", text.startsWith("Refused"));
     }
 
