@@ -143,6 +143,7 @@ export class Workbench {
             if (event.key === "Enter") this.find(event.shiftKey ? -1 : 1);
             if (event.key === "Escape") byId("next").focus();
         });
+        byId("tabs").addEventListener("keydown", (event) => this.tabKey(event));
         this.network.addEventListener("keydown", (event) => this.mapKey(event));
         document.addEventListener("keydown", (event) => this.key(event));
         window.addEventListener("hashchange", () => void this.fromAddress());
@@ -670,6 +671,23 @@ export class Workbench {
         if (!act || (target.getAttribute("role") === "tab" && event.key.startsWith("Arrow"))) return;
         event.preventDefault();
         act();
+    }
+
+    /**
+     * Keys within the tabs: arrows go to the next one, or the one before.
+     *
+     * @param {KeyboardEvent} event
+     */
+    tabKey(event) {
+        const by = { ArrowRight: 1, ArrowLeft: -1 }[event.key];
+        const tabs = /** @type {HTMLElement[]} */ ([...byId("tabs").children]).filter((tab) => tab.offsetParent);
+        const at = tabs.indexOf(/** @type {HTMLElement} */ (event.target));
+        if (!by || at < 0) return;
+        event.preventDefault();
+        event.stopPropagation();
+        const tab = tabs[(at + by + tabs.length) % tabs.length];
+        tab.click();
+        tab.focus();
     }
 
     nextRefusal() {

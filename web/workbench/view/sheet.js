@@ -153,28 +153,32 @@ export class SheetView {
         return scrollTop < this.range.from || scrollTop + clientHeight > this.range.to;
     }
 
-    /** Where the middle of the row of each moment is: that of its stop, or of the head of its calm. */
-    drawChart() {
-        if (!this.sheet) return;
-        const { stops, chart } = this.sheet;
-        const elements = /** @type {HTMLElement[]} */ ([...this.rows.children]);
+    /**
+     * Where the middle of the row of each moment is: that of its stop, or of the head of its calm.
+     *
+     * @param {Stop[]} stops
+     */
+    heights(stops) {
         /** @type {number[]} */
         const middles = Array(stops.length).fill(-1);
         /** @type {Map<number, number>} */
         const ofEvent = new Map();
-        elements.forEach((element, place) => {
+        [...this.rows.children].forEach((child, place) => {
+            const element = /** @type {HTMLElement} */ (child);
             if (element.hidden) return;
             const row = this.list[place];
             const middle = element.offsetTop + element.offsetHeight / 2;
             if (row.stop >= 0) middles[row.stop] = middle;
             else if (row.kind === "event") ofEvent.set(row.event, middle);
         });
-        /** @type {number[]} by moment */
-        const heights = [];
-        stops.forEach((stop, place) => {
-            const middle = middles[place] >= 0 ? middles[place] : (ofEvent.get(stop.event) ?? -1);
-            for (let at = stop.from; at < stop.to; at += 1) heights.push(middle);
-        });
+        return stops.flatMap((stop, place) => Array(stop.to - stop.from).fill(middles[place] >= 0 ? middles[place] : (ofEvent.get(stop.event) ?? -1)));
+    }
+
+    /** Draws lanes, arrows and words near the rows that are seen. */
+    drawChart() {
+        if (!this.sheet) return;
+        const { chart } = this.sheet;
+        const heights = this.heights(this.sheet.stops);
         /** @type {(at: number) => number} */
         const y = (at) => heights[at] ?? -1;
         const height = this.rows.offsetHeight;
