@@ -29,7 +29,7 @@ import re
 import unittest
 from collections import Counter
 
-from documents import anchors, crates_page, dialect, planted, rules, tests
+from documents import anchors, crates_page, dialect, paragraphs, planted, rules, tests
 from drawings import pictures
 from parts import ROOT
 
@@ -237,7 +237,7 @@ def failed_tests():
 def made():
     """What isn't as it is made, and what the drawings and the words of the documents have that they shouldn't."""
     print("check docs:", dialect.summary())
-    return [*failed_tests(), *anchors.faults(), *pictures.faults(), *crates_page.faults(), *planted.faults(), *rules.faults(), *dialect.faults()]
+    return [*failed_tests(), *paragraphs.faults(), *anchors.faults(), *pictures.faults(), *crates_page.faults(), *planted.faults(), *rules.faults(), *dialect.faults()]
 
 
 def write():
