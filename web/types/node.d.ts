@@ -18,7 +18,7 @@ declare module "node:child_process" {
         status: number | null;
         stdout: Uint8Array;
         stderr: Uint8Array;
-        error?: Error;
+        error?: Error & { code: string };
     };
 }
 
