@@ -53,6 +53,8 @@ for (const it of document.querySelectorAll("#head button, #foot button, #tabs bu
 const boxes = (selector) => [...document.querySelectorAll(selector)].filter((it) => it.textContent.trim() && it.getBoundingClientRect().width && getComputedStyle(it).display !== "none").map((it) => ({ text: it.textContent, box: it.getBoundingClientRect() }));
 const overlap = (list, what) => list.forEach((a, at) => list.slice(at + 1).forEach((b) => { const w = Math.min(a.box.right, b.box.right) - Math.max(a.box.left, b.box.left); const h = Math.min(a.box.bottom, b.box.bottom) - Math.max(a.box.top, b.box.top); if (w > 2 && h > 3) wrong.push(what + ": " + a.text + " on " + b.text); }));
 overlap(boxes("#network text"), "map");
+const frame = $("network").getBoundingClientRect();
+for (const it of document.querySelectorAll("#network .arc, #network .box, #network .disc")) { const box = it.getBoundingClientRect(); want(box.top >= frame.top - 1 && box.bottom <= frame.bottom + 1 && box.left >= frame.left - 1 && box.right <= frame.right + 1, "something is cut at the edge of the map: " + it.getAttribute("class")); }
 overlap(boxes(".chart .mark:not(.gone) text:not(.plate)"), "chart");
 overlap(boxes("#sheet .row:not([hidden]) .text"), "rows");
 overlap(boxes("#sheet .head"), "heads");
@@ -84,6 +86,7 @@ want(/^step 0 of/.test($("slider").getAttribute("aria-valuetext")), "the slider 
 key("Enter", $("network")); want(document.activeElement && document.activeElement.closest("#network"), "Enter goes into the map"); const part = document.activeElement; want(part.getAttribute("aria-label"), "a part without a name");
 key("Enter", part); want(!$("menu").hidden, "Enter opens the menu"); key("Escape", document.activeElement); want($("menu").hidden && document.activeElement === part, "Escape gives the focus back");
 $("tab-waits").focus(); key("ArrowRight", $("tab-waits")); want($("tab-distances").getAttribute("aria-selected") === "true" && document.activeElement === $("tab-distances"), "arrows do not go from tab to tab");
+want([...document.querySelectorAll("#network .part")].every((it) => it.querySelector("title").textContent === it.getAttribute("aria-label") && it.getAttribute("aria-label")), "a part without a title for who points at it");
 want([...document.querySelectorAll("th")].every((it) => it.getAttribute("scope")), "a head of a table without scope");
 want([...document.querySelectorAll("button, select, input:not([type=file])")].every((it) => it.textContent.trim() || it.getAttribute("aria-label")), "a button without a name");
 `;
@@ -115,6 +118,20 @@ want(/^#s=/.test(shared.hash), "no script in the address");
 await load("first-message");
 await changed(() => { location.hash = shared.hash; });
 want(count() === shared.count && script() === shared.script && $("sentence").textContent === shared.sentence, "the address brings another script or step");
+`;
+
+/** On paper each line of the script has what came of it; and a file that isn't UTF-8 is refused by name. */
+const PRINTED = `
+await load("lo-of-login");
+window.dispatchEvent(new Event("beforeprint"));
+const rows = [...document.querySelectorAll("#handout tbody tr:not(.note):not(.blank)")].map((it) => [...it.children].map((cell) => cell.textContent));
+const events = [...document.querySelectorAll("#sheet .row.event .number")].map((it) => it.textContent);
+want(rows.filter((it) => it[0]).map((it) => it[0]).join() === events.join(), "the handout has other lines than the script: " + rows.filter((it) => it[0]).map((it) => it[0]).join());
+want(rows.every((it) => it[1] && /[.”]$/.test(it[2])), "a row of the handout without its sentence");
+want(document.querySelectorAll("#handout .blank").length === 2 && document.querySelector("#handout svg"), "the handout has no room for answers, or no map");
+window.dispatchEvent(new Event("afterprint"));
+const given = new DataTransfer(); given.items.add(new File([new Uint8Array([0x23, 0xfc, 0x0a])], "latin.txt")); $("file").files = given.files; $("file").dispatchEvent(new Event("change"));
+await until(() => /latin.txt is not UTF-8/.test($("toast").textContent), "that the file is not UTF-8"); want($("label").textContent !== "A script", "a file in Latin-1 is opened");
 `;
 
 /** What is to come is hidden, and questions are asked instead of the next step. */
@@ -202,7 +219,7 @@ async function whole(browser, address) {
         wrong.push(...(await trial(browser, `const name = ${JSON.stringify(name)}; await load(name); ${STEPPED}`)));
         steps += await browser.evaluate('return Number(document.getElementById("slider").max);');
     }
-    for (const body of [KEYS, TAPPED, HIDDEN, TYPED]) wrong.push(...(await trial(browser, body)));
+    for (const body of [KEYS, TAPPED, PRINTED, HIDDEN, TYPED]) wrong.push(...(await trial(browser, body)));
     let places = 0;
     for (const [width, height] of SIZES) {
         await browser.resize(width, height);

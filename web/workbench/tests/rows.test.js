@@ -6,7 +6,7 @@ import { test } from "node:test";
 import { faultOf, wrongLine } from "../faults.js";
 import { stopsOfFlow, stopsWith } from "../follow.js";
 import { arranged, QUESTIONS, withQuestions } from "../lessons.js";
-import { notesOf, readInput } from "../script.js";
+import { headComment, notesOf, readInput } from "../script.js";
 import { sentenceOf } from "../sentences.js";
 import { fragment, packed, placeIn, unpacked } from "../share.js";
 import { stopsOf } from "../stops.js";
@@ -164,6 +164,11 @@ test("an address brings the same text, step and view elsewhere", async () => {
     assert.equal(await unpacked(await packed(text)), text);
     assert.equal(await placeIn("#s=not-deflated"), null);
     assert.equal(await placeIn("#step-24"), null);
+});
+
+test("a file's own words are those at its head, and no comment of its script", () => {
+    assert.equal(headComment(readInput(exampleText("first-message"))), "");
+    assert(headComment(readInput(exampleText("lo-of-login"))).startsWith("The evening of 29 October 1969"));
 });
 
 test("questions and answers are comments before their line", () => {
