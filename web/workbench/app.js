@@ -13,6 +13,7 @@ import { fragment, placeIn } from "./share.js";
 import { stopAt, stopsOf } from "./stops.js";
 import { Talk } from "./talk.js";
 import { messageName, waitsOf } from "./waits.js";
+import { Before } from "./view/before.js";
 import { byId, h, say, sayWithCode, set } from "./view/dom.js";
 import { Editor } from "./view/editor.js";
 import { fillHandout } from "./view/handout.js";
@@ -37,6 +38,7 @@ const TABS = [
     ["inside", "Inside"],
     ["hosts", "Hosts"],
     ["printed", "Printed"],
+    ["before", "Before"],
 ];
 const LEGEND = [
     ["data", "data"],
@@ -92,6 +94,7 @@ export class Workbench {
         this.sheet = new SheetView(byId("sheet"), (position) => this.go(position));
         this.panes = new Panes(byId("pane"), { choose: (imp) => this.choose(imp), add: (lines, words) => this.change(lines, words), tap: (part, element) => this.openMenu(part, element), follow: (flow) => this.follow(this.flow === flow ? "" : flow) });
         this.printed = new Printed(runner);
+        this.beforeNow = new Before(runner, (position) => this.go(position));
         this.editor = new Editor(byId("editor"), { changed: (text) => this.typed(text), run: () => this.runNow(), close: () => this.edit(false) });
         this.network = /** @type {SVGElement} */ (/** @type {unknown} */ (byId("network")));
         /** @type {MapView | null} */
@@ -735,6 +738,7 @@ export class Workbench {
         byId("pane").hidden = narrow && name === "script";
         this.sheet.draw(position, this.hidden);
         if (name === "printed") this.printed.draw(byId("pane"), this.text, this.hidden);
+        else if (name === "before") this.beforeNow.draw(byId("pane"), this.origin, this.history.replay, this.hidden);
         else if (name !== "script") this.panes.draw(name, { history: this.history, position, state, before: at ? this.history.at(this.stops[at - 1].from) : null, talk, waits, to: this.to, hidden: this.hidden });
         set(byId("pane"), { "aria-label": TABS.find(([it]) => it === name)?.[1] ?? "" });
         document.title = `${this.title()} – Dorydate`;

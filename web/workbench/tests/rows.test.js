@@ -3,6 +3,7 @@
 import assert from "node:assert/strict";
 import { test } from "node:test";
 
+import { beside, printedBy } from "../compare.js";
 import { faultOf, wrongLine } from "../faults.js";
 import { stopsOfFlow, stopsWith } from "../follow.js";
 import { arranged, QUESTIONS, withQuestions } from "../lessons.js";
@@ -164,6 +165,20 @@ test("an address brings the same text, step and view elsewhere", async () => {
     assert.equal(await unpacked(await packed(text)), text);
     assert.equal(await placeIn("#s=not-deflated"), null);
     assert.equal(await placeIn("#step-24"), null);
+});
+
+test("what two replays printed stands in pairs, alike lines together", async () => {
+    const before = await historyOfText(twoImps(["calm 2", "out 0/1 0/2 5 8 41", "calm 4"]));
+    const after = await historyOfText(twoImps(["calm 2", "out 0/1 0/2 5 8 41", "hostdown 0/2", "calm 4"]));
+    const pairs = beside(printedBy(before.replay), printedBy(after.replay)).map((pair) => [pair.before?.text ?? "", pair.after?.text ?? ""]);
+    assert.deepEqual(pairs, [
+        ["out 0/1 0/2 5 8", "out 0/1 0/2 5 8"],
+        ["in 0/1 0/2 5 8", ""],
+        ["answer rfnm 0/1 0/2 5", ""],
+        ["", "down 0/2"],
+        ["", "answer dead 0/1 0/2 5"],
+    ]);
+    assert(beside(printedBy(after.replay), printedBy(after.replay)).every((pair) => pair.before && pair.after));
 });
 
 test("a file's own words are those at its head, and no comment of its script", () => {
