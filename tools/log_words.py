@@ -47,9 +47,9 @@ def explained(octets: bytes, verdict: str) -> str:
         book = read_log(octets)
     except BadLog as line:
         return f"The independent reader in Python finds line {line} bad. No cause was found."
-    told = why_so(book, verdict)
+    why = why_so(book, verdict)
     shown_lines = [f"  {number}: {short(octets, number)}" for number in map(int, re.findall(r"\d+", verdict))]
-    return "\n".join([*shown_lines, told])
+    return "\n".join([*shown_lines, why])
 
 
 def short(octets: bytes, number: int) -> str:
@@ -81,17 +81,17 @@ def why_bad(octets: bytes, number: int) -> str:
 
 
 def out_of_order(line: bytes, before: list[int]) -> str | None:
-    """Why a good line can't stand behind others of these parts."""
+    """Why a good line can't follow others of these parts."""
     part = part_of(line)
     if 3 in before:
-        return "It stands behind `end`, and nothing may."
+        return "It follows `end`, and nothing may."
     if part is not None and before and part < max(before):
-        return f"It is one of the {NAMES[part]}, and stands behind {NAMES[max(before)]}. A log has all crossings first, then all lives, then a `handed` for each life, then `end`."
+        return f"It is one of the {NAMES[part]}, and follows {NAMES[max(before)]}. A log has all crossings first, then all lives, then a `handed` for each life, then `end`."
     return None
 
 
 def wrong_with_entry(line: bytes) -> str | None:
-    """Why a line stands in no log, with the form that it should have; None where it may stand in one."""
+    """Why a line is not one of a log, with the form that it should have; None where it may be one."""
     if line.endswith(b"\r"):
         return "It has a carriage return at its end. The lines of a log are ended by line feeds only."
     if not line:
@@ -108,7 +108,7 @@ def wrong_with_entry(line: bytes) -> str | None:
         return unknown_entry(name)
     names, form = FORMS[name].split(), f"The form is `{f'{name} {WRITTEN.get(name, FORMS[name])}'.rstrip()}`"
     if len(words) != 1 + len(names):
-        return f"It has {counted(len(words) - 1, 'word')} behind `{name}`, and {len(names)} are needed. {form}."
+        return f"It has {counted(len(words) - 1, 'word')} after `{name}`, and {len(names)} are needed. {form}."
     causes = [wrong_with_part(what, word) for what, word in zip(names, words[1:])]
     cause = next(filter(None, causes), None) or wrong_with_octets(name, words) or wrong_with_kind(name, words)
     return f"{cause} {form}." if cause else None
@@ -121,7 +121,7 @@ def unknown_entry(name: str) -> str:
 
 
 def wrong_with_part(what: str, word: str) -> str | None:
-    """Why a word can't stand in its place."""
+    """Why a word isn't one for its place."""
     if what in WORDS:
         if word in WORDS[what]:
             return None
@@ -197,7 +197,7 @@ def why_malformed(book: Book, numbers: list[int]) -> str:
 
 
 def crossing_at(log: list, place: int) -> str:  # type: ignore[type-arg]
-    """What stands at a place of the log."""
+    """The crossing at a place of the log."""
     if place >= len(log):
         return f"the log has {counted(len(log), 'crossing')} only"
     kind, *parts = log[place]
@@ -270,5 +270,5 @@ def why_grants(book: Book, numbers: list[int]) -> str:
     messages, bits = life.granted[0] - life.returned[0], life.granted[1] - life.returned[1]
     left = f"Line {numbers[0]} granted {counted(life.granted[0], 'message')} and {counted(life.granted[1], 'bit')}, and had {life.returned[0]} and {life.returned[1]} back"
     used = [(number, life_at(book, number)[0]) for number in numbers]
-    told = [f"line {number} {'took' if it.receives() else 'sent'} {counted(it.messages, 'message')} with {counted(len(it.bits), 'bit')}" for number, it in used]
-    return f"{left}: at most {max(messages, 0)} with {counted(max(bits, 0), 'bit')} may pass. But {' and '.join(told)}."
+    passed = [f"line {number} {'took' if it.receives() else 'sent'} {counted(it.messages, 'message')} with {counted(len(it.bits), 'bit')}" for number, it in used]
+    return f"{left}: at most {max(messages, 0)} with {counted(max(bits, 0), 'bit')} may pass. But {' and '.join(passed)}."

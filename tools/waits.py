@@ -15,7 +15,7 @@ from imp_rules import in_order, spell_flow, spell_host
 from in_the_way import InTheWay
 
 LOOKED = 4  # rounds after which a network that printed nothing is said to be at rest
-TOLD = 4  # so many things that wait are told of
+MOST = 4  # things that wait are listed at most
 MOST_IMPS = 12  # of a network whose rest is looked at: each look costs rounds of the model
 
 
@@ -23,11 +23,11 @@ def at_rest(place: Any, carrier: Any) -> list[str]:
     """Sentences about what waits where nothing more comes of some rounds; none where nothing waits or something moves."""
     if len(getattr(carrier, "imps", ())) > MOST_IMPS:
         return []
-    told = [*waiting(place, carrier)]
-    if not told or moves(place):
+    found = [*waiting(place, carrier)]
+    if not found or moves(place):
         return []
-    more = len(told) - TOLD
-    return [f"The network rests, and this waits: {'; '.join(told[:TOLD])}{f'; and {more} more' if more > 0 else ''}."]
+    more = len(found) - MOST
+    return [f"The network rests, and this waits: {'; '.join(found[:MOST])}{f'; and {more} more' if more > 0 else ''}."]
 
 
 def moves(place: Any) -> bool:

@@ -17,7 +17,7 @@ HEAD = f'<svg xmlns="http://www.w3.org/2000/svg" viewBox="0 0 {SIZE} {SIZE}" wid
 
 
 def places(network: Network) -> dict[int, tuple[float, float]]:
-    """Where each IMP stands."""
+    """The place of each IMP."""
     count = len(network.imps)
     if count == 1:
         return {network.imps[0].number: (SIZE / 2, SIZE / 2)}
@@ -35,8 +35,8 @@ def drawn(network: Network, state: State, unanswered: Sequence[Flow] = ()) -> st
     parts += [it for imp in network.imps for it in imp_parts(network, state, imp.number, at[imp.number])]
     waiting = [f"{network.title(it.source)} to {network.title(it.destination)}, link {it.link}" for it in unanswered]
     if waiting:
-        told = f"no answer yet: {'; '.join(waiting[:2])}{f' and {len(waiting) - 2} more' if len(waiting) > 2 else ''}"
-        parts.append(f'<text x="{SIZE / 2}" y="{SIZE - 8}" text-anchor="middle" fill="#444">{html.escape(told)}</text>')
+        words = f"no answer yet: {'; '.join(waiting[:2])}{f' and {len(waiting) - 2} more' if len(waiting) > 2 else ''}"
+        parts.append(f'<text x="{SIZE / 2}" y="{SIZE - 8}" text-anchor="middle" fill="#444">{html.escape(words)}</text>')
     return "\n".join([*parts, "</svg>"])
 
 
@@ -64,8 +64,8 @@ def imp_parts(network: Network, state: State, number: int, at: tuple[float, floa
     parts = [f'<rect x="{x - 38:.0f}" y="{y - 17:.0f}" width="76" height="34" rx="5" fill="{fill}" stroke="#333" stroke-width="{1 if not is_down else 2}"/>']
     parts.append(f'<text x="{x:.0f}" y="{y - 1:.0f}" text-anchor="middle">{html.escape(str(imp)[:10])}</text>')
     count = len(held.store) + sum(map(len, held.sending)) if held else 0
-    told = "down" if is_down else f"holds {count}" if count else f"IMP {number}" if imp.name else ""
-    parts.append(f'<text x="{x:.0f}" y="{y + 12:.0f}" text-anchor="middle" font-size="10" fill="#555">{told}</text>')
+    words = "down" if is_down else f"holds {count}" if count else f"IMP {number}" if imp.name else ""
+    parts.append(f'<text x="{x:.0f}" y="{y + 12:.0f}" text-anchor="middle" font-size="10" fill="#555">{words}</text>')
     for host in range(imp.hosts):
         is_up = not is_down and (held is None or held.hosts[host].up)
         cx = x - 12 * (imp.hosts - 1) + 24 * host

@@ -1,4 +1,4 @@
-"""Expectations in scripts: a comment `#= LINE` behind an event says that it prints that line, and `#=` alone that it prints nothing.
+"""Expectations in scripts: a comment `#= LINE` after an event says that it prints that line, and `#=` alone that it prints nothing.
 
 An event with such comments has to print exactly these lines, in their order. One without any may print what it will.
 """
@@ -34,8 +34,8 @@ class Difference:
 def differences(script: Script, program: Program | None = None) -> list[Difference]:
     """The events of a script that print something else than is expected, in order."""
     net = Replay.of(script, program)
-    told = zip(script.entries, (step.printed for step in net.steps))
-    return [Difference(entry, printed) for entry, printed in told if entry.expected is not None and entry.expected != printed]
+    pairs = zip(script.entries, (step.printed for step in net.steps))
+    return [Difference(entry, printed) for entry, printed in pairs if entry.expected is not None and entry.expected != printed]
 
 
 def expected(script: Script, program: Program | None = None) -> Script:
@@ -54,7 +54,7 @@ def command(paths: Sequence[str]) -> int:
 
 
 def judged(path: str) -> int:
-    """The status of a file, which is told."""
+    """The status of a file, which is printed."""
     try:
         script = Script.read(Path(path).read_text(encoding="latin-1"))
         found = differences(script)

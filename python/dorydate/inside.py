@@ -21,7 +21,7 @@ CROSSES = ("out", "in", "answer", "down", "up")
 
 
 class CannotFollow(Exception):
-    """Why the inside of a network can't be told."""
+    """Why the state inside a network isn't known."""
 
 
 def state_of(program: Program, network: Network, events: Sequence[Event]) -> State:
@@ -74,26 +74,26 @@ def in_rounds(program: Program, network: Network, events: Sequence[Event]) -> li
     missing = next(it for it in range(63, 0, -1) if it not in {imp.number for imp in network.imps})
     text = Script(network).text() + "".join(f"{it}\nhostdown 3/{missing}\n" for it in cut)
     ran = program.run(text.encode("latin-1"), "--texts")
-    told: list[list[str]] = [[]]
+    found: list[list[str]] = [[]]
     for line in ran.output.splitlines()[:-1]:
         if line == "refused NoSuch":
-            told.append([])
+            found.append([])
         else:
-            told[-1].append(line)
-    if ran.status or len(told) != len(cut) + 1:
+            found[-1].append(line)
+    if ran.status or len(found) != len(cut) + 1:
         raise CannotFollow(ran.said.strip() or "an event of the script was refused")
-    return list(zip(cut, told))
+    return list(zip(cut, found))
 
 
 def of_round(program: Program, network: Network, lines: Sequence[str], crossed: Sequence[str]) -> list[str]:
     """The raw lines of a round of a calm in which this crossed: it is a round of the raw network, and the messages that go out
-    behind it. Where a host takes something after another has sent, its parts stand there one by one."""
+    after it. Where a host takes something after another has sent, its parts are listed one by one."""
     kinds = ["out" if it.startswith("out ") else "take" for it in crossed]
     if kinds == sorted(kinds, reverse=True):
         return ["calm 1", *(as_event(it) for it in crossed if it.startswith("out "))]
     number = len(lines) + 1
-    told = [json.loads(it) for it in traced(program, network, [*lines, "calm 1"]).splitlines()]
-    quiet = [it["event"] for it in told if it["number"] == number and not it["event"].startswith("take ")]
+    found = [json.loads(it) for it in traced(program, network, [*lines, "calm 1"]).splitlines()]
+    quiet = [it["event"] for it in found if it["number"] == number and not it["event"].startswith("take ")]
     return [*quiet, *map(as_event, crossed)]
 
 

@@ -27,7 +27,7 @@ class Host:
         return f"{self.host}/{self.imp}"
 
     def order(self) -> tuple[int, int]:
-        """Hosts stand in order of IMP and host."""
+        """The order of hosts: by IMP, then by host."""
         return self.imp, self.host
 
     @staticmethod
@@ -163,7 +163,7 @@ class Network:
 
     @staticmethod
     def read(text: str) -> Network:
-        """The network of a topology in the plain spelling: one key a line, as `toml` writes it. Comments may stand anywhere."""
+        """The network of a topology in the plain spelling: one key a line, as `toml` writes it. Comments may be anywhere."""
         return read(text)
 
 
@@ -180,7 +180,7 @@ def check(network: Network) -> None:
         if numbers.count(imp.number) > 1:
             raise BadNetwork(f"two IMPs have the number {imp.number}")
         if "\n" in imp.name:
-            raise BadNetwork("a site's name stands in one line")
+            raise BadNetwork("a site's name has one line")
     check_lines(network.lines, numbers)
 
 

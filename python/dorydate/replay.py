@@ -25,7 +25,7 @@ Octets = Union[bytes, str, Text]
 
 
 class Stopped(Exception):
-    """Why a replay can't go on."""
+    """Why a replay can't continue."""
 
 
 @dataclass(frozen=True)
@@ -34,7 +34,7 @@ class Step:
 
     event: Event
     printed: tuple[str, ...]
-    texts: tuple[str, ...] = ()  # the same lines, with the octets of messages behind them
+    texts: tuple[str, ...] = ()  # the same lines, with the octets of messages after them
     why: str = ""
 
     @property
@@ -43,7 +43,7 @@ class Step:
         return refusal(self.printed)
 
     @property
-    def told(self) -> list[str]:
+    def meanings(self) -> list[str]:
         """What its lines mean, a sentence each; of an event that printed nothing, what that means."""
         if not self.printed:
             return [sentences.silence(str(self.event).split(" "))]
@@ -110,7 +110,7 @@ class Replay:
             net.do(entry.event, "; ".join(entry.comments))
         return net
 
-    # ---- going on
+    # ---- one event after another
 
     def do(self, event: Event, why: str = "") -> Deed:
         """Lets a plain event happen."""
@@ -151,7 +151,7 @@ class Replay:
         self.steps = self.steps[: max(len(self.steps) - count, 0)]
 
     def branch(self) -> Replay:
-        """Another replay that has come as far as this, and goes its own way from here."""
+        """Another replay that has come as far as this, and continues in its own way."""
         other = Replay(self.network, self.program, self.heading)
         other.steps, other._states = self.steps, dict(self._states)
         return other
@@ -416,7 +416,7 @@ class Replay:
         return [flow for flow, it in waiting.items() if it]
 
     def expect(self, *wanted: str) -> None:
-        """Refuses to go on unless the last event printed exactly these lines."""
+        """Raises `Stopped` unless the last event printed exactly these lines."""
         printed = self.steps[-1].printed if self.steps else ()
         if printed != wanted:
             raise Stopped(f"`{self.steps[-1].event if self.steps else 'nothing'}` printed {list(printed)}, and {list(wanted)} were expected")

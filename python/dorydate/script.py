@@ -377,7 +377,7 @@ class Send(Event):
 @event("grant")
 @dataclass(frozen=True)
 class Grant(Event):
-    """A user lets the sender of a connection send so many more messages and bits."""
+    """A user lets the sender of a connection send more messages and bits."""
 
     host: Host = a_host()
     socket: int = number()
@@ -388,7 +388,7 @@ class Grant(Event):
 @event("askback")
 @dataclass(frozen=True)
 class AskBack(Event):
-    """A user asks for so many 128ths of the messages and bits that the sender may still send."""
+    """A user asks for a number of 128ths of the messages and bits that the sender may still send."""
 
     host: Host = a_host()
     socket: int = number()
@@ -464,7 +464,7 @@ def read_event(line: str, raw: bool | None = None) -> Event:
         raise BadLine(f"`{word}` is an event of {'networks with host programs' if raw else 'raw networks'}")
     forms = [it.metadata["form"] for it in fields(kind)]
     if len(words) != sum(it.words for it in forms):
-        raise BadLine(f"`{word}` has {sum(it.words for it in forms)} words behind it, and here are {len(words)}")
+        raise BadLine(f"`{word}` takes {sum(it.words for it in forms)} words after it, and this line has {len(words)}")
     values = []
     for it in forms:
         values.append(it.read(*words[: it.words]))
@@ -479,7 +479,7 @@ EXPECTED = "#="  # begins a comment with a line that the event before it has to 
 
 @dataclass(frozen=True)
 class Entry:
-    """A line of a script that asks for an event, with the comments that stand before it, the lines that it is expected to
+    """A line of a script that asks for an event, with the comments before it, the lines that it is expected to
     print (None where nothing is said), and its number in the file (0 where it is from none)."""
 
     event: Event
@@ -546,7 +546,7 @@ class Script:
 def expect(entries: list[Entry], line: str, number: int) -> None:
     """Adds a line to what the last event is expected to print; an empty one says that it prints nothing."""
     if not entries:
-        raise BadLine(f"line {number}, `{line}`: no event stands before it")
+        raise BadLine(f"line {number}, `{line}`: no event comes before it")
     last, printed = entries[-1], line[len(EXPECTED) :].strip(" ")
     if last.expected == () or (last.expected and not printed):
         raise BadLine(f"line {number}, `{line}`: the event of line {last.number} can't print nothing and something")

@@ -15,7 +15,7 @@ def meaning(line: str) -> str:
     if words[0] == "refused":
         return {**IN_A_SUBNET, **IN_A_HOST}.get(words[1], "The event was refused and changed nothing.")
     if words[:2] == ["answer", "incomplete"]:
-        words[1] = "unknown"  # it is printed for two answers, and the line doesn't tell which
+        words[1] = "unknown"  # it is printed for two answers, and the line doesn't say which
     return crossing(words)
 
 
@@ -44,7 +44,7 @@ def crossing(words: Sequence[str]) -> str:
 
 
 def notice(words: Sequence[str]) -> str:
-    """What a line about something that a host's user is told says, in a sentence."""
+    """What a line about a notice to a host's user says, in a sentence."""
     match words:
         case ["ready", host, peer]:
             return f"Host {host} and its peer {peer} have reset: connections between them may be opened from here."

@@ -159,8 +159,8 @@ class State:
     def distances(self, imp: int) -> dict[int, int]:
         """The least distance that an IMP knows to each IMP that it knows a way to."""
         state = self.imp(imp)
-        told = [it for it in (state.routes if state else ()) if it is not None]
-        return {to: 1 + min(it[str(to)] for it in told if str(to) in it) for to in sorted({int(to) for it in told for to in it}) if to != imp}
+        heard = [it for it in (state.routes if state else ()) if it is not None]
+        return {to: 1 + min(it[str(to)] for it in heard if str(to) in it) for to in sorted({int(to) for it in heard for to in it}) if to != imp}
 
 
 def held_by(number: int, state: ImpState, network: Network) -> Iterator[Held]:

@@ -65,9 +65,9 @@ class Replays(unittest.TestCase):
 
     def test_sentences(self) -> None:
         net = raw()
-        self.assertEqual(net.steps[0].told, ["2 rounds pass, in which no host takes anything."])
-        self.assertIn("hands its IMP a message of 8 bits for host 0/2, on link 5", net.out("UCLA", "SRI", 5, b"A").steps[0].told[0])
-        self.assertEqual(net.out("UCLA", "SRI", 5).steps[0].told, ["A message of this flow is outstanding, or an answer about one waits for its source."])
+        self.assertEqual(net.steps[0].meanings, ["2 rounds pass, in which no host takes anything."])
+        self.assertIn("hands its IMP a message of 8 bits for host 0/2, on link 5", net.out("UCLA", "SRI", 5, b"A").steps[0].meanings[0])
+        self.assertEqual(net.out("UCLA", "SRI", 5).steps[0].meanings, ["A message of this flow is outstanding, or an answer about one waits for its source."])
 
     def test_back_and_branch(self) -> None:
         net = raw()
@@ -168,8 +168,8 @@ class Explorations(unittest.TestCase):
         many, one = Many(TWO_RAW, found()), One(TWO_RAW, found())
         lines: list[list[list[str]]] = [[[], [many.spelled(copy, it) for it in script[:-1]]] for copy in range(many.copies)]
         results = many.run(lines, [1, 2])
-        alone = one.of([Calm(1), *script])
-        self.assertEqual({it.lines for it in results}, {alone.lines})
+        single = one.of([Calm(1), *script])
+        self.assertEqual({it.lines for it in results}, {single.lines})
         self.assertEqual(many.copies, 31)
 
     def test_searches_find_and_shrink(self) -> None:

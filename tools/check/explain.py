@@ -263,7 +263,7 @@ BAD_LOG_LINES = [
     (1, b"# my network", "A log has no comments"),
     (1, b"", "A log has no empty lines"),
     (1, b"OUT 0/1 0/2 0 0 -", "begins no line of a log. They begin with out, in, answer, down, up, life, handed, end, in lower case. Is `out` meant?"),
-    (1, b"out 0/1 0/2 0 0", "It has 4 words behind `out`, and 5 are needed"),
+    (1, b"out 0/1 0/2 0 0", "It has 4 words after `out`, and 5 are needed"),
     (1, b"out 0/1  0/2 0 0 -", "single spaces"),
     (1, b"in 0/1 0/2 0 8 ff", "lower-case letters are not accepted"),
     (1, b"in 0/1 0/2 256 0 -", "out of range: the link is 0 to 255"),
@@ -275,13 +275,13 @@ BAD_LOG_LINES = [
     (10, b"life 0/1 16 0/2 33 0 4 send 1 16 1 100 0 0 open 4849", "Socket 16 is even and receives"),
     (10, b"life 0/1 4294967296 0/2 33 0 4 receive 1 16 1 100 0 0 open 4849", "out of range: the socket is 0 to 4294967295"),
     (10, b"life 0/1 16 0/2 33 18446744073709551616 4 receive 1 16 1 100 0 0 open 4849", "it is a number of 64 bits"),
-    (11, b"up 0/1", "It is one of the crossings, and stands behind lives"),
+    (11, b"up 0/1", "It is one of the crossings, and follows lives"),
     (13, b"handed 24 48", "24 bits fill 3 octets"),
-    (13, b"end", "It stands behind `end`, and nothing may."),
-    (14, b"end of it", "It has 2 words behind `end`, and 0 are needed. The form is `end`."),
+    (13, b"end", "It follows `end`, and nothing may."),
+    (14, b"end of it", "It has 2 words after `end`, and 0 are needed. The form is `end`."),
 ]
 # ends of that log, in place of its own, and words of the cause
-BAD_LOG_ENDS = [(b"", "Its last line has to be `end`"), (b"end", "It isn't ended by a line feed"), (b"end\nend\n", "It stands behind `end`")]
+BAD_LOG_ENDS = [(b"", "Its last line has to be `end`"), (b"end", "It isn't ended by a line feed"), (b"end\nend\n", "It follows `end`")]
 # what is changed in a line of that log, the verdict, and words of what is told of the two lines
 BROKEN_LOGS = [
     (10, b"4849", b"4848", "broken streams lines 10 11", "Line 10 took what line 11 didn't send: at octet 2 what was taken has 48, and what was sent has 49."),

@@ -1,7 +1,7 @@
 """Every list of events, from the shortest: so that it can be said that no shorter script does what is asked.
 
-In a raw network a script is followed state by state: two scripts that leave the same state, and have come as far in the pattern, go
-on alike, so one of them is enough. A state is the texts of all its parts in the trace, which leave nothing out. Many
+In a raw network a script is followed state by state: two scripts that leave the same state, and have come as far in the pattern, continue
+alike, so one of them is enough. A state is the texts of all its parts in the trace, which leave nothing out. Many
 scripts are run side by side; a calm of one round has its own turn, since all networks share it. In networks with host
 programs each list of events is run.
 """
@@ -63,7 +63,7 @@ class Walk:
         self.counts: list[Count] = []
 
     def run(self, depth: int, seconds: float) -> Events | None:
-        """The first script that matches, by its length; None where none of at most so many events does, or time is up."""
+        """The first script that matches, by its length; None where none of at most `depth` events does, or time is up."""
         begun = time.monotonic()
         edge = [Node((), (), (), (START,) * len(self.pattern.sequels), frozenset())]
         for at in range(1, depth + 1):
@@ -104,7 +104,7 @@ class Walk:
                 yield from self.after_calm(round_of)
 
     def traced(self, scripts: Sequence[Sequence[Event]], calm: bool) -> list[str]:
-        """The records of scripts side by side, with a calm of one round behind them perhaps."""
+        """The records of scripts side by side, with a calm of one round after them perhaps."""
         lines = [self.many.spelled(copy, event) for copy, script in enumerate(scripts) for event in script]
         text = self.many.head + "".join(f"{it}\n" for it in [*lines, *(["calm 1"] if calm else [])])
         ran = self.many.program.run(text.encode("ascii"), "--trace")
@@ -134,7 +134,7 @@ class Walk:
             yield self.after(node, Calm(1), events, own[copy])
 
     def own(self, copy: int, record: str) -> str:
-        """A record of a copy as the network alone has it. Only the event keeps its numbers of IMPs and lines."""
+        """A record of a copy as the single network has it. Only the event keeps its numbers of IMPs and lines."""
         imps, lines = copy * self.many.size, copy * self.many.line_count
 
         def moved(found: re.Match[str]) -> str:
@@ -147,30 +147,30 @@ class Walk:
         return NUMBERS.sub(moved, record) if copy else record
 
     def own_event(self, copy: int, line: str) -> Event:
-        """An elementary event as the network alone has it; its hosts are that already."""
+        """An elementary event as the single network has it; its hosts are that already."""
         event = read_event(line)
         imps, lines = copy * self.many.size, copy * self.many.line_count
         changed = {name: getattr(event, name) - by for name, by in (("imp", imps), ("other", imps), ("line", lines)) if hasattr(event, name)}
         return replace(event, **changed) if changed else event
 
     def after(self, node: Node, event: Event, lines: tuple[Event, ...], records: Sequence[str]) -> Node:
-        """The node behind these records."""
+        """The node after these records."""
         seen = Seen(self.network)
         parts = dict(node.parts)
         seen.parts = {name: json.loads(text) for name, text in node.parts} if self.pattern.needs_trace() else {}
         seen.arrived = set(node.arrived)
         reached = list(node.reached)
         for own, record in zip(lines, records):
-            told = json.loads(record)
-            told["event"] = str(own)
+            read = json.loads(record)
+            read["event"] = str(own)
             if self.pattern.needs_trace():
-                printed = next(iter(seen.lines([json.dumps(told)])))[1]
+                printed = next(iter(seen.lines([json.dumps(read)])))[1]
             else:
-                printed = told["printed"]
+                printed = read["printed"]
             for line in printed:
                 words = line.split(" ")
                 reached = [step(sequel, state, words) for sequel, state in zip(self.pattern.sequels, reached)]
-            parts.update((name, json.dumps(part, separators=(",", ":"))) for name, part in told["parts"].items())
+            parts.update((name, json.dumps(part, separators=(",", ":"))) for name, part in read["parts"].items())
         arrived = frozenset(seen.arrived) if self.needs_arrivals else frozenset()
         return Node((*node.script, event), (*node.lines, *lines), tuple(sorted(parts.items())), tuple(reached), arrived)
 
@@ -216,7 +216,7 @@ def split(script: Sequence[Event], lines: Sequence[str], place: dict[Event, int]
 
 
 def command(network: Network, pattern: Pattern, program: Program, depth: int, found: Pools, seconds: float) -> int:
-    """Looks at every list of at most so many events, and says what was seen."""
+    """Looks at every list of at most `depth` events, and prints what was seen."""
     plain = [event for kind in found.values() for event in kind]
     if network.raw and network.carrier == "subnet":
         if pattern.calm.rounds:

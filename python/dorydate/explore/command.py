@@ -36,7 +36,7 @@ class Wrong(Exception):
 def parser() -> argparse.ArgumentParser:
     made = argparse.ArgumentParser("explore", description="Finds the shortest script that prints what a pattern asks for (docs/python.md).")
     made.add_argument("name", nargs="?", help="a search with a name (--list), or a file with a topology")
-    made.add_argument("--list", action="store_true", help="tell which searches have names")
+    made.add_argument("--list", action="store_true", help="print the searches with names")
     made.add_argument("--find", metavar="PATTERN", help="what is looked for")
     made.add_argument("--never", metavar="PATTERN", help="what must not come: status 1 if it does")
     made.add_argument("--network", metavar="CHAIN", nargs="+", help="a network by chains of sites, as in UCLA-SRI-UTAH")
@@ -46,13 +46,13 @@ def parser() -> argparse.ArgumentParser:
     made.add_argument("--runs", type=int, default=1_000_000, help="schedules at most")
     made.add_argument("--seconds", type=float, default=600.0, help="seconds at most")
     made.add_argument("--seed", type=int, default=1)
-    made.add_argument("--matches", type=int, default=MATCHES, help="so many matches are shrunk, and the shortest is told")
+    made.add_argument("--matches", type=int, default=MATCHES, help="matches to shrink; the shortest is printed")
     made.add_argument("--audit", action="store_true", help="hold the log of each schedule up to the proved audit")
-    made.add_argument("--all", type=int, metavar="EVENTS", help="run every list of so many events, from the shortest, states that were seen before cut off")
+    made.add_argument("--all", type=int, metavar="EVENTS", help="run every list of at most EVENTS events, from the shortest; states seen before are not followed again")
     made.add_argument("--without", metavar="RULE", help="the independent model without one rule in the place of the program: which promise breaks")
-    made.add_argument("--rules", action="store_true", help="tell which rules can be left out")
+    made.add_argument("--rules", action="store_true", help="print the rules that can be left out")
     made.add_argument("--save", metavar="FILE", help="write the script there too, and what it prints beside it")
-    made.add_argument("--quiet", action="store_true", help="tell no progress")
+    made.add_argument("--quiet", action="store_true", help="show no progress")
     return made
 
 
@@ -63,7 +63,7 @@ def network_of(words: argparse.Namespace) -> Network:
     if words.name in SEARCHES:
         return SEARCHES[words.name].network
     if words.name is None:
-        raise Wrong("name a search, a file with a topology, or a --network; --list tells which searches have names")
+        raise Wrong("name a search, a file with a topology, or a --network; --list prints the searches")
     try:
         text = Path(words.name).read_text(encoding="utf-8")
     except OSError as fault:
@@ -86,7 +86,7 @@ def pools_of(words: argparse.Namespace, network: Network) -> Pools:
     return chosen(every, kinds) if kinds else every
 
 
-SELDOM = 10  # where nobody watches, one line of progress in so many is written
+SELDOM = 10  # where nobody watches, one line of progress of these is written
 
 
 class Shown:
@@ -108,9 +108,9 @@ def written(network: Network, pattern: Pattern, script: Found, program: Program)
     """A script, with the last calm that the pattern is about, and with what each event prints as its expectation (`#=`)."""
     last = (Calm(pattern.calm.rounds),) if pattern.calm.rounds else ()
     heading = [f"Found by ./explore: {pattern.text}"]
-    told = expected(Script.of(network, (*script, *last), heading), program)
-    short = tuple(it if len(it.expected or ()) <= MOST_EXPECTED else replace(it, expected=None) for it in told.entries)
-    return replace(told, entries=short).text()
+    full = expected(Script.of(network, (*script, *last), heading), program)
+    short = tuple(it if len(it.expected or ()) <= MOST_EXPECTED else replace(it, expected=None) for it in full.entries)
+    return replace(full, entries=short).text()
 
 
 def saved(path: str, text: str, program: Program) -> None:
@@ -120,7 +120,7 @@ def saved(path: str, text: str, program: Program) -> None:
     print(f"explore: {path} has the script, and {path}.stdout what it prints; ./explain --page < {path} makes a page of it", file=sys.stderr)
 
 
-def tell_list() -> int:
+def print_list() -> int:
     for name, search in SEARCHES.items():
         print(f"  {name:22} {search.what}\n  {'':22} {search.pattern}")
     print(f"  {'lockup':22} {lockup.WHAT}")
@@ -150,9 +150,9 @@ def searched(words: argparse.Namespace, program: Program) -> int:
 def chose(words: argparse.Namespace) -> int:
     """Does what the words ask for."""
     if words.list:
-        return tell_list()
+        return print_list()
     if words.rules:
-        return without.tell_rules()
+        return without.print_rules()
     if words.without:
         return without.command(words.without, words.seed, words.seconds, words.runs)
     program = found()

@@ -116,7 +116,7 @@ class Maker:
         return [begin + int(draw() * many) for begin, many in chance.choices(self.ranges, cum_weights=weights, k=count)]
 
     def batch(self, chance: random.Random, copies: int) -> tuple[list[list[list[int]]], list[int]]:
-        """Schedules for networks side by side: for each the events of each part, and the calms behind the parts, which they share."""
+        """Schedules for networks side by side: for each the events of each part, and the calms after the parts, which they share."""
         calms, left, ends = [self.opening], self.length, [0]
         while left > 0:
             size = chance.choice((1, 2, 3, 5, 8))
@@ -130,7 +130,7 @@ class Maker:
         return parts, calms
 
     def script(self, parts: Sequence[Sequence[int]], calms: Sequence[int]) -> list[Event]:
-        """The schedule of one network: its parts with the calms behind them."""
+        """The schedule of one network: its parts with the calms after them."""
         found: list[Event] = []
         for part, rounds in zip(parts, calms):
             found += [self.events[it] for it in part]

@@ -3,7 +3,7 @@
 Eight messages hold the eight slots of an IMP, each with a piece that waits elsewhere; and those pieces can't come, since all eight
 channels towards the IMP are full of a message that finds no slot. Nothing is lost, all is up, and nothing moves any more. Before the end
 nothing that is printed differs, so random schedules don't find it. What a trace shows differs: a message whose first piece
-goes ahead while its last stays behind is torn, and the more messages are torn, and the more of another message waits beside the
+goes ahead while its last has not left is torn, and the more messages are torn, and the more of another message waits beside the
 slots, the nearer is the lockup. The search climbs by that.
 """
 
@@ -84,7 +84,7 @@ def is_locked(imps: Sequence[Any]) -> bool:
 
 
 class Climb:
-    """The search: scripts that are changed a little, those that come nearer are gone on from."""
+    """The search: scripts that are changed a little, those that come nearer are changed again."""
 
     def __init__(self, program: Program, seed: int) -> None:
         self.many, self.one = Many(NETWORK, program), One(NETWORK, program)
@@ -95,7 +95,7 @@ class Climb:
     # ---- what a script comes to
 
     def traced(self, many: Many, scripts: Sequence[Events], last: int = 0) -> list[str]:
-        """The records of scripts side by side, with a calm behind all of them perhaps."""
+        """The records of scripts side by side, with a calm after all of them perhaps."""
         lines = [many.spelled(copy, it) for copy, script in enumerate(scripts) for it in script]
         text = [f"calm {OPENING.rounds}", *lines, *([f"calm {last}"] if last else [])]
         ran = many.program.run((many.head + "".join(f"{it}\n" for it in text)).encode("ascii"), "--trace")
@@ -110,7 +110,7 @@ class Climb:
         return [measure(imps[copy * self.many.size : (copy + 1) * self.many.size]) for copy in range(len(scripts))]
 
     def locks(self, script: Events) -> bool:
-        """Whether a script, alone, comes to a lockup that lasts: nothing is printed in a last calm."""
+        """Whether a script, in a process of its own, comes to a lockup that lasts: nothing is printed in a last calm."""
         result = self.one.of((OPENING, *script), LAST)
         return not result.last and is_locked(imps_at(self.traced(self.one, [script], LAST), self.one))
 
@@ -130,9 +130,9 @@ class Climb:
     def addition(self) -> Event:
         return self.chance.choice(self.outs) if self.chance.random() < 0.35 else self.chance.choice(self.frames)
 
-    def run(self, seconds: float, tell: bool = False) -> Events | None:
+    def run(self, seconds: float, is_shown: bool = False) -> Events | None:
         """A script that ends in a lockup; None where time is up."""
-        begun = told = time.monotonic()
+        begun = shown = time.monotonic()
         edge: list[tuple[int, Events]] = [(0, ())]
         stale = 0  # batches since the best was found
         while time.monotonic() - begun < seconds:
@@ -149,9 +149,9 @@ class Climb:
             stale += 1
             if stale > STALE:
                 edge, stale = [(0, ())], 0
-            if tell and time.monotonic() - told > 1:
-                told = time.monotonic()
-                print(f"explore: {self.tried} schedules, {self.tried / (told - begun):.0f} a second; nearest {edge[0][0]} of {6 * SLOTS}", file=sys.stderr, flush=True)
+            if is_shown and time.monotonic() - shown > 1:
+                shown = time.monotonic()
+                print(f"explore: {self.tried} schedules, {self.tried / (shown - begun):.0f} a second; nearest {edge[0][0]} of {6 * SLOTS}", file=sys.stderr, flush=True)
         return None
 
     def trimmed(self, script: Events, value: int) -> Events:
@@ -171,7 +171,7 @@ class Climb:
         return script
 
     def kept(self, scripts: list[tuple[int, Events]], most: int = 16) -> list[tuple[int, Events]]:
-        """The nearest scripts; among equals any, the last ones first, so that they go on changing."""
+        """The nearest scripts; among equals any, the last ones first, so that they keep changing."""
         unique = {script: (value, at) for at, (value, script) in enumerate(scripts)}
         order = sorted(unique.items(), key=lambda it: (-it[1][0], -it[1][1]))
         return [(value, script) for script, (value, _) in order[:most]]
@@ -195,7 +195,7 @@ def imps_at(records: Sequence[str], many: Many) -> list[Any]:
 
 
 def command(program: Program, seed: int, seconds: float) -> int:
-    """Tells the shortest script of a lockup."""
+    """Prints the shortest script of a lockup."""
     climb = Climb(program, seed)
     begun = time.monotonic()
     script = climb.run(seconds, True)

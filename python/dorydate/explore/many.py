@@ -1,7 +1,7 @@
 """Many networks side by side in one run of the program: the start of a process costs more than a thousand events.
 
 A topology needn't be connected, so copies of a small network fit into 63 IMPs, and one script holds a schedule for each. Only
-calms are shared. Printed lines are told apart by their hosts. IMP 63 has a host whose stops and starts print marks.
+calms are shared. Hosts show which copy a printed line is of. IMP 63 has a host whose stops and starts print marks.
 """
 
 from __future__ import annotations
@@ -27,7 +27,7 @@ class CannotRun(Exception):
 
 
 def moved(value: Any, name: str, imps: int, lines: int) -> Any:
-    """A part of an event in the copy whose IMPs and lines begin behind so many."""
+    """A part of an event in the copy whose IMPs and lines begin after these numbers."""
     if isinstance(value, Host):
         return Host(value.host, value.imp + imps)
     if isinstance(value, Flow):
@@ -77,7 +77,7 @@ class Many:
         return [[self.spelled(copy, event) for event in events] for copy in range(self.copies)]
 
     def local(self, line: str) -> tuple[int, str]:
-        """The copy that a printed line is of, and the line as the network alone prints it; -1 for lines of no copy."""
+        """The copy that a printed line is of, and the line as the single network prints it; -1 for lines of no copy."""
         if (known := self._known.get(line)) is not None:
             return known
         words = line.split(" ")
@@ -134,7 +134,7 @@ class Many:
 
 
 class One(Many):
-    """The network alone, in a process of its own, with the marks."""
+    """The single network, in a process of its own, with the marks."""
 
     def __init__(self, network: Network, program: Program) -> None:
         super().__init__(network, program, 1)

@@ -33,7 +33,7 @@ SEARCHES = {
         "not pairreset .. then up A then not down .. then life B T A S _ _ _ .. open and life A S B T .. ended and calm 20: nothing",
     ),
     "resets-in-step": Named(
-        "two resets go on for ever, and no host stops",
+        "two resets never end, and no host stops",
         TWO,
         "not down .. then out .. and calm 50: no ready, 100 lines",
     ),

@@ -3,10 +3,10 @@
     in A B N .. then not out A B N .. then answer incomplete A B N
 
 A part is a line: its words, `_` for any word, `..` once for any words, and a single capital for a name, which is bound where
-it first stands. Parts that `then` joins come one after another; others may stand between, but not one that a `not` before the
+it first occurs. Parts that `then` joins come one after another; others may come between, but not one that a `not` before the
 next part describes (at the end: none until the end). `and` joins patterns that are found anywhere, each in its own order, with
 the same names. `where M < N` compares two names as numbers, `where A != B` as words. `calm N: nothing`, `calm N: no WORDS` and
-`calm N: K lines` are about a last calm, which is added to the script: it prints nothing, no such line, at least so many lines.
+`calm N: K lines` are about a last calm, which is added to the script: it prints nothing, no such line, at least K lines.
 """
 
 from __future__ import annotations
@@ -29,8 +29,8 @@ class Part:
     """A line of a pattern."""
 
     words: tuple[str, ...]
-    has_rest: bool = False  # whether any words may stand behind these
-    ending: tuple[str, ...] = ()  # and behind those, at the line's end, these
+    has_rest: bool = False  # whether any words may follow these
+    ending: tuple[str, ...] = ()  # and after those, at the line's end, these
 
     @staticmethod
     def read(text: str) -> Part:

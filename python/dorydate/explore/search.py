@@ -15,8 +15,8 @@ from dorydate.explore.shrink import Script, Shrinker, cost
 from dorydate.network import Network
 from dorydate.program import Program
 
-MATCHES = 5  # so many matches are shrunk, and the best is taken
-SAMPLED = 16  # one batch in so many shows how deep the pattern was reached
+MATCHES = 5  # matches that are shrunk; the best is taken
+SAMPLED = 16  # one batch of these shows how deep the pattern was reached
 
 
 @dataclass
@@ -71,12 +71,12 @@ class Search:
         return traced(many, parts, calms)
 
     def matches(self, script: Script) -> bool:
-        """Whether a script, alone, prints what is asked."""
+        """Whether a script, in a process of its own, prints what is asked."""
         result = self.results(self.one, [[list(map(str, script))]], [0])[0]
         return self.pattern.match(result.lines, result.last) is not None
 
     def batches(self) -> Iterator[Script]:
-        """Scripts that match, alone in a process too, as they are found. Between them it yields an empty one for each batch."""
+        """Scripts that match, in a process of their own too, as they are found. Between them it yields an empty one for each batch."""
         while True:
             parts, calms = self.maker.batch(self.chance, self.many.copies)
             lines = [[[known[it] for it in part] for part in script] for script, known in zip(parts, self.table)]
@@ -109,20 +109,20 @@ class Search:
             self.progress.deepest, self.progress.reached = depth, 0
         self.progress.reached += depth == self.progress.deepest
 
-    def run(self, runs: int, seconds: float = 3600.0, wanted: int = MATCHES, tell: Callable[[Progress], None] | None = None) -> Script | None:
+    def run(self, runs: int, seconds: float = 3600.0, wanted: int = MATCHES, show: Callable[[Progress], None] | None = None) -> Script | None:
         """The shortest script of some matches, None where none was found. Ctrl-C ends it with what was found."""
-        told = self.progress.begun
+        shown = self.progress.begun
         try:
             for script in self.batches():
                 if script:
                     self.take(script)
-                    if tell:
-                        tell(self.progress)
+                    if show:
+                        show(self.progress)
                 if self.progress.matches >= wanted or self.progress.schedules >= runs or self.progress.seconds() > seconds:
                     break
-                if tell and time.monotonic() - told > 1:
-                    told = time.monotonic()
-                    tell(self.progress)
+                if show and time.monotonic() - shown > 1:
+                    shown = time.monotonic()
+                    show(self.progress)
         except KeyboardInterrupt:
             pass
         return self.progress.best
@@ -156,7 +156,7 @@ def traced(many: Many, parts: Sequence[Sequence[Sequence[str]]], calms: Sequence
 
 
 def local(many: Many, copy: int, line: str) -> str:
-    """A line of a copy as the network alone has it."""
+    """A line of a copy as the single network has it."""
     words = line.split(" ")
     if words[0] == "slots":
         return f"slots {int(words[1]) - copy * many.size} {words[2]}"

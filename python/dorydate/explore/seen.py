@@ -1,4 +1,4 @@
-"""Lines of what only a trace shows, for patterns over the inside: they stand among the printed ones, where they happen.
+"""Lines of what only a trace shows, for patterns over the inside: they are put among the printed ones, where they happen.
 
 | Line | When |
 |---|---|
@@ -29,12 +29,12 @@ class Seen:
     def lines(self, trace: Iterable[str]) -> Iterator[tuple[str, Sequence[str]]]:
         """For each record the name of its first part, and what is printed and seen."""
         for record in trace:
-            told = json.loads(record)
-            name = next(iter(told["parts"]), "")
-            found = list(told["printed"])
-            if told["event"].startswith("deliver "):
-                found += self.arrivals(told["event"])
-            for part, value in told["parts"].items():
+            read = json.loads(record)
+            name = next(iter(read["parts"]), "")
+            found = list(read["printed"])
+            if read["event"].startswith("deliver "):
+                found += self.arrivals(read["event"])
+            for part, value in read["parts"].items():
                 if part.startswith("imp "):
                     found += self.changes(part, value)
                 self.parts[part] = value

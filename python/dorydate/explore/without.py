@@ -21,7 +21,7 @@ from dorydate.script import Event, Script
 
 RAW = Network.joined("LEFT-RIGHT", raw=True)
 PROGRAMS = Network.joined("LEFT", "RIGHT", carrier="plain")
-# rules of the network below hosts with words that tell them, and the kinds of events that matter to them
+# rules of the network below hosts with words that name them, and the kinds of events that matter to them
 OF_NETWORK = {
     "comes up": ("out", "deliver", "impdown", "impup", "hostup"),
     "number": ("out", "deliver", "ask", "drop", "giveup"),
@@ -35,7 +35,7 @@ def rules() -> list[str]:
     return [it for it in model.part("without_rules").LACKING if it]
 
 
-def tell_rules() -> int:
+def print_rules() -> int:
     print(*rules(), sep="\n")
     return 0
 
@@ -91,10 +91,10 @@ def second_of(maker: Maker, chance: random.Random) -> tuple[list[list[list[int]]
 
 
 def command(words: str, seed: int, seconds: float, runs: int) -> int:
-    """Tells the shortest script that breaks a promise without the rule that these words name."""
+    """Prints the shortest script that breaks a promise without the rule that these words name."""
     meant = [it for it in rules() if words in it]
     if len(meant) != 1:
-        print(f"explore: {len(meant)} rules have these words; ./explore --rules tells all", file=sys.stderr)
+        print(f"explore: {len(meant)} rules have these words; ./explore --rules prints all", file=sys.stderr)
         return 2
     (rule,) = meant
     print(f"explore: without the rule: {rule}", file=sys.stderr)
