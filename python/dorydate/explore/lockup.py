@@ -32,6 +32,8 @@ SLOTS = 8
 LAST = 20  # rounds of the last calm, in which nothing may be printed
 PLACES = 16
 MOST_EVENTS = 120  # of a script: longer ones are cut
+NEAR = 4 * SLOTS + 6  # as near as a lockup is, or what only looks like one
+STALE_AT_THE_TOP = 40
 STALE = 200  # batches without a better script, after which the search begins anew
 OPENING = Calm(2)
 
@@ -140,14 +142,14 @@ class Climb:
             best = max(value for value, _ in edge)
             for script, value in zip(scripts, self.measures(scripts)):
                 edge.append((value, script))
-                if value > 4 * SLOTS and self.locks(script):
+                if value >= NEAR and self.chance.random() < 0.25 and self.locks(script):
                     return script
             edge = self.kept(edge)
             if edge[0][0] > best:
                 edge = [(edge[0][0], self.trimmed(edge[0][1], edge[0][0]))]
                 stale = 0
             stale += 1
-            if stale > STALE:
+            if stale > (STALE if edge[0][0] < NEAR else STALE_AT_THE_TOP):
                 edge, stale = [(0, ())], 0
             if is_shown and time.monotonic() - shown > 1:
                 shown = time.monotonic()
