@@ -1,6 +1,6 @@
 //! Lets what standard input names happen event by event until memory runs out, and looks at what is left then.
 //!
-//! The first line says where: `world plain IMPS` or `world subnet IMPS`, a host with its program at each of so many IMPs, over
+//! The first line says where: `world plain IMPS` or `world subnet IMPS`, a host with its program at each of this many IMPs, over
 //! mailboxes or over IMPs in a row; or `raw plain IMPS` or `raw subnet IMPS`, that carrier alone. The others are lines of a script;
 //! of a calm each round is a quiet round, and in a world then three takings and two offers of each host, all of them single
 //! events.
@@ -79,7 +79,7 @@ fn second() -> Option<HostAddr> {
     HostAddr::new(0, 2)
 }
 
-/// So many IMPs in a row, with a host each.
+/// This many IMPs in a row, with a host each.
 fn in_a_row(alloc: Global, hosts: Vec<HostAddr>, count: u8) -> Option<Subnet> {
     let mut sites = Vec::new(alloc);
     let mut ends = Vec::new(alloc);
@@ -125,7 +125,7 @@ fn of_world<C: Carrier>(alloc: Global, carrier: C, script: &str) -> Option<Seen>
     Some(Seen::End)
 }
 
-/// Puts the events of a calm's round behind others.
+/// Puts the events of a calm's round after others.
 fn add_round(events: &mut Vec<Event>) -> Option<()> {
     events.push(Event::Quiet).ok()?;
     for host in [first()?, second()?] {
@@ -139,7 +139,7 @@ fn add_round(events: &mut Vec<Event>) -> Option<()> {
     Some(())
 }
 
-/// How much stands in a book. Where nothing is asked for, lives change only where something is told.
+/// How much is in a book. Where nothing is asked for, lives change only where something is told.
 fn sizes_of(book: &Book) -> [usize; 6] {
     let mut handed = 0;
     for bits in book.handed() {
@@ -155,7 +155,7 @@ fn sizes_of(book: &Book) -> [usize; 6] {
     ]
 }
 
-/// All that stands in a book, as text.
+/// All that is in a book, as text.
 fn told(alloc: Global, book: &Book) -> Option<String> {
     let mut text = String::with_capacity(alloc, ROOM).ok()?;
     write!(text, "{:?} {:?} {:?} ", book.crossings(), book.notices(), book.contacts()).ok()?;
@@ -173,7 +173,7 @@ fn told(alloc: Global, book: &Book) -> Option<String> {
     Some(text)
 }
 
-/// The bits of a list, and not what it holds behind them since it was cut back.
+/// The bits of a list, and not what it holds after them since it was cut back.
 fn tell_bits(bits: &BitLog, text: &mut String) -> Option<()> {
     for place in 0..bits.len() {
         let digit = if bits.get(place)? { "1" } else { "0" };
@@ -197,7 +197,7 @@ fn is_stopped<C: Carrier>(world: &mut World<C>) -> Option<bool> {
     Some(answers.iter().all(|it| *it == Err(WorldFault::Carrier(CarrierFault::Stopped))))
 }
 
-/// All that stands in a carrier's log, as text.
+/// All that is in a carrier's log, as text.
 fn logged<C: Carrier>(alloc: Global, carrier: &C) -> Option<String> {
     let mut text = String::with_capacity(alloc, ROOM).ok()?;
     write!(text, "{:?}", carrier.log()).ok()?;

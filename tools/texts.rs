@@ -81,7 +81,7 @@ fn packets(alloc: Global) -> Result<Vec<Packet>, PacketFault> {
     cut(alloc, &HostMessage { flow: flow(), text }, 0)
 }
 
-/// Pads the text so many times.
+/// Pads the text this many times.
 fn padded(alloc: Global, count: u32) -> Result<u64, PacketFault> {
     let text = text(alloc)?;
     let mut total = 0u64;
@@ -92,7 +92,7 @@ fn padded(alloc: Global, count: u32) -> Result<u64, PacketFault> {
     Ok(total)
 }
 
-/// Strips its body so many times.
+/// Strips its body this many times.
 fn stripped(alloc: Global, count: u32) -> Result<u64, PacketFault> {
     let body = text(alloc)?.pad16(alloc).map_err(fault_of)?;
     let mut total = 0u64;
@@ -103,7 +103,7 @@ fn stripped(alloc: Global, count: u32) -> Result<u64, PacketFault> {
     Ok(total)
 }
 
-/// Cuts a message with that text so many times.
+/// Cuts a message with that text this many times.
 fn pieces(alloc: Global, count: u32) -> Result<u64, PacketFault> {
     let Some(text) = Text::new(text(alloc)?) else {
         return Err(PacketFault::BadLength);
@@ -117,7 +117,7 @@ fn pieces(alloc: Global, count: u32) -> Result<u64, PacketFault> {
     Ok(total)
 }
 
-/// Writes its packets so many times.
+/// Writes its packets this many times.
 fn written(alloc: Global, count: u32) -> Result<u64, PacketFault> {
     let packets = packets(alloc)?;
     let mut total = 0u64;
@@ -130,7 +130,7 @@ fn written(alloc: Global, count: u32) -> Result<u64, PacketFault> {
     Ok(total)
 }
 
-/// Reads its packets so many times.
+/// Reads its packets this many times.
 fn read(alloc: Global, count: u32) -> Result<u64, PacketFault> {
     let mut spelled = Vec::new(alloc);
     for packet in packets(alloc)?.iter() {

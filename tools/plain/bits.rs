@@ -73,7 +73,7 @@ impl Bits {
     }
 }
 
-/// Sets the bits behind the first `len` to zero. There is at most a part of an octet of them.
+/// Sets the bits after the first `len` to zero. There is at most a part of an octet of them.
 fn clear_rest(octets: &mut [u8], len: usize) {
     if len % 8 != 0 {
         if let Some(last) = octets.last_mut() {
@@ -82,7 +82,7 @@ fn clear_rest(octets: &mut [u8], len: usize) {
     }
 }
 
-/// Eight bits from a place on, with zeros behind the last octet.
+/// Eight bits from a place on, with zeros after the last octet.
 fn octet_at(octets: &[u8], bit: usize) -> u8 {
     let (at, shift) = (bit / 8, bit % 8);
     let next = octets.get(at + 1).copied().unwrap_or(0) as u16;

@@ -89,7 +89,7 @@ impl Life {
     }
 }
 
-/// What is kept of all hosts. Notices and contacts stand with the number of crossings before them, reports with that of notices.
+/// What is kept of all hosts. Notices and contacts are with the number of crossings before them, reports with that of notices.
 #[derive(Default)]
 pub struct Book {
     notices: Vec<(Host, usize, Notice)>,

@@ -4,7 +4,7 @@ use crate::carrier::{Carrier, NetEvent};
 use crate::names::{Answer, Crossing, Flow, Host, Inbound, Refusal, Text, HOST_PLACES};
 use std::collections::{HashMap, VecDeque};
 
-/// What waits of a flow, and the number under which it stands in its queue. A flow has at most one thing that waits.
+/// What waits of a flow, and the number under which it is in its queue. A flow has at most one thing that waits.
 #[derive(Clone, Copy)]
 struct Waiting {
     what: What,
@@ -73,7 +73,7 @@ impl Boxes {
         self.next_id
     }
 
-    /// Puts an answer behind the others, if the source is up. Otherwise nothing waits of the flow any more.
+    /// Puts an answer after the others, if the source is up. Otherwise nothing waits of the flow any more.
     fn tell(&mut self, answer: Answer, flow: Flow) {
         let id = self.new_id();
         let source = self.known(flow.source);

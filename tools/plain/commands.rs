@@ -139,7 +139,7 @@ fn write_counts(out: &mut Vec<u8>, code: u8, link: u8, messages: u16, bits: u32)
     out.extend(bits.to_be_bytes());
 }
 
-/// The header of a message of so many bytes of this size.
+/// The header of a message of this many bytes of this size.
 pub fn header(size: u8, count: u16) -> [u8; HEADER] {
     let [high, low] = count.to_be_bytes();
     [0, size, high, low, 0]

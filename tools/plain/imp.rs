@@ -16,7 +16,7 @@ const SLOTS: usize = 8;
 const PIECES: usize = 8;
 /// The octets of a full piece.
 const PIECE: usize = 126;
-/// The distance that stands for no route.
+/// The distance that means no route.
 const INFINITE: u8 = 63;
 /// How many numbers ahead of the one noted last are new.
 const WINDOW: u16 = 32_767;
@@ -45,7 +45,7 @@ struct Port {
     heard: Option<Rc<Distances>>,
 }
 
-/// How it stands with the message of a flow that was begun last.
+/// How it is with the message of a flow that was begun last.
 #[derive(Clone, Copy, PartialEq, Default)]
 enum Standing {
     /// The host has its answer, or nothing was begun.
@@ -56,7 +56,7 @@ enum Standing {
     Answered,
 }
 
-/// A flow at its source: how many messages it has begun, and how it stands with the last of them.
+/// A flow at its source: how many messages it has begun, and how it is with the last of them.
 #[derive(Clone, Copy, Default)]
 struct Source {
     begun: u64,
@@ -178,7 +178,7 @@ impl Imp {
         self.routes[imp as usize].is_some()
     }
 
-    /// Whether there is room for so many more packets.
+    /// Whether there is room for this many more packets.
     fn has_room(&self, count: usize) -> bool {
         self.stored + count <= STORE
     }
@@ -229,7 +229,7 @@ impl Imp {
     }
 
     /// The number that a message of a flow would begin, if it would begin any, and the one that may not be alive then. That one
-    /// is only told if the flow has begun so many that it may be.
+    /// is only looked for if the flow has begun enough that it may be.
     pub fn beginning(&self, flow: Flow) -> Option<(u16, Option<u16>)> {
         let source = self.source(flow);
         let here = flow.destination.imp == self.number;
@@ -329,7 +329,7 @@ impl Imp {
         self.stand(flow, Standing::Answered);
     }
 
-    /// Changes how it stands with a flow.
+    /// Changes how it is with a flow.
     fn stand(&mut self, flow: Flow, standing: Standing) {
         self.sources.entry(flow).or_default().standing = standing;
     }
@@ -692,7 +692,7 @@ fn body_of(text: &Bits) -> Vec<u8> {
     body
 }
 
-/// The text of a body: what stands before its last bit 1. There is none if all bits are zero.
+/// The text of a body: what is before its last bit 1. There is none if all bits are zero.
 fn text_of(body: Vec<u8>) -> Option<Bits> {
     let last = body.iter().rposition(|it| *it != 0)?;
     let len = 8 * last + 7 - body[last].trailing_zeros() as usize;

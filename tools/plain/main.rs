@@ -130,7 +130,7 @@ fn read_input() -> Result<Vec<u8>, Fault> {
     }
 }
 
-/// What stands before and behind the first line that is exactly `%`.
+/// What is before and after the first line that is exactly `%`.
 fn split(input: &[u8]) -> Option<(&[u8], &[u8])> {
     let mut start = 0;
     for line in input.split(|it| *it == b'\n') {

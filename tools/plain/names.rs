@@ -7,7 +7,7 @@ use std::rc::Rc;
 /// The greatest number of an IMP.
 pub const MOST_IMPS: u8 = 63;
 
-/// So many places a table has that is looked up by `Host::index`.
+/// This many places a table has that is looked up by `Host::index`.
 pub const HOST_PLACES: usize = 4 * (MOST_IMPS as usize + 1);
 
 /// A host: the number of its IMP, and its own number there. The order of hosts is that of IMPs first.

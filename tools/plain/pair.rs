@@ -87,9 +87,9 @@ pub fn receives(own: u32) -> bool {
 pub enum Parcel {
     Reset,
     Reply,
-    /// So many of the commands that wait.
+    /// This many of the commands that wait.
     Commands(usize),
-    /// So many bytes of a sending end.
+    /// This many bytes of a sending end.
     Data(Key, usize),
 }
 

@@ -4,7 +4,7 @@ use crate::bits::Bits;
 use crate::names::{Answer, Crossing, Flow, Host, Refusal};
 use std::io::{self, BufWriter, StdoutLock, Write};
 
-/// Standard output behind a buffer. After its first failure nothing more is written.
+/// Standard output through a buffer. After its first failure nothing more is written.
 pub struct Printer {
     out: BufWriter<StdoutLock<'static>>,
     line: Vec<u8>,

@@ -10,7 +10,7 @@ use std::collections::hash_map::Entry;
 use std::collections::BTreeMap;
 use std::rc::Rc;
 
-/// The fraction that stands for the whole, where some of a grant is asked back.
+/// The fraction that means the whole, where some of a grant is asked back.
 const WHOLE: u64 = 128;
 
 /// A message that has to go out next.

@@ -39,7 +39,7 @@ fn happen(carrier: &mut impl Carrier, event: Event) -> Result<(), Refusal> {
     }
 }
 
-/// So many rounds, in each of which every host that is up takes what waits for it, until one changes nothing.
+/// This many rounds, in each of which every host that is up takes what waits for it, until one changes nothing.
 fn calm(carrier: &mut impl Carrier, rounds: u32, printer: &mut Printer) {
     let hosts = carrier.hosts();
     for _ in 0..rounds {

@@ -164,7 +164,7 @@ fn imp_of(word: &[u8]) -> Result<u8, BadLine> {
     }
 }
 
-/// What stands in the table of digits for an octet that is none.
+/// What is in the table of digits for an octet that is none.
 const NO_DIGIT: u8 = 16;
 
 /// The value of each hexadecimal digit in upper case.
@@ -273,7 +273,7 @@ fn read_world(name: &[u8], words: &mut Words) -> Result<Event, BadLine> {
     Ok(Event::Ask(host, request))
 }
 
-/// A line that is typed: all that stands behind the space after the host, and its end.
+/// A line that is typed: all that is after the space after the host, and its end.
 fn read_typed(mut words: Words) -> Result<Event, BadLine> {
     let host = words.host()?;
     let text = words.left.ok_or(BadLine)?;

@@ -7,12 +7,12 @@ use crate::script::Request;
 use std::collections::BTreeSet;
 use std::rc::Rc;
 
-/// So many messages a terminal or an echo service grants first.
+/// This many messages a terminal or an echo service grants first.
 const FIRST_MESSAGES: u32 = 4;
-/// And so many bits.
+/// And this many bits.
 const FIRST_BITS: u32 = 4096;
 
-/// How it stands with a machine of the initial connection.
+/// How it is with a machine of the initial connection.
 #[derive(Clone, Copy, Debug, Default)]
 enum Outcome {
     #[default]
@@ -64,7 +64,7 @@ pub struct Echo {
 pub struct Terminal {
     receives: u32,
     pub sends: u32,
-    /// The bits behind the last whole octet, and the octets behind the last whole line.
+    /// The bits after the last whole octet, and the octets after the last whole line.
     part: Bits,
     kept: Vec<u8>,
     lines: Vec<Vec<u8>>,
@@ -140,7 +140,7 @@ impl Service {
         }
     }
 
-    /// One of its requests was refused. Answers whether those behind it are passed over.
+    /// One of its requests was refused. Answers whether those after it are passed over.
     pub fn refused(&mut self) -> bool {
         match self {
             Service::Server(Server { outcome, .. }) | Service::User(User { outcome, .. }) => {

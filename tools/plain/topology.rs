@@ -81,7 +81,7 @@ impl Topology {
     }
 }
 
-/// The tables of a document in their order, without comments. No key stands twice in a table.
+/// The tables of a document in their order, without comments. No key is twice in a table.
 fn tables(document: &str) -> Option<Vec<Table<'_>>> {
     let mut tables = vec![Table { name: "", pairs: Vec::new() }];
     for line in document.split('\n') {

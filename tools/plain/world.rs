@@ -126,7 +126,7 @@ impl<'a, C: Carrier> World<'a, C> {
         Ok(true)
     }
 
-    /// So many rounds, in each of which every host that is up takes what waits and then offers what it has, until one changes
+    /// This many rounds, in each of which every host that is up takes what waits and then offers what it has, until one changes
     /// nothing.
     fn calm(&mut self, rounds: u32) {
         let hosts = self.hosts.clone();
