@@ -7,7 +7,7 @@ import tempfile
 import unittest
 from typing import Dict
 
-from wasm.pack import Refused, hash_of, joined, title_of
+from wasm.pack import ROOT, Refused, hash_of, joined, page, title_of
 
 NODE = shutil.which("node") or shutil.which("nodejs")
 
@@ -64,6 +64,11 @@ class Page(unittest.TestCase):
     def test_a_hash_is_the_one_that_browsers_name(self) -> None:
         # of the text "alert('Hello, world.');", as the standard of Content Security Policy has it
         self.assertEqual(hash_of("alert('Hello, world.');"), "'sha256-qznLcsROx4GACP2dm0UCKCzCG+HiZ1guq6ZZDob/Tng='")
+
+    def test_a_page_opens_with_the_inputs_that_it_is_given(self) -> None:
+        text = page(f"{ROOT}/web/workbench", b"module", [{"name": "a", "title": "A", "text": "# <a>\n%\n"}])
+        self.assertIn('id="opened">[{"name": "a", "title": "A", "text": "# \\u003ca>\\n%\\n"}]</script>', text)
+        self.assertIn('id="opened">[]</script>', page(f"{ROOT}/web/workbench", b"module"))
 
     def test_a_title_has_the_capitals_of_its_comments(self) -> None:
         self.assertEqual(title_of("an-rfnm-is-lost", "# The RFNM is lost.\nout 0/1\n"), "An RFNM is lost")
