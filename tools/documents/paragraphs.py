@@ -1,4 +1,4 @@
-"""Pages have one paragraph a line: no line is broken by hand."""
+"""Pages have one paragraph a line: no line is broken by hand. README has at most 900 words."""
 
 from __future__ import annotations
 
@@ -8,6 +8,7 @@ import re
 
 from drawings.facts import ROOT
 
+MOST_WORDS = 900  # of README, which is read first
 # a line that begins something of its own: a heading, an item, a row, a quotation, a picture, a comment, code
 OWN = re.compile(r"(?:#|[-*] |\d+\. |\||>|!\[|<|```|    |\t)")
 
@@ -30,8 +31,10 @@ def joined(text: str) -> str:
 
 
 def faults() -> list[str]:
-    """The pages with lines that are broken by hand."""
-    found = []
+    """The pages with lines that are broken by hand, and README if it is too long."""
+    with open(f"{ROOT}/README.md", encoding="utf-8") as file:
+        words = len(file.read().split())
+    found = [f"README.md: {words} words, of at most {MOST_WORDS}"] if words > MOST_WORDS else []
     for path in sorted(it for some in ("README.md", "CONTRIBUTING.md", "docs/*.md") for it in glob.glob(f"{ROOT}/{some}")):
         with open(path, encoding="utf-8") as file:
             text = file.read()
