@@ -2,7 +2,7 @@
 
 Checks python/dorydate: ./check python
 
-`mypy --strict` reads the package and its tests, where it is installed; otherwise that is said. The tests
+`mypy --strict` and pyflakes read the package and its tests, where they are installed; otherwise that is said. The tests
 of python/tests run, and so do the lines of docs/python.md. Then searches with fixed seeds find what they have to find, no longer than it was
 found before, and the audit keeps the log of each schedule that an exploration runs. These need a fast program: the one that ./build proved, or the one that
 the variable DORYDATE_PROGRAM names (tools/optimised makes one).
@@ -17,7 +17,7 @@ import tempfile
 from parts import ROOT, any_program
 
 PACKAGE = f"{ROOT}/python"
-SEARCHES = {"taken-and-incomplete": 8, "half-open": 8, "resets-in-step": 5, "lost-at-a-close": 12, "noted-before-it-comes": 8}  # events at most
+SEARCHES = {"taken-and-incomplete": 8, "half-open": 9, "resets-in-step": 6, "lost-at-a-close": 13, "noted-before-it-comes": 8}  # events at most, a last calm included
 SCHEDULES = 1_000  # whose logs are audited
 
 
@@ -29,6 +29,16 @@ def mypy():
     with tempfile.TemporaryDirectory() as kept:
         ran = subprocess.run(["mypy", "--strict", "--cache-dir", kept, "dorydate", "tests"], cwd=PACKAGE, capture_output=True, text=True)
     print(f"check python: mypy: {ran.stdout.strip()}")
+    return ran.returncode == 0
+
+
+def pyflakes():
+    """Whether nothing is imported or set for nothing; True where nobody can tell."""
+    if not shutil.which("pyflakes3"):
+        print("check python: pyflakes3 is not installed, so it did not run (apt-get install pyflakes3)")
+        return True
+    ran = subprocess.run(["pyflakes3", "dorydate", "tests", "packing.py"], cwd=PACKAGE, capture_output=True, text=True)
+    print(f"check python: pyflakes: {ran.stdout.strip() or 'nothing is found'}")
     return ran.returncode == 0
 
 
@@ -68,4 +78,4 @@ def main():
     env = {**os.environ, "DORYDATE_PROGRAM": program, "PYTHONPATH": f"{PACKAGE}:{ROOT}/tools"}
     if program.endswith("-unproved"):
         print("check python: the program without proofs is too slow for explorations, so none is run: ./build makes the fast one")
-    return 0 if all([mypy(), tests(env), program.endswith("-unproved") or explorations(env)]) else 1
+    return 0 if all([mypy(), pyflakes(), tests(env), program.endswith("-unproved") or explorations(env)]) else 1
