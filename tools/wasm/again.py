@@ -29,7 +29,9 @@ def build_again(root: str, module: str, log: str) -> None:
         with open(f"{room}/crates/arpasim/src/again.md", "w", encoding="utf-8") as page:
             page.write(f"Built once more, {time.time_ns()}.\n")
         subprocess.run(["git", "init", "-q", room], check=True)
+        # (where CI is set, `rt ci` takes no names, so that nobody takes that for the gate)
+        environment = {name: value for name, value in os.environ.items() if name != "CI"}
         with open(log, "wb") as said:
-            ran = subprocess.run([sys.executable, CAUGHT, module, "rt", "ci", "arpasim"], cwd=room, stdin=subprocess.DEVNULL, stdout=said, stderr=said)
+            ran = subprocess.run([sys.executable, CAUGHT, module, "rt", "ci", "arpasim"], cwd=room, env=environment, stdin=subprocess.DEVNULL, stdout=said, stderr=said)
     if ran.returncode or not os.path.exists(module):
         raise Refused(f"the module was not caught; {log} has what rt said")
