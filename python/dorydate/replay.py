@@ -279,6 +279,8 @@ class Replay:
 
     def crash(self, imp: ImpName, why: str = "") -> Deed:
         """An IMP stops, and its neighbours notice: their ends of its lines go down."""
+        if self.network.carrier == "plain":
+            raise Stopped("plain mailboxes have no IMPs that stop")
         number = self.network.imp(imp).number
         ends = [events.EndDown(self.network.lines[line].far(number), line) for line in self.network.lines_of(number)]
         done, tried = self._perform([*ends, events.ImpDown(number)], why or f"{self.network.imp(imp)} stops")

@@ -128,6 +128,15 @@ class Replays(unittest.TestCase):
         net = raw()
         self.assertIn("in 3 rounds", net.run_until("line", 3).note)
 
+    def test_plain_mailboxes(self) -> None:
+        for is_raw in (True, False):
+            net = Replay(Network.joined("LEFT", "RIGHT", raw=is_raw, carrier="plain"))
+            net.settle(5)
+            self.assertTrue(net._repr_svg_().endswith("</svg>"))
+            self.assertEqual([*net.state.frames()], [])
+            with self.assertRaises(Stopped):
+                net.restart("LEFT")
+
     def test_a_map_is_drawn(self) -> None:
         net = raw()
         net.cut("UCLA", "SRI")
