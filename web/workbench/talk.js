@@ -24,6 +24,7 @@ import { impOf } from "./topology.js";
  * @property {number} foreign -1 while anybody may ask
  * @property {"listens" | "asked" | "open" | "closing" | "over"} state
  * @property {number} size bits a byte, 0 where it isn't known
+ * @property {boolean} service whether a service uses it, so that the script doesn't say what is granted and handed over
  * @property {number} grantedMessages by this end's user, where it receives
  * @property {number} grantedBits
  * @property {number} handed bits that its user handed over, where it sends
@@ -183,6 +184,7 @@ export class Talk {
             case "sent":
             case "arrived":
                 if (end) Object.assign(end, { messages: end.messages + 1, bits: end.bits + Number(words[1]) });
+                if (end && kind === "sent" && end.bits > end.handed) end.service = true;
                 return;
             case "returned":
                 if (end) Object.assign(end, { returnedMessages: end.returnedMessages + Number(words[1]), returnedBits: end.returnedBits + Number(words[2]) });
@@ -196,8 +198,9 @@ export class Talk {
      * @param {number} foreign
      */
     opened(host, socket, peer, foreign) {
-        const end = this.live(host, socket) ?? newEnd(host, socket, peer, foreign, "open", 0);
-        if (!this.ends.includes(end)) this.ends.push(end);
+        const known = this.live(host, socket);
+        const end = known ?? { ...newEnd(host, socket, peer, foreign, "open", 0), service: true };
+        if (!known) this.ends.push(end);
         Object.assign(end, { peer, foreign, state: "open" });
     }
 
@@ -241,7 +244,7 @@ export class Talk {
  * @returns {End}
  */
 function newEnd(host, socket, peer, foreign, state, size) {
-    return { host, socket, peer, foreign, state, size, grantedMessages: 0, grantedBits: 0, handed: 0, messages: 0, bits: 0, returnedMessages: 0, returnedBits: 0 };
+    return { host, socket, peer, foreign, state, size, service: false, grantedMessages: 0, grantedBits: 0, handed: 0, messages: 0, bits: 0, returnedMessages: 0, returnedBits: 0 };
 }
 
 /**

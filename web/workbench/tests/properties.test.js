@@ -56,6 +56,7 @@ for (const name of NAMES) {
             const state = history.at(stop.to);
             const waits = waitsOf(state, talk.goTo(stop.to), history.replay.inside);
             assert.deepEqual(leftOut(history, stop.to, talk, waits), [], `step ${place + 1}`);
+            for (const end of talk.ends) assert(end.service || !sends(end.socket) || end.handed >= end.bits, `${end.host} socket ${end.socket} sent more than was handed over`);
             for (const wait of waits) assert(wait.what && wait.for && !/undefined|NaN/.test(wait.what + wait.where + wait.for), JSON.stringify(wait));
         });
         const state = history.at(history.length);

@@ -238,12 +238,13 @@ export class Panes {
 function endCells(network, end) {
     const isSending = sends(end.socket);
     const back = end.returnedBits || end.returnedMessages ? `, ${count(end.returnedMessages, "message")} and ${count(end.returnedBits, "bit")} back` : "";
+    const byService = end.service && end.grantedBits === 0 && end.handed < Math.max(end.bits, 1) ? "by its service" : "";
     return [
         String(end.socket),
         end.peer ? `${end.foreign} of ${hostName(network, end.peer)}` : "anybody",
         end.state,
-        isSending ? "" : `${count(end.grantedMessages, "message")}, ${count(end.grantedBits, "bit")}${back}`,
-        isSending ? count(end.handed, "bit") : "",
+        isSending ? "" : byService || `${count(end.grantedMessages, "message")}, ${count(end.grantedBits, "bit")}${back}`,
+        isSending ? byService || count(end.handed, "bit") : "",
         `${count(end.bits, "bit")} ${isSending ? "sent" : "taken"}`,
     ];
 }
