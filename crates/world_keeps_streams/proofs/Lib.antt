@@ -8,4 +8,5 @@ pub mod Heard
 pub mod Lives
 pub mod Requests
 pub mod Books
+pub mod Rows
 pub mod lemmas

@@ -10,6 +10,10 @@ use Rattle.host_pairs.specs.declared.entry.Entry.{Entry}
 use Rattle.sockets.specs.Accepting.{accepted}
 use Rattle.sockets.specs.Requests.{refusal, served, served_notices}
 use Rattle.sockets.specs.Sending.{next_out, offered}
+use Rattle.sockets.specs.Worked.{first, second}
+use Rattle.net_sim.specs.Story.{program}
+use Rattle.net_sim.specs.WorkedMoments.{bits_sent}
+use Rattle.world_keeps_streams.proofs.Rows.{none_there}
 use Rattle.world_keeps_streams.proofs.law.worked_arrivals.Goals as goal
 
 first_open : List Entry → Bool
@@ -24,7 +28,7 @@ returns-clause-open c = record {
   goes = refl;
   host = refl;
   peer = refl;
-  end = record { end = granted 2 100 (asked_with_size 10 8 (asked_at 6 (receiving_end 16 33 2))); one = refl; others = λ other away. rw away refl; foreign = refl; own = refl; partner = refl };
+  end = record { end = granted 2 100 (asked_with_size 10 8 (asked_at 6 (receiving_end 16 33 2))); one = refl; others = λ other away. none_there 16 second other (program first bits_sent).peers (refl, tt) away; foreign = refl; own = refl; partner = refl };
   opened = refl;
   link = refl;
   off_control = refl;

@@ -1,4 +1,4 @@
-use Rattle.std.proofs.Common.{◌≡◌, ◌⊎◌, ℕ, Bool, true, false, List, [], ◌∷◌, Option, Some, None, refl, ap, sym, subst, ◌∙◌, inl, inr, arith}
+use Rattle.std.proofs.Common.{◌≡◌, ◌⊎◌, ℕ, Bool, true, false, List, [], ◌∷◌, if◌then◌else◌, Option, Some, None, refl, ap, sym, subst, ◌∙◌, inl, inr, arith}
 use Rattle.bit_messages.specs.Octets.{octets_of}
 use Rattle.leader1822.specs.Host.{Host}
 use Rattle.ncp_control.specs.Packing.{packed_count}
@@ -19,6 +19,8 @@ use Rattle.sockets.specs.Sending.{next_out, offered}
 use Rattle.sockets.specs.Worked.{first, second}
 use Rattle.world_keeps_streams.specs.Calls.{own_calls}
 use Rattle.world_keeps_streams.specs.Worked.{ended_moments, quit_moments}
+use Rattle.net_sim.specs.Story.{program}
+use Rattle.world_keeps_streams.proofs.Rows.{none_there}
 use Rattle.world_keeps_streams.proofs.law.worked_closes.Goals as goal
 
 -- calls of which none closes an end
@@ -79,7 +81,7 @@ returns-clause-ended c = record {
   end = record {
     end = record (spent 8 (granted 2 100 (asked_with_size 10 8 (asked_at 6 (receiving_end 16 33 2))))) { closing = closing.Queued; partner_closed = true };
     one = refl;
-    others = λ other away. rw away refl;
+    others = λ other away. none_there 16 second other (program first ended_moments).peers (refl, tt) away;
     foreign = refl;
     own = refl;
     partner = refl;
