@@ -8,6 +8,7 @@
 
 import { existsSync, readdirSync, readFileSync } from "node:fs";
 
+import { noteOf, unpacked } from "../run/embedded.js";
 import { chromium, firefox } from "./browser.js";
 
 /** @typedef {import("./browser.js").Browser} Browser */
@@ -58,6 +59,19 @@ async function tryExamples(browser, folder) {
         want(said.includes(read(".stderr").trim()) && said.endsWith(`status ${status}.`), `${name}: ${said}`);
     }
     return names.length;
+}
+
+/**
+ * What the page says of its program has to be what the module in its file says.
+ *
+ * @param {Browser} browser
+ * @param {string} page
+ */
+async function tryNote(browser, page) {
+    const packed = /id="program">([^<]*)</.exec(readFileSync(page, "utf8"))?.[1] ?? "";
+    const { proved, sources } = noteOf(await WebAssembly.compile(await unpacked(packed)));
+    const [said, note] = await browser.evaluate("return ['proved', 'note'].map((it) => document.getElementById(it).textContent);");
+    want(said.startsWith(proved ? "This is the proved program" : "NOT PROVED") && note.includes(sources), `the page says: ${said} ${note}`);
 }
 
 /**
@@ -123,6 +137,7 @@ async function tryPage(browser, page, examples, shots) {
     await browser.open(`file://${page}`);
     await browser.evaluate(`${HELPERS} await ended();`);
     const first = Date.now() - began;
+    await tryNote(browser, page);
     const count = await tryExamples(browser, examples);
     await tryFaults(browser, readFileSync(`${examples}/first-message`, "utf8"));
     await tryLimits(browser, readFileSync(`${examples}/resets-in-step`, "utf8"));
