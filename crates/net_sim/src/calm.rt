@@ -1,6 +1,6 @@
 //! A calm: quiet rounds, and after each of them every host that is up takes what came for it and says what it has to say.
 
-ghost use Rattle.std.specs.Prelude.{◌≡◌, ◌<◌, ℕ, true, false, length, if◌then◌else◌, is_some, slice_get, None, Some};
+ghost use Rattle.std.specs.Prelude.{◌≡◌, ◌<◌, ℕ, true, false, length, if◌then◌else◌, is_some, slice_get, None, Ok, Some};
 ghost use Rattle.net_sim.specs.Carriers.{shown};
 ghost use Rattle.net_sim.specs.Inside.Calm.{CalmTurn, CarrierRests, IsSilent, IsSilentAt, Round};
 ghost use Rattle.net_sim.specs.World as world;
@@ -84,6 +84,14 @@ impl<C: Carrier> World<C> {
             }
         }
         Ok(())
+    }
+
+    /// Whether more rounds of a calm are known to change nothing: the network is known to rest, and no host that is up has anything
+    /// to say.
+    pub fn rests(&self) -> bool
+        ensures { result ≡ true → (times : ℕ) → CalmGives (shown (record { seen = C.seen; offers = C.offers; takes = C.takes; steps = C.steps; rounds = C.rounds })) times self.now (Ok tt) self.now }
+    {
+        self.has_calmed(self.book().crossings().len())
     }
 
     /// Whether another round would change nothing: nothing has crossed since the book had so many crossings, the network is known

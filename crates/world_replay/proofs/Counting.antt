@@ -6,8 +6,9 @@ use Rattle.net_sim.specs.World.{Calms, QuietEnds, StepGives, TurnsOf, WorldState
 use Rattle.net_sim.specs.declared.event.Event.TheVariants.{Quiet}
 use Rattle.net_sim.specs.declared.event.WorldFault.{WorldFault}
 use Rattle.world_replay.specs.Output.{Shown}
-use Rattle.world_replay.specs.Replay.{MayDo}
+use Rattle.world_replay.specs.Replay.{BeginsWith, EventGives, MayDo}
 use Rattle.world_replay.specs.Worked.{after, counting}
+use Rattle.world_script.specs.declared.event.WorldEvent.{WorldEvent}
 use Rattle.world_script.specs.declared.event.WorldEvent.TheVariants.{Calm, Happen}
 
 -- a quiet round is one call, and succeeds
@@ -26,17 +27,20 @@ one_more : (n : ℕ) → StepGives counting (after n) Quiet (Ok tt) (after (suc 
 one_more n = (Ok tt, suc n, (refl, refl), (refl, refl))
 
 pub once : MayDo counting (after 3) (Happen Quiet) (after 4) []
-once = record { outcome = Ok tt; gives = one_more 3; unknown = refl }
+once = record { processed = Happen Quiet; begins = refl; outcome = Ok tt; gives = one_more 3; unknown = refl }
 
 pub not_other : (m : ℕ) (shown : List Shown) → MayDo counting (after 3) (Happen Quiet) (after m) shown → m ≡ 4
 not_other m shown h =
-    let counts : Counts 3 h.outcome (after m) = quiet_counts 3 h.outcome (after m) h.gives in
+    let gives : StepGives counting (after 3) Quiet h.outcome (after m) = subst (λ (e : WorldEvent). EventGives counting (after 3) e h.outcome (after m)) h.begins h.gives in
+    let counts : Counts 3 h.outcome (after m) = quiet_counts 3 h.outcome (after m) gives in
     ap (λ (w : WorldState ℕ). w.carrier) counts.counted
 
 -- ---- calms
 
 pub two_rounds : MayDo counting (after 3) (Calm 2) (after 5) []
 two_rounds = record {
+  processed = Calm 2;
+  begins = (2, refl, omega arith);
   outcome = Ok tt;
   gives = (Ok tt, after 4, one_more 3, (Ok tt, after 4, (refl, refl), (Ok tt, after 5, one_more 4, (Ok tt, after 5, (refl, refl), (refl, refl)))));
   unknown = refl;
@@ -65,8 +69,21 @@ calms_count (suc rounds) n r new (first, quiet, step, rest) =
     let counted : new.carrier ≡ suc n + rounds = calms_count rounds (suc n) r new more in
     omega (arith, counted)
 
--- a calm of two rounds does not end after one
-pub not_in_part : (shown : List Shown) → ¬ (MayDo counting (after 3) (Calm 2) (after 4) shown)
-not_in_part shown h =
-    let counted : 4 ≡ 3 + 2 = calms_count 2 3 h.outcome (after 4) h.gives in
-    omega (arith, counted)
+-- its first round is enough
+pub one_round : MayDo counting (after 3) (Calm 2) (after 4) []
+one_round = record {
+  processed = Calm 1;
+  begins = (1, refl, omega arith);
+  outcome = Ok tt;
+  gives = (Ok tt, after 4, one_more 3, (Ok tt, after 4, (refl, refl), (refl, refl)));
+  unknown = refl;
+}
+
+-- a calm of two rounds has no third
+pub no_third : (shown : List Shown) → ¬ (MayDo counting (after 3) (Calm 2) (after 6) shown)
+no_third shown h = by h.begins where
+  by : BeginsWith (Calm 2) h.processed → ⊥
+  by (fewer, is, le) =
+      let gives : Calms counting fewer (after 3) h.outcome (after 6) = subst (λ (e : WorldEvent). EventGives counting (after 3) e h.outcome (after 6)) is h.gives in
+      let counted : 6 ≡ 3 + fewer = calms_count fewer 3 h.outcome (after 6) gives in
+      omega (arith, counted, le)

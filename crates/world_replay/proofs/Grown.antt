@@ -65,7 +65,7 @@ gains_none k = record { crossings = []; notices = []; reports = []; crossed = re
 gains_same : (old new : Kept) → new ≡ old → Gains old new
 gains_same old new is = subst (Gains old) (sym is) (gains_none old)
 
-pub grew_none : (k : Kept) → Grew k k
+unfoldable pub grew_none : (k : Kept) → Grew k k
 grew_none k = record { gains = gains_none k; between = tt; about = tt }
 
 unfoldable pub grew_more : (old mid new : Kept) → Grew old mid → Grew mid new → Grew old new

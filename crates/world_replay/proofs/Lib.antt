@@ -3,6 +3,7 @@ pub mod Grown
 pub mod News
 pub mod Replays
 pub mod Reports
+mod Rounds
 pub mod Steady
 pub mod ToldLines
 pub mod lemmas

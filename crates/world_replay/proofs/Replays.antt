@@ -5,7 +5,7 @@ use Rattle.std.specs.Io.KnownBytes.{Appends}
 use Rattle.net_sim.specs.Book.{Kept}
 use Rattle.net_sim.specs.Carriers.{shown}
 use Rattle.net_sim.specs.World as world
-use Rattle.net_sim.specs.World.{Calls, WorldState, stops}
+use Rattle.net_sim.specs.World.{CalmGives, Calls, WorldState, stops}
 use Rattle.net_sim.specs.declared.event.WorldFault.{WorldFault}
 use Rattle.replay.specs.InTurn.{HappensOnce, ShowsFront}
 use Rattle.replay.proofs.lemmas.{appends_more, ends_front, grown_more, in_turn_once}
@@ -20,7 +20,7 @@ use Rattle.net_sim.proofs.lemmas.{calm_keeps}
 use Rattle.replay.specs.declared.events.ReplayFault.{ReplayFault}
 use Rattle.replay.specs.declared.events.ReplayFault.TheVariants as fault
 use Rattle.replay.specs.declared.print.Detail.{Detail}
-use Rattle.world_replay.specs.Steps.{EventEnds}
+use Rattle.world_replay.specs.Steps.{OneEnds}
 use Rattle.world_replay.proofs.Grown.{Grew, begins, gains_none, grew_more, grew_none, step_gains, step_grows, step_kept}
 use Rattle.world_replay.proofs.News.{crossings_in_turn, crossings_of-append, news_later, notices_in_turn, notices_of-append, output-append, reports_in_turn, reports_of-append, told_begin, told_later, told_want}
 use Rattle.world_replay.proofs.Steady.{Steady, steady_calm, step_once}
@@ -42,11 +42,11 @@ pub record SameGains {old new other : Kept} (g : Gains old new) (k : Gains old o
 abbrev pub gained : {old new : Kept} → Gains old new → List Shown
 gained {old} {new} g = news old g.crossings g.notices g.reports
 
-same_news : (old new other : Kept) (g : Gains old new) (k : Gains old other) → SameGains g k → gained g ≡ gained k
+pub same_news : (old new other : Kept) (g : Gains old new) (k : Gains old other) → SameGains g k → gained g ≡ gained k
 same_news old new other g k same =
     ap (λ cs. news old cs g.notices g.reports) same.crossings ∙ ap (λ ns. news old k.crossings ns g.reports) same.notices ∙ ap (λ rs. news old k.crossings k.notices rs) same.reports
 
-gains_once : (old new other : Kept) (g : Gains old new) (k : Gains old other) → new ≡ other → SameGains g k
+pub gains_once : (old new other : Kept) (g : Gains old new) (k : Gains old other) → new ≡ other → SameGains g k
 gains_once old new other g k same =
     let both : reverse g.crossings ++ old.book.crossings ≡ reverse k.crossings ++ old.book.crossings = sym g.crossed ∙ ap (λ (x : Kept). x.book.crossings) same ∙ k.crossed in
     let told : old.book.notices ++ g.notices ≡ old.book.notices ++ k.notices = sym g.told ∙ ap (λ (x : Kept). x.book.notices) same ∙ k.told in
@@ -80,7 +80,7 @@ noticed old new g =
     omega (arith, all, length-append old.book.notices g.notices)
 
 -- the lines of two events in turn are the lines of each
-gained_more : (old mid new : Kept) (g : Grew old mid) (k : Grew mid new) → gained (grew_more old mid new g k).gains ≡ gained g.gains ++ gained k.gains
+pub gained_more : (old mid new : Kept) (g : Grew old mid) (k : Grew mid new) → gained (grew_more old mid new g k).gains ≡ gained g.gains ++ gained k.gains
 unfolding grew_more
 gained_more old mid new g k =
     let n : ℕ = length old.book.notices in
@@ -165,12 +165,13 @@ stops_show calls old events new shown h =
 
 -- ---- printing an event
 
+pub calm_grows : {C : Type 0} (calls : Calls C) (rounds : ℕ) (old : WorldState C) (r : Result (Unit {0}) WorldFault) (new : WorldState C) → CalmGives calls rounds old r new → Grew old.kept new.kept
+calm_grows {C} calls rounds old r new h =
+    calm_keeps calls (λ (w : WorldState C). Grew old.kept w.kept) (λ e. begins e ≡ false) refl (λ x. refl) (λ x. refl) (λ e v q w n g s. grew_more old.kept v.kept w.kept g (step_grows calls e v q w n s)) rounds old r new (grew_none old.kept) h
+
 pub event_gains : {C : Type 0} (calls : Calls C) (e : WorldEvent) (old : WorldState C) (r : Result (Unit {0}) WorldFault) (new : WorldState C) → EventGives calls old e r new → Gains old.kept new.kept
 event_gains calls (event.Happen e) old r new h = step_gains calls e old r new h
-event_gains {C} calls (event.Calm rounds) old r new h =
-    let grew : Grew old.kept new.kept =
-    calm_keeps calls (λ (w : WorldState C). Grew old.kept w.kept) (λ e. begins e ≡ false) refl (λ x. refl) (λ x. refl) (λ e v q w n g s. grew_more old.kept v.kept w.kept g (step_grows calls e v q w n s)) rounds old r new (grew_none old.kept) h in
-    grew.gains
+event_gains calls (event.Calm rounds) old r new h = (calm_grows calls rounds old r new h).gains
 
 -- the crossings, notices and reports behind those of before are what the book gained
 news_is : (old new : Kept) (g : Gains old new) (crossed told said : ℕ) → crossed ≡ length old.book.crossings → told ≡ length old.book.notices → said ≡ length old.book.reports
@@ -198,7 +199,7 @@ pub event_ends : {C W : Type 0} (contents : W → Option (List ℕ)) (calls : Ca
     → EventGives calls old e outcome new → crossed ≡ length old.kept.book.crossings → told ≡ length old.kept.book.notices → said ≡ length old.kept.book.reports
     → News contents detail crossed told said a mid new.kept
     → OnOk printed (Appends (contents mid) (contents last) (output detail (shown_refusal outcome))) → OnOk printed (stops outcome ≡ false)
-    → (printed ≡ Err fault.OutOfMemory → (stops outcome ≡ true) × (last ≡ mid)) → EventEnds calls detail old e printed new a (contents last)
+    → (printed ≡ Err fault.OutOfMemory → (stops outcome ≡ true) × (last ≡ mid)) → OneEnds calls detail old e printed new a (contents last)
 event_ends contents calls detail old e outcome new (Ok done) crossed told said a mid last gives is same alike lines refusal goes memory =
     let gains : Gains old.kept new.kept = event_gains calls e old outcome new gives in
     record {
@@ -218,7 +219,7 @@ event_ends contents calls detail old e outcome new (Err fault.OutOfMemory) cross
           (subst (λ xs. Appends a (contents mid) (output detail xs)) (news_is old.kept new.kept gains crossed told said is same alike) lines);
     }
 event_ends contents calls detail old e outcome new (Err fault.CannotWrite) crossed told said a mid last gives is same alike lines refusal goes memory =
-    ([], record { outcome = outcome; gives = gives; unknown = refl })
+    (outcome, gives)
 
 -- ---- a carrier that shows what every carrier shows is settled where it is settled without that
 

@@ -1,5 +1,5 @@
 -- The events of a world's script over a carrier, whatever it is made of.
-use Rattle.std.specs.Prelude.{◌≡◌, true, false, List, [], ◌++◌, Result}
+use Rattle.std.specs.Prelude.{◌≡◌, ℕ, ◌≤◌, true, false, List, [], ◌++◌, Result}
 use Rattle.net_sim.specs.World.{Calls, WorldState, StepGives, CalmGives, stops}
 use Rattle.net_sim.specs.declared.event.WorldFault.{WorldFault}
 use Rattle.replay.specs.InTurn.{InTurn, EndsInTurn}
@@ -37,10 +37,18 @@ pub record StopsIn {C : Type 0} (calls : Calls C) (old : WorldState C) (e : Worl
   pub gains : Gains old.kept new.kept
   pub lines : shown ≡ news old.kept gains.crossings gains.notices gains.reports
 
--- the world processed this event, and may have answered anything; how much was written of what it showed the writer alone knows
+-- the first rounds of a calm; any other event is whole
+abbrev pub BeginsWith : WorldEvent → WorldEvent → Type 0
+BeginsWith (event.Happen e) first = first ≡ event.Happen e
+BeginsWith (event.Calm rounds) first = (fewer : ℕ) × (first ≡ event.Calm fewer) × (fewer ≤ rounds)
+
+-- the world processed this event, or the first rounds of a calm, and may have answered anything; how much was written of what it showed the writer
+-- alone knows
 pub record MayDo {C : Type 0} (calls : Calls C) (old : WorldState C) (e : WorldEvent) (new : WorldState C) (shown : List Shown) : Type 0 where
+  pub processed : WorldEvent
+  pub begins : BeginsWith e processed
   pub outcome : Result (Unit {0}) WorldFault
-  pub gives : EventGives calls old e outcome new
+  pub gives : EventGives calls old processed outcome new
   pub unknown : shown ≡ []
 
 -- the events before the last one happened, the last one went as is said, and these lines were shown by then

@@ -7,7 +7,8 @@ use Rattle.replay.specs.declared.events.ReplayFault.{ReplayFault}
 use Rattle.replay.specs.declared.events.ReplayFault.TheVariants as fault
 use Rattle.replay.specs.declared.print.Detail.{Detail}
 use Rattle.world_replay.specs.Output.{Shown, Writes, output, shown_in_turn}
-use Rattle.world_replay.specs.Replay.{Happens, MayDo, StopsIn}
+use Rattle.net_sim.specs.declared.event.WorldFault.{WorldFault}
+use Rattle.world_replay.specs.Replay.{EventGives, Happens, MayDo, StopsIn}
 use Rattle.world_script.specs.declared.event.WorldEvent.{WorldEvent}
 
 -- how the replay of one event may end
@@ -15,6 +16,12 @@ abbrev pub EventEnds : {C : Type 0} → Calls C → Detail → WorldState C → 
 EventEnds calls detail old e (Ok done) new before after = Writes detail (Happens calls old e new) before after
 EventEnds calls detail old e (Err fault.OutOfMemory) new before after = Writes detail (StopsIn calls old e new) before after
 EventEnds calls detail old e (Err fault.CannotWrite) new before after = (shown : List Shown) × MayDo calls old e new shown
+
+-- how an event may end that is printed at once
+abbrev pub OneEnds : {C : Type 0} → Calls C → Detail → WorldState C → WorldEvent → Result (Unit {0}) ReplayFault → WorldState C → Option (List ℕ) → Option (List ℕ) → Type 0
+OneEnds calls detail old e (Ok done) new before after = Writes detail (Happens calls old e new) before after
+OneEnds calls detail old e (Err fault.OutOfMemory) new before after = Writes detail (StopsIn calls old e new) before after
+OneEnds calls detail old e (Err fault.CannotWrite) new before after = (outcome : Result (Unit {0}) WorldFault) × EventGives calls old e outcome new
 
 -- these news are written, with the crossings before them: what is shown of more news goes on from there, with the crossings that
 -- are left

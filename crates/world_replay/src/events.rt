@@ -1,12 +1,14 @@
 //! Replaying the events of a world's script.
 
-ghost use Rattle.std.specs.Prelude.{◌≡◌, Err, List, OnOk, false};
+ghost use Rattle.std.specs.Prelude.{◌≡◌, Err, List, Ok, OnOk, false, true, ℕ};
 ghost use Rattle.leader1822.specs.Messages.{SafeMessages};
 ghost use Rattle.net_sim.specs.Carriers.{shown};
+ghost use Rattle.net_sim.specs.World.{CalmGives};
 ghost use Rattle.replay.specs.Failing.{TellsCannotWrite};
 ghost use Rattle.world_replay.specs.Output.{Shown, Writes};
 ghost use Rattle.world_replay.specs.Replay.{EndsIn, EventGives, MayDo, Replays, StopsIn};
-ghost use Rattle.world_replay.specs.Steps.{EventEnds};
+ghost use Rattle.world_replay.specs.Steps.{EventEnds, OneEnds};
+ghost use Rattle.world_script.specs.declared.event.WorldEvent.TheVariants as world_event;
 
 use crate::print::{print_news, print_refusal};
 use leader1822::Carrier;
@@ -19,7 +21,7 @@ use world_script::WorldEvent;
 /// as `detail` says.
 ///
 /// A refused event changes nothing, and the replay continues with the next one. A calm shows what each of its events
-/// shows, and its refusals are not printed.
+/// shows, round by round, and its refusals are not printed.
 ///
 /// However it ends, each RFNM in the book belongs to one message that was taken exactly once (BBN Report 1822: a link
 /// carries one message at a time).
@@ -27,8 +29,8 @@ use world_script::WorldEvent;
 /// Errors:
 /// - `OutOfMemory`: memory ran out at one event. The lines of the events before it were written, and no line of its
 ///   own. If it was a calm, what happened before memory ran out was written too.
-/// - `CannotWrite`: a write failed. The event whose line it was had already happened. Nothing more was asked of the
-///   writer, which alone knows how much of its last lines it wrote.
+/// - `CannotWrite`: a write failed. The event whose line it was had already happened, or of a calm all rounds up to the one whose line
+///   it was. Nothing more was asked of the writer, which alone knows how much of its last lines it wrote.
 pub fn replay_events<C: Carrier, W: Output>(
     world: &mut World<C>,
     events: Vec<WorldEvent>,
@@ -50,7 +52,7 @@ pub fn replay_events<C: Carrier, W: Output>(
     // `CannotWrite` is answered where a write failed, and nowhere else
     ensures failed { TellsCannotWrite result (W.failed writer.new) }
 
-    // a write failed: the event had already happened
+    // a write failed: the event had already happened, or the rounds of a calm up to that one
     ensures cannot_write { result ≡ Err ReplayFault.CannotWrite → (lines : List Shown) × EndsIn (shown (record { seen = C.seen; offers = C.offers; takes = C.takes; steps = C.steps; rounds = C.rounds })) (MayDo (shown (record { seen = C.seen; offers = C.offers; takes = C.takes; steps = C.steps; rounds = C.rounds }))) world.old events.items world.new lines }
 {
     let outcome = replay_in_turn(world, events, detail, writer);
@@ -79,7 +81,7 @@ fn replay_in_turn<C: Carrier, W: Output>(
     Ok(())
 }
 
-/// Lets one event happen, and prints what it shows. Lines are put together in this buffer, of which nothing is kept.
+/// Lets one event happen, and prints what it shows, of a calm round by round. Lines are put together in this buffer, of which nothing is kept.
 fn replay_event<C: Carrier, W: Output>(
     world: &mut World<C>,
     event: WorldEvent,
@@ -89,6 +91,57 @@ fn replay_event<C: Carrier, W: Output>(
 ) -> Result<(), ReplayFault>
     requires { W.failed writer.old ≡ false }
     ensures ends { EventEnds (shown (record { seen = C.seen; offers = C.offers; takes = C.takes; steps = C.steps; rounds = C.rounds })) detail world.old event result world.new (W.contents writer.old) (W.contents writer.new) }
+    ensures failed { TellsCannotWrite result (W.failed writer.new) }
+{
+    match event {
+        WorldEvent::Calm(rounds) => replay_calm(world, rounds, line, detail, writer),
+        happening => replay_one(world, happening, line, detail, writer),
+    }
+}
+
+/// Lets so many rounds pass, and prints after each what it showed. Where the world rests, the rounds that are left would change nothing and
+/// show nothing, and are not made.
+fn replay_calm<C: Carrier, W: Output>(
+    world: &mut World<C>,
+    rounds: u32,
+    line: &mut Line,
+    detail: Detail,
+    writer: &mut W,
+) -> Result<(), ReplayFault>
+    requires { W.failed writer.old ≡ false }
+    ensures ends { EventEnds (shown (record { seen = C.seen; offers = C.offers; takes = C.takes; steps = C.steps; rounds = C.rounds })) detail world.old (world_event.Calm rounds) result world.new (W.contents writer.old) (W.contents writer.new) }
+    ensures failed { TellsCannotWrite result (W.failed writer.new) }
+{
+    if rounds == 0 {
+        return replay_one(world, WorldEvent::Calm(rounds), line, detail, writer);
+    }
+    for _ in 0..rounds {
+        let before = world.book().crossings().len();
+        replay_one(world, WorldEvent::Calm(1), line, detail, writer)?;
+        if has_calmed(world, before) {
+            return Ok(());
+        }
+    }
+    Ok(())
+}
+
+/// Whether more rounds of a calm are known to change nothing: nothing has crossed since the book had so many crossings, and the world rests.
+fn has_calmed<C: Carrier>(world: &World<C>, before: usize) -> bool
+    ensures { result ≡ true → (times : ℕ) → CalmGives (shown (record { seen = C.seen; offers = C.offers; takes = C.takes; steps = C.steps; rounds = C.rounds })) times world.now (Ok tt) world.now }
+{
+    world.book().crossings().len() == before && world.rests()
+}
+
+/// Lets one event happen, and then prints what it showed.
+fn replay_one<C: Carrier, W: Output>(
+    world: &mut World<C>,
+    event: WorldEvent,
+    line: &mut Line,
+    detail: Detail,
+    writer: &mut W,
+) -> Result<(), ReplayFault>
+    requires { W.failed writer.old ≡ false }
+    ensures ends { OneEnds (shown (record { seen = C.seen; offers = C.offers; takes = C.takes; steps = C.steps; rounds = C.rounds })) detail world.old event result world.new (W.contents writer.old) (W.contents writer.new) }
     ensures failed { TellsCannotWrite result (W.failed writer.new) }
 {
     let crossed = world.book().crossings().len();

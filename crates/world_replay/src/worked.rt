@@ -108,9 +108,10 @@ pub fn worked_failures()
     ensures never { (shown : List Shown) → ¬ (MayDo counting (after 3) (Happen event.Quiet) (after 3) shown) }
     ensures twice { (shown : List Shown) → ¬ (MayDo counting (after 3) (Happen event.Quiet) (after 5) shown) }
 
-    // nothing is printed before a calm is over
+    // of a calm, whose lines are printed round by round, all rounds have passed or the first ones, and no more than it has
     ensures calm { MayDo counting (after 3) (Calm 2) (after 5) [] }
-    ensures in_part { (shown : List Shown) → ¬ (MayDo counting (after 3) (Calm 2) (after 4) shown) }
+    ensures in_part { MayDo counting (after 3) (Calm 2) (after 4) [] }
+    ensures too_long { (shown : List Shown) → ¬ (MayDo counting (after 3) (Calm 2) (after 6) shown) }
 
     // nothing is claimed of what the event's lines left
     ensures unknown { (s : Shown) → ¬ (MayDo counting (after 3) (Happen event.Quiet) (after 4) (s ∷ [])) }

@@ -1,5 +1,5 @@
 use Rattle.std.proofs.Common.{arith}
-use Rattle.world_replay.proofs.Counting.{not_in_part, not_other, once, two_rounds}
+use Rattle.world_replay.proofs.Counting.{no_third, not_other, once, one_round, two_rounds}
 use Rattle.world_replay.proofs.worked.worked_failures.Goals as goal
 
 pub returns-clause-once : goal.returns-clause-once
@@ -15,4 +15,7 @@ pub returns-clause-calm : goal.returns-clause-calm
 returns-clause-calm c = two_rounds
 
 pub returns-clause-in_part : goal.returns-clause-in_part
-returns-clause-in_part c = not_in_part
+returns-clause-in_part c = one_round
+
+pub returns-clause-too_long : goal.returns-clause-too_long
+returns-clause-too_long c = no_third

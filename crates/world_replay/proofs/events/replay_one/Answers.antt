@@ -6,7 +6,7 @@ use Rattle.net_sim.specs.World.{Calls}
 use Rattle.world_replay.specs.Gains.{Gains}
 use Rattle.world_replay.proofs.Grown.{longer, more_notices, more_reports}
 use Rattle.world_replay.proofs.Replays.{News, event_ends, event_gains}
-use Rattle.world_replay.proofs.events.replay_event.Goals as goal
+use Rattle.world_replay.proofs.events.replay_one.Goals as goal
 
 pub print_news-requires-clause-crossed : goal.print_news-requires-clause-crossed
 print_news-requires-clause-crossed g c =
