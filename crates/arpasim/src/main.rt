@@ -75,7 +75,7 @@ fn audit_input<R: Env + Input + Print + AllocGlobal>(rt: &R) -> Result<Audit, Au
     outcome
 }
 
-/// The words of the command line behind the program's name.
+/// Returns the words of the command line after the program's name.
 fn words_of<R: Env + AllocGlobal>(rt: &R) -> Result<Vec<String>, ScriptFault> {
     let arguments = match env::args(rt) {
         Ok(arguments) => arguments,

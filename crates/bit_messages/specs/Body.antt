@@ -30,7 +30,7 @@ is_one bit = bit
 abbrev pub has_mark : List Bool → Bool
 has_mark bits = list_any is_one bits
 
--- what stands before the last 1
+-- what precedes the last 1
 abbrev pub text_of : List Bool → List Bool
 text_of bits = before_last is_one bits
 

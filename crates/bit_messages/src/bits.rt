@@ -37,7 +37,7 @@ impl Model for Bits {
 }
 
 impl Bits {
-    /// The empty list.
+    /// Returns the empty list.
     pub fn new(alloc: Global) -> Self
         ensures { result ≡ [] }
     {
@@ -47,21 +47,21 @@ impl Bits {
         }
     }
 
-    /// How many bits there are.
+    /// Returns how many bits there are.
     pub fn len(&self) -> usize
         ensures { result ≡ length self.now }
     {
         self.len
     }
 
-    /// Whether there are no bits.
+    /// Returns whether there are no bits.
     pub fn is_empty(&self) -> bool
         ensures { result ≡ (length self.now == 0) }
     {
         self.len == 0
     }
 
-    /// The bit at place `i`, counted from 0; `None` past the end.
+    /// Returns the bit at place `i`, counted from 0; `None` past the end.
     pub fn get(&self, i: usize) -> Option<bool>
         ensures { result ≡ slice_get self.now i }
     {
@@ -102,7 +102,7 @@ impl Bits {
         Ok(())
     }
 
-    /// The bits from place `from` up to and without place `to`.
+    /// Returns the bits from place `from` up to and without place `to`.
     ///
     /// Errors: `Range` where `from` passes `to` or `to` passes the end; `OutOfMemory` only for a part that has bits.
     pub fn slice(&self, alloc: Global, from: usize, to: usize) -> Result<Bits, BitFault>
@@ -118,7 +118,7 @@ impl Bits {
         })
     }
 
-    /// The first `count` bits of the octets, the most significant bit of each octet first.
+    /// Returns the first `count` bits of the octets, the most significant bit of each octet first.
     ///
     /// Errors: `Range` where the octets have fewer bits; `OutOfMemory` only where `count` isn't 0.
     pub fn from_octets(alloc: Global, octets: &[u8], count: usize) -> Result<Bits, BitFault>
@@ -134,7 +134,7 @@ impl Bits {
         })
     }
 
-    /// The bits in octets, the last octet filled with zeros. The octets are lent.
+    /// Returns the bits in octets, the last octet filled with zeros. The octets are lent.
     pub fn as_octets(&self) -> &[u8]
         ensures { result.now ≡ octets_of self.now }
     {
@@ -142,7 +142,7 @@ impl Bits {
         &self.octets
     }
 
-    /// The bits in octets, the last octet filled with zeros.
+    /// Returns the bits in octets, the last octet filled with zeros.
     ///
     /// Errors: `OutOfMemory` where there are bits.
     pub fn to_octets(&self, alloc: Global) -> Result<Vec<u8>, BitFault>
@@ -152,7 +152,7 @@ impl Bits {
         Ok(copied(alloc, self.as_octets())?)
     }
 
-    /// The `8 * n` bits from place `from` on, as octets.
+    /// Returns the `8 * n` bits from place `from` on, as octets.
     ///
     /// Errors: `Range` where they pass the end; `OutOfMemory` only where `n` isn't 0.
     pub fn octets_at(&self, alloc: Global, from: usize, n: usize) -> Result<Vec<u8>, BitFault>
@@ -167,7 +167,7 @@ impl Bits {
         Ok(octets)
     }
 
-    /// The body of this text: its bits, a 1, and the fewest zeros that make a multiple of sixteen bits.
+    /// Returns the body of this text: its bits, a 1, and the fewest zeros that make a multiple of sixteen bits.
     ///
     /// Errors: `TooLong` for a text of more than 8063 bits, then `OutOfMemory`.
     pub fn pad16(&self, alloc: Global) -> Result<Bits, BitFault>
@@ -187,7 +187,7 @@ impl Bits {
         })
     }
 
-    /// The text of this body: what stands before its last 1.
+    /// Returns the text of this body: what precedes its last 1.
     ///
     /// Errors: `NoMark` where no bit is a 1, `TooLong` where the text has more than 8063 bits, `Range`
     /// where the body isn't a multiple of sixteen bits; `OutOfMemory` only for a text that has bits.
@@ -207,14 +207,14 @@ impl Bits {
         self.slice(alloc, 0, mark)
     }
 
-    /// Whether any bit is a 1, as a body's mark is.
+    /// Returns whether any bit is a 1, as a body's mark is.
     pub fn has_mark(&self) -> bool
         ensures { result ≡ has_mark self.now }
     {
         self.mark().is_some()
     }
 
-    /// The place of the last 1.
+    /// Returns the place of the last 1.
     fn mark(&self) -> Option<usize>
         ensures none { result ≡ None → has_mark self.now ≡ false }
         ensures some { IfSome result (λ mark. (has_mark self.now ≡ true) × (mark < length self.now) × (text_of self.now ≡ take mark self.now)) }

@@ -10,7 +10,7 @@ ghost use Rattle.bit_messages.specs.Packed.{IsPacked, Packs};
 
 use std::alloc::{AllocError, Global};
 
-/// The bit at a place.
+/// Returns the bit at a place.
 pub(crate) fn bit_in(octets: &[u8], place: usize) -> bool
     requires there { place < 8 * length octets.now }
     ensures { result ≡ slice_index_or (bits_of octets.now) place false }
@@ -18,7 +18,7 @@ pub(crate) fn bit_in(octets: &[u8], place: usize) -> bool
     octets[place / 8] >> (7 - place % 8) & 1 == 1
 }
 
-/// These octets in a vector of their own.
+/// Returns these octets in a vector of their own.
 pub(crate) fn copied(alloc: Global, octets: &[u8]) -> Result<Vec<u8>, AllocError>
     ensures same { IfOk result (λ copy. copy.items ≡ octets.now) }
     ensures memory { OnErr result (0 < length octets.now) }
@@ -28,7 +28,7 @@ pub(crate) fn copied(alloc: Global, octets: &[u8]) -> Result<Vec<u8>, AllocError
     Ok(copy)
 }
 
-/// The octets of `count` bits from place `from` on.
+/// Returns the octets of `count` bits from place `from` on.
 pub(crate) fn part(
     alloc: Global,
     octets: &[u8],
@@ -48,7 +48,7 @@ pub(crate) fn part(
     Ok(part)
 }
 
-/// The octets that `count` bits from place `from` on begin; in the last octet other bits may follow them.
+/// Returns the octets that `count` bits from place `from` on begin; in the last octet other bits may follow them.
 fn begun(alloc: Global, octets: &[u8], from: usize, count: usize) -> Result<Vec<u8>, AllocError>
     requires there { from + count ≤ 8 * length octets.now }
     ensures bits { IfOk result (λ part. take count (bits_of part.items) ≡ take count (drop from (bits_of octets.now))) }
@@ -63,7 +63,7 @@ fn begun(alloc: Global, octets: &[u8], from: usize, count: usize) -> Result<Vec<
     shifted(alloc, rest, from % 8, size)
 }
 
-/// The first `size` octets of the bits after the first `by` bits, with zeros after the last bit.
+/// Returns the first `size` octets of the bits after the first `by` bits, with zeros after the last bit.
 fn shifted(alloc: Global, octets: &[u8], by: usize, size: usize) -> Result<Vec<u8>, AllocError>
     requires some { 0 < by }
     requires few { by < 8 }
@@ -79,14 +79,14 @@ fn shifted(alloc: Global, octets: &[u8], by: usize, size: usize) -> Result<Vec<u
     Ok(part)
 }
 
-/// The octet at a place; a zero past the end.
+/// Returns the octet at a place; a zero past the end.
 fn octet_at(octets: &[u8], place: usize) -> u8
     ensures { result ≡ slice_index octets.now place }
 {
     octets.get(place).copied().unwrap_or(0)
 }
 
-/// The octet of the eight bits behind the first `by` bits of two octets.
+/// Returns the octet of the eight bits after the first `by` bits of two octets.
 fn joined(first: u8, second: u8, by: usize) -> u8
     requires some { 0 < by }
     requires few { by < 8 }
@@ -95,7 +95,7 @@ fn joined(first: u8, second: u8, by: usize) -> u8
     first << by | second >> (8 - by)
 }
 
-/// The first `used` bits of an octet, and zeros behind them.
+/// Returns the first `used` bits of an octet, and zeros after them.
 fn cleared(octet: u8, used: usize) -> u8
     requires some { 0 < used }
     requires few { used < 8 }
@@ -104,7 +104,7 @@ fn cleared(octet: u8, used: usize) -> u8
     octet & (u8::MAX << (8 - used))
 }
 
-/// An octet of `used` bits, filled up with the first bits of the next one.
+/// Returns an octet of `used` bits, filled up with the first bits of the next one.
 fn filled(octet: u8, used: usize, next: u8) -> u8
     requires some { 0 < used }
     requires few { used < 8 }
@@ -114,7 +114,7 @@ fn filled(octet: u8, used: usize, next: u8) -> u8
     octet | next >> used
 }
 
-/// Puts the first `more_len` bits of `more` behind the first `len` bits of `octets`.
+/// Puts the first `more_len` bits of `more` after the first `len` bits of `octets`.
 pub(crate) fn put(
     octets: &mut Vec<u8>,
     len: usize,
@@ -147,7 +147,7 @@ pub(crate) fn put(
     Ok(())
 }
 
-/// Puts a bit behind the first `len` bits of `octets`.
+/// Puts a bit after the first `len` bits of `octets`.
 pub(crate) fn put_bit(octets: &mut Vec<u8>, len: usize, bit: bool) -> Result<(), AllocError>
     requires packed { IsPacked octets.old.items len }
     ensures ok { OnOk result (Packs octets.new.items (take len (bits_of octets.old.items) ++ bit ∷ [])) }
@@ -156,22 +156,22 @@ pub(crate) fn put_bit(octets: &mut Vec<u8>, len: usize, bit: bool) -> Result<(),
     put(octets, len, &[octet_with(bit)], 1)
 }
 
-/// The octet that begins with this bit and has zeros behind it.
+/// Returns the octet that begins with this bit and has zeros behind it.
 fn octet_with(bit: bool) -> u8
     ensures { octet_bits result ≡ bit ∷ replicate 7 false }
 {
     if bit { 128 } else { 0 }
 }
 
-/// Octets are below 256. The function is there for the proof alone, and does nothing: its clause is what the type says of
-/// the octets.
+/// Proves that octets are below 256. The function is there for the proof only, and does nothing: its clause is what
+/// the type says of the octets.
 pub(crate) fn are_octets(octets: &[u8])
     ensures { All (λ n. n < 256) octets.now }
 {
     let _octets = octets;
 }
 
-/// The place of the last 1 in the octets of `len` bits.
+/// Returns the place of the last 1 in the octets of `len` bits.
 pub(crate) fn last_one(octets: &[u8], len: usize) -> Option<usize>
     requires few { 8 * length octets.now < len + 8 }
     ensures none { result ≡ None → has_mark (bits_of octets.now) ≡ false }

@@ -108,7 +108,7 @@ pub record Begins (lines : List (List ℕ)) : Type 0 where
   pub whole : log_lines book ≡ lines ++ more
 
 -- the first bad line, counted from 1: some log begins with the lines before it. With it no log begins so, or it doesn't end with a line feed,
--- or it stands behind the last line of a log
+-- or it is behind the last line of a log
 pub record IsBadLine (octets : List ℕ) (number : ℕ) : Type 0 where
   pub before : List (List ℕ)
   pub rest : List ℕ

@@ -180,7 +180,7 @@ abbrev pub is_bare : {X : Type 0} → List X → Bool
 is_bare [] = true
 is_bare (x ∷ xs) = false
 
--- a book with what a line tells at its end; none where the line may not stand there
+-- a book with what a line tells at its end; none where the line may not be there
 abbrev pub added : Line → Book → Option Book
 added (line.Crossed c) b = if is_bare b.lives && is_bare b.handed then Some (record b { crossings = b.crossings ++ c ∷ [] }) else None
 added (line.Lived x) b = if is_bare b.handed then Some (record b { lives = b.lives ++ x ∷ [] }) else None

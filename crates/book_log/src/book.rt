@@ -27,7 +27,7 @@ impl Model for LoggedBook {
 }
 
 impl LoggedBook {
-    /// A book in which nothing happened.
+    /// Returns a book in which nothing happened.
     pub(crate) fn new(alloc: Global) -> LoggedBook
         ensures { result ≡ opening_book }
     {
@@ -38,28 +38,28 @@ impl LoggedBook {
         }
     }
 
-    /// All that crossed, the oldest first.
+    /// Returns all that crossed, the oldest first.
     pub fn crossings(&self) -> &[Crossing]
         ensures { result.now ≡ self.now.crossings }
     {
         &self.crossings
     }
 
-    /// The lives of connections.
+    /// Returns the lives of connections.
     pub fn lives(&self) -> &[Life]
         ensures { result.now ≡ self.now.lives }
     {
         &self.lives
     }
 
-    /// What was handed over to be sent.
+    /// Returns what was handed over to be sent.
     pub fn handed(&self) -> &[BitLog]
         ensures { result.now ≡ self.now.handed }
     {
         &self.handed
     }
 
-    /// Puts what a line tells at the end of the book, and answers whether the line may stand there: a crossing before all lives and lists,
+    /// Puts what a line tells at the end of the book, and answers whether the line may be there: a crossing before all lives and lists,
     /// a life before all lists. The last line of a log tells nothing.
     ///
     /// Errors: `AllocError`.

@@ -25,7 +25,7 @@ pub(crate) enum Line {
     End,
 }
 
-/// What a line tells. `None` where it is no line of a log.
+/// Returns what a line tells. `None` where it is no line of a log.
 ///
 /// Errors: `AllocError`.
 pub(crate) fn read_line(alloc: Global, line: &[u8]) -> Result<Option<Line>, AllocError>
@@ -62,7 +62,7 @@ pub(crate) fn read_line(alloc: Global, line: &[u8]) -> Result<Option<Line>, Allo
     Ok(read_short(first, words))
 }
 
-/// What a line without octets tells, by its first word and those behind it.
+/// Returns what a line without octets tells, by its first word and those behind it.
 fn read_short(first: &[u8], words: Words<'_>) -> Option<Line>
     ensures { ReadsShort first.now (words_left words.entry) result }
 {
@@ -82,7 +82,7 @@ fn read_short(first: &[u8], words: Words<'_>) -> Option<Line>
     None
 }
 
-/// `HOST`
+/// Reads `HOST`
 fn read_one(mut words: Words<'_>) -> Option<HostAddr>
     ensures { ReadsWords host_words IsHost (words_left words.entry) result }
 {
@@ -90,7 +90,7 @@ fn read_one(mut words: Words<'_>) -> Option<HostAddr>
     if words.is_over() { Some(host) } else { None }
 }
 
-/// `KIND S D N`
+/// Reads `KIND S D N`
 fn read_answer(mut words: Words<'_>) -> Option<(Answer, Flow)>
     ensures { ReadsWords answer_words IsAnswer (words_left words.entry) result }
 {
@@ -103,7 +103,7 @@ fn read_answer(mut words: Words<'_>) -> Option<(Answer, Flow)>
     }
 }
 
-/// The answer that a word names.
+/// Returns the answer that a word names.
 fn read_kind(word: &[u8]) -> Option<Answer>
     ensures { ReadsAs answer_name IsKind word.now result }
 {
@@ -120,7 +120,7 @@ fn read_kind(word: &[u8]) -> Option<Answer>
     }
 }
 
-/// `BITS OCTETS`
+/// Reads `BITS OCTETS`
 ///
 /// Errors: `AllocError`.
 fn read_handed(alloc: Global, mut words: Words<'_>) -> Result<Option<BitLog>, AllocError>
@@ -132,7 +132,7 @@ fn read_handed(alloc: Global, mut words: Words<'_>) -> Result<Option<BitLog>, Al
     }
 }
 
-/// `S D N BITS OCTETS`
+/// Reads `S D N BITS OCTETS`
 ///
 /// Errors: `AllocError`.
 fn read_message(alloc: Global, mut words: Words<'_>) -> Result<Option<HostMessage>, AllocError>
@@ -153,7 +153,7 @@ fn read_message(alloc: Global, mut words: Words<'_>) -> Result<Option<HostMessag
     Ok(Some(HostMessage { flow, text }))
 }
 
-/// `BITS OCTETS`, and what stands behind them.
+/// Reads `BITS OCTETS`, and what is after them.
 ///
 /// Errors: `AllocError`.
 fn read_counted(alloc: Global, words: &mut Words<'_>) -> Result<Option<Bits>, AllocError>
@@ -186,7 +186,7 @@ pub(crate) struct Counts {
     pub ended: bool,
 }
 
-/// `HOST SOCKET PEER FOREIGN OWN PARTNER KIND MESSAGES BITS GM GB RM RB STATE OCTETS`
+/// Reads `HOST SOCKET PEER FOREIGN OWN PARTNER KIND MESSAGES BITS GM GB RM RB STATE OCTETS`
 ///
 /// Errors: `AllocError`.
 fn read_life(alloc: Global, mut words: Words<'_>) -> Result<Option<Life>, AllocError>
@@ -207,7 +207,7 @@ fn read_life(alloc: Global, mut words: Words<'_>) -> Result<Option<Life>, AllocE
     Ok(Some(life_of(ends, counts, BitLog::from_bits(alloc, bits))))
 }
 
-/// The life with these ends, counts and bits.
+/// Returns the life with these ends, counts and bits.
 fn life_of(ends: Ends, counts: Counts, bits: BitLog) -> Life
     ensures { result ≡ life_of ends counts bits }
 {
@@ -226,7 +226,7 @@ fn life_of(ends: Ends, counts: Counts, bits: BitLog) -> Life
     }
 }
 
-/// `HOST SOCKET PEER FOREIGN OWN PARTNER KIND`
+/// Reads `HOST SOCKET PEER FOREIGN OWN PARTNER KIND`
 fn read_ends(words: &mut Words<'_>) -> Option<Ends>
     ensures { TakesWords ends_words AreEnds (words_left words.old) result (words_left words.new) }
 {
@@ -250,7 +250,7 @@ fn read_ends(words: &mut Words<'_>) -> Option<Ends>
     })
 }
 
-/// Whether a word names the kind of a socket's life.
+/// Returns whether a word names the kind of a socket's life.
 fn is_kind(word: &[u8], socket: u32) -> bool
     ensures { IsTrue result ↔ (word.now ≡ kind_text socket) }
 {
@@ -261,7 +261,7 @@ fn is_kind(word: &[u8], socket: u32) -> bool
     }
 }
 
-/// `MESSAGES BITS GM GB RM RB STATE`
+/// Reads `MESSAGES BITS GM GB RM RB STATE`
 fn read_counts(words: &mut Words<'_>) -> Option<Counts>
     ensures { TakesWords counts_words AreCounts (words_left words.old) result (words_left words.new) }
 {
@@ -280,7 +280,7 @@ fn read_counts(words: &mut Words<'_>) -> Option<Counts>
     })
 }
 
-/// Messages and bits.
+/// Reads messages and bits.
 fn read_amount(words: &mut Words<'_>) -> Option<Amount>
     ensures { TakesWords amount_words IsAmount (words_left words.old) result (words_left words.new) }
 {
@@ -289,7 +289,7 @@ fn read_amount(words: &mut Words<'_>) -> Option<Amount>
     Some(Amount { messages, bits })
 }
 
-/// Whether a word tells that a life has ended.
+/// Returns whether a word tells that a life has ended.
 fn read_state(word: &[u8]) -> Option<bool>
     ensures { ReadsAs state_text IsState word.now result }
 {

@@ -165,7 +165,7 @@ fn print_octets<W: Output>(bits: &BitLog, writer: &mut W) -> Result<(), WriteFai
     Ok(())
 }
 
-/// How many octets so many bits take.
+/// Returns how many octets this many bits take.
 fn octets_for(count: usize) -> usize
     ensures low { count ≤ 8 * result }
     ensures high { 8 * result < count + 8 }
@@ -183,7 +183,7 @@ fn print_octet<W: Output>(octet: u8, writer: &mut W) -> Result<(), WriteFailed>
     writer.write_all(&[digit(octet / 16), digit(octet % 16)])
 }
 
-/// The upper case hexadecimal digit of a number.
+/// Returns the upper case hexadecimal digit of a number.
 fn digit(number: u8) -> u8
     requires { number < 16 }
     ensures { result ≡ slice_index upper_digits number }
@@ -191,7 +191,7 @@ fn digit(number: u8) -> u8
     b"0123456789ABCDEF"[number as usize]
 }
 
-/// The octet of the eight bits from a place on; past the end they are zeros.
+/// Returns the octet of the eight bits from a place on; past the end they are zeros.
 fn octet_at(bits: &BitLog, from: usize) -> u8
     requires { from ≤ length bits.now }
     ensures { result ≡ octet_at from bits.now }
@@ -206,7 +206,7 @@ fn octet_at(bits: &BitLog, from: usize) -> u8
         + bit_at(bits, from, 7)
 }
 
-/// The bit so far behind a place, as 0 or 1; past the end it is 0.
+/// Returns the bit so far behind a place, as 0 or 1; past the end it is 0.
 fn bit_at(bits: &BitLog, from: usize, behind: usize) -> u8
     requires { from ≤ length bits.now }
     ensures same { result ≡ bit_value (slice_index_or bits.now (from + behind) false) }

@@ -8,7 +8,7 @@ ghost use Rattle.book_log.specs.Log.{IsAmount, IsCrossing, IsHanded, IsLife};
 use leader1822::{Crossing, Flow, HostAddr, HostMessage};
 use net_sim::{Amount, BitLog, Life};
 
-/// A crossing tells of hosts, links and texts that there are.
+/// Proves that a crossing names hosts, links and texts that can exist.
 pub(crate) fn has_crossing_ranges(crossing: &Crossing)
     ensures { IsCrossing crossing.now }
 {
@@ -19,7 +19,7 @@ pub(crate) fn has_crossing_ranges(crossing: &Crossing)
     }
 }
 
-/// The host has number 0 to 3, at an IMP from 1 to 63.
+/// Proves that a host has a number from 0 to 3, at an IMP from 1 to 63.
 fn has_host_range(host: HostAddr)
     ensures { IsHost host }
 {
@@ -27,7 +27,7 @@ fn has_host_range(host: HostAddr)
     let _ = host.host();
 }
 
-/// Both hosts are in their range, and the link has 8 bits.
+/// Proves that both hosts are in their range, and that the link has 8 bits.
 fn has_flow_ranges(flow: Flow)
     ensures { IsFlow flow }
 {
@@ -35,7 +35,7 @@ fn has_flow_ranges(flow: Flow)
     has_host_range(flow.destination);
 }
 
-/// The flow is in its ranges, and the text has at most 8063 bits.
+/// Proves that the flow is in its ranges, and that the text has at most 8063 bits.
 fn has_message_ranges(message: &HostMessage)
     ensures { IsMessage message.now }
 {
@@ -43,22 +43,22 @@ fn has_message_ranges(message: &HostMessage)
     let _ = message.text.bits();
 }
 
-/// A socket has 32 bits.
+/// Proves that a socket has 32 bits.
 fn has_socket_range(socket: u32)
     ensures { socket < 2 ^ 32 }
 {}
 
-/// A place has 64 bits.
+/// Proves that a place has 64 bits.
 fn has_place_range(place: usize)
     ensures { place < 2 ^ 64 }
 {}
 
-/// A count has 128 bits.
+/// Proves that a count has 128 bits.
 fn has_count_range(count: u128)
     ensures { count < 2 ^ 128 }
 {}
 
-/// Both counts have 128 bits.
+/// Proves that both counts have 128 bits.
 fn has_amount_ranges(amount: Amount)
     ensures { IsAmount amount }
 {
@@ -66,14 +66,14 @@ fn has_amount_ranges(amount: Amount)
     has_count_range(amount.bits);
 }
 
-/// The list is counted by 64 bits.
+/// Proves that the list is counted by 64 bits.
 pub(crate) fn has_list_range(bits: &BitLog)
     ensures { IsHanded bits.now }
 {
     let _ = bits.len();
 }
 
-/// A life has hosts that there are, sockets of 32 bits, places and a length of 64, and counts of 128.
+/// Proves that a life names hosts that can exist, sockets of 32 bits, places and a length of 64, and counts of 128.
 pub(crate) fn has_life_ranges(life: &Life)
     ensures { IsLife life.now }
 {

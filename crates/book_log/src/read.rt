@@ -12,9 +12,9 @@ use std::alloc::Global;
 /// The most octets that a log may have.
 pub const MAX_LOG: usize = 33_554_432;
 
-/// The book that a log tells.
+/// Returns the book that a log tells.
 ///
-/// Errors: `BadLine` with the number of the first bad line, counted from 1; where the last line is missing, that of the line behind
+/// Errors: `BadLine` with the number of the first bad line, counted from 1; where the last line is missing, that of the line after
 /// the last one. `OutOfMemory`, which may come at any line with no bad line before it.
 pub fn read_log(alloc: Global, text: &[u8]) -> Result<LoggedBook, LogFault>
     requires { length text.now ≤ MAX_LOG }

@@ -20,14 +20,14 @@ pub(crate) struct Words<'a> {
 }
 
 impl<'a> Words<'a> {
-    /// The words of a line. There is at least one, which may be empty.
+    /// Returns the words of a line. There is at least one, which may be empty.
     pub(crate) fn of(line: &'a [u8]) -> Words<'a>
         ensures { words_left result ≡ words_in line.now }
     {
         Words { rest: Some(line) }
     }
 
-    /// The next word.
+    /// Returns the next word.
     pub(crate) fn next(&mut self) -> Option<&'a [u8]>
         ensures { MatchOption result ((words_left self.old ≡ []) × (words_left self.new ≡ [])) (λ word. words_left self.old ≡ word.now ∷ words_left self.new) }
     {
@@ -39,7 +39,7 @@ impl<'a> Words<'a> {
         Some(word)
     }
 
-    /// Whether no word is left.
+    /// Returns whether no word is left.
     pub(crate) fn is_over(&self) -> bool
         ensures { result ≡ is_over (words_left self.now) }
     {
@@ -49,42 +49,42 @@ impl<'a> Words<'a> {
         }
     }
 
-    /// The host that the next word spells.
+    /// Returns the host that the next word spells.
     pub(crate) fn host(&mut self) -> Option<HostAddr>
         ensures { TakesAs host_text IsHost (words_left self.old) result (words_left self.new) }
     {
         read_host(self.next()?)
     }
 
-    /// The number of 128 bits that the next word spells.
+    /// Returns the number of 128 bits that the next word spells.
     pub(crate) fn count(&mut self) -> Option<u128>
         ensures { TakesAs decimal (λ n. n < 2 ^ 128) (words_left self.old) result (words_left self.new) }
     {
         read_wide(self.next()?)
     }
 
-    /// The number of 64 bits that the next word spells.
+    /// Returns the number of 64 bits that the next word spells.
     pub(crate) fn place(&mut self) -> Option<usize>
         ensures { TakesAs decimal (λ n. n < 2 ^ 64) (words_left self.old) result (words_left self.new) }
     {
         read_place(self.next()?)
     }
 
-    /// The number of 32 bits that the next word spells.
+    /// Returns the number of 32 bits that the next word spells.
     pub(crate) fn number(&mut self) -> Option<u32>
         ensures { TakesAs decimal (λ n. n < 2 ^ 32) (words_left self.old) result (words_left self.new) }
     {
         plain_number(self.next()?)
     }
 
-    /// The number of 8 bits that the next word spells.
+    /// Returns the number of 8 bits that the next word spells.
     pub(crate) fn octet(&mut self) -> Option<u8>
         ensures { TakesAs decimal (λ n. n < 256) (words_left self.old) result (words_left self.new) }
     {
         read_octet(self.next()?)
     }
 
-    /// The flow that the next three words spell.
+    /// Returns the flow that the next three words spell.
     pub(crate) fn flow(&mut self) -> Option<Flow>
         ensures { TakesWords flow_words IsFlow (words_left self.old) result (words_left self.new) }
     {
@@ -98,7 +98,7 @@ impl<'a> Words<'a> {
         })
     }
 
-    /// The `count` bits whose octets the next word spells.
+    /// Returns the `count` bits whose octets the next word spells.
     ///
     /// Errors: `AllocError`.
     pub(crate) fn bits(&mut self, alloc: Global, count: usize) -> Result<Option<Bits>, AllocError>
@@ -111,7 +111,7 @@ impl<'a> Words<'a> {
     }
 }
 
-/// The first word of a text, and the text behind the space after it, where there is one.
+/// Returns the first word of a text, and the text after the space after it, where there is one.
 fn first_word(text: &[u8]) -> (&[u8], Option<&[u8]>)
     ensures { words_in text.now ≡ result.0.now ∷ words_behind result.1 }
 {
@@ -121,7 +121,7 @@ fn first_word(text: &[u8]) -> (&[u8], Option<&[u8]>)
     }
 }
 
-/// The number from 0 to 255 that a word spells.
+/// Returns the number from 0 to 255 that a word spells.
 fn read_octet(word: &[u8]) -> Option<u8>
     ensures { ReadsAs decimal (λ n. n < 256) word.now result }
 {
@@ -129,7 +129,7 @@ fn read_octet(word: &[u8]) -> Option<u8>
     u8::try_from(number).ok()
 }
 
-/// The number of 64 bits that a word spells.
+/// Returns the number of 64 bits that a word spells.
 fn read_place(word: &[u8]) -> Option<usize>
     ensures { ReadsAs decimal (λ n. n < 2 ^ 64) word.now result }
 {
@@ -137,7 +137,7 @@ fn read_place(word: &[u8]) -> Option<usize>
     usize::try_from(number).ok()
 }
 
-/// The number of 128 bits that a word spells, without sign and leading zeros.
+/// Returns the number of 128 bits that a word spells, without sign and leading zeros.
 fn read_wide(word: &[u8]) -> Option<u128>
     ensures { ReadsAs decimal (λ n. n < 2 ^ 128) word.now result }
 {
@@ -150,7 +150,7 @@ fn read_wide(word: &[u8]) -> Option<u128>
     }
 }
 
-/// Whether the first octet shows that a word is no number.
+/// Returns whether the first octet shows that a word is no number.
 fn begins_wrong(word: &[u8]) -> bool
     ensures { result ≡ begins_wrong word.now }
 {

@@ -31,7 +31,7 @@ pub record HasBadLine (octets : List ℕ) (number : ℕ) : Type 0 where
   pub described : Describes document network
   pub bad : IsFirstBadIn network.raw script number
 
--- what stands before the marker line is not UTF-8, or describes no topology
+-- what precedes the marker line is not UTF-8, or describes no topology
 pub record HasBadTopology (octets : List ℕ) : Type 0 where
   pub document : List ℕ
   pub script : List ℕ

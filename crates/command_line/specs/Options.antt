@@ -22,11 +22,11 @@ abbrev pub options_after : Options → List (List ℕ) → Option Options
 options_after options [] = Some options
 options_after options (word ∷ words) = option_and_then (λ more. options_after more words) (with_word word options)
 
--- the options that words ask for; none where a word is no option or an option stands twice
+-- the options that words ask for; none where a word is no option or an option occurs twice
 abbrev pub options_of : List (List ℕ) → Option Options
 options_of words = options_after (record { book = false; check = false; texts = false }) words
 
--- what one word asks for that stands alone
+-- what one word asks for that is the only one
 abbrev pub task_of : List (List ℕ) → Option Task
 task_of [] = None
 task_of (word ∷ []) =
@@ -41,7 +41,7 @@ abbrev pub detail_of : Bool → Detail
 detail_of true = Texts
 detail_of false = Sizes
 
--- the options that the words ask for are given, or it is told that they ask for none; memory may run out at any words
+-- the options that the words ask for are given, or it is informed that they ask for none; memory may run out at any words
 abbrev pub Asked : Option Options → Result Options OptionsFault → Type 0
 Asked asked (Ok options) = asked ≡ Some options
 Asked asked (Err fault.BadOptions) = asked ≡ None

@@ -1,4 +1,4 @@
--- What stands on the output, for whoever knows neither the input nor the network.
+-- The output, for whoever knows neither the input nor the network.
 use Rattle.std.specs.Prelude.{ℕ, Bool, List, ◌++◌, reverse, Option, codes}
 use Rattle.std.specs.Io.KnownBytes.{Appends}
 use Rattle.net_sim.specs.Formed.{FormedBook}

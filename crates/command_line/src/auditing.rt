@@ -35,7 +35,8 @@ pub enum AuditFault {
 }
 
 impl AuditFault {
-    /// The exit status: 1 for reading, 2 for a log that is too long or has a bad line, 3 when memory runs out or a write fails.
+    /// Returns the exit status: 1 for reading, 2 for a log that is too long or has a bad line, 3 when memory runs out
+    /// or a write fails.
     pub fn status(&self) -> u8
         ensures { result ≡ status_at self.now }
     {
@@ -87,7 +88,7 @@ impl From<WriteFailed> for AuditFault {
     }
 }
 
-/// The exit status after an audit that says this: 0 for a safe book, 4 for any other.
+/// Returns the exit status after an audit that says this: 0 for a safe book, 4 for any other.
 pub fn audit_status(said: Audit) -> u8
     ensures { result ≡ status_said said }
 {
@@ -129,7 +130,7 @@ pub fn run_audit<R: Source, W: Output>(
     // what a replay wrote as its log is read, and is kept
     ensures kept { R.failed reader.new ≡ false → IfSome (R.remaining reader.old) (λ octets. Logged (Some []) (Some octets) → SaysKept octets result) }
 
-    // where a read or a write fails it is told, and nowhere else
+    // where a read or a write fails it is reported, and nowhere else
     ensures cannot_read { (result ≡ Err AuditFault.CannotRead) ↔ (R.failed reader.new ≡ true) }
     ensures cannot_write { (result ≡ Err AuditFault.CannotWrite) ↔ (W.failed writer.new ≡ true) }
 
@@ -149,7 +150,8 @@ pub fn run_audit<R: Source, W: Output>(
 /// How many octets are asked for at once.
 const CHUNK: usize = 4096;
 
-/// All octets that the reader gives. It is asked for one octet more than a log may have, and for none after that.
+/// Returns all octets that the reader gives. It is asked for one octet more than a log may have, and for none after
+/// that.
 ///
 /// Errors: `CannotRead` where a read fails, `LongLog` where there are more octets than a log may have, `OutOfMemory`.
 fn read_octets<R: Source>(alloc: Global, reader: &mut R) -> Result<Vec<u8>, AuditFault>
@@ -174,7 +176,7 @@ fn read_octets<R: Source>(alloc: Global, reader: &mut R) -> Result<Vec<u8>, Audi
     Err(AuditFault::LongLog)
 }
 
-/// The book of a log.
+/// Returns the book of a log.
 ///
 /// Errors: `BadLog`, `OutOfMemory`.
 fn read_book(alloc: Global, octets: &[u8]) -> Result<LoggedBook, AuditFault>

@@ -157,7 +157,7 @@ fn write_lives<W: Output>(lives: &[Life], book: bool, writer: &mut W) -> Result<
     write_last(writer, b"end\n")
 }
 
-/// The subnet of a topology's IMPs and lines, at its opening.
+/// Returns the subnet of a topology's IMPs and lines, at its opening.
 ///
 /// Errors: `AllocError`.
 pub(crate) fn subnet_of(alloc: Global, network: &Topology) -> Result<Subnet, AllocError>
@@ -169,7 +169,7 @@ pub(crate) fn subnet_of(alloc: Global, network: &Topology) -> Result<Subnet, All
     Subnet::new(alloc, hosts, sites, &ends)
 }
 
-/// The ends of lines, as a subnet takes them.
+/// Returns the ends of lines, as a subnet takes them.
 ///
 /// Errors: `AllocError`.
 fn ends_of(alloc: Global, lines: &[LineEnds]) -> Result<Vec<subnet::Ends>, AllocError>

@@ -40,8 +40,8 @@ pub enum ScriptFault {
 }
 
 impl ScriptFault {
-    /// The exit status: 1 for options, reading, topology and a network without traces, 2 for a line of the script, 3 when memory runs out
-    /// or a write fails.
+    /// Returns the exit status: 1 for options, reading, topology and a network without traces, 2 for a line of the
+    /// script, 3 when memory runs out or a write fails.
     pub fn status(&self) -> u8
         ensures { result ≡ status_of self.now }
     {

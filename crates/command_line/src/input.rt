@@ -34,7 +34,7 @@ pub(crate) struct Input {
     pub events: Events,
 }
 
-/// The input that these octets are.
+/// Returns the input that these octets are.
 ///
 /// Errors: `BadTopology` where the octets have no line `%` or begin with no topology,
 /// `BadLine` for the first line of the script that is no event, `OutOfMemory`.
@@ -58,7 +58,7 @@ pub(crate) fn read_input(alloc: Global, octets: &[u8]) -> Result<Input, ScriptFa
     Ok(Input { network, events })
 }
 
-/// The events that a script asks for, where its network is raw or has host programs.
+/// Returns the events that a script asks for, where its network is raw or has host programs.
 ///
 /// Errors: `BadLine` for the first line that is no event of such a network, `OutOfMemory`.
 fn read_events(alloc: Global, raw: bool, script: &[u8]) -> Result<Events, ScriptFault>
@@ -85,8 +85,8 @@ fn read_events(alloc: Global, raw: bool, script: &[u8]) -> Result<Events, Script
 /// How many octets are asked for at once.
 const CHUNK: usize = 4096;
 
-/// All octets that the reader gives. It is asked for one octet more than an input may have, and for none
-/// after that.
+/// Returns all octets that the reader gives. It is asked for one octet more than an input may have, and for none after
+/// that.
 ///
 /// Errors: `CannotRead` where a read fails, `BadTopology` where there are more octets than an input may
 /// have, `OutOfMemory`.
@@ -112,7 +112,7 @@ pub(crate) fn read_octets<R: Source>(alloc: Global, reader: &mut R) -> Result<Ve
     Err(ScriptFault::BadTopology)
 }
 
-/// The topology that a document describes.
+/// Returns the topology that a document describes.
 ///
 /// Errors: `BadTopology` for a document that describes none, `OutOfMemory`.
 fn read_network(alloc: Global, document: &[u8]) -> Result<Topology, ScriptFault>

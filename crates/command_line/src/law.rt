@@ -20,12 +20,12 @@ pub fn one_output()
     ensures { (book : Bool) (detail : Detail) (input before after other : List ℕ) → ReplaysInput book detail input (Some before) (Some after) → ReplaysInput book detail input (Some before) (Some other) → after ≡ other }
 {}
 
-/// What stands on the output after memory has run out is a prefix of what the whole replay writes.
+/// What was written before memory ran out is a prefix of what the whole replay writes.
 pub fn first_part()
     ensures { (book : Bool) (detail : Detail) (input before part whole : List ℕ) → StopsInput detail input (Some before) (Some part) → ReplaysInput book detail input (Some before) (Some whole) → (rest : List ℕ) × (whole ≡ part ++ rest) }
 {}
 
-/// The input determines its trace, too; and what stands on the output after memory has run out is a prefix of the whole trace.
+/// The input determines its trace, too; and what was written before memory ran out is a prefix of the whole trace.
 pub fn one_trace()
     ensures whole { (input before after other : List ℕ) → TracesInput input (Some before) (Some after) → TracesInput input (Some before) (Some other) → after ≡ other }
     ensures part { (input before part whole : List ℕ) → TraceStops input (Some before) (Some part) → TracesInput input (Some before) (Some whole) → (rest : List ℕ) × (whole ≡ part ++ rest) }

@@ -1,6 +1,6 @@
 //! The simulator behind its command line: which options it takes, what it reads, and what it writes.
 //!
-//! Words are read as [`Options`] where each of them is one of the three options and none stands twice. [`run`]
+//! Words are read as [`Options`] where each of them is one of the three options and none occurs twice. [`run`]
 //! then reads an input and replays its script, or only reads it, as the options ask. [`run_script`] does the
 //! same for options that were read already.
 //!

@@ -81,7 +81,7 @@ pub fn run_log<R: Source, W: Output>(
     ensures read { R.failed reader.new ≡ false → IfSome (R.remaining reader.old) (λ octets. MatchResult result (λ _. IsSomeInput octets) (IsInputFault octets)) }
     ensures options { IfErr result (λ f. f ≢ ScriptFault.BadOptions) }
 
-    // where a read or a write fails it is told, and nowhere else
+    // where a read or a write fails it is reported, and nowhere else
     ensures cannot_read { (result ≡ Err ScriptFault.CannotRead) ↔ (R.failed reader.new ≡ true) }
     ensures cannot_write { (result ≡ Err ScriptFault.CannotWrite) ↔ (W.failed writer.new ≡ true) }
 

@@ -20,11 +20,11 @@ pub struct Options {
     pub book: bool,
     /// Whether the input is only read.
     pub check: bool,
-    /// Whether the texts of messages are printed behind their bits.
+    /// Whether the texts of messages are printed after their bits.
     pub texts: bool,
 }
 
-/// What a word asks for that stands alone, in place of a replay's output.
+/// What a word asks for that is the only one, in place of a replay's output.
 #[derive(Clone, Copy, Debug, PartialEq, Eq)]
 pub enum Task {
     /// The log of the replay's book.
@@ -36,7 +36,8 @@ pub enum Task {
 }
 
 impl Task {
-    /// What the words behind the program's name ask for, where they are one word: `--log`, `--trace` or `--audit`.
+    /// Returns what the words after the program's name ask for, where they are one word: `--log`, `--trace` or
+    /// `--audit`.
     pub fn of(words: &[String]) -> Option<Task>
         ensures { result ≡ task_of (map string_bytes words.now) }
     {
@@ -77,7 +78,7 @@ impl From<AllocError> for OptionsFault {
 }
 
 impl Options {
-    /// The options that the words behind the program's name ask for: `--book`, `--check` and `--texts`, in any
+    /// Returns the options that the words after the program's name ask for: `--book`, `--check` and `--texts`, in any
     /// order, each at most once.
     ///
     /// Errors: `BadOptions` for anything else. `OutOfMemory` may come for any words, since the parser of words
@@ -89,7 +90,7 @@ impl Options {
         Options::read_texts(alloc, &texts)
     }
 
-    /// The options that these words ask for.
+    /// Returns the options that these words ask for.
     fn read_texts(alloc: Global, words: &[&str]) -> Result<Options, OptionsFault>
         ensures { Asked (options_of (map (λ word. word.now) words.now)) result }
     {
@@ -107,7 +108,7 @@ impl Options {
         }
     }
 
-    /// How much is printed of a message.
+    /// Returns how much is printed of a message.
     pub fn detail(&self) -> Detail
         ensures { result ≡ detail_of self.now.texts }
     {
@@ -119,7 +120,8 @@ impl Options {
     }
 }
 
-/// The texts of these words. They are put into a list one by one: `collect` would go on where the room for all of them is refused.
+/// Returns the texts of these words. They are put into a list one by one: `collect` would continue where the room for all
+/// of them is refused.
 fn texts_of<'a>(alloc: Global, words: &'a [String]) -> Result<Vec<&'a str>, AllocError>
     ensures { IfOk result (λ texts. map (λ text. text.now) texts.items ≡ map string_bytes words.now) }
 {
@@ -130,14 +132,14 @@ fn texts_of<'a>(alloc: Global, words: &'a [String]) -> Result<Vec<&'a str>, Allo
     Ok(texts)
 }
 
-/// Whether `--` is one of the words.
+/// Returns whether `--` is one of the words.
 fn has_double_hyphen(words: &[&str]) -> bool
     ensures { result ≡ list_any (λ word. bytes_eq word.now (codes "--")) words.now }
 {
     words.contains(&"--")
 }
 
-/// The command line as the parser of words knows it: three options, no help and no version.
+/// Returns the command line as the parser of words knows it: three options, no help and no version.
 fn command<'a>(alloc: Global) -> Result<Command<'a>, AllocError>
     ensures { IfOk result (λ command. app_of command ≡ command_line) }
 {

@@ -14,7 +14,7 @@ use crate::source::Source;
 use replay::{Detail, Output};
 use std::alloc::Global;
 
-/// Runs the simulator on the words behind its name, from a reader to a writer.
+/// Runs the simulator on the words after its name, from a reader to a writer.
 ///
 /// Errors: `BadOptions` for words other than `--book`, `--check` and `--texts`, each at most once, with nothing read
 /// and nothing written; else as [`run_script`]. `OutOfMemory` may come for any words, since the parser of words
@@ -48,7 +48,7 @@ pub fn run<R: Source, W: Output>(
     // what is read is an input, or the first fault is given
     ensures read { IfSome (options_of (map string_bytes words.now)) (λ options. R.failed reader.new ≡ false → IfSome (R.remaining reader.old) (λ octets. MatchResult result (λ _. IsSomeInput octets) (IsInputFault octets))) }
 
-    // where a read or a write fails it is told, and nowhere else; by each call's `requires`, no more is asked of what failed
+    // where a read or a write fails it is reported, and nowhere else; by each call's `requires`, no more is asked of what failed
     ensures cannot_read { (result ≡ Err ScriptFault.CannotRead) ↔ (R.failed reader.new ≡ true) }
     ensures cannot_write { (result ≡ Err ScriptFault.CannotWrite) ↔ (W.failed writer.new ≡ true) }
 
@@ -77,15 +77,15 @@ pub fn run<R: Source, W: Output>(
 }
 
 /// Reads a topology, the marker line `%` and a script, and replays the script: it writes one line for each
-/// crossing, each thing that a host's user is told and each refusal, and a last line `end`. With `check` it only
-/// reads, and writes `ok`. With `book` the lives of connections stand before `end`; without host programs there
+/// crossing, each thing that a host's user is notified and each refusal, and a last line `end`. With `check` it only
+/// reads, and writes `ok`. With `book` the lives of connections are before `end`; without host programs there
 /// are none. Of a message it writes as much as `detail` says.
 ///
 /// Errors, in this order:
 /// - `CannotRead`: a read failed. Nothing more is asked of the reader.
 /// - `BadTopology`: the input has more than 1,048,576 octets, has no line `%`, or begins with no topology.
 /// - `BadLine`: the first line of the script that is no event. Nothing is replayed and nothing is written.
-/// - `CannotWrite`: a write or a flush failed. Nothing more is asked of the writer, which alone knows how much was
+/// - `CannotWrite`: a write or a flush failed. Nothing more is asked of the writer, which is the only one to know how much was
 ///   written.
 ///
 /// `OutOfMemory` may come at any of these steps. What was written by then is a prefix of what the
@@ -116,7 +116,7 @@ pub fn run_script<R: Source, W: Output>(
     // what is read is an input, or the first fault is given
     ensures read { R.failed reader.new ≡ false → IfSome (R.remaining reader.old) (λ octets. MatchResult result (λ _. IsSomeInput octets) (IsInputFault octets)) }
 
-    // where a read or a write fails it is told, and nowhere else; by each call's `requires`, no more is asked of what failed
+    // where a read or a write fails it is reported, and nowhere else; by each call's `requires`, no more is asked of what failed
     ensures cannot_read { (result ≡ Err ScriptFault.CannotRead) ↔ (R.failed reader.new ≡ true) }
     ensures cannot_write { (result ≡ Err ScriptFault.CannotWrite) ↔ (W.failed writer.new ≡ true) }
 

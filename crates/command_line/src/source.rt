@@ -47,7 +47,7 @@ pub struct Reader<R> {
 }
 
 impl<R: Read> Reader<R> {
-    /// A source over a reader, of which no read has failed.
+    /// Returns a source over a reader, of which no read has failed.
     pub fn new(reader: R) -> Reader<R>
         ensures remaining { ⟦<Reader<R> as Source>⟧.remaining result ≡ R.remaining reader }
         ensures failed { ⟦<Reader<R> as Source>⟧.failed result ≡ false }
@@ -58,7 +58,7 @@ impl<R: Read> Reader<R> {
         }
     }
 
-    /// The reader.
+    /// Returns the reader.
     pub fn into_inner(self) -> R
         ensures { R.remaining result ≡ ⟦<Reader<R> as Source>⟧.remaining self }
     {

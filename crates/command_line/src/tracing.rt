@@ -25,7 +25,7 @@ use trace::{Inspect, trace_events};
 /// Errors, in this order:
 /// - `CannotRead`, `BadTopology` and `BadLine`, as [`crate::run_script`].
 /// - `NoTrace`: the network has host programs. Nothing is replayed and nothing is written.
-/// - `CannotWrite`: a write or a flush failed. Nothing more is asked of the writer, which alone knows how much was written.
+/// - `CannotWrite`: a write or a flush failed. Nothing more is asked of the writer, which is the only one to know how much was written.
 ///
 /// `OutOfMemory` may come at any of these steps. What was written by then is a prefix of the trace.
 pub fn run_trace<R: Source, W: Output>(
@@ -47,7 +47,7 @@ pub fn run_trace<R: Source, W: Output>(
     ensures read { R.failed reader.new ≡ false → IfSome (R.remaining reader.old) (λ octets. MatchResult result (λ _. IsSomeInput octets) (IsTraceFault octets)) }
     ensures options { IfErr result (λ f. f ≢ ScriptFault.BadOptions) }
 
-    // where a read or a write fails it is told, and nowhere else
+    // where a read or a write fails it is reported, and nowhere else
     ensures cannot_read { (result ≡ Err ScriptFault.CannotRead) ↔ (R.failed reader.new ≡ true) }
     ensures cannot_write { (result ≡ Err ScriptFault.CannotWrite) ↔ (W.failed writer.new ≡ true) }
 

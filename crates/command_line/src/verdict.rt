@@ -33,7 +33,7 @@ impl fmt::Display for Lines {
     }
 }
 
-/// The lines of a log for what was found in its book. First come its crossings, then its lives, then its lists.
+/// Returns the lines of a log for what was found in its book. First come its crossings, then its lives, then its lists.
 fn lines_of(book: &LoggedBook, found: Finding) -> Lines
     ensures { result ≡ lines_of book.now found }
 {

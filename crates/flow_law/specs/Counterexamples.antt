@@ -376,12 +376,12 @@ returns_alive =
     ∷ begun
     ∷ []
 
--- it comes up while a message is outstanding that was taken: a question of it is new, and the source is told NotTaken
+-- it comes up while a message is outstanding that was taken: a question of it is new, and the source gets NotTaken
 abbrev pub ReturnsAwaited : Machine
 ReturnsAwaited Move.StartTo v alive = (x : Packet) → alive x → is_request x.kind ≡ true → ⊥
 ReturnsAwaited m v alive = Needs InOnePacket m v alive
 
--- the outstanding message is asked for, noted as never come, and its source is told so
+-- the outstanding message is asked for, noted as never come, and its source is informed so
 abbrev pub told_never : List FlowTurn → List FlowTurn
 told_never turns =
     turn (Move.TakeAnswer answer.NotTaken []) []
@@ -467,7 +467,7 @@ asks_anything =
     ∷ turn (Move.Asks 0) (ask_of 0 ∷ [])
     ∷ []
 
--- something is told though no packet is there: it outlives the source's IMP, and fits the first message after it
+-- something is said though no packet is there: it outlives the source's IMP, and fits the first message after it
 abbrev pub RepliesToNothing : Machine
 RepliesToNothing (Move.Reply x told) v alive = (v.to_up ≡ true) × (v.kept ≡ Some x.number) × Tells v.fate told
 RepliesToNothing m v alive = Needs InOnePacket m v alive
@@ -508,7 +508,7 @@ replies_to_any =
     ∷ begun_local
     ∷ []
 
--- something is told that isn't true: Dead of a message that waits, which is taken then
+-- something is informed that isn't true: Dead of a message that waits, which is taken then
 abbrev pub RepliesFalsely : Machine
 RepliesFalsely (Move.Reply x told) v alive = (v.to_up ≡ true) × alive x × (v.kept ≡ Some x.number)
 RepliesFalsely m v alive = Needs InOnePacket m v alive

@@ -16,7 +16,7 @@ pub record Follows (Piece : List Bool → Packet → Type 0) (moves : List Move)
   pub view : new ≡ after_all moves old
   pub packets : (x : Packet) → later x → Grown Piece moves old before x
 
--- what was seen of a flow is a run of its mailbox and led to what stands now, and the invariant holds
+-- what was seen of a flow is a run of its mailbox and led to the present state, and the invariant holds
 pub record Sound (Piece : List Bool → Packet → Type 0) (start : Mail) (seen : List Passing) (v : View) (alive : Packet → Type 0) : Type 0 where
   pub clauses : Invariant Piece v alive
   pub run : IsFlowRun start seen
@@ -27,7 +27,7 @@ pub record AllSound (Piece : List Bool → Packet → Type 0) (hosts : List Host
   pub flows : (f : Flow) → Sound Piece (opening_mail hosts f) (passed f log) (view f) (alive f)
   pub ups : UpsAreHosts hosts log
 
--- what a flow sees of new crossings, which stand on top of the log
+-- what a flow sees of new crossings, which are on top of the log
 abbrev pub passed_over : Flow → List Crossing → List Crossing → List Passing
 passed_over f [] log = []
 passed_over f (c ∷ entries) log = passings (length (entries ++ log)) f c ++ passed_over f entries log

@@ -1,6 +1,6 @@
 -- What holds of a flow after every list of moves, in clauses of which each says one thing.
 --
--- Only requests that the destination would take for new matter. Each clause speaks of what stands, and of one or two packets
+-- Only requests that the destination would take for new matter. Each clause speaks of the present state, and of one or two packets
 -- at a time; none counts packets, and none asks where they are. So each still holds when packets are lost.
 use Rattle.std.specs.Prelude.{◌≡◌, ◌≢◌, ℕ, ◌<◌, Bool, true, false, List, [], ◌∷◌, Option, Some, None, ◌⊎◌}
 use Rattle.leader1822.specs.declared.crossing.Answer.{Answer}
@@ -46,7 +46,7 @@ pub record Lost (queue : List Queued) (box : Box) : Type 0 where
   pub waiting : Fits answer.Dead box
   pub unread : queue ≡ []
 
--- so it is with the message of this number, and its source wasn't told that it never will be taken
+-- so it is with the message of this number, and its source wasn't informed that it never will be taken
 pub record Unnoted (number : ℕ) (queue : List Queued) (box : Box) (alive : Packet → Type 0) : Type 0 where
   pub lost : Lost queue box
   pub none : (x : Packet) → alive x → is_refusal x.kind ≡ true → x.number ≢ number
@@ -103,11 +103,11 @@ pub record Invariant (Piece : List Bool → Packet → Type 0) (v : View) (alive
   pub orphaned : v.from_up ≡ false → (x y : Packet) → alive x → New v.to_up v.kept x → alive y → is_request y.kind ≡ true → Near x.number y.number
   -- At most one message is queued, and it is the one in the box: so what the destination takes is what was put in.
   pub waiting : (v.queue ≡ []) ⊎ Held v.from_up v.outstanding v.queue v.box
-  -- RFNM of the outstanding number is alive only when the message was taken: so the source is told the truth.
+  -- RFNM of the outstanding number is alive only when the message was taken: so the source learns the truth.
   pub taken : (x : Packet) → alive x → x.kind ≡ Kind.Rfnm → v.outstanding ≡ Some x.number → Fits answer.Rfnm v.box
   -- A refusal, Dead or Never, of the outstanding number is alive only when the message wasn't taken and never will be.
   pub dead : (x : Packet) → alive x → is_refusal x.kind ≡ true → v.outstanding ≡ Some x.number → Gone v.to_up v.kept v.queue v.box alive
-  -- While the destination's IMP is up, what it keeps is true of the outstanding message: so a question is told the truth.
+  -- While the destination's IMP is up, what it keeps is true of the outstanding message: so a question learns the truth.
   pub fated : v.to_up ≡ true → (number : ℕ) → v.outstanding ≡ Some number → Fated number v.kept v.fate v.queue v.box alive
   -- While a message is outstanding its box isn't empty and no answer waits: so there is one answer to a message.
   pub busy : (number : ℕ) → v.outstanding ≡ Some number → Busy v.answers v.box

@@ -93,14 +93,14 @@ IsLost fate.Taken = ⊥
 IsLost fate.Dead = Unit {0}
 IsLost fate.Never = Unit {0}
 
--- a packet of this kind tells the truth about a message of this fate; of one that waits nothing is told
+-- a packet of this kind tells the truth about a message of this fate; of one that waits nobody is notified
 abbrev pub Tells : Fate → Kind → Type 0
 Tells fate.Waits told = ⊥
 Tells fate.Taken told = told ≡ Kind.Rfnm
 Tells fate.Dead told = is_refusal told ≡ true
 Tells fate.Never told = is_refusal told ≡ true
 
--- an answer waits for a host that is up, behind the others
+-- an answer waits for a host that is up, after the others
 abbrev pub with_answer : Bool → Answer → List Answer → List Answer
 with_answer source kind answers = if source then answers ++ kind ∷ [] else answers
 
@@ -172,7 +172,7 @@ pub record CanGiveUp (v : View) (alive : Packet → Type 0) (number : ℕ) : Typ
   pub no_request : (x : Packet) → alive x → is_request x.kind ≡ true → x.number ≢ number
   pub unread : (q : Queued) → Contains v.queue q → q.number ≢ number
 
--- a packet with the number noted last is there, and what is told is true
+-- a packet with the number noted last is there, and what is said is true
 pub record CanReply (v : View) (alive : Packet → Type 0) (x : Packet) (told : Kind) : Type 0 where
   pub up : v.to_up ≡ true
   pub there : alive x

@@ -42,7 +42,7 @@ pub record Queued : Type 0 where
   pub number : ℕ
   pub text : List Bool
 
--- What stands anywhere for one flow, its packets aside. An IMP that is down holds nothing: no number, no answer, no queue.
+-- The state of one flow anywhere, its packets aside. An IMP that is down holds nothing: no number, no answer, no queue.
 pub record View : Type 0 where
   -- at the source: whether its IMP is up, and the host itself
   pub from_up : Bool

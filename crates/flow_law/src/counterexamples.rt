@@ -1,5 +1,5 @@
 //! Counterexamples: without any one of these needs of a move the law of a flow does not hold. The functions
-//! here do nothing: each clause says that a machine which lacks one need alone has a history that the flow's
+//! here do nothing: each clause says that a machine which lacks one need only has a history that the flow's
 //! mailbox does not allow. The law itself rests on none of this.
 
 ghost use Rattle.flow_law.specs.Counterexamples.{Breaks};
@@ -16,8 +16,7 @@ ghost use Rattle.flow_law.specs.Counterexamples.{ReturnsAwaited, returns_awaited
 ghost use Rattle.flow_law.specs.Counterexamples.{RepliesToNothing, replies_to_nothing, RepliesToAny, replies_to_any, RepliesFalsely, replies_falsely};
 ghost use Rattle.flow_law.specs.Counterexamples.{NeverOfWaiting, never_of_waiting, NeverOfTaken, never_of_taken, NeverUnnoted, never_unnoted};
 
-/// Each need of an offer counts: a machine that lacks it alone has a history that its mailbox doesn't
-/// allow.
+/// Each need of an offer counts: a machine that lacks only it has a history that its mailbox doesn't allow.
 pub fn needs_of_offers()
     // a message is offered by a source that is down
     ensures offers_down { Breaks OffersDown offers_down }
@@ -119,12 +118,12 @@ pub fn needs_of_imps()
     ensures gives_up_queued { Breaks GivesUpQueued gives_up_queued }
 {}
 
-/// Each need of a question, and of what is told of it, counts, in the same way.
+/// Each need of a question, and of what is notified of it, counts, in the same way.
 pub fn needs_of_questions()
     // a message is asked for that isn't outstanding
     ensures asks_anything { Breaks AsksAnything asks_anything }
 
-    // something is told though no packet is there
+    // something is said though no packet is there
     ensures replies_to_nothing { Breaks RepliesToNothing replies_to_nothing }
 
     // or of another message than the one noted last

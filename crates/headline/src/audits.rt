@@ -7,7 +7,8 @@ use crate::book::book_of;
 use leader1822::Carrier;
 use net_sim::{Audit, World, audit};
 
-/// The audit of the book of a world. It is `Kept`, whatever the world's carrier is made of and whatever happened.
+/// Returns the audit of the book of a world. It is `Kept`, whatever the world's carrier is made of and whatever
+/// happened.
 pub fn audit_of<C: Carrier>(world: &World<C>) -> Audit
     ensures { result ≡ said.Kept }
 {

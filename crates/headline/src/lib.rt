@@ -1,8 +1,8 @@
 //! The promise of the book of a world: the headline.
 //!
-//! Each part is proved in a crate of its own: the messages in `net_sim`, the partners in `world_keeps_pairing`, what is about one host alone
+//! Each part is proved in a crate of its own: the messages in `net_sim`, the partners in `world_keeps_pairing`, what is about only one host
 //! in `world_keeps_lives`, what is about two programs together in `world_keeps_streams`, and initial connections in
-//! `world_keeps_connections`. Here they stand as one statement, on the call by which a program gets the book. It asks for nothing: a carrier's
+//! `world_keeps_connections`. Here they are as one statement, on the call by which a program gets the book. It asks for nothing: a carrier's
 //! law and the programs of all hosts are part of what a `World` is.
 #![tactic(auto)]
 

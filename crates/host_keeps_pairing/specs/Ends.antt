@@ -47,7 +47,7 @@ end_of origin s =
 
 -- ---- what waits to be said of it
 
--- a host asks for its own ends alone, and for each once
+-- a host asks for its own ends only, and for each once
 abbrev pub request_due : ℕ → Bool → Option ℕ → List Mark
 request_due place true None = Ask place ∷ []
 request_due place mine asked = []
@@ -60,7 +60,7 @@ close_waits c = []
 abbrev pub due : ℕ → Standing → List Mark
 due place s = request_due place s.mine s.asked ++ close_waits s.closing
 
--- ---- how it stands
+-- ---- its standing
 
 -- an end whose CLS have both passed is there only until it is swept; an end that isn't this host's own is that of a request
 -- which it refuses; no CLS goes out before the own request, and only an own end has one

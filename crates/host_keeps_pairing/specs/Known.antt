@@ -8,7 +8,7 @@ use Rattle.host_pairs.specs.declared.notice.Notice.{Notice}
 use Rattle.host_pairs.specs.declared.notice.Notice.TheVariants as notice
 
 -- the openings, on these two sockets with this peer, that are known after a notice: each by its own request and its partner's, from where
--- it is told until the end is told to be over, or all connections with the peer are. Other notices change nothing
+-- it is reported until the end is known to be over, or all connections with the peer are. Other notices change nothing
 abbrev pub known_after : (ℕ → ℕ) → Host → ℕ → ℕ → Notice → List Life → List Life
 known_after origin peer own foreign (notice.Opened socket host other asked partner) known =
     if same_host peer host && (socket == own && other == foreign) then record { own = asked; partner = origin partner } ∷ known else known

@@ -10,7 +10,7 @@ use Rattle.pairing_law.specs.Sides.{above, IsLater}
 -- ---- in commands
 
 -- what a command says of these two sockets, which are its sender's own and the foreign one: an RTS goes from the receiving socket,
--- an STR from the sending one. A request is told by the place where its message goes out
+-- an STR from the sending one. A request is given by the place where its message goes out
 abbrev pub mark_of : ℕ → ℕ → ℕ → Command → List Mark
 mark_of place own foreign (command.Rts receive send link) = if receive == own && send == foreign then Ask place ∷ [] else []
 mark_of place own foreign (command.Str send receive size) = if send == own && receive == foreign then Ask place ∷ [] else []

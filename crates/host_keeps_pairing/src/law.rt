@@ -81,8 +81,8 @@ pub fn hearing()
     ensures answer { (origin : ℕ → ℕ) (own foreign : ℕ) (s : NcpState) (kind : Answer) (f : Flow) (stamp : ℕ) (x : End) → HasEnd origin own foreign (pair_with f.destination s.peers) x → HasEnd origin own foreign (pair_with f.destination (accepted s (inbound.Answer kind f) stamp).0.peers) (kept_in (pair_with f.destination (accepted s (inbound.Answer kind f) stamp).0.peers) x) }
 {}
 
-/// The openings of which a host's user is told are lives of the law: what was told stays some of the lives, in their order, after each
-/// call. A partner's request is told by the place where it was taken, and the law's by that where it went out.
+/// The openings of which a host's user is notified are lives of the law: what was notified stays some of the lives, in their order, after each
+/// call. A partner's request is given by the place where it was taken, and the law's by that where it went out.
 pub fn openings()
     // what goes out, and commands that are in order, make the lives that the law says
     ensures offer { (origin : ℕ → ℕ) (own foreign : ℕ) (s : NcpState) (stamp : ℕ) (g : Peer) (parcel : Parcel) (x : End) (told lives : List Life) → AreInOrder s.peers → next_in s.peers ≡ Some (g, parcel) → HasEnd origin own foreign (pair_with g.host s.peers) x → AreAmong told lives → AreAmong (with_openings origin own foreign (offered s stamp).1 told) (all_lives_gone (marks stamp own foreign (commands_of g.pair parcel)) x lives) }
@@ -100,16 +100,16 @@ pub fn openings()
 /// What a host's user knows to be open is open: where its program told it of an opening on two sockets with a peer, and hasn't told since that the
 /// end is over, the law's end there is open by the two requests that were told. Each call keeps this.
 pub fn endings()
-    // what goes out, and commands that are in order, have the end that the law gives. Where both CLS have passed the user is told
+    // what goes out, and commands that are in order, have the end that the law gives. Where both CLS have passed the user is notified
     ensures offer { (origin : ℕ → ℕ) (own foreign : ℕ) (s : NcpState) (stamp : ℕ) (g : Peer) (parcel : Parcel) (x : End) (known : List Life) → AreInOrder s.peers → next_in s.peers ≡ Some (g, parcel) → HasEnd origin own foreign (pair_with g.host s.peers) x → Knows known x → Knows (all_known origin g.host own foreign (offered s stamp).1 known) (all_gone (marks stamp own foreign (commands_of g.pair parcel)) x) }
     ensures commands { (origin : ℕ → ℕ) (own foreign : ℕ) (s : NcpState) (m : HostMessage) (stamp : ℕ) (x : End) (known : List Life) → same_host s.own m.flow.destination ≡ true → (m.flow.link.0 == 0) ≡ true → is_ready (pair_with m.flow.source s.peers).phase ≡ true → AreJoint (orders_of m.text) → AreFree m.flow.source stamp (orders_of m.text) (turn_of s m.flow.source) → AllFit (marks_in (origin stamp) foreign own (orders_of m.text)) x → HasEnd origin own foreign (pair_with m.flow.source s.peers) x → Knows known x → Knows (all_known origin m.flow.source own foreign (accepted s (inbound.Message m) stamp).1 known) (all_taken (marks_in (origin stamp) foreign own (orders_of m.text)) x) }
 
-    // an RST leaves no end, and the user is told; so does an answer where the pair is ready no longer, and a contact
+    // an RST leaves no end, and the user is notified; so does an answer where the pair is ready no longer, and a contact
     ensures reset { (origin : ℕ → ℕ) (own foreign : ℕ) (s : NcpState) (m : HostMessage) (stamp : ℕ) (x : End) (known : List Life) → same_host s.own m.flow.destination ≡ true → (m.flow.link.0 == 0) ≡ true → orders_of m.text ≡ Legal command.Rst ∷ [] → HasEnd origin own foreign (pair_with m.flow.source s.peers) x → Knows known x → Knows (all_known origin m.flow.source own foreign (accepted s (inbound.Message m) stamp).1 known) nothing }
     ensures answer { (origin : ℕ → ℕ) (own foreign : ℕ) (s : NcpState) (kind : Answer) (f : Flow) (stamp : ℕ) (x : End) (known : List Life) → HasEnd origin own foreign (pair_with f.destination s.peers) x → Knows known x → Knows (all_known origin f.destination own foreign (accepted s (inbound.Answer kind f) stamp).1 known) (kept_in (pair_with f.destination (accepted s (inbound.Answer kind f) stamp).0.peers) x) }
     ensures request { (origin : ℕ → ℕ) (own foreign : ℕ) (s : NcpState) (r : Request) (peer : Host) (x : End) (known : List Life) → HasEnd origin own foreign (pair_with peer s.peers) x → Knows known x → Knows (all_known origin peer own foreign (served_notices s r) known) (after_request peer r x) }
 
-    // commands where the pair isn't ready, an RRP and data change nothing of what is known, nor does what is told of another peer
+    // commands where the pair isn't ready, an RRP and data change nothing of what is known, nor does what is notified of another peer
     ensures idle { (origin : ℕ → ℕ) (own foreign : ℕ) (s : NcpState) (m : HostMessage) (stamp : ℕ) (known : List Life) → same_host s.own m.flow.destination ≡ true → (m.flow.link.0 == 0) ≡ true → is_ready (pair_with m.flow.source s.peers).phase ≡ false → AreJoint (orders_of m.text) → all_known origin m.flow.source own foreign (accepted s (inbound.Message m) stamp).1 known ≡ known }
     ensures reply { (origin : ℕ → ℕ) (own foreign : ℕ) (s : NcpState) (m : HostMessage) (stamp : ℕ) (known : List Life) → same_host s.own m.flow.destination ≡ true → (m.flow.link.0 == 0) ≡ true → orders_of m.text ≡ Legal command.Rrp ∷ [] → all_known origin m.flow.source own foreign (accepted s (inbound.Message m) stamp).1 known ≡ known }
     ensures data { (origin : ℕ → ℕ) (own foreign : ℕ) (s : NcpState) (m : HostMessage) (stamp : ℕ) (known : List Life) → same_host s.own m.flow.destination ≡ true → (m.flow.link.0 == 0) ≡ false → all_known origin m.flow.source own foreign (accepted s (inbound.Message m) stamp).1 known ≡ known }
@@ -126,7 +126,7 @@ pub fn known_partners()
     ensures links { (steps : List Step) (s : Sockets) (known others : List Life) (x y : Life) → AreSteps steps → Knows known (receiver s steps).end → Knows others (sender s steps).end → IsIn x known → IsIn y others → ArePartners x y }
 {}
 
-/// Openings that are told, and lives.
+/// Openings of which users are notified, and lives.
 pub fn worked_openings()
     // an opening of the two sockets is a life, the newest first; one of other sockets, or the same the other way, is none
     ensures told { with_openings (λ p. p + 20) 16 33 (notice.Opened 16 second 33 6 10 ∷ notice.Ended 16 second 33 ∷ notice.Opened 16 second 33 14 15 ∷ []) [] ≡ record { own = 14; partner = 35 } ∷ record { own = 6; partner = 30 } ∷ [] }
@@ -154,14 +154,14 @@ pub fn worked_endings()
     // an opening is known by its two requests, the partner's by the place where it went out
     ensures opened { all_known (λ p. p + 20) second 16 33 (notice.Opened 16 second 33 14 15 ∷ []) [] ≡ record { own = 14; partner = 35 } ∷ [] }
 
-    // until the end is told to be over, or all connections with the peer are
+    // until the end is known to be over, or all connections with the peer are
     ensures ended { all_known (λ p. p + 20) second 16 33 (notice.Opened 16 second 33 14 15 ∷ notice.Ended 16 second 33 ∷ []) [] ≡ [] }
     ensures reset { all_known (λ p. p + 20) second 16 33 (notice.Opened 16 second 33 14 15 ∷ notice.PairReset second ∷ []) [] ≡ [] }
 
     // the next opening is another one
     ensures again { all_known (λ p. p + 20) second 16 33 (notice.Opened 16 second 33 14 15 ∷ notice.Ended 16 second 33 ∷ notice.Opened 16 second 33 6 10 ∷ []) [] ≡ record { own = 6; partner = 30 } ∷ [] }
 
-    // where none was told to be over, both are known; but no end is open by both
+    // where none was known to be over, both are known; but no end is open by both
     ensures twice { all_known (λ p. p + 20) second 16 33 (notice.Opened 16 second 33 14 15 ∷ notice.Opened 16 second 33 6 10 ∷ []) [] ≡ record { own = 6; partner = 30 } ∷ record { own = 14; partner = 35 } ∷ [] }
     ensures two { Knows (record { own = 6; partner = 8 } ∷ record { own = 6; partner = 4 } ∷ []) (record { asked = Some 6; partner = Some 8; gone = false; taken = false }) → ⊥ }
 
@@ -242,7 +242,7 @@ pub fn worked_words()
     ensures same_place { MayAllGo (Ask 5 ∷ Close ∷ Ask 5 ∷ []) (record { asked = None; partner = Some 4; gone = false; taken = true }) 5 → ⊥ }
     ensures nobody { MayAllGo (Close ∷ []) nothing 5 → ⊥ }
 
-    // a second request isn't in order, a CLS behind the first is
+    // a second request isn't in order, a CLS after the first is
     ensures second { AllFit (Ask 5 ∷ Ask 6 ∷ []) nothing → ⊥ }
     ensures fits { AllFit (Ask 5 ∷ Close ∷ []) nothing }
 {}
@@ -264,7 +264,7 @@ pub fn worked_ends()
     // once both CLS have passed there is none
     ensures past { end_of (λ p. p) (record { mine = true; asked = Some 3; partner = Some 5; closing = closing.Sent; partner_closed = true }) ≡ nothing }
 
-    // a CLS before the own request, a foreign end that doesn't close or that has asked, and two ends of the same sockets don't stand
+    // a CLS before the own request, a foreign end that doesn't close or that has asked, and two ends of the same sockets are refused
     ensures early { IsSound true (record { mine = true; asked = None; partner = Some 5; closing = closing.Sent; partner_closed = false }) → ⊥ }
     ensures kept { IsSound true (record { mine = false; asked = None; partner = Some 5; closing = closing.No; partner_closed = false }) → ⊥ }
     ensures stranger { IsSound true (record { mine = false; asked = Some 3; partner = Some 5; closing = closing.Queued; partner_closed = false }) → ⊥ }
@@ -295,7 +295,7 @@ pub fn worked_finding()
     // a link that an RTS took in the same message isn't free for the next
     ensures taken_up { AreFree second 7 (Legal (command.Rts 16 33 2) ∷ Legal (command.Rts 18 35 2) ∷ []) (record { pair = record opening_pair { phase = phase.Ready }; listening = record { socket = 33; size = 8 } ∷ []; notices = [] }) → ⊥ }
 
-    // an RST doesn't stand among other commands
+    // an RST doesn't occur among other commands
     ensures alone { AreJoint (Legal command.Nop ∷ Legal command.Rst ∷ []) → ⊥ }
     ensures reply_alone { AreJoint (Legal command.Nop ∷ Legal command.Rrp ∷ []) → ⊥ }
     ensures joint { AreJoint (Legal command.Nop ∷ Wrong 1 (7 ∷ []) ∷ []) }

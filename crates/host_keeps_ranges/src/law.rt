@@ -27,7 +27,7 @@ pub fn ranges()
     // what a user asks for, in numbers of their types, and isn't refused
     ensures request { (s : NcpState) (r : Request) → refusal s r ≡ None → IsAsked r → IsRanged s → IsRanged (served s r) }
 
-    // what comes in, whatever stands in it, and what goes out
+    // what comes in, whatever is in it, and what goes out
     ensures message { (s : NcpState) (m : HostMessage) (stamp : ℕ) → IsRanged s → IsRanged (accepted s (inbound.Message m) stamp).0 }
     ensures answer { (s : NcpState) (kind : Answer) (f : Flow) (stamp : ℕ) → IsRanged s → IsRanged (accepted s (inbound.Answer kind f) stamp).0 }
     ensures offer { (s : NcpState) (stamp : ℕ) → IsRanged s → IsRanged (offered s stamp).0 }

@@ -199,7 +199,7 @@ KeepBoxAll number peer link (m ∷ moments) =
 
 -- ---- such a number
 
--- an odd number, doubled so many times
+-- an odd number, doubled this many times
 abbrev pub paired : ℕ → ℕ → ℕ
 paired zero b = 2 * b + 1
 paired (suc a) b = 2 * paired a b

@@ -19,7 +19,7 @@ abbrev pub is_among : ℕ → List ℕ → Bool
 is_among c [] = false
 is_among c (k ∷ ks) = k == c || is_among c ks
 
--- no number stands twice
+-- no number occurs twice
 abbrev pub AreApart : List ℕ → Type 0
 AreApart [] = Unit {0}
 AreApart (c ∷ cs) = (is_among c cs ≡ false) × AreApart cs

@@ -6,7 +6,7 @@ use Rattle.stream_law.specs.Words.{Word, Ret}
 use Rattle.host_pairs.specs.declared.notice.Notice.{Notice}
 use Rattle.host_pairs.specs.declared.notice.Notice.TheVariants as notice
 
--- the messages that a user is told of as taken, the first first
+-- the messages that a user is notified of as taken, the first first
 abbrev pub arrivals : List Notice → List (List Bool)
 arrivals [] = []
 arrivals (notice.Arrived socket bits ∷ ns) = bits ∷ arrivals ns

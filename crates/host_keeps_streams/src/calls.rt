@@ -68,7 +68,7 @@ pub fn going_out()
     ensures bytes_sound { (name : ℕ → ℕ → ℕ) (peer : Host) (stamp : ℕ) (listening : List Listener) (q : PairState) (e : Entry) (size count : ℕ) → next_of q ≡ Some (Bytes e size count) → AreSound name q.entries → AreSound name (parcel_gone peer stamp q.busy (Bytes e size count) (desk_of q listening)).entries }
 {}
 
-/// The answer to what was sent on a link. The sender of that link is told, and each end that has to close does so.
+/// The answer to what was sent on a link. The sender of that link is notified, and each end that has to close does so.
 pub fn answering()
     ensures received { (name : ℕ → ℕ → ℕ) (link l : ℕ) (peer : Host) (t : TurnState) (r : Receiver) → HasReceiver name link t.pair.entries r → HasReceiver name link (answered_turn peer answer.Rfnm l t).pair.entries r }
     ensures sent { (name : ℕ → ℕ → ℕ) (link l : ℕ) (peer : Host) (t : TurnState) (s : Sender) → AreSound name t.pair.entries → IsSending name link t.pair.entries s → MayAllSend (told_on link l ++ closes name (freed l t.pair).busy t.pair.entries) s × IsSending name link (answered_turn peer answer.Rfnm l t).pair.entries (all_sent (told_on link l ++ closes name (freed l t.pair).busy t.pair.entries) s) }
@@ -82,7 +82,7 @@ pub fn opening()
     ensures receives_sent { (name : ℕ → ℕ → ℕ) (link own foreign : ℕ) (q : PairState) (s : Sender) → is_receive_socket own ≡ true → IsSending name link q.entries s → IsSending name link (receiver_requested own foreign (free_link q.entries) q).entries s }
     ensures receives_sound { (name : ℕ → ℕ → ℕ) (own foreign : ℕ) (q : PairState) → is_receive_socket own ≡ true → is_among (name own foreign) (numbers name q.entries) ≡ false → AreSound name q.entries → AreSound name (receiver_requested own foreign (free_link q.entries) q).entries }
 
-    // one that sends: its byte size is told on each link
+    // one that sends: its byte size is known on each link
     ensures sends { (name : ℕ → ℕ → ℕ) (link own foreign size : ℕ) (q : PairState) (s : Sender) → IsNewSent (name own foreign) (numbers name q.entries) s → IsSending name link q.entries s → MayAllSend (senders.Ask (name own foreign) size ∷ []) s × IsSending name link (requested (sending_end own foreign size) (command.Str own foreign size) q).entries (senders.moved (senders.Ask (name own foreign) size) s) }
     ensures sends_received { (name : ℕ → ℕ → ℕ) (link own foreign size : ℕ) (q : PairState) (r : Receiver) → HasReceiver name link q.entries r → HasReceiver name link (requested (sending_end own foreign size) (command.Str own foreign size) q).entries r }
     ensures sends_sound { (name : ℕ → ℕ → ℕ) (own foreign size : ℕ) (q : PairState) → is_among (name own foreign) (numbers name q.entries) ≡ false → AreSound name q.entries → AreSound name (requested (sending_end own foreign size) (command.Str own foreign size) q).entries }
@@ -221,7 +221,7 @@ pub fn worked_moves()
     ensures cls_sender { sent_out (λ own foreign. own) 5 (command.Cls 33 16) (record (asked_on_link 7 5 (sending_end 33 16 8)) { closing = closing.Queued } ∷ []) (record senders.opening_sender { end = Some 33 }) ≡ [] }
     ensures unsaid { HasSaid (command.Cls 16 33) (receiving_end 16 33 5 ∷ []) → ⊥ }
 
-    // so many bytes of an end go out on its link
+    // this many bytes of an end go out on its link
     ensures bytes { bytes_sent (λ own foreign. own) 5 (record (asked_on_link 7 5 (sending_end 33 16 1)) { bits = true ∷ false ∷ true ∷ [] }) 1 2 ≡ senders.Send 33 1 (true ∷ false ∷ []) ∷ [] }
     ensures bytes_elsewhere { bytes_sent (λ own foreign. own) 7 (record (asked_on_link 7 5 (sending_end 33 16 1)) { bits = true ∷ false ∷ true ∷ [] }) 1 2 ≡ [] }
 

@@ -12,7 +12,7 @@ ghost use Rattle.host_keeps_streams.specs.Histories.{Closes, HasClosed, IsHistor
 ghost use Rattle.host_keeps_streams.specs.Names.{IsSending};
 
 /// Whatever happens to the ends of a host with one peer while the two stay together, call after call, from where there were none. What is
-/// assumed of the calls stands in `AreAllowed`.
+/// assumed of the calls is in `AreAllowed`.
 pub fn histories()
     // all that the law's receiver of a link does by it the law lets it do, and so with the sender
     ensures received { (number : ℕ → ℕ → ℕ → ℕ) (peer : Host) (link : ℕ) (moments : List Moment) → IsTelling number → IsHistory peer moments → AreAllowed number peer link moments → MayReceiveAll number peer link moments }

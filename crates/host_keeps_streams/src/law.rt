@@ -32,7 +32,7 @@ ghost use Rattle.host_keeps_streams.specs.Said.{arrivals, returned_on, returned_
 
 /// What comes in for the end that receives on a link.
 pub fn receiving()
-    // a message of data is taken or dropped as the law has it, and its user is told of just what the law takes
+    // a message of data is taken or dropped as the law has it, and its user is notified of just what the law takes
     ensures data { (name : ℕ → ℕ → ℕ) (link : ℕ) (text : List Bool) (h : DataHeader) (d : DeskState) (r : Receiver) → header_of text ≡ Some h → HasReceiver name link d.entries r → HasReceiver name link (data_taken link text d).entries (receivers.moved (receivers.Take h.size (data_of (data_bits h) text)) r) }
     ensures told { (name : ℕ → ℕ → ℕ) (link : ℕ) (text : List Bool) (h : DataHeader) (d : DeskState) (r : Receiver) (c : ℕ) → header_of text ≡ Some h → HasReceiver name link d.entries r → d.notices ≡ [] → r.end ≡ Some c → (receivers.moved (receivers.Take h.size (data_of (data_bits h) text)) r).taken c ≡ r.taken c ++ arrivals (data_taken link text d).notices }
 
@@ -107,7 +107,7 @@ pub fn worked_ends()
     ensures stray { HasSender (λ own foreign. own) 5 [] (record senders.opening_sender { end = Some 33; opened = true }) → ⊥ }
 {}
 
-/// What is told and said.
+/// Notices and what is said.
 pub fn worked_said()
     // the messages in their order, and nothing else
     ensures arrivals { arrivals (notice.Arrived 16 (true ∷ []) ∷ notice.Returned 16 1 2 ∷ notice.Sent 33 (false ∷ []) ∷ notice.Arrived 16 [] ∷ []) ≡ (true ∷ []) ∷ [] ∷ [] }
@@ -189,7 +189,7 @@ pub fn opening()
     // a receiving end's RTS goes out: it opens if the partner's STR was taken
     ensures rts_gone { (name : ℕ → ℕ → ℕ) (link : ℕ) (peer : Host) (stamp own foreign other : ℕ) (d : DeskState) (e : Entry) (r : Receiver) → entry_at own foreign d.entries ≡ Some e → receives_on link e ≡ true → (is_some e.partner ≡ true → is_some e.size ≡ true) → HasReceiver name link d.entries r → MayAllReceive (received_open (is_some e.partner) (name e.own e.foreign)) r × HasReceiver name link (command_gone peer stamp (command.Rts own foreign other) d).entries (all_received (received_open (is_some e.partner) (name e.own e.foreign)) r) }
 
-    // its partner's STR is heard, for the first time: it is told the byte size, and opens if its own RTS has gone out
+    // its partner's STR is heard, for the first time: it learns the byte size, and opens if its own RTS has gone out
     ensures str_heard { (name : ℕ → ℕ → ℕ) (link : ℕ) (peer : Host) (busy : List ℕ) (stamp own foreign size : ℕ) (d : DeskState) (e : Entry) (r : Receiver) → entry_at own foreign d.entries ≡ Some e → receives_on link e ≡ true → is_some e.partner ≡ false → HasReceiver name link d.entries r → MayAllReceive (receivers.Hear (Str (name e.own e.foreign) size) ∷ received_open (is_some e.asked) (name e.own e.foreign)) r × HasReceiver name link (desk_taken peer busy stamp (command.Str foreign own size) d).entries (all_received (receivers.Hear (Str (name e.own e.foreign) size) ∷ received_open (is_some e.asked) (name e.own e.foreign)) r) }
 
     // an RTS is heard for a sending end, and names a free link: it has the link, and opens if its own STR has gone out. What the law

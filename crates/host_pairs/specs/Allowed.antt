@@ -30,7 +30,7 @@ pub record MaySpeak (q : PairState) : Type 0 where
   pub ready : q.phase ≡ phase.Ready
   pub owes : q.owed ≡ false
 
--- so many bytes go of an open sending end with a link, if its last message is answered: no more than wait, than were granted, and than one message holds
+-- this many bytes go of an open sending end with a link, if its last message is answered: no more than wait, than were granted, and than one message holds
 pub record MaySend (q : PairState) (e : Entry) (size count : ℕ) : Type 0 where
   pub sends : is_receiving e ≡ false
   pub is_opened : is_open e ≡ true

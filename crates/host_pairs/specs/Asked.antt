@@ -17,7 +17,7 @@ use Rattle.host_pairs.specs.declared.phase.Phase.TheVariants as phase
 
 -- ---- refusals, in their order
 
--- so many bits are whole bytes of a size
+-- this many bits are whole bytes of a size
 abbrev pub are_bytes : ℕ → Option ℕ → Bool
 are_bytes bits None = false
 are_bytes bits (Some size) = bits % size == 0
@@ -61,6 +61,6 @@ settled_pair q d = record q { entries = d.entries; queue = d.queue }
 abbrev pub closed_end : ℕ → PairState → PairState
 closed_end socket q = settled_pair q (settled q.busy (desk_of (with_end socket called_off q) []))
 
--- a contact with an opened pair is told of, since all its connections are gone
+-- a contact with an opened pair is notified of, since all its connections are gone
 abbrev pub contact_notices : Host → Phase → List Notice
 contact_notices peer p = if is_ready p then notice.PairReset peer ∷ [] else []

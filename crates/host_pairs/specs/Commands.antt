@@ -34,7 +34,7 @@ asked_on_link stamp link e = record e { partner = Some stamp; link = Some link }
 abbrev pub asked_with_size : ℕ → ℕ → Entry → Entry
 asked_with_size stamp size e = record e { partner = Some stamp; size = Some size }
 
--- a new end stands behind the others
+-- a new end is after the others
 abbrev pub entry_joined : Entry → DeskState → DeskState
 entry_joined e d = record d { entries = d.entries ++ e ∷ [] }
 
@@ -71,7 +71,7 @@ rts_taken peer own foreign link stamp d =
     else rts_taken_by peer own foreign link stamp (entry_at own foreign d.entries) d
 
 -- STR: the peer will send, with bytes of a size that it names. A socket that listens answers with an RTS on the lowest free link;
--- without one the request is refused, and the socket goes on listening
+-- without one the request is refused, and the socket keeps listening
 abbrev pub str_linked : ℕ → ℕ → ℕ → ℕ → Option ℕ → DeskState → DeskState
 str_linked own foreign size stamp None d = refused own foreign stamp d
 str_linked own foreign size stamp (Some link) d =

@@ -22,7 +22,7 @@ spent bits e = record e { allocation = counters.spent e.allocation bits }
 abbrev pub is_covered : ℕ → Allocation → Bool
 is_covered bits a = nat_lt 0 a.messages && nat_le bits a.bits
 
--- the data of a text stand behind its header; what follows them is ignored
+-- the data of a text are after its header; what follows them is ignored
 abbrev pub data_of : ℕ → List Bool → List Bool
 data_of bits text = drop 40 (take (40 + bits) text)
 
@@ -52,6 +52,6 @@ data_taken link text d = data_found link text (receiver_on link d) d
 
 -- ---- sending
 
--- the text of a message of so many bytes of this size, with these bits
+-- the text of a message of this many bytes of this size, with these bits
 abbrev pub data_text : ℕ → ℕ → List Bool → List Bool
 data_text size count bits = header_bits (record { size = size; count = count }) ++ bits

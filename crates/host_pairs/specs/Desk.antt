@@ -22,7 +22,7 @@ without_listener socket listening = filter (λ l. not (l.socket == socket)) list
 
 -- ---- the connections of a pair
 
--- what a command or a message of an opened pair may change, and what is told: nothing of the reset, and no link's answer
+-- what a command or a message of an opened pair may change, and the notices: nothing of the reset, and no link's answer
 pub record DeskState : Type 0 where
   pub entries : List Entry
   pub queue : List Command

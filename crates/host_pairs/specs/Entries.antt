@@ -123,7 +123,7 @@ is_over e = is_sent e.closing && e.partner_closed
 
 -- ---- opening
 
--- an opening is told of when it is complete
+-- an opening is notified of when it is complete
 abbrev pub opening_by : Host → Entry → Option ℕ → Option ℕ → List Notice
 opening_by peer e (Some asked) (Some partner) =
     if is_ending e then [] else notice.Opened e.own peer e.foreign asked partner ∷ []
@@ -177,6 +177,6 @@ called_off e = record e { closing = close_due e.closing }
 abbrev pub closed_by_partner : Entry → Entry
 closed_by_partner e = record e { closing = close_due e.closing; partner_closed = true; bits = [] }
 
--- an end of this host's own is told of when it goes
+-- an end of this host's own is notified of when it goes
 abbrev pub ending : Host → Entry → List Notice
 ending peer e = if e.mine then notice.Ended e.own peer e.foreign ∷ [] else []

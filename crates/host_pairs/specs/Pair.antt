@@ -19,6 +19,6 @@ pub record PairState : Type 0 where
 abbrev pub opening_pair : PairState
 opening_pair = record { phase = phase.Closed; owed = false; busy = []; entries = []; queue = [] }
 
--- whether it is as at the opening
+-- whether it is in the initial state
 abbrev pub is_opening : PairState → Bool
 is_opening q = is_closed q.phase && not q.owed && length q.busy == 0 && length q.entries == 0 && length q.queue == 0

@@ -18,7 +18,7 @@ use Rattle.host_pairs.specs.declared.entry.Entry.{Entry}
 use Rattle.host_pairs.specs.declared.notice.Notice.TheVariants as notice
 use Rattle.host_pairs.specs.declared.phase.Phase.TheVariants as phase
 
--- what goes out in one message: an RST, an RRP, so many of the commands that wait, or so many bytes of an end
+-- what goes out in one message: an RST, an RRP, this many of the commands that wait, or this many bytes of an end
 pub data Parcel : Type 0 where
   Reset : Parcel
   Reply : Parcel
@@ -126,7 +126,7 @@ abbrev pub commands_gone : Host → ℕ → List Command → DeskState → DeskS
 commands_gone peer stamp [] d = d
 commands_gone peer stamp (c ∷ cs) d = commands_gone peer stamp cs (command_gone peer stamp c d)
 
--- so many bits of an end have gone out
+-- this many bits of an end have gone out
 abbrev pub bits_gone : ℕ → Entry → Entry
 bits_gone bits e = record e { bits = drop bits e.bits; allocation = counters.spent e.allocation bits }
 
@@ -137,7 +137,7 @@ with_connections q d = record q { entries = d.entries; queue = d.queue }
 abbrev pub busied : ℕ → PairState → PairState
 busied link q = record q { busy = link ∷ q.busy }
 
--- so many commands have gone out
+-- this many commands have gone out
 abbrev pub unqueued : ℕ → DeskState → DeskState
 unqueued count d = record d { queue = drop count d.queue }
 

@@ -30,13 +30,13 @@ pub record TurnState : Type 0 where
 abbrev pub with_desk : TurnState → DeskState → TurnState
 with_desk t d = record { pair = record t.pair { entries = d.entries; queue = d.queue }; listening = d.listening; notices = t.notices ++ d.notices }
 
--- outside the opened phase nothing is heard of connections, and no error is told
+-- outside the opened phase nothing is heard of connections, and no error is reported
 abbrev pub if_ready : (DeskState → DeskState) → TurnState → TurnState
 if_ready work t = if is_ready t.pair.phase then with_desk t (work (desk_of t.pair t.listening)) else t
 
 -- ---- the reset
 
--- what is told of an RST that was taken
+-- what is notified of an RST that was taken
 abbrev pub reset_notices : Host → Phase → List Notice
 reset_notices peer phase.Closed = notice.Ready peer ∷ []
 reset_notices peer phase.Ready = notice.PairReset peer ∷ []

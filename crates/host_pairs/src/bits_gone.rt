@@ -16,7 +16,7 @@ use bit_messages::{BitFault, Bits};
 use std::alloc::{AllocError, Global};
 use std::mem;
 
-/// The bits of a range that is there.
+/// Returns the bits of a range that is there.
 pub(crate) fn part(alloc: Global, bits: &Bits, from: usize, to: usize) -> Result<Bits, AllocError>
     requires order { from ≤ to }
     requires there { to ≤ length bits.now }
@@ -30,14 +30,14 @@ pub(crate) fn part(alloc: Global, bits: &Bits, from: usize, to: usize) -> Result
     }
 }
 
-/// The first `count` of these bits, or all of them.
+/// Returns the first `count` of these bits, or all of them.
 pub(crate) fn front(alloc: Global, bits: &Bits, count: usize) -> Result<Bits, AllocError>
     ensures { IfOk result (λ front. front ≡ take count bits.now) }
 {
     part(alloc, bits, 0, count.min(bits.len()))
 }
 
-/// The bits after the first `count`.
+/// Returns the bits after the first `count`.
 fn behind(alloc: Global, bits: &Bits, count: usize) -> Result<Bits, AllocError>
     ensures { IfOk result (λ rest. rest ≡ drop count bits.now) }
 {
@@ -59,7 +59,7 @@ fn take_front(alloc: Global, bits: &mut Bits, count: usize) -> Result<Bits, Allo
 }
 
 impl Entry {
-    /// So many bits have gone out in a message. Returns them.
+    /// Counts bits as gone out in a message. Returns them.
     fn send(&mut self, alloc: Global, bits: u32) -> Result<Bits, AllocError>
         ensures sent { IfOk result (λ sent. sent ≡ take bits self.old.bits) }
         ensures gone { OnOk result (self.new ≡ parcels.bits_gone bits self.old) }
@@ -71,8 +71,8 @@ impl Entry {
     }
 }
 
-/// So many bits of the end that may send on a link have gone out. Returns as many of the end at a place, which is the same one as a
-/// rule, and then they aren't copied.
+/// Counts bits of the end that may send on a link as gone out. Returns as many of the end at a place, which is the same
+/// one as a rule, and then they aren't copied.
 fn send_bits(
     alloc: Global,
     entries: &mut [Entry],
@@ -97,7 +97,7 @@ fn send_bits(
 }
 
 impl Desk {
-    /// So many bits of the end at a place have gone out, and the user is told of them.
+    /// Counts bits of the end at a place as sent, and notifies the user.
     pub fn bits_gone(
         &mut self,
         alloc: Global,

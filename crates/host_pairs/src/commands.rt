@@ -21,7 +21,7 @@ use leader1822::HostAddr;
 use ncp_control::{ByteSize, Command, ConnectionLink, ReceiveSocket, SendSocket};
 use std::alloc::{AllocError, Global};
 
-/// The code of an ERR about fields that are out of range or don't fit what stands (NIC 8246, ERR).
+/// The code of an ERR about fields that are out of range or don't fit the present state (NIC 8246, ERR).
 pub(crate) const ERRONEOUS: u8 = 3;
 
 /// The code of an ERR about a CLS of two sockets that have no end here.
@@ -33,7 +33,7 @@ pub(crate) const NOT_CONNECTED: u8 = 5;
 // ---- requests
 
 impl Desk {
-    /// Nobody waits for the peer's request: it is refused by a CLS.
+    /// Answers a request of the peer that nobody waits for: it is refused by a CLS.
     fn refuse(
         &mut self,
         alloc: Global,
@@ -48,7 +48,7 @@ impl Desk {
         self.queue(Command::Cls { own, foreign })
     }
 
-    /// The user is told of an end that is open by now.
+    /// Notifies the user of an end that is open by now.
     pub(crate) fn tell_opening(
         &mut self,
         peer: HostAddr,
@@ -78,7 +78,7 @@ impl Desk {
         self.tell(notice)
     }
 
-    /// An RTS is taken for an end that waits for it.
+    /// Matches an RTS with the end that waits for it.
     fn match_rts(
         &mut self,
         peer: HostAddr,
@@ -94,7 +94,7 @@ impl Desk {
         self.tell_opening(peer, own, foreign)
     }
 
-    /// An STR is taken for an end that waits for it.
+    /// Matches an STR with the end that waits for it.
     fn match_str(
         &mut self,
         peer: HostAddr,
@@ -110,7 +110,7 @@ impl Desk {
         self.tell_opening(peer, own, foreign)
     }
 
-    /// An RTS is taken: the peer will receive, on a link that it names.
+    /// Takes an RTS: the peer will receive, on a link that it names.
     fn take_rts(
         &mut self,
         alloc: Global,
@@ -140,7 +140,7 @@ impl Desk {
         }
     }
 
-    /// An RTS that no end waits for: a socket that listens answers, and else it is refused.
+    /// Handles an RTS that no end waits for: a socket that listens answers, and else it is refused.
     fn hear_rts(
         &mut self,
         alloc: Global,
@@ -168,7 +168,7 @@ impl Desk {
         })
     }
 
-    /// An STR is taken: the peer will send, with bytes of a size that it names.
+    /// Takes an STR: the peer will send, with bytes of a size that it names.
     fn take_str(
         &mut self,
         alloc: Global,
@@ -195,7 +195,7 @@ impl Desk {
         }
     }
 
-    /// An STR that no end waits for: a socket that listens answers where a link is free, and else it is
+    /// Handles an STR that no end waits for: a socket that listens answers where a link is free, and else it is
     /// refused.
     fn hear_str(
         &mut self,
@@ -230,7 +230,7 @@ impl Desk {
 // ---- closing
 
 impl Desk {
-    /// Each end that has to close now queues its CLS.
+    /// Queues the CLS of each end that has to close now.
     pub(crate) fn settle(&mut self, busy: &[u8]) -> Result<(), AllocError>
         ensures state { OnOk result (self.new ≡ settled busy.now self.old) }
         ensures memory { OnErr result (said self.old < said (settled busy.now self.old)) }
@@ -240,7 +240,7 @@ impl Desk {
         Ok(())
     }
 
-    /// Each end that is over goes, and the user is told of this host's own.
+    /// Removes each end that is over, and notifies the user of this host's own.
     pub(crate) fn sweep(&mut self, peer: HostAddr) -> Result<(), AllocError>
         ensures state { OnOk result (self.new ≡ swept peer self.old) }
         ensures memory { OnErr result (said self.old < said (swept peer self.old)) }
@@ -250,7 +250,7 @@ impl Desk {
         Ok(())
     }
 
-    /// A CLS is taken.
+    /// Takes a CLS.
     fn take_cls(
         &mut self,
         alloc: Global,
@@ -281,14 +281,14 @@ impl Desk {
 // ---- allocation and interrupts
 
 impl Desk {
-    /// The sender on a link may send more.
+    /// Lets the sender on a link send more.
     fn grant(&mut self, link: u8, messages: u16, bits: u32)
         ensures { self.new ≡ commands.changed (sends_on link) (commands.granted messages bits) self.old }
     {
         grant(&mut self.entries, link, messages, bits);
     }
 
-    /// ALL is taken: the receiver grants more.
+    /// Takes an ALL: the receiver grants more.
     fn take_all(
         &mut self,
         alloc: Global,
@@ -314,7 +314,7 @@ impl Desk {
         }
     }
 
-    /// GVB is taken: the receiver asks for parts of the allocation back, and a RET returns them.
+    /// Takes a GVB: the receiver asks for parts of the allocation back, and a RET returns them.
     fn take_gvb(
         &mut self,
         alloc: Global,
@@ -345,7 +345,7 @@ impl Desk {
         })
     }
 
-    /// RET is taken: the sender returns a part of the allocation.
+    /// Takes a RET: the sender returns a part of the allocation.
     fn take_ret(
         &mut self,
         alloc: Global,
@@ -379,7 +379,7 @@ impl Desk {
         })
     }
 
-    /// INR is taken: the receiver interrupts.
+    /// Takes an INR: the receiver interrupts.
     fn take_inr(&mut self, alloc: Global, link: u8) -> Result<(), AllocError>
         ensures state { OnOk result (self.new ≡ commands.at_end (command.Inr link) commands.interrupted (commands.sender_on link self.old) self.old) }
         ensures memory { OnErr result (said self.old < said (commands.at_end (command.Inr link) commands.interrupted (commands.sender_on link self.old) self.old)) }
@@ -394,7 +394,7 @@ impl Desk {
         self.tell(Notice::Interrupt { socket })
     }
 
-    /// INS is taken: the sender interrupts.
+    /// Takes an INS: the sender interrupts.
     fn take_ins(&mut self, alloc: Global, link: u8) -> Result<(), AllocError>
         ensures state { OnOk result (self.new ≡ commands.at_end (command.Ins link) commands.interrupted (commands.receiver_on link self.old) self.old) }
         ensures memory { OnErr result (said self.old < said (commands.at_end (command.Ins link) commands.interrupted (commands.receiver_on link self.old) self.old)) }
@@ -413,7 +413,7 @@ impl Desk {
 // ---- all commands
 
 impl Desk {
-    /// A command of the peer is taken. RST and RRP are no matter of connections.
+    /// Takes a command of the peer. RST and RRP are no matter of connections.
     pub(crate) fn take(
         &mut self,
         alloc: Global,
@@ -462,7 +462,7 @@ impl Desk {
     }
 }
 
-/// Whether an end sends on a link.
+/// Returns whether an end sends on a link.
 fn has_sender_on(entries: &[Entry], link: u8) -> bool
     ensures { result ≡ list_any (sends_on link) entries.now }
 {

@@ -24,7 +24,7 @@ const SHORT: u8 = 2;
 /// The size of a control message's bytes.
 const OCTET_BITS: u8 = 8;
 
-/// The octets of the commands in a text; `None` where the text is no control message.
+/// Returns the octets of the commands in a text; `None` where the text is no control message.
 #[tactic(auto, unfolding(crate::specs::Control::orders_of))]
 fn control_octets(text: &Bits) -> Option<&[u8]>
     ensures { MatchOption result (orders_of text.now ≡ Wrong errors.ERRONEOUS (octets_of text.now) ∷ []) (λ octets. orders_of text.now ≡ orders_in octets.now) }
@@ -40,7 +40,7 @@ fn control_octets(text: &Bits) -> Option<&[u8]>
 }
 
 impl Turn {
-    /// What can't be read is answered by an ERR that quotes it, while the pair is opened.
+    /// Answers what can't be read by an ERR that quotes it, while the pair is open.
     fn answer_wrong(&mut self, code: u8, octets: &[u8]) -> Result<(), AllocError>
         ensures state { OnOk result (self.new ≡ turns.if_ready (command_queued (error code octets.now)) self.old) }
         ensures memory { OnErr result (0 < newly_said self.old (turns.if_ready (command_queued (error code octets.now)) self.old)) }
@@ -51,8 +51,8 @@ impl Turn {
         Ok(())
     }
 
-    /// The command that the octets begin with is taken, or the error in its place. Returns how many octets
-    /// are read by it: all of them, where the reading ends.
+    /// Takes the command that the octets begin with, or the error in its place. Returns how many octets are read by it:
+    /// all of them, where the reading ends.
     #[tactic(auto, using(crate::proofs::ControlLemmas::orders_of_none))]
     fn take_first(
         &mut self,
@@ -92,7 +92,7 @@ impl Turn {
         }
     }
 
-    /// The commands and errors in these octets are taken, one after another.
+    /// Takes the commands and errors in these octets, one after another.
     fn take_orders(
         &mut self,
         alloc: Global,
@@ -111,7 +111,7 @@ impl Turn {
         Ok(())
     }
 
-    /// A message on the control link is taken. One that is no control message is one error.
+    /// Takes a message on the control link. One that is no control message is one error.
     fn take_control(
         &mut self,
         alloc: Global,
@@ -128,7 +128,7 @@ impl Turn {
         }
     }
 
-    /// A message of the peer is taken: commands on link 0, data on any other (NIC 8246, links).
+    /// Takes a message of the peer: commands on link 0, data on any other (NIC 8246, links).
     pub fn take_message(
         &mut self,
         alloc: Global,

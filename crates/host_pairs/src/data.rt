@@ -20,8 +20,8 @@ use ncp_control::{Command, DataHeader, HEADER_BITS};
 use std::alloc::{AllocError, Global};
 
 impl Entry {
-    /// Whether a message with this header is acceptable: its bytes have the connection's size, and what was granted
-    /// covers it.
+    /// Returns whether a message with this header is acceptable: its bytes have the connection's size, and what was
+    /// granted covers it.
     fn accepts(&self, header: &DataHeader) -> bool
         ensures { result ≡ texts.is_acceptable self.now header.now }
     {
@@ -31,7 +31,7 @@ impl Entry {
 }
 
 impl Desk {
-    /// An ERR about a whole message will go out. It quotes the message's text.
+    /// Queues an ERR about a whole message. It quotes the message's text.
     fn fault_text(&mut self, code: u8, text: &Bits) -> Result<(), AllocError>
         ensures state { OnOk result (self.new ≡ texts.text_faulted code text.now self.old) }
         ensures memory { OnErr result (said self.old < said (texts.text_faulted code text.now self.old)) }
@@ -39,7 +39,7 @@ impl Desk {
         self.queue(Command::error(code, text.as_octets()))
     }
 
-    /// A message of data on a link is taken.
+    /// Takes a message of data on a link.
     pub(crate) fn take_data(
         &mut self,
         alloc: Global,
@@ -64,7 +64,7 @@ impl Desk {
         }
     }
 
-    /// The first bits of a text's data have come to a socket, and are taken from what may still come.
+    /// Hands the first bits of a text's data to a socket, and subtracts them from its allocation.
     fn arrive(
         &mut self,
         alloc: Global,

@@ -16,7 +16,7 @@ use std::alloc::{AllocError, Global};
 use std::marker::Model;
 
 /// The ends of a pair's connections, the commands that wait to go out to the peer, what listens, and what
-/// the user is told.
+/// the user is notified.
 #[derive(Drop)]
 pub(crate) struct Desk {
     pub entries: Vec<Entry>,
@@ -34,7 +34,7 @@ impl Model for Desk {
 }
 
 impl Desk {
-    /// Puts a command behind those that wait.
+    /// Puts a command after those that wait.
     pub(crate) fn queue(&mut self, command: Command) -> Result<(), AllocError>
         requires joint { is_alone command ≡ false }
         ensures state { OnOk result (self.new ≡ command_queued command self.old) }
@@ -52,7 +52,7 @@ impl Desk {
         Ok(())
     }
 
-    /// Adds an end behind the others.
+    /// Adds an end after the others.
     pub(crate) fn join(&mut self, entry: Entry) -> Result<(), AllocError>
         ensures { OnOk result (self.new ≡ entry_joined entry self.old) }
     {
@@ -60,7 +60,7 @@ impl Desk {
         Ok(())
     }
 
-    /// An ERR about a command will go out.
+    /// Queues an ERR about a command.
     pub(crate) fn fault(
         &mut self,
         alloc: Global,

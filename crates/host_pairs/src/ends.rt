@@ -17,7 +17,7 @@ use std::alloc::{AllocError, Global};
 
 // ---- found
 
-/// The place of the end of two sockets.
+/// Returns the place of the end of two sockets.
 pub(crate) fn place(entries: &[Entry], own: u32, foreign: u32) -> Option<usize>
     ensures place { result ≡ position (is_at own foreign) entries.now }
     ensures found { MatchOption result (entry_at own foreign entries.now ≡ None) (λ at. (d : Entry) → entry_at own foreign entries.now ≡ Some (slice_index_or entries.now at d)) }
@@ -25,7 +25,7 @@ pub(crate) fn place(entries: &[Entry], own: u32, foreign: u32) -> Option<usize>
     first_place(entries, own, foreign)
 }
 
-/// The same place, without what is found there.
+/// Returns the same place, without what is found there.
 fn first_place(entries: &[Entry], own: u32, foreign: u32) -> Option<usize>
     ensures { result ≡ position (is_at own foreign) entries.now }
 {
@@ -34,7 +34,7 @@ fn first_place(entries: &[Entry], own: u32, foreign: u32) -> Option<usize>
         .position(|e| e.own == own && e.foreign == foreign)
 }
 
-/// The place of the end that sends on a link.
+/// Returns the place of the end that sends on a link.
 pub(crate) fn sender_place(entries: &[Entry], link: u8) -> Option<usize>
     ensures place { result ≡ position (sends_on link) entries.now }
     ensures found { MatchOption result (find (sends_on link) entries.now ≡ None) (λ at. (d : Entry) → find (sends_on link) entries.now ≡ Some (slice_index_or entries.now at d)) }
@@ -42,14 +42,14 @@ pub(crate) fn sender_place(entries: &[Entry], link: u8) -> Option<usize>
     first_sender(entries, link)
 }
 
-/// The same place, without what is found there.
+/// Returns the same place, without what is found there.
 fn first_sender(entries: &[Entry], link: u8) -> Option<usize>
     ensures { result ≡ position (sends_on link) entries.now }
 {
     entries.iter().position(|e| e.sends_on(link))
 }
 
-/// The place of the end that receives on a link.
+/// Returns the place of the end that receives on a link.
 pub(crate) fn receiver_place(entries: &[Entry], link: u8) -> Option<usize>
     ensures place { result ≡ position (receives_on link) entries.now }
     ensures found { MatchOption result (find (receives_on link) entries.now ≡ None) (λ at. (d : Entry) → find (receives_on link) entries.now ≡ Some (slice_index_or entries.now at d)) }
@@ -57,14 +57,14 @@ pub(crate) fn receiver_place(entries: &[Entry], link: u8) -> Option<usize>
     first_receiver(entries, link)
 }
 
-/// The same place, without what is found there.
+/// Returns the same place, without what is found there.
 fn first_receiver(entries: &[Entry], link: u8) -> Option<usize>
     ensures { result ≡ position (receives_on link) entries.now }
 {
     entries.iter().position(|e| e.receives_on(link))
 }
 
-/// The place of this host's own end on a socket.
+/// Returns the place of this host's own end on a socket.
 pub fn own_place(entries: &[Entry], socket: u32) -> Option<usize>
     ensures place { result ≡ position (is_mine_on socket) entries.now }
     ensures found { MatchOption result (find (is_mine_on socket) entries.now ≡ None) (λ at. (d : Entry) → find (is_mine_on socket) entries.now ≡ Some (slice_index_or entries.now at d)) }
@@ -72,7 +72,7 @@ pub fn own_place(entries: &[Entry], socket: u32) -> Option<usize>
     first_own(entries, socket)
 }
 
-/// The same place, without what is found there.
+/// Returns the same place, without what is found there.
 fn first_own(entries: &[Entry], socket: u32) -> Option<usize>
     ensures { result ≡ position (is_mine_on socket) entries.now }
 {
@@ -85,14 +85,14 @@ const CONNECTION_LINKS: [u8; 30] = [
     28, 29, 30, 31,
 ];
 
-/// Whether an end receives on a link.
+/// Returns whether an end receives on a link.
 fn has_receiver_on(entries: &[Entry], link: u8) -> bool
     ensures { result ≡ list_any (receives_on link) entries.now }
 {
     entries.iter().any(|e| e.receives_on(link))
 }
 
-/// The links behind the first of these, if an end receives on that one; else these.
+/// Returns the links after the first of these, if an end receives on that one; else these.
 #[tactic(auto, using(crate::proofs::LinkLemmas::first_passed))]
 fn passed_over<'a>(links: &'a [u8], entry: &Entry) -> &'a [u8]
     ensures { (is_free : ℕ → Bool) → ((link : ℕ) → receives_on link entry.now ≡ true → is_free link ≡ false) → find is_free result.now ≡ find is_free links.now }
@@ -107,7 +107,8 @@ fn passed_over<'a>(links: &'a [u8], entry: &Entry) -> &'a [u8]
     }
 }
 
-/// These links without the first ones that have a receiving end each, as far as the ends stand in order of their links.
+/// Returns these links without the first ones that have a receiving end each, as far as the ends are in order of
+/// their links.
 fn behind_ends<'a>(links: &'a [u8], entries: &[Entry]) -> &'a [u8]
     ensures { find (λ link. not (list_any (receives_on link) entries.now)) result.now ≡ find (λ link. not (list_any (receives_on link) entries.now)) links.now }
 {
@@ -118,7 +119,7 @@ fn behind_ends<'a>(links: &'a [u8], entries: &[Entry]) -> &'a [u8]
     rest
 }
 
-/// The first of these links that no receiving end has.
+/// Returns the first of these links that no receiving end has.
 fn first_free(links: &[u8], entries: &[Entry]) -> Option<u8>
     ensures { result ≡ find (λ link. not (list_any (receives_on link) entries.now)) links.now }
 {
@@ -128,15 +129,15 @@ fn first_free(links: &[u8], entries: &[Entry]) -> Option<u8>
         .find(|link| !has_receiver_on(entries, *link))
 }
 
-/// The number of the lowest link that no receiving end has. Ends mostly stand in order of their links, and those that do are passed
-/// over at once.
+/// Returns the number of the lowest link that no receiving end has. Ends mostly are in order of their links, and
+/// those that do are passed over at once.
 fn free_number(entries: &[Entry]) -> Option<u8>
     ensures { result ≡ free_link entries.now }
 {
     first_free(behind_ends(&CONNECTION_LINKS, entries), entries)
 }
 
-/// The lowest link that no receiving end has.
+/// Returns the lowest link that no receiving end has.
 pub fn free_link(entries: &[Entry]) -> Option<ConnectionLink>
     ensures { result ≡ free_link entries.now }
 {
@@ -145,7 +146,7 @@ pub fn free_link(entries: &[Entry]) -> Option<ConnectionLink>
 
 // ---- changed
 
-/// The peer's request is taken for a sending end, and tells its link.
+/// Records the peer's request for a sending end, and the link that it names.
 pub(crate) fn ask_on_link(
     entries: &mut [Entry],
     own: u32,
@@ -162,7 +163,7 @@ pub(crate) fn ask_on_link(
     }
 }
 
-/// The peer's request is taken for a receiving end, and tells its byte size.
+/// Records the peer's request for a receiving end, and the byte size that it names.
 pub(crate) fn ask_with_size(
     entries: &mut [Entry],
     own: u32,
@@ -179,7 +180,7 @@ pub(crate) fn ask_with_size(
     }
 }
 
-/// This host's request for an end has gone out.
+/// Records that this host's request for an end has gone out.
 pub(crate) fn ask(entries: &mut [Entry], own: u32, foreign: u32, stamp: usize)
     ensures { entries.new ≡ changed_at own foreign (asked_at stamp) entries.old }
 {
@@ -189,7 +190,7 @@ pub(crate) fn ask(entries: &mut [Entry], own: u32, foreign: u32, stamp: usize)
     }
 }
 
-/// This host's CLS for an end has gone out.
+/// Records that this host's CLS for an end has gone out.
 pub(crate) fn send_cls(entries: &mut [Entry], own: u32, foreign: u32)
     ensures { entries.new ≡ changed_at own foreign cls_sent entries.old }
 {
@@ -199,7 +200,7 @@ pub(crate) fn send_cls(entries: &mut [Entry], own: u32, foreign: u32)
     }
 }
 
-/// The partner's CLS is taken for an end.
+/// Records the partner's CLS for an end.
 pub(crate) fn close_by_partner(entries: &mut [Entry], alloc: Global, own: u32, foreign: u32)
     ensures { entries.new ≡ changed_at own foreign closed_by_partner entries.old }
 {
@@ -208,7 +209,7 @@ pub(crate) fn close_by_partner(entries: &mut [Entry], alloc: Global, own: u32, f
     }
 }
 
-/// The sender on a link may send more.
+/// Lets the sender on a link send more.
 pub(crate) fn grant(entries: &mut [Entry], link: u8, messages: u16, bits: u32)
     ensures { entries.new ≡ changed_first (sends_on link) (granted messages bits) entries.old }
 {
@@ -218,7 +219,7 @@ pub(crate) fn grant(entries: &mut [Entry], link: u8, messages: u16, bits: u32)
     }
 }
 
-/// The sender on a link gives parts of its allocation back, in 128ths.
+/// Gives parts of the allocation of the sender on a link back, in 128ths.
 pub(crate) fn give_back(entries: &mut [Entry], link: u8, messages: u8, bits: u8)
     ensures { entries.new ≡ changed_first (sends_on link) (given_back messages bits) entries.old }
 {
@@ -228,7 +229,7 @@ pub(crate) fn give_back(entries: &mut [Entry], link: u8, messages: u8, bits: u8)
     }
 }
 
-/// The receiver on a link has so much less that may still come.
+/// Subtracts what was returned from the allocation of the receiver on a link.
 pub(crate) fn take_back(entries: &mut [Entry], link: u8, messages: u16, bits: u32)
     ensures { entries.new ≡ changed_first (receives_on link) (returned messages bits) entries.old }
 {
@@ -239,7 +240,7 @@ pub(crate) fn take_back(entries: &mut [Entry], link: u8, messages: u16, bits: u3
     }
 }
 
-/// The receiver on a link has taken a message with these bits.
+/// Subtracts a message with these bits from the allocation of the receiver on a link.
 pub(crate) fn spend(entries: &mut [Entry], link: u8, bits: u32)
     ensures { entries.new ≡ changed_first (receives_on link) (spent bits) entries.old }
 {
@@ -252,21 +253,21 @@ pub(crate) fn spend(entries: &mut [Entry], link: u8, bits: u32)
 
 // ---- closing
 
-/// Whether an end is to be closed when what it has sent is answered.
+/// Returns whether an end is to be closed when what it has sent is answered.
 pub(crate) fn has_due(entries: &[Entry]) -> bool
     ensures { result ≡ list_any (λ e. is_due e.closing) entries.now }
 {
     entries.iter().any(|e| e.closing == Closing::Due)
 }
 
-/// Whether an end has to close now.
+/// Returns whether an end has to close now.
 pub(crate) fn has_closing(entries: &[Entry], busy: &[u8]) -> bool
     ensures { result ≡ list_any (must_close busy.now) entries.now }
 {
     entries.iter().any(|e| e.must_close(busy))
 }
 
-/// The CLS of each end that has to close now waits to go out.
+/// Queues the CLS of each end that has to close now.
 pub(crate) fn queue_closings(
     entries: &[Entry],
     busy: &[u8],
@@ -286,7 +287,7 @@ pub(crate) fn queue_closings(
     Ok(())
 }
 
-/// Each end that has to close now does.
+/// Closes each end that has to close now.
 pub(crate) fn close(entries: &mut [Entry], busy: &[u8])
     ensures { entries.new ≡ map (λ e. closed_when (must_close busy.now e) e) entries.old }
 {
@@ -297,7 +298,7 @@ pub(crate) fn close(entries: &mut [Entry], busy: &[u8])
     }
 }
 
-/// The user is told of each end of this host's own that is over.
+/// Notifies the user of each end of this host's own that is over.
 pub(crate) fn tell_endings(
     entries: &[Entry],
     peer: HostAddr,
@@ -318,7 +319,7 @@ pub(crate) fn tell_endings(
     Ok(())
 }
 
-/// Each end that is over goes.
+/// Removes each end that is over.
 pub(crate) fn sweep(entries: &mut Vec<Entry>)
     ensures { entries.new.items ≡ filter (λ e. not (is_over e)) entries.old.items }
 {

@@ -9,7 +9,7 @@ ghost use Rattle.host_pairs.specs.Found.{IsFor};
 use crate::ends::{receiver_place, sender_place};
 use crate::entry::Entry;
 
-/// What stands on a link.
+/// What is on a link.
 pub(crate) enum Found {
     /// No end, or one that isn't open yet.
     Unconnected,
@@ -19,7 +19,7 @@ pub(crate) enum Found {
     Open(usize),
 }
 
-/// What the end that sends on a link is.
+/// Returns what the end that sends on a link is.
 pub(crate) fn sender_on(entries: &[Entry], link: u8) -> Found
     ensures { IsFor entries.now result (found_in (find (sends_on link) entries.now)) }
 {
@@ -29,7 +29,7 @@ pub(crate) fn sender_on(entries: &[Entry], link: u8) -> Found
     }
 }
 
-/// What the end that receives on a link is.
+/// Returns what the end that receives on a link is.
 pub(crate) fn receiver_on(entries: &[Entry], link: u8) -> Found
     ensures { IsFor entries.now result (found_in (find (receives_on link) entries.now)) }
 {
@@ -39,7 +39,7 @@ pub(crate) fn receiver_on(entries: &[Entry], link: u8) -> Found
     }
 }
 
-/// What the end at a place is.
+/// Returns what the end at a place is.
 fn found_at(entries: &[Entry], at: usize) -> Found
     requires { at < length entries.now }
     ensures { (d : Entry) → IsFor entries.now result (found_in (Some (slice_index_or entries.now at d))) }

@@ -11,7 +11,7 @@ use ncp_control::Command;
 use std::alloc::AllocError;
 
 impl Desk {
-    /// A request of this host has gone out, and the connection may be open by it.
+    /// Records that a request of this host has gone out, which may open the connection.
     fn request_gone(
         &mut self,
         peer: HostAddr,
@@ -26,7 +26,7 @@ impl Desk {
         self.tell_opening(peer, own, foreign)
     }
 
-    /// A CLS of this host has gone out, and the end goes where the peer's was taken.
+    /// Records that a CLS of this host has gone out, and removes the end if the peer's was taken.
     fn cls_gone(&mut self, peer: HostAddr, own: u32, foreign: u32) -> Result<(), AllocError>
         ensures state { OnOk result (self.new ≡ parcels.command_gone peer 0 (command.Cls own foreign) self.old) }
         ensures memory { OnErr result (length self.old.notices < length (parcels.command_gone peer 0 (command.Cls own foreign) self.old).notices) }
@@ -35,7 +35,7 @@ impl Desk {
         self.sweep(peer)
     }
 
-    /// A command has gone out.
+    /// Records that a command has gone out.
     fn command_gone(
         &mut self,
         peer: HostAddr,
@@ -59,7 +59,7 @@ impl Desk {
         }
     }
 
-    /// So many of the commands that wait, or all of them, have gone out in one message.
+    /// Records that the first `count` of the commands that wait, or all of them, have gone out in one message.
     #[tactic(auto, using(crate::proofs::GoneLemmas::none_behind))]
     pub fn commands_gone(
         &mut self,

@@ -47,7 +47,7 @@ impl Model for Listeners {
 }
 
 impl Listeners {
-    /// No socket listens.
+    /// Returns no listening sockets.
     pub fn new(alloc: Global) -> Listeners
         ensures { result ≡ [] }
     {
@@ -58,7 +58,7 @@ impl Listeners {
         }
     }
 
-    /// A socket listens, behind the others.
+    /// Adds a listening socket after the others.
     pub fn push(&mut self, listener: Listener) -> Result<(), AllocError>
         ensures { OnOk result (self.new ≡ self.old ++ listener ∷ []) }
     {
@@ -70,7 +70,7 @@ impl Listeners {
     }
 }
 
-/// The numbers of these sockets.
+/// Returns the numbers of these sockets.
 fn numbers_of(alloc: Global, listening: &[Listener]) -> Result<BTreeSet<u32>, AllocError>
     ensures { IfOk result (λ sockets. AreThese sockets listening.now) }
 {
@@ -81,7 +81,7 @@ fn numbers_of(alloc: Global, listening: &[Listener]) -> Result<BTreeSet<u32>, Al
     Ok(sockets)
 }
 
-/// The numbers of these sockets and of one more.
+/// Returns the numbers of these sockets and of one more.
 fn numbers_with(
     alloc: Global,
     listening: &[Listener],
@@ -94,7 +94,7 @@ fn numbers_with(
     Ok(sockets)
 }
 
-/// One more socket comes to listen behind these, and is among the numbers where they are kept.
+/// Adds a listening socket after these, and to the set of their numbers if it is kept.
 fn learn(
     alloc: Global,
     listening: &[Listener],
@@ -113,7 +113,7 @@ fn learn(
     Ok(())
 }
 
-/// Whether a number is greater than that of the last of these.
+/// Returns whether a number is greater than that of the last of these.
 fn is_above(listening: &[Listener], socket: u32) -> bool
     ensures { OnTrue result ((d : Listener) → 0 < length listening.now → (slice_index_or listening.now (length listening.now - 1) d).socket < socket) }
 {
@@ -123,7 +123,7 @@ fn is_above(listening: &[Listener], socket: u32) -> bool
     }
 }
 
-/// How many of these stand before a socket.
+/// Returns how many of these come before a socket.
 fn first_from(listening: &[Listener], socket: u32) -> usize
     requires { AreAscending listening.now }
     ensures bound { result ≤ length listening.now }
@@ -132,7 +132,7 @@ fn first_from(listening: &[Listener], socket: u32) -> usize
     listening.partition_point(|l| l.socket < socket)
 }
 
-/// Whether a socket stands at this place.
+/// Returns whether a socket is at this place.
 fn stands_at(listening: &[Listener], at: usize, socket: u32) -> bool
     ensures yes { OnTrue result ((at < length listening.now) × ((d : Listener) → (slice_index_or listening.now at d).socket ≡ socket)) }
     ensures no { OnFalse result (at < length listening.now → (d : Listener) → (slice_index_or listening.now at d).socket ≡ socket → ⊥) }
@@ -143,8 +143,8 @@ fn stands_at(listening: &[Listener], at: usize, socket: u32) -> bool
     listening[at].socket == socket
 }
 
-/// Whether a socket is one of these, which ascend. Sockets often come in order of their numbers, so one that is greater than all is not
-/// searched for.
+/// Returns whether a socket is one of these, which ascend. Sockets often come in order of their numbers, so one that is
+/// greater than all is not searched for.
 fn stands_among(listening: &[Listener], socket: u32) -> bool
     requires { AreAscending listening.now }
     ensures { result ≡ listens_on socket listening.now }
@@ -155,14 +155,14 @@ fn stands_among(listening: &[Listener], socket: u32) -> bool
     stands_at(listening, first_from(listening, socket), socket)
 }
 
-/// The first of these on a socket.
+/// Returns the first of these on a socket.
 fn first_on(listening: &[Listener], socket: u32) -> Option<Listener>
     ensures { result ≡ listener_on socket listening.now }
 {
     listening.iter().copied().find(|l| l.socket == socket)
 }
 
-/// The listener on a socket.
+/// Returns the listener on a socket.
 pub(crate) fn listener_on(listening: &Listeners, socket: u32) -> Option<Listener>
     ensures { result ≡ listener_on socket listening.now }
 {
@@ -172,7 +172,7 @@ pub(crate) fn listener_on(listening: &Listeners, socket: u32) -> Option<Listener
     first_on(&listening.listening, socket)
 }
 
-/// Whether a socket listens.
+/// Returns whether a socket listens.
 pub fn listens_on(listening: &Listeners, socket: u32) -> bool
     ensures { result ≡ listens_on socket listening.now }
 {
@@ -182,7 +182,7 @@ pub fn listens_on(listening: &Listeners, socket: u32) -> bool
     }
 }
 
-/// Whether a number is one of these. One that is greater than all is not searched for.
+/// Returns whether a number is one of these. One that is greater than all is not searched for.
 #[tactic(auto, using(crate::proofs::ListenerLemmas::beyond_last))]
 fn is_one_of(sockets: &BTreeSet<u32>, socket: u32) -> bool
     ensures { result ≡ contains nat_cmp sockets.now socket }
@@ -193,7 +193,7 @@ fn is_one_of(sockets: &BTreeSet<u32>, socket: u32) -> bool
     }
 }
 
-/// A socket no longer listens.
+/// Makes a socket stop listening.
 pub fn stop_listening(listening: &mut Listeners, socket: u32)
     ensures { listening.new ≡ without_listener socket listening.old }
 {
@@ -201,7 +201,7 @@ pub fn stop_listening(listening: &mut Listeners, socket: u32)
     remove(&mut listening.listening, socket);
 }
 
-/// A socket is no longer among the numbers of these, where they are kept.
+/// Removes a socket from the set of the numbers, if it is kept.
 fn forget(listening: &[Listener], sockets: &mut Option<BTreeSet<u32>>, socket: u32)
     requires { AreTold sockets.old listening.now }
     ensures { AreTold sockets.new (without_listener socket listening.now) }

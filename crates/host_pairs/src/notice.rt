@@ -43,7 +43,7 @@ pub enum Notice {
         socket: u32,
         bits: Bits,
     },
-    /// The sender gave so many messages and bits of its allocation back.
+    /// The sender gave this many messages and bits of its allocation back.
     Returned {
         socket: u32,
         messages: u16,

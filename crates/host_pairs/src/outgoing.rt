@@ -20,11 +20,11 @@ pub enum Outgoing {
     Reset,
     /// An RRP, alone in its message.
     Reply,
-    /// So many of the commands that wait.
+    /// This many of the commands that wait.
     Commands {
         count: usize,
     },
-    /// So many bytes of the end at this place.
+    /// This many bytes of the end at this place.
     Bytes {
         at: usize,
         size: ByteSize,
@@ -33,7 +33,7 @@ pub enum Outgoing {
 }
 
 impl Entry {
-    /// How many bytes may go out now: as many as wait, as are granted, and as one message holds.
+    /// Returns how many bytes may go out now: as many as wait, as are granted, and as one message holds.
     fn sendable(&self) -> u16
         ensures { result ≡ parcels.sendable self.now }
     {
@@ -46,14 +46,14 @@ impl Entry {
         }
     }
 
-    /// Whether bits wait on it and a message of its allocation is left.
+    /// Returns whether bits wait on it and a message of its allocation is left.
     fn has_turn(&self) -> bool
         ensures { result ≡ (not (length self.now.bits == 0) && not (self.now.allocation.messages == 0)) }
     {
         !self.bits.is_empty() && self.allocation.messages != 0
     }
 
-    /// Whether something may go out now, by all that a message of data needs.
+    /// Returns whether something may go out now, by all that a message of data needs.
     fn has_all(&self, busy: &[u8]) -> bool
         ensures { result ≡ parcels.may_send busy.now self.now }
     {
@@ -64,7 +64,8 @@ impl Entry {
             && self.sendable() > 0
     }
 
-    /// Whether something may go out now on this link. The link is looked at first, since each end has one of its own.
+    /// Returns whether something may go out now on this link. The link is looked at first, since each end has one of
+    /// its own.
     #[tactic(auto, using(crate::proofs::ParcelLemmas::on_its_link))]
     pub(crate) fn may_send_on(&self, busy: &[u8], link: u8) -> bool
         ensures { result ≡ may_send_on busy.now link self.now }
@@ -73,7 +74,7 @@ impl Entry {
     }
 }
 
-/// The lowest link of the ends that may send now.
+/// Returns the lowest link of the ends that may send now.
 #[tactic(auto, using(crate::proofs::SendingLemmas::lower_step, crate::proofs::SendingLemmas::lower_end))]
 fn lowest_link(entries: &[Entry], busy: &[u8]) -> Option<u8>
     ensures { result ≡ parcels.lowest_link (filter (parcels.may_send busy.now) entries.now) }
@@ -86,8 +87,8 @@ fn lowest_link(entries: &[Entry], busy: &[u8]) -> Option<u8>
 }
 
 impl Entry {
-    /// Its link, if it may send now and the link is lower than this one; else this one. Most ends have no bits that wait, or wait for a
-    /// grant, so that is looked at first, and all else only where the link is lower.
+    /// Returns its link, if it may send now and the link is lower than this one; else this one. Most ends have no bits
+    /// that wait, or wait for a grant, so that is looked at first, and all else only where the link is lower.
     #[tactic(auto, using(crate::proofs::ParcelLemmas::no_turn, crate::proofs::SendingLemmas::kept_lower))]
     fn lower_link(&self, busy: &[u8], lowest: Option<u8>) -> Option<u8>
         ensures { result ≡ (if parcels.may_send busy.now self.now then Some (parcels.lower (parcels.link_of self.now.link) lowest) else lowest) }
@@ -107,7 +108,7 @@ impl Entry {
     }
 }
 
-/// Whether a link is lower than another one, or there is no other.
+/// Returns whether a link is lower than another one, or there is no other.
 fn is_lower(link: u8, other: Option<u8>) -> bool
     ensures lower { OnTrue result (parcels.lower link other ≡ link) }
     ensures kept { OnFalse result (Some (parcels.lower link other) ≡ other) }
@@ -126,14 +127,14 @@ pub(crate) fn sending_place(entries: &[Entry], busy: &[u8], link: u8) -> Option<
     first_sending(entries, busy, link)
 }
 
-/// The same place, without what is found there.
+/// Returns the same place, without what is found there.
 fn first_sending(entries: &[Entry], busy: &[u8], link: u8) -> Option<usize>
     ensures { result ≡ position (may_send_on busy.now link) entries.now }
 {
     entries.iter().position(|e| e.may_send_on(busy, link))
 }
 
-/// Of the ends that may send, that with the lowest link does.
+/// Returns the message of the end with the lowest link among those that may send.
 #[tactic(auto, using(crate::proofs::ParcelLemmas::within_message, crate::proofs::ParcelLemmas::within_bits))]
 fn next_bytes(entries: &[Entry], busy: &[u8]) -> Option<Outgoing>
     ensures next { MatchOption result (parcels.next_bytes busy.now entries.now ≡ None) (λ out. parcels.next_bytes busy.now entries.now ≡ Some (parcel_of entries.now out)) }
@@ -152,7 +153,7 @@ fn next_bytes(entries: &[Entry], busy: &[u8]) -> Option<Outgoing>
 }
 
 impl Pair {
-    /// Once the pair is ready, commands go before data.
+    /// Returns what goes out once the pair is ready: commands before data.
     fn next_of_ready(&self) -> Option<Outgoing>
         ensures next { MatchOption result (parcels.next_of_ready self.now ≡ None) (λ out. parcels.next_of_ready self.now ≡ Some (parcel_of self.now.entries out)) }
         ensures there { IfSome result (IsThere self.now.entries) }
@@ -166,7 +167,7 @@ impl Pair {
         next_bytes(&self.entries, &self.busy)
     }
 
-    /// What goes out next. The RST goes first, then the RRP, each when no message to the peer is outstanding;
+    /// Returns what goes out next. The RST goes first, then the RRP, each when no message to the peer is outstanding;
     /// while one of them waits nothing else goes.
     pub fn next(&self) -> Option<Outgoing>
         ensures next { MatchOption result (parcels.next_of self.now ≡ None) (λ out. parcels.next_of self.now ≡ Some (parcel_of self.now.entries out)) }
@@ -185,7 +186,8 @@ impl Pair {
         None
     }
 
-    /// Whether something goes out next once the pair is ready. How many commands have room is not counted for that.
+    /// Returns whether something goes out next once the pair is ready. How many commands have room is not counted for
+    /// that.
     fn has_next_of_ready(&self) -> bool
         ensures { result ≡ is_some (parcels.next_of_ready self.now) }
     {
@@ -195,7 +197,7 @@ impl Pair {
         next_bytes(&self.entries, &self.busy).is_some()
     }
 
-    /// Whether something goes out next, as [`Pair::next`] tells it.
+    /// Returns whether something goes out next, as [`Pair::next`] tells it.
     pub fn has_next(&self) -> bool
         ensures { result ≡ is_some (parcels.next_of self.now) }
     {
@@ -205,7 +207,7 @@ impl Pair {
         self.phase.is_ready() && self.has_next_of_ready()
     }
 
-    /// What goes out only when no message to the peer is outstanding.
+    /// Returns what goes out only when no message to the peer is outstanding.
     fn if_silent(&self, out: Outgoing) -> Option<Outgoing>
         ensures { result ≡ (if length self.now.busy == 0 then Some out else None) }
     {

@@ -34,7 +34,7 @@ impl Model for Pair {
 }
 
 impl Pair {
-    /// A pair of hosts that never spoke to each other.
+    /// Returns a pair of hosts that never spoke to each other.
     pub fn new(alloc: Global) -> Pair
         ensures { result ≡ opening_pair }
     {
@@ -47,7 +47,7 @@ impl Pair {
         }
     }
 
-    /// Whether it is as at the opening.
+    /// Returns whether it is in the initial state.
     pub fn is_opening(&self) -> bool
         ensures { result ≡ is_opening self.now }
     {

@@ -22,21 +22,21 @@ pub enum Phase {
 }
 
 impl Phase {
-    /// Whether the two hosts may speak of connections.
+    /// Returns whether the two hosts may speak of connections.
     pub fn is_ready(self) -> bool
         ensures { result ≡ phases.is_ready self }
     {
         matches!(self, Phase::Ready)
     }
 
-    /// Whether an RST waits to go out.
+    /// Returns whether an RST waits to go out.
     pub(crate) fn is_want(self) -> bool
         ensures { result ≡ phases.is_want self }
     {
         matches!(self, Phase::Want)
     }
 
-    /// The phase after an RST of the peer.
+    /// Returns the phase after an RST of the peer.
     pub(crate) fn after_reset(self) -> Phase
         ensures { result ≡ phases.reset_phase self }
     {
@@ -46,7 +46,7 @@ impl Phase {
         }
     }
 
-    /// The phase after an RRP of the peer.
+    /// Returns the phase after an RRP of the peer.
     pub(crate) fn after_reply(self) -> Phase
         ensures { result ≡ phases.reply_phase self }
     {
@@ -57,7 +57,7 @@ impl Phase {
         }
     }
 
-    /// The phase after an RFNM on a link. The RST went out on link 0.
+    /// Returns the phase after an RFNM on a link. The RST went out on link 0.
     pub(crate) fn after_rfnm(self, link: u8) -> Phase
         ensures { result ≡ phases.rfnm_phase link self }
     {

@@ -12,7 +12,7 @@ use std::marker::Model;
 /// alone in its message, and a pair of hosts keeps them as its phase and as what it owes (NIC 8246, RST and
 /// RRP).
 ///
-/// Those that have gone out stand before the others until they are more than half, and go all at once then. So each command is
+/// Those that have gone out are before the others until they are more than half, and go all at once then. So each command is
 /// moved at most once more on average, however many wait.
 #[derive(Drop)]
 pub struct Queue {
@@ -33,7 +33,7 @@ impl Model for Queue {
 }
 
 impl Queue {
-    /// A queue in which no command waits.
+    /// Returns a queue in which no command waits.
     pub(crate) fn new(alloc: Global) -> Queue
         ensures { result ≡ [] }
     {
@@ -43,7 +43,7 @@ impl Queue {
         }
     }
 
-    /// The commands, the oldest first.
+    /// Returns the commands, the oldest first.
     pub fn as_slice(&self) -> &[Command]
         ensures value { result.now ≡ self.now }
         ensures joint { are_joint self.now ≡ true }
@@ -51,7 +51,7 @@ impl Queue {
         &self.commands[self.gone..]
     }
 
-    /// How many there are.
+    /// Returns how many there are.
     #[tactic(auto, using(crate::proofs::QueueLemmas::length_behind))]
     pub(crate) fn len(&self) -> usize
         ensures { result ≡ length self.now }
@@ -59,14 +59,14 @@ impl Queue {
         self.commands.len() - self.gone
     }
 
-    /// Whether there are none.
+    /// Returns whether there are none.
     pub(crate) fn is_empty(&self) -> bool
         ensures { result ≡ (length self.now == 0) }
     {
         self.len() == 0
     }
 
-    /// Puts a command behind the others.
+    /// Puts a command after the others.
     #[tactic(auto, using(crate::proofs::QueueLemmas::joint_pushed, crate::proofs::QueueLemmas::one_more, crate::proofs::QueueLemmas::within_more))]
     pub(crate) fn push(&mut self, command: Command) -> Result<(), AllocError>
         requires joint { is_alone command ≡ false }
@@ -76,7 +76,7 @@ impl Queue {
         Ok(())
     }
 
-    /// The first so many commands, or all of them, no longer wait.
+    /// Drops the first commands, or all of them.
     #[tactic(auto, using(crate::proofs::QueueLemmas::joint_further, crate::proofs::QueueLemmas::further, crate::proofs::QueueLemmas::within_further))]
     pub(crate) fn drop_front(&mut self, count: usize)
         ensures { self.new ≡ drop count self.old }

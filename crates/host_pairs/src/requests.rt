@@ -19,7 +19,7 @@ use std::alloc::{AllocError, Global};
 
 // ---- this host's own end on a socket
 
-/// Bits wait to be sent.
+/// Queues bits to be sent.
 fn add_bits(entries: &mut [Entry], socket: u32, bits: &Bits) -> Result<(), AllocError>
     ensures state { OnOk result (entries.new ≡ changed_first (is_mine_on socket) (with_more_bits bits.now) entries.old) }
     ensures memory { OnErr result (0 < length bits.now) }
@@ -33,7 +33,7 @@ fn add_bits(entries: &mut [Entry], socket: u32, bits: &Bits) -> Result<(), Alloc
     Ok(())
 }
 
-/// So much more may come.
+/// Grants more.
 fn grant(entries: &mut [Entry], socket: u32, messages: u16, bits: u32)
     ensures { entries.new ≡ changed_first (is_mine_on socket) (granted messages bits) entries.old }
 {
@@ -43,7 +43,7 @@ fn grant(entries: &mut [Entry], socket: u32, messages: u16, bits: u32)
     }
 }
 
-/// It is to be closed.
+/// Marks the end to be closed by its user.
 fn call_off(entries: &mut [Entry], socket: u32)
     ensures { entries.new ≡ changed_first (is_mine_on socket) called_off entries.old }
 {
@@ -56,7 +56,7 @@ fn call_off(entries: &mut [Entry], socket: u32)
 // ---- the pair
 
 impl Pair {
-    /// All that was with the peer is gone, and an RST will go out.
+    /// Forgets all that there was with the peer, and makes an RST go out.
     pub fn contact(&mut self, alloc: Global)
         ensures { self.new ≡ asked.contacted self.old }
     {
@@ -65,7 +65,7 @@ impl Pair {
         self.queue = Queue::new(alloc);
     }
 
-    /// A new end, and its request.
+    /// Adds a new end, and queues its request.
     pub fn request(&mut self, entry: Entry, command: Command) -> Result<(), AllocError>
         requires joint { is_alone command ≡ false }
         ensures { OnOk result (self.new ≡ asked.requested entry command self.old) }
@@ -74,7 +74,7 @@ impl Pair {
         self.queue.push(command)
     }
 
-    /// A command waits to go out.
+    /// Queues a command.
     pub fn command(&mut self, command: Command) -> Result<(), AllocError>
         requires joint { is_alone command ≡ false }
         ensures { OnOk result (self.new ≡ asked.commanded command self.old) }
@@ -82,7 +82,7 @@ impl Pair {
         self.queue.push(command)
     }
 
-    /// Bits of a socket wait to be sent.
+    /// Queues bits of a socket to be sent.
     pub fn add_bits(&mut self, socket: u32, bits: &Bits) -> Result<(), AllocError>
         ensures state { OnOk result (self.new ≡ with_end socket (with_more_bits bits.now) self.old) }
         ensures memory { OnErr result (0 < length bits.now) }
@@ -90,7 +90,7 @@ impl Pair {
         add_bits(&mut self.entries, socket, bits)
     }
 
-    /// The sender to a socket is granted so much more, and an ALL will tell it.
+    /// Grants the sender to a socket more, and queues the ALL that says so.
     pub fn grant(
         &mut self,
         socket: u32,
@@ -105,7 +105,7 @@ impl Pair {
         self.command(command)
     }
 
-    /// The connection of a socket closes, at once or when it is drained.
+    /// Closes the connection of a socket, at once or when it is drained.
     pub fn close(&mut self, socket: u32) -> Result<(), AllocError>
         ensures state { OnOk result (self.new ≡ asked.closed_end socket self.old) }
         ensures memory { OnErr result (length self.old.queue < length (asked.closed_end socket self.old).queue) }
@@ -119,7 +119,7 @@ impl Pair {
 
 // ---- what a request finds
 
-/// Whether two sockets have an end.
+/// Returns whether two sockets have an end.
 pub fn has_end(entries: &[Entry], own: u32, foreign: u32) -> bool
     ensures { result ≡ is_some (entry_at own foreign entries.now) }
 {
@@ -127,7 +127,7 @@ pub fn has_end(entries: &[Entry], own: u32, foreign: u32) -> bool
 }
 
 impl Entry {
-    /// Whether so many bits are whole bytes of the connection.
+    /// Returns whether this many bits are whole bytes of the connection.
     pub fn has_bytes(&self, bits: usize) -> bool
         ensures { result ≡ asked.are_bytes bits self.now.size }
     {
@@ -135,7 +135,7 @@ impl Entry {
             .is_some_and(|size| bits % size.bits() as usize == 0)
     }
 
-    /// Whether what is granted would pass what the counters can hold.
+    /// Returns whether what is granted would pass what the counters can hold.
     pub fn would_pass(&self, messages: u16, bits: u32) -> bool
         ensures { result ≡ asked.passes self.now.allocation messages bits }
     {
@@ -146,7 +146,7 @@ impl Entry {
         messages > u16::MAX - open_messages || bits > u32::MAX - open_bits
     }
 
-    /// The number of its link; 0 where it isn't known yet.
+    /// Returns the number of its link; 0 where it isn't known yet.
     pub fn link_number(&self) -> u8
         ensures { result ≡ link_of self.now.link }
     {
@@ -156,7 +156,7 @@ impl Entry {
         }
     }
 
-    /// The command that interrupts the other end.
+    /// Returns the command that interrupts the other end.
     pub fn interrupt(&self) -> Command
         ensures command { result ≡ interrupt_of self.now }
         ensures joint { is_alone result ≡ false }

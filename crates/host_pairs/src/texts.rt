@@ -22,7 +22,7 @@ use bit_messages::{BitFault, Bits};
 use ncp_control::{Command, DataHeader, pack};
 use std::alloc::{AllocError, Global};
 
-/// The bits of octets that have room in one control message, with those of its header.
+/// Returns the bits of octets that have room in one control message, with those of its header.
 #[tactic(auto, using(crate::proofs::SendingLemmas::whole_octets))]
 fn whole(alloc: Global, octets: &[u8]) -> Result<Bits, AllocError>
     requires room { length octets.now ≤ 125 }
@@ -35,7 +35,7 @@ fn whole(alloc: Global, octets: &[u8]) -> Result<Bits, AllocError>
     }
 }
 
-/// The octets of a control message: those of its header, and these behind them.
+/// Returns the octets of a control message: those of its header, and these after them.
 fn with_header(alloc: Global, octets: &[u8]) -> Result<Vec<u8>, AllocError>
     requires room { length octets.now ≤ 120 }
     ensures { IfOk result (λ all. all.items ≡ 0 ∷ 8 ∷ to_be_bytes w16 (length octets.now) ++ 0 ∷ octets.now) }
@@ -47,7 +47,7 @@ fn with_header(alloc: Global, octets: &[u8]) -> Result<Vec<u8>, AllocError>
     Ok(all)
 }
 
-/// The text of a control message with these octets.
+/// Returns the text of a control message with these octets.
 #[tactic(auto, using(crate::proofs::SendingLemmas::control_short, crate::proofs::SendingLemmas::message_room, crate::proofs::SendingLemmas::message_bits))]
 fn control_text(alloc: Global, octets: &[u8]) -> Result<Bits, AllocError>
     requires room { length octets.now ≤ 120 }
@@ -60,7 +60,7 @@ fn control_text(alloc: Global, octets: &[u8]) -> Result<Bits, AllocError>
     Ok(text)
 }
 
-/// The text of the message of an RST or an RRP, which goes alone.
+/// Returns the text of the message of an RST or an RRP, which goes alone.
 #[tactic(auto, using(crate::proofs::SendingLemmas::alone_room, crate::proofs::ReadLemmas::signal_again))]
 fn signal_text(alloc: Global, command: Command) -> Result<Bits, AllocError>
     requires alone { is_alone command ≡ true }
@@ -74,7 +74,7 @@ fn signal_text(alloc: Global, command: Command) -> Result<Bits, AllocError>
     control_text(alloc, &octets)
 }
 
-/// The text of a message with as many of the commands that wait as have room.
+/// Returns the text of a message with as many of the commands that wait as have room.
 #[tactic(auto, using(crate::proofs::SendingLemmas::packed_room))]
 fn commands_text(alloc: Global, queue: &Queue) -> Result<Bits, AllocError>
     ensures short { IfOk result (λ text. length text ≤ 8063) }
@@ -110,7 +110,7 @@ fn append_front(alloc: Global, text: &mut Bits, bits: &Bits, count: usize) -> Re
     append_all(text, &front)
 }
 
-/// The text of a message with the first bytes of these bits.
+/// Returns the text of a message with the first bytes of these bits.
 #[tactic(auto, using(crate::proofs::SendingLemmas::data_short))]
 fn data_text(alloc: Global, size: u8, count: u16, bits: &Bits) -> Result<Bits, AllocError>
     requires room { size * count ≤ 8023 }
@@ -126,7 +126,7 @@ fn data_text(alloc: Global, size: u8, count: u16, bits: &Bits) -> Result<Bits, A
 }
 
 impl Pair {
-    /// The link of what goes out.
+    /// Returns the link of what goes out.
     pub fn link_for(&self, out: &Outgoing) -> u8
         requires { IsThere self.now.entries out.now }
         ensures { result ≡ parcels.link_for (parcel_of self.now.entries out.now) }
@@ -137,7 +137,7 @@ impl Pair {
         }
     }
 
-    /// The text of what goes out.
+    /// Returns the text of what goes out.
     pub fn text_for(&self, alloc: Global, out: &Outgoing) -> Result<Bits, AllocError>
         requires there { IsThere self.now.entries out.now }
         requires room { HasRoom self.now.entries self.now.queue out.now }

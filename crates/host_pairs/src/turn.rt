@@ -23,14 +23,14 @@ use std::alloc::{AllocError, Global};
 use std::marker::Model;
 use std::mem;
 
-/// A pair, what listens, and what the user is told.
+/// A pair, what listens, and the notices to the user.
 #[derive(Drop)]
 pub struct Turn {
     /// The pair that is worked on.
     pub pair: Pair,
     /// The host's sockets that listen.
     pub listening: Listeners,
-    /// What the user is told, the oldest first.
+    /// The notices to the user, the oldest first.
     pub notices: Vec<Notice>,
 }
 
@@ -66,7 +66,7 @@ impl Turn {
         }
     }
 
-    /// Puts the pair's connections back, and tells what is to be told of them.
+    /// Puts the pair's connections back, and tells what is to be notified of them.
     #[tactic(auto, using(crate::proofs::TurnLemmas::told_first))]
     pub(crate) fn restore(&mut self, desk: Desk) -> Result<(), AllocError>
         ensures state { OnOk result (self.new ≡ turns.with_desk self.old desk) }
@@ -88,7 +88,7 @@ impl Turn {
         self.notices.append(&mut notices)
     }
 
-    /// The peer asks for an octet back: an ERP waits to go out.
+    /// Answers the peer, which asks for an octet back: an ERP waits to go out.
     #[tactic(auto, using(crate::proofs::TurnLemmas::queued_turn))]
     fn echo(&mut self, octet: u8) -> Result<(), AllocError>
         ensures state { OnOk result (self.new ≡ turns.with_desk self.old (command_queued (command.Erp octet) (desk_of self.old.pair self.old.listening))) }
@@ -97,7 +97,7 @@ impl Turn {
         self.pair.queue.push(Command::Erp { octet })
     }
 
-    /// An octet came back.
+    /// Takes an octet that came back.
     fn hear_echo(&mut self, peer: HostAddr, octet: u8) -> Result<(), AllocError>
         ensures state { OnOk result (self.new ≡ turns.with_desk self.old (desk_told (notice.Echoed peer octet ∷ []) (desk_of self.old.pair self.old.listening))) }
         ensures memory { OnErr result (0 < newly_said self.old (turns.with_desk self.old (desk_told (notice.Echoed peer octet ∷ []) (desk_of self.old.pair self.old.listening)))) }
@@ -105,7 +105,7 @@ impl Turn {
         self.tell(Notice::Echoed { peer, octet })
     }
 
-    /// A command is taken among the pair's connections.
+    /// Takes a command among the pair's connections.
     fn hear_at_desk(
         &mut self,
         alloc: Global,
@@ -121,7 +121,7 @@ impl Turn {
         self.restore(desk)
     }
 
-    /// A command about connections is taken, while the pair is opened. An ECO and an ERP are no matter of any of them.
+    /// Takes a command about connections, while the pair is open. An ECO and an ERP are no matter of any of them.
     fn hear(
         &mut self,
         alloc: Global,
@@ -142,7 +142,7 @@ impl Turn {
         }
     }
 
-    /// A message of data is taken, while the pair is opened.
+    /// Takes a message of data, while the pair is open.
     pub(crate) fn hear_data(
         &mut self,
         alloc: Global,
@@ -160,7 +160,7 @@ impl Turn {
         self.restore(desk)
     }
 
-    /// Each end that waited for an answer and has it closes now. Mostly there is none.
+    /// Closes each end that waited for an answer and has it now. Mostly there is none.
     #[tactic(auto, using(crate::proofs::TurnLemmas::none_settles))]
     fn settle(&mut self, alloc: Global) -> Result<(), AllocError>
         ensures state { OnOk result (self.new ≡ turns.settled_turn self.old) }
@@ -178,7 +178,7 @@ impl Turn {
 // ---- the reset
 
 impl Turn {
-    /// All of the pair's connections and what waits to be said are gone.
+    /// Forgets all of the pair's connections, and what waits to be said.
     fn forget(&mut self, alloc: Global)
         ensures { self.new ≡ record self.old { pair = record self.old.pair { entries = []; queue = [] } } }
     {
@@ -186,7 +186,7 @@ impl Turn {
         self.pair.queue = Queue::new(alloc);
     }
 
-    /// An RST of the peer is taken: all of the pair's connections are gone, and an RRP is owed.
+    /// Takes an RST of the peer: all of the pair's connections are gone, and an RRP is owed.
     fn take_reset(&mut self, alloc: Global, peer: HostAddr) -> Result<(), AllocError>
         ensures state { OnOk result (self.new ≡ turns.reset_taken peer self.old) }
         ensures memory { OnErr result (0 < newly_said self.old (turns.reset_taken peer self.old)) }
@@ -202,7 +202,7 @@ impl Turn {
         }
     }
 
-    /// An RRP of the peer is taken.
+    /// Takes an RRP of the peer.
     fn take_reply(&mut self, peer: HostAddr) -> Result<(), AllocError>
         ensures state { OnOk result (self.new ≡ turns.reply_taken peer self.old) }
         ensures memory { OnErr result (0 < newly_said self.old (turns.reply_taken peer self.old)) }
@@ -215,7 +215,7 @@ impl Turn {
         }
     }
 
-    /// A command of the peer is taken.
+    /// Takes a command of the peer.
     pub(crate) fn take_command(
         &mut self,
         alloc: Global,
@@ -236,7 +236,7 @@ impl Turn {
 
 // ---- answers
 
-/// A link has no message outstanding any more.
+/// Marks a link as free of outstanding messages.
 fn free(busy: &mut Vec<u8>, link: u8)
     ensures { busy.new.items ≡ filter (λ l. not (l == link)) busy.old.items }
 {
@@ -244,14 +244,15 @@ fn free(busy: &mut Vec<u8>, link: u8)
 }
 
 impl Pair {
-    /// Whether an RFNM frees its link and nothing else comes of it: the pair is ready, and no end waits to close.
+    /// Returns whether an RFNM frees its link and nothing else comes of it: the pair is ready, and no end waits to
+    /// close.
     pub fn is_quiet(&self) -> bool
         ensures { result ≡ turns.is_quiet self.now }
     {
         self.phase.is_ready() && !has_due(&self.entries)
     }
 
-    /// A link has no message outstanding any more.
+    /// Marks a link as free of outstanding messages.
     pub fn free(&mut self, link: u8)
         ensures { self.new ≡ turns.freed link self.old }
     {
@@ -260,7 +261,7 @@ impl Pair {
 }
 
 impl Turn {
-    /// The pair is closed: its connections and what waits to be said are gone, and the user is told why.
+    /// Closes the pair: its connections and what waits to be said are gone, and the user is informed why.
     fn close(&mut self, alloc: Global, notice: Notice) -> Result<(), AllocError>
         ensures state { OnOk result (self.new ≡ turns.closed (notice ∷ []) self.old) }
         ensures memory { OnErr result (0 < newly_said self.old (turns.closed (notice ∷ []) self.old)) }
@@ -270,7 +271,7 @@ impl Turn {
         self.tell(notice)
     }
 
-    /// A message was lost, or the peer is dead: what that means by the phase.
+    /// Handles a lost message or a dead peer: what that means by the phase.
     fn fail_by_phase(&mut self, alloc: Global, peer: HostAddr) -> Result<(), AllocError>
         ensures state { OnOk result (self.new ≡ turns.failed_by peer self.old.pair.phase self.old) }
         ensures memory { OnErr result (0 < newly_said self.old (turns.failed_by peer self.old.pair.phase self.old)) }
@@ -282,8 +283,8 @@ impl Turn {
         }
     }
 
-    /// A message was lost, or the peer is dead. An RST that failed ends the contact in any case; any other
-    /// message's failure is ignored while an RRP is owed.
+    /// Handles a lost message or a dead peer. An RST that failed ends the contact in any case; any other message's
+    /// failure is ignored while an RRP is owed.
     fn fail(&mut self, alloc: Global, peer: HostAddr) -> Result<(), AllocError>
         ensures state { OnOk result (self.new ≡ turns.failed peer self.old) }
         ensures memory { OnErr result (0 < newly_said self.old (turns.failed peer self.old)) }
@@ -296,7 +297,7 @@ impl Turn {
         }
     }
 
-    /// An RFNM is taken: the peer has the message.
+    /// Takes an RFNM: the peer has the message.
     fn take_rfnm(&mut self, alloc: Global, link: u8) -> Result<(), AllocError>
         ensures state { OnOk result (self.new ≡ turns.rfnm_taken link self.old) }
         ensures memory { OnErr result (0 < newly_said self.old (turns.rfnm_taken link self.old)) }
@@ -305,7 +306,7 @@ impl Turn {
         self.settle(alloc)
     }
 
-    /// What an answer means, once its link is free.
+    /// Handles an answer, once its link is free.
     fn hear_answer(
         &mut self,
         alloc: Global,
@@ -322,15 +323,15 @@ impl Turn {
         }
     }
 
-    /// A link has no message outstanding any more.
+    /// Marks a link as free of outstanding messages.
     fn free(&mut self, link: u8)
         ensures { self.new ≡ record self.old { pair = turns.freed link self.old.pair } }
     {
         self.pair.free(link);
     }
 
-    /// An answer about a message that this host has out is taken: the link is free, and what follows by its
-    /// kind (BBN Report 1822, RFNM, Incomplete Transmission, Destination Dead). `NotTaken` is treated as
+    /// Takes an answer about a message that this host has outstanding: the link is free, and what follows by its kind
+    /// (BBN Report 1822, RFNM, Incomplete Transmission, Destination Dead). `NotTaken` is treated as
     /// `Incomplete`, since it crosses the interface as that.
     pub fn take_answer(
         &mut self,

@@ -12,7 +12,7 @@ use leader1822::HostAddr;
 use std::alloc::{AllocError, Global};
 
 impl Turn {
-    /// So many of the commands that wait have gone out.
+    /// Records that commands have gone out.
     fn commands_gone(
         &mut self,
         alloc: Global,
@@ -27,7 +27,7 @@ impl Turn {
         self.restore(desk)
     }
 
-    /// So many bytes of the end at a place have gone out.
+    /// Records that bytes of the end at a place have gone out.
     fn bytes_gone(
         &mut self,
         alloc: Global,
@@ -45,7 +45,7 @@ impl Turn {
         self.restore(desk)
     }
 
-    /// What goes out has gone out, except for its link.
+    /// Records what has gone out, except for its link.
     fn leave(
         &mut self,
         alloc: Global,
@@ -72,7 +72,7 @@ impl Turn {
         }
     }
 
-    /// A message is outstanding on a link.
+    /// Marks a link as having a message outstanding.
     fn busy(&mut self, link: u8) -> Result<(), AllocError>
         ensures { OnOk result (self.new ≡ record self.old { pair = parcels.busied link self.old.pair }) }
     {
@@ -80,8 +80,8 @@ impl Turn {
         Ok(())
     }
 
-    /// What goes out has gone out: it leaves the pair, its link has a message outstanding, and the user is told
-    /// of what it opens, ends or sends.
+    /// Records what has gone out: it leaves the pair, its link has a message outstanding, and the user is notified of what
+    /// it opens, ends or sends.
     pub fn gone(
         &mut self,
         alloc: Global,

@@ -1,4 +1,4 @@
--- What a service may hear of, as it stands beside the service, and what several services may hear of at most.
+-- What a service may hear of, as It is kept beside the service, and what several services may hear of at most.
 use Rattle.std.specs.Prelude.{◌≡◌, ◌≤◌, ◌==◌, ◌&&◌, ◌||◌, ℕ, Bool, true, false, if◌then◌else◌, is_some, nat_le, min, max, List, [], ◌∷◌, ◌++◌}
 use Rattle.host_pairs.specs.declared.notice.Notice.{Notice}
 use Rattle.host_pairs.specs.declared.notice.Notice.TheVariants as notice

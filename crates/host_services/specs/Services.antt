@@ -16,7 +16,7 @@ pub record ServicesState : Type 0 where
 abbrev pub no_services : ServicesState
 no_services = record { running = []; typing = None }
 
--- a host while its services have their turns: how many notices stand in the book, the one that they are told of among them; its
+-- a host while its services have their turns: how many notices are in the book, the one that they are notified of among them; its
 -- control program; where what is typed goes; which of their requests were served; and what they have reported
 pub record ServiceDeskState : Type 0 where
   pub host : Host
@@ -34,7 +34,7 @@ opening_desk host notices program = record { host = host; notices = notices; pro
 abbrev pub typing_on : Option ℕ → ServiceDeskState → ServiceDeskState
 typing_on typing d = record d { typing = typing }
 
--- they are told of one notice more
+-- they are notified of one notice more
 abbrev pub noticing : ServiceDeskState → ServiceDeskState
 noticing d = record d { notices = d.notices + 1 }
 

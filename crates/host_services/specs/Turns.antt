@@ -1,4 +1,4 @@
--- The turns of a host's services: each is told of a notice, in the order of their events, and what it asks for is asked of the
+-- The turns of a host's services: each is notified of a notice, in the order of their events, and what it asks for is asked of the
 -- host's control program before the next one has its turn.
 use Rattle.std.specs.Prelude.{ℕ, ◌+◌, List, [], ◌∷◌, ◌++◌, length, Option, Some, None}
 use Rattle.std.specs.List.{fold}
@@ -32,11 +32,11 @@ tried_by (Some f) r d = d
 abbrev pub tried : ServiceDeskState → Request → ServiceDeskState
 tried d r = tried_by (refusal d.program r) r d
 
--- an echo service and a terminal go on asking, whatever is refused
+-- an echo service and a terminal keep asking, whatever is refused
 abbrev pub tries : ServiceDeskState → List Request → ServiceDeskState
 tries d requests = fold tried d requests
 
--- a server and a user ask until they are refused: what was served before stands, and what follows is ignored
+-- a server and a user ask until they are refused: what was served before is, and what follows is ignored
 abbrev pub asked_by : Option NcpFault → ServiceDeskState → ServiceDeskState × Option NcpFault → ServiceDeskState × Option NcpFault
 asked_by None d rest = rest
 asked_by (Some f) d rest = (d, Some f)
@@ -63,7 +63,7 @@ server_ends d (Some (outcome.Failed f)) = (None, reporting (report.Server (outco
 server_ends d (Some (outcome.Done receive send)) =
     (Some (service.Echo (opening_echo receive send)), tries (reporting (report.Server (outcome.Done receive send)) d) (first_requests receive))
 
--- a refused request is told to it
+-- it learns of a refused request
 abbrev pub server_asked : ServerState → Option Outcome → ServiceDeskState × Option NcpFault → Turned
 server_asked s o (d, None) = became (service.Server s) (server_ends d o)
 server_asked s o (d, Some f) = became (service.Server (server_local s f).0) (server_ends d (option_or o (server_local s f).1))
@@ -105,7 +105,7 @@ terminal_asks t d = (service.Terminal t.state, lines_told (tries d t.requests) t
 
 -- ---- a notice
 
--- one service is told of a notice
+-- one service is notified of a notice
 abbrev pub heard_by : Notice → Service → ServiceDeskState → Turned
 heard_by n (service.Server s) d = server_asks (server_turn s n) d
 heard_by n (service.User s) d = user_asks (user_turn s n) d

@@ -16,6 +16,6 @@ second = record { imp = 2; host = 0 }
 abbrev pub fresh : ServiceDeskState
 fresh = opening_desk second 6 (opening_state second)
 
--- a report of the second host, with so many notices before it
+-- a report of the second host, with this many notices before it
 abbrev pub of_second : ℕ → Report → Reported
 of_second notices report = record { host = second; notices = notices; report = report }

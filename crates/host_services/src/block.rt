@@ -18,7 +18,7 @@ const ROOM: usize = 32;
 
 /// Some services, in the order in which they began.
 ///
-/// Beside each stands what it may hear of, and beside all of them what any of them may hear of.
+/// Beside each is what it may hear of, and beside all of them what any of them may hear of.
 #[derive(Drop)]
 pub(crate) struct Block {
     services: Vec<Service>,
@@ -38,7 +38,8 @@ impl Model for Block {
     ghost invariant = { λ b. (b.ears.items ≡ map ear_of b.services.items) × AreHeardIn b.scope b.ears.items };
 }
 
-/// A service is told of a notice, unless it can't hear of what this is about. Returns whether it may hear of other things now.
+/// Passes a notice to a service, unless it can't hear of what it is about. Returns whether it may hear of other things
+/// now.
 #[tactic(auto, using(crate::proofs::HearingLemmas::deaf))]
 fn tell_one(
     alloc: Global,
@@ -64,7 +65,8 @@ fn tell_one(
     Ok(before != *ear)
 }
 
-/// Each of these services is told of a notice, one after another. Returns whether one of them may hear of other things now.
+/// Passes a notice to each of these services, one after another. Returns whether one of them may hear of other things
+/// now.
 #[tactic(auto, using(crate::proofs::TurnLemmas::ear_at, crate::proofs::TurnLemmas::ears_long, crate::proofs::TurnLemmas::ears_set))]
 fn tell_each(
     alloc: Global,
@@ -96,7 +98,7 @@ fn tell_each(
 }
 
 impl Block {
-    /// A block without services.
+    /// Returns a block without services.
     pub(crate) fn new(alloc: Global) -> Block
         ensures { result ≡ [] }
     {
@@ -107,12 +109,12 @@ impl Block {
         }
     }
 
-    /// Whether no service is to join it.
+    /// Returns whether no service is to join it.
     pub(crate) fn is_full(&self) -> bool {
         self.services.len() >= ROOM
     }
 
-    /// A service is the last now.
+    /// Adds a service as the last.
     #[tactic(auto, using(crate::proofs::TurnLemmas::ears_joined, crate::proofs::ScopeLemmas::one_more))]
     pub(crate) fn push(&mut self, service: Service) -> Result<(), AllocError>
         ensures { OnOk result (self.new ≡ self.old ++ service ∷ []) }
@@ -126,7 +128,7 @@ impl Block {
         Ok(())
     }
 
-    /// Whether a notice about this may do something to one of its services.
+    /// Returns whether a notice about this may do something to one of its services.
     #[tactic(auto, using(crate::proofs::ScopeLemmas::all_deaf))]
     pub(crate) fn hears(&self, subject: Subject) -> bool
         ensures { OnFalse result ((n : Notice) → subject ≡ subject_of n → AreDeaf self.now n) }
@@ -134,7 +136,7 @@ impl Block {
         self.scope.hears(subject)
     }
 
-    /// Its services are told of a notice, one after another.
+    /// Passes a notice to its services, one after another.
     #[inline(never)]
     fn tell_all(
         &mut self,
@@ -161,7 +163,7 @@ impl Block {
         Ok(())
     }
 
-    /// Its services are told of a notice, one after another, unless none of them hears of what this is about.
+    /// Passes a notice to its services, one after another, unless none of them hears of what it is about.
     pub(crate) fn tell(
         &mut self,
         alloc: Global,

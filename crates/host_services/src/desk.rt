@@ -47,7 +47,7 @@ pub struct Deeds {
     pub reports: Vec<Reported>,
 }
 
-/// A copy of a request.
+/// Returns a copy of a request.
 ///
 /// Errors: `AllocError` when there is no memory for its bits.
 pub fn copy_of(request: &Request) -> Result<Request, AllocError>
@@ -109,7 +109,8 @@ pub fn copy_of(request: &Request) -> Result<Request, AllocError>
 }
 
 impl ServiceDesk {
-    /// Nothing was asked and reported yet. So many notices stand in the book before those that the services will be told of.
+    /// Returns a desk at which nothing was asked and reported yet. This many notices are in the book before those that
+    /// the services will be notified of.
     pub fn new(alloc: Global, host: HostAddr, notices: usize, program: Ncp) -> ServiceDesk
         ensures { result ≡ services.opening_desk host notices program }
     {
@@ -123,7 +124,7 @@ impl ServiceDesk {
         }
     }
 
-    /// The control program, and what the services did.
+    /// Returns the control program, and what the services did.
     pub fn into_parts(self) -> (Ncp, Deeds)
         ensures program { result.0 ≡ self.program }
         ensures host { result.1.host ≡ self.host }
@@ -138,7 +139,7 @@ impl ServiceDesk {
         (self.program, deeds)
     }
 
-    /// The services are told of one notice more.
+    /// Counts one more notice that was passed to the services.
     pub(crate) fn count(&mut self) -> Result<(), AllocError>
         ensures { OnOk result (self.new ≡ services.noticing self.old) }
     {
@@ -149,7 +150,7 @@ impl ServiceDesk {
         Ok(())
     }
 
-    /// Something is reported.
+    /// Adds a report.
     pub(crate) fn report(&mut self, report: Report) -> Result<(), AllocError>
         ensures { OnOk result (self.new ≡ services.reporting report self.old) }
     {
@@ -161,7 +162,7 @@ impl ServiceDesk {
         Ok(())
     }
 
-    /// A request is asked of the control program. Returns why it is refused, if it is; otherwise it is served.
+    /// Asks the control program a request. Returns why it is refused, if it is; otherwise it is served.
     fn ask(&mut self, request: Request) -> Result<Option<NcpFault>, AllocError>
         ensures fault { IfOk result (λ fault. fault ≡ refusal self.old.program request) }
         ensures desk { OnOk result (self.new ≡ turns.tried self.old request) }
@@ -181,7 +182,7 @@ impl ServiceDesk {
         Ok(None)
     }
 
-    /// These requests are asked one after another, whatever is refused.
+    /// Asks these requests one after another, whatever is refused.
     pub(crate) fn try_all(&mut self, requests: Vec<Request>) -> Result<(), AllocError>
         ensures { OnOk result (self.new ≡ turns.tries self.old requests.items) }
     {
@@ -191,7 +192,7 @@ impl ServiceDesk {
         Ok(())
     }
 
-    /// These requests are asked one after another until one is refused. Returns why it was.
+    /// Asks these requests one after another until one is refused. Returns why it was.
     pub(crate) fn ask_all(&mut self, requests: Vec<Request>) -> Result<Option<NcpFault>, AllocError>
         ensures { IfOk result (λ fault. turns.asks self.old requests.items ≡ (self.new, fault)) }
     {
@@ -203,7 +204,7 @@ impl ServiceDesk {
         Ok(None)
     }
 
-    /// Lines are reported one by one.
+    /// Reports lines one by one.
     pub(crate) fn tell_lines(&mut self, lines: Vec<Line>) -> Result<(), AllocError>
         ensures { OnOk result (self.new ≡ turns.lines_told self.old lines.items) }
     {

@@ -20,7 +20,7 @@ pub(crate) enum Subject {
 }
 
 impl Subject {
-    /// What this notice is about.
+    /// Returns what this notice is about.
     pub(crate) fn of(notice: &Notice) -> Subject
         ensures { result ≡ heard.subject_of notice.now }
     {
@@ -34,7 +34,7 @@ impl Subject {
     }
 }
 
-/// What a service may hear of. It stands beside the service, so that all can be gone through quickly.
+/// What a service may hear of. It is kept beside the service, so that all can be gone through quickly.
 #[derive(Clone, Copy, PartialEq, Eq)]
 pub(crate) enum Ear {
     /// Nothing any more.
@@ -60,7 +60,8 @@ pub(crate) enum Ear {
 }
 
 impl Ear {
-    /// That of a server or a user: whether it has its outcome, whether both its connections were opened, and its sockets.
+    /// Returns the ear of a server or a user: whether it has its outcome, whether both its connections were opened, and
+    /// its sockets.
     fn of_three(over: bool, both: bool, asks: u32, receive: u32, send: u32) -> Ear
         ensures { result ≡ heard.ear_by over both asks receive send }
     {
@@ -77,7 +78,7 @@ impl Ear {
         }
     }
 
-    /// Whether it hears of this socket.
+    /// Returns whether it hears of this socket.
     fn hears_of(&self, socket: u32) -> bool
         ensures { result ≡ heard.hears_of self.now socket }
     {
@@ -93,7 +94,7 @@ impl Ear {
         }
     }
 
-    /// Whether a notice about this may do something to a service with this ear.
+    /// Returns whether a notice about this may do something to a service with this ear.
     pub(crate) fn hears(&self, subject: Subject) -> bool
         ensures { result ≡ heard.hears self.now subject }
     {
@@ -120,7 +121,7 @@ pub(crate) struct Scope {
 }
 
 impl Scope {
-    /// That of no services.
+    /// Returns the scope of no services.
     pub(crate) fn empty() -> Scope {
         Scope {
             everything: false,
@@ -130,7 +131,7 @@ impl Scope {
         }
     }
 
-    /// It is made as wide as it has to be for one socket more.
+    /// Widens the scope to include one more socket.
     fn add(&mut self, socket: u32)
         ensures { self.new ≡ heard.with_socket socket self.old }
     {
@@ -138,7 +139,7 @@ impl Scope {
         self.high = self.high.max(socket);
     }
 
-    /// It is made as wide as it has to be for one ear more.
+    /// Widens the scope to include one more ear.
     pub(crate) fn widen(&mut self, ear: Ear)
         ensures { self.new ≡ heard.widened self.old ear }
     {
@@ -162,7 +163,7 @@ impl Scope {
         }
     }
 
-    /// It is made as wide as it has to be for all of these ears.
+    /// Widens the scope to include all of these ears.
     fn widen_all(&mut self, ears: &[Ear])
         ensures { self.new ≡ fold heard.widened self.old ears.now }
     {
@@ -171,7 +172,7 @@ impl Scope {
         }
     }
 
-    /// That of services with these ears.
+    /// Returns the scope of services with these ears.
     #[tactic(auto, using(crate::proofs::ScopeLemmas::wide_enough))]
     pub(crate) fn of(ears: &[Ear]) -> Scope
         ensures { AreHeardIn result ears.now }
@@ -181,7 +182,7 @@ impl Scope {
         scope
     }
 
-    /// Whether a notice about this may do something to one of the services with this scope.
+    /// Returns whether a notice about this may do something to one of the services with this scope.
     pub(crate) fn hears(&self, subject: Subject) -> bool
         ensures { result ≡ heard.is_heard_in self.now subject }
     {
@@ -197,9 +198,9 @@ impl Scope {
 }
 
 impl Service {
-    /// What it may hear of. Nothing does anything to a server or a user with its outcome. Before that only what opens, arrives and
-    /// ends on its sockets does, and that connections are gone, and to an echo service or a terminal only what arrives and ends on its
-    /// two sockets.
+    /// Returns what it may hear of. Nothing does anything to a server or a user with its outcome. Before that only what
+    /// opens, arrives and ends on its sockets does, and that connections are gone, and to an echo service or a terminal
+    /// only what arrives and ends on its two sockets.
     pub(crate) fn ear(&self) -> Ear
         ensures { result ≡ ear_of self.now }
     {

@@ -11,7 +11,7 @@ ghost use Rattle.leader1822.specs.Host.{Host, IsAddress};
 /// What services do to their host: its program has served what they have asked for and nothing else, one request after another, and
 /// has refused none of that. They name peers by addresses, in numbers of their types, where their users did; they contact nobody.
 pub fn asked()
-    // where a host is told something
+    // where a host gets a notice
     ensures told { (notices : List Notice) (s : ServicesState) (d : ServiceDeskState) → NamePeers s → HasAsked d (services_told notices s d).1 }
     ensures told_named { (notices : List Notice) (s : ServicesState) (d : ServiceDeskState) → NamePeers s → NamePeers (services_told notices s d).0 }
 

@@ -15,12 +15,12 @@ pub enum Report {
     Line(Line),
 }
 
-/// A report, as it stands in a book.
+/// A report, as it is in a book.
 #[derive(Debug, Drop)]
 pub struct Reported {
     /// The host whose service reports.
     pub host: HostAddr,
-    /// How many notices stood in the book before it. The notice that it is about is the last of them.
+    /// How many notices was in the book before it. The notice that it is about is the last of them.
     pub notices: usize,
     /// What it reports.
     pub report: Report,

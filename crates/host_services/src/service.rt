@@ -28,7 +28,7 @@ pub enum Service {
 }
 
 impl ServiceDesk {
-    /// A server comes to its outcome, if it does. Returns what follows it.
+    /// Brings a server to its outcome, if it has one. Returns what follows it.
     fn end_server(
         &mut self,
         alloc: Global,
@@ -48,7 +48,7 @@ impl ServiceDesk {
         Ok(Some(Service::Echo(service)))
     }
 
-    /// A user comes to its outcome, if it does. Returns what follows it.
+    /// Brings a user to its outcome, if it has one. Returns what follows it.
     fn end_user(
         &mut self,
         alloc: Global,
@@ -69,7 +69,7 @@ impl ServiceDesk {
         Ok(Some(Service::Terminal(terminal)))
     }
 
-    /// What a server asks for is asked, and then it comes to its outcome. Returns what follows it.
+    /// Asks what a server asks for, and then brings it to its outcome. Returns what follows it.
     pub(crate) fn settle_server(
         &mut self,
         alloc: Global,
@@ -89,7 +89,7 @@ impl ServiceDesk {
         self.end_server(alloc, outcome.or(local))
     }
 
-    /// What a user asks for is asked, and then it comes to its outcome. Returns what follows it.
+    /// Asks what a user asks for, and then brings it to its outcome. Returns what follows it.
     pub(crate) fn settle_user(
         &mut self,
         alloc: Global,
@@ -109,7 +109,7 @@ impl ServiceDesk {
         self.end_user(alloc, outcome.or(local))
     }
 
-    /// A server is told of a notice. Returns what follows it.
+    /// Passes a notice to a server. Returns what follows it.
     fn tell_server(
         &mut self,
         alloc: Global,
@@ -125,7 +125,7 @@ impl ServiceDesk {
         self.settle_server(alloc, server, said)
     }
 
-    /// A user is told of a notice. Returns what follows it.
+    /// Passes a notice to a user. Returns what follows it.
     fn tell_user(
         &mut self,
         alloc: Global,
@@ -141,7 +141,7 @@ impl ServiceDesk {
         self.settle_user(alloc, user, said)
     }
 
-    /// An echo service is told of a notice.
+    /// Passes a notice to an echo service.
     fn tell_echo(&mut self, echo: &mut EchoService, notice: &Notice) -> Result<(), AllocError>
         ensures { IfOk result (λ _. turns.echo_asks (echo_turn echo.old notice.now) self.old ≡ (service.Echo echo.new, self.new)) }
     {
@@ -152,7 +152,7 @@ impl ServiceDesk {
         self.try_all(requests)
     }
 
-    /// A terminal is told of a notice.
+    /// Passes a notice to a terminal.
     fn tell_terminal(
         &mut self,
         terminal: &mut LineTerminal,
@@ -168,7 +168,7 @@ impl ServiceDesk {
         self.tell_lines(told.lines)
     }
 
-    /// A service is told of a notice. Returns what follows it.
+    /// Passes a notice to a service. Returns what follows it.
     fn tell_one(
         &mut self,
         alloc: Global,
@@ -191,7 +191,7 @@ impl ServiceDesk {
         }
     }
 
-    /// A service is told of a notice, and what follows it takes its place.
+    /// Passes a notice to a service, and puts what follows from it in the service's place.
     pub(crate) fn tell(
         &mut self,
         alloc: Global,

@@ -23,7 +23,7 @@ use std::mem;
 
 /// The services of a host, in the order in which they began.
 ///
-/// They stand in blocks, so that a notice passes by all services of a block at once where none of them hears it.
+/// They are in blocks, so that a notice passes by all services of a block at once where none of them hears it.
 #[derive(Drop)]
 pub struct Services {
     full: Vec<Block>,
@@ -42,7 +42,7 @@ impl Model for Services {
     ghost view = { λ s. record { running = all_in s.full.items ++ s.last; typing = s.typing } };
 }
 
-/// The services of these blocks are told of a notice, one after another.
+/// Passes a notice to the services of these blocks, one after another.
 #[tactic(auto, using(crate::proofs::BlockLemmas::more_blocks))]
 fn tell_blocks(
     alloc: Global,
@@ -60,7 +60,7 @@ fn tell_blocks(
     Ok(())
 }
 
-/// The services of these blocks, and then those of the last one, are told of a notice.
+/// Passes a notice to the services of these blocks, and then to those of the last one.
 fn tell_each(
     alloc: Global,
     full: &mut [Block],
@@ -76,7 +76,7 @@ fn tell_each(
     Ok(())
 }
 
-/// Whether a notice about this may do something to a service of these blocks.
+/// Returns whether a notice about this may do something to a service of these blocks.
 fn any_hears(blocks: &[Block], subject: Subject) -> bool
     ensures { OnFalse result ((n : Notice) → subject ≡ subject_of n → AreDeaf (all_in blocks.now) n) }
 {
@@ -88,7 +88,7 @@ fn any_hears(blocks: &[Block], subject: Subject) -> bool
     false
 }
 
-/// They are told of several notices, one after another.
+/// Passes several notices to the services, one after another.
 fn tell_all(
     alloc: Global,
     full: &mut [Block],
@@ -106,7 +106,7 @@ fn tell_all(
     Ok(())
 }
 
-/// The outcome of a machine that can't begin.
+/// Returns the outcome of a machine that can't begin.
 fn bad_start() -> Outcome
     ensures { result ≡ outcome.Failed failure.BadSocket }
 {
@@ -114,7 +114,7 @@ fn bad_start() -> Outcome
 }
 
 impl Services {
-    /// Nothing runs on the host.
+    /// Returns the services of a host on which nothing runs.
     pub fn new(alloc: Global) -> Services
         ensures { result ≡ no_services }
     {
@@ -126,7 +126,8 @@ impl Services {
         }
     }
 
-    /// The socket on which the terminal that came last sends what is typed; none where there was no terminal yet.
+    /// Returns the socket on which the terminal that came last sends what is typed; none where there was no terminal
+    /// yet.
     pub fn typing(&self) -> Option<SendSocket>
         ensures { result ≡ self.now.typing }
     {
@@ -147,7 +148,7 @@ impl Services {
         Ok(())
     }
 
-    /// A service is the last now.
+    /// Adds a service as the last.
     #[tactic(auto, using(crate::proofs::BlockLemmas::joined))]
     fn join(&mut self, service: Service) -> Result<(), AllocError>
         ensures { OnOk result (self.new ≡ record self.old { running = self.old.running ++ service ∷ [] }) }
@@ -156,7 +157,7 @@ impl Services {
         self.last.push(service)
     }
 
-    /// Whether a notice may do something to one of them.
+    /// Returns whether a notice may do something to one of them.
     #[tactic(auto, using(crate::proofs::BlockLemmas::both_deaf))]
     fn hear(&self, notice: &Notice) -> bool
         ensures { OnFalse result (AreDeaf self.now.running notice.now) }
@@ -165,7 +166,7 @@ impl Services {
         any_hears(&self.full, subject) || self.last.hears(subject)
     }
 
-    /// Whether one of these notices may do something to one of them. Where none does, they needn't be told.
+    /// Returns whether one of these notices may do something to one of them. Where none does, they needn't hear it.
     pub fn hear_any(&self, notices: &[Notice]) -> bool
         ensures { OnFalse result ((d : ServiceDeskState) → turns.services_told notices.now self.now d ≡ turns.passed_by notices.now self.now d) }
     {
@@ -177,7 +178,7 @@ impl Services {
         false
     }
 
-    /// They are told of these notices of their host, one after another. What they ask for is asked at once.
+    /// Passes these notices of their host to the services, one after another. What they ask for is asked at once.
     ///
     /// Errors: `AllocError` when memory runs out, only where there is a notice.
     #[tactic(auto, unfolding(crate::specs::Turns::services_told))]
@@ -191,8 +192,8 @@ impl Services {
         Ok(())
     }
 
-    /// A server of an initial connection begins, on the odd socket `listen` and with an even base. One that can't begin, or whose
-    /// first requests are refused, is reported to have failed.
+    /// Starts a server of an initial connection, on the odd socket `listen` and with an even base. One that can't
+    /// begin, or whose first requests are refused, is reported to have failed.
     ///
     /// Errors: `AllocError` when memory runs out.
     #[tactic(auto, unfolding(crate::specs::Turns::server_begun))]
@@ -220,8 +221,8 @@ impl Services {
         Ok(())
     }
 
-    /// A user of an initial connection begins, from the even socket `own` to the odd socket `listen` of a peer. One that can't
-    /// begin, or whose first request is refused, is reported to have failed.
+    /// Starts a user of an initial connection, from the even socket `own` to the odd socket `listen` of a peer. One
+    /// that can't begin, or whose first request is refused, is reported to have failed.
     ///
     /// Errors: `AllocError` when memory runs out.
     #[tactic(auto, unfolding(crate::specs::Turns::user_begun))]

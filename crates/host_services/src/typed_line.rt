@@ -31,7 +31,7 @@ impl Model for TypedLine {
     ghost invariant = { λ l. IsTyped l.text.items l.bits };
 }
 
-/// All bits of these octets.
+/// Returns all bits of these octets.
 fn all_bits(alloc: Global, octets: &[u8]) -> Result<Bits, AllocError>
     ensures { IfOk result (λ bits. bits ≡ bits_of octets.now) }
 {
@@ -46,7 +46,7 @@ fn all_bits(alloc: Global, octets: &[u8]) -> Result<Bits, AllocError>
 }
 
 impl TypedLine {
-    /// A line with this text.
+    /// Returns a line with this text.
     ///
     /// Errors: `NotPrintable` where an octet of the text isn't from 32 to 126, then `OutOfMemory`.
     pub fn new(alloc: Global, text: &[u8]) -> Result<TypedLine, TerminalFault>
@@ -59,21 +59,21 @@ impl TypedLine {
         Ok(TypedLine { text: kept, bits })
     }
 
-    /// Its text.
+    /// Returns its text.
     pub fn text(&self) -> &[u8]
         ensures { result.now ≡ self.now }
     {
         &self.text
     }
 
-    /// How many bits are sent of it.
+    /// Returns how many bits are sent of it.
     pub fn bits(&self) -> usize
         ensures { result ≡ length (line_bits self.now) }
     {
         self.bits.len()
     }
 
-    /// That it be sent on a socket.
+    /// Returns the request to send this line on a socket.
     pub fn request(&self, socket: u32) -> Result<Request, AllocError>
         ensures { IfOk result (λ asked. asked ≡ request.Send socket (line_bits self.now)) }
     {

@@ -8,7 +8,7 @@ use leader1822::{Answer, Flow, HostAddr, HostMessage, Inbound, Link, Text};
 use sockets::{Ncp, NcpFault, Notice, Request};
 use std::alloc::Global;
 
-/// Something done to the program of 0/1. A peer is told by the number of its IMP.
+/// Something done to the program of 0/1. A peer is given by the number of its IMP.
 #[derive(Clone, Copy)]
 pub(crate) enum Act {
     Contact(u8),
@@ -24,7 +24,7 @@ pub(crate) enum Act {
     Echo(u8, u8),
     /// A control message of 0/2 comes in, with all bits of the octets beside it.
     Control,
-    /// A message of a peer comes in on a link, with so many bits of the octets beside it.
+    /// A message of a peer comes in on a link, with this many bits of the octets beside it.
     Hear(u8, u8, usize),
     /// An answer comes in about a message to a peer on a link.
     Answered(Answer, u8, u8),
@@ -36,7 +36,7 @@ pub(crate) enum Act {
 /// text, or nothing.
 pub(crate) type Row = (Act, &'static [u8], &'static str, &'static str);
 
-/// What stands before a scene.
+/// What precedes a scene.
 #[derive(Clone, Copy)]
 pub(crate) enum Start {
     /// Nothing.
@@ -47,7 +47,7 @@ pub(crate) enum Start {
     Opened,
 }
 
-/// Its name, what stands before it, and its rows.
+/// Its name, what precedes it, and its rows.
 pub(crate) type Scene = (&'static str, Start, &'static [Row]);
 
 /// Host 0 at an IMP. No row names an IMP that can't be.
@@ -58,7 +58,7 @@ pub(crate) fn host(imp: u8) -> HostAddr {
     }
 }
 
-/// Puts octets behind a text. `false` where no memory is left for them.
+/// Puts octets after a text. `false` where no memory is left for them.
 pub(crate) fn spell(out: &mut String, octets: &[u8]) -> bool {
     for octet in octets {
         if write!(out, "{octet:02X}").is_err() {
@@ -68,7 +68,7 @@ pub(crate) fn spell(out: &mut String, octets: &[u8]) -> bool {
     true
 }
 
-/// Puts a notice behind a text.
+/// Puts a notice after a text.
 fn tell(out: &mut String, notice: &Notice) -> Result<(), NcpFault> {
     let done = match notice {
         Notice::Ready { peer } => write!(out, "ready {peer}"),
@@ -117,7 +117,7 @@ fn tell(out: &mut String, notice: &Notice) -> Result<(), NcpFault> {
     }
 }
 
-/// So many bits of the octets.
+/// This many bits of the octets.
 fn bits_of(alloc: Global, octets: &[u8], count: usize) -> Result<Bits, NcpFault> {
     let Ok(bits) = Bits::from_octets(alloc, octets, count) else {
         return Err(NcpFault::OutOfMemory);
@@ -283,7 +283,7 @@ fn next(alloc: Global, ncp: &Ncp) -> Result<String, NcpFault> {
     Ok(out)
 }
 
-/// The place of the first row that something else comes of. So many rows went before: a row's place is its
+/// The place of the first row that something else comes of. This many rows went before: a row's place is its
 /// place in the log.
 fn first_other(
     alloc: Global,

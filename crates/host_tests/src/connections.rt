@@ -22,7 +22,7 @@ const A_LISTENER_ANSWERS_AND_CLOSES: [Row; 11] = [
     ),
     (Act::Offered, &[], "ended 33 0/2 16", ""),
     (Act::Answered(Answer::Rfnm, 2, 0), &[], "", ""),
-    // it listens no longer: the next request is refused, and nothing is told of its end
+    // it listens no longer: the next request is refused, and nothing is notified of its end
     (
         Act::Control,
         &[0, 8, 0, 10, 0, 1, 0, 0, 0, 16, 0, 0, 0, 33, 2],
@@ -117,7 +117,7 @@ const A_RECEIVER_CLOSES_AT_ONCE: [Row; 6] = [
         "0/2 0 0008000900030000001200000023",
     ),
     (Act::Offered, &[], "", ""),
-    // data for an end that is closing are dropped, and no error is told
+    // data for an end that is closing are dropped, and no error is reported
     (Act::Hear(2, 2, 48), &[0, 8, 0, 1, 0, 0xA5], "", ""),
     (Act::Control, &[0, 8, 0, 2, 0, 8, 2], "", ""),
     (

@@ -20,7 +20,7 @@ const AN_ILLEGAL_CODE_AND_MISSING_OCTETS_END_THE_READING: [Row; 7] = [
     ),
     (Act::Offered, &[], "", ""),
     (Act::Answered(Answer::Rfnm, 2, 0), &[], "", ""),
-    // the RST behind an illegal code isn't read
+    // the RST after an illegal code isn't read
     (
         Act::Control,
         &[0, 8, 0, 2, 0, 0xFF, 12],
@@ -131,7 +131,7 @@ const NOTHING_IS_TOLD_BEFORE_THE_PAIR_IS_READY: [Row; 8] = [
     (Act::Control, &[0, 8, 0, 1, 0, 0xFF], "", ""),
     (Act::Hear(2, 0, 8), &[0], "", ""),
     (Act::Hear(2, 5, 48), &[0, 8, 0, 1, 0, 0xA5], "", ""),
-    // an RRP that nobody waits for; and an ECO behind the RST that opens the pair
+    // an RRP that nobody waits for; and an ECO after the RST that opens the pair
     (Act::Control, &[0, 8, 0, 1, 0, 13], "", ""),
     (
         Act::Control,

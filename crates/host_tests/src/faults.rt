@@ -7,7 +7,7 @@ use std::fmt::Display;
 use std::process::Abort;
 use terminal::TerminalFault;
 
-/// Whether a value is told by this text.
+/// Whether a value is given by this text.
 fn is_told<T: Display + Drop>(alloc: Global, value: T, text: &str) -> bool {
     match format!(in alloc; "{}", value) {
         Ok(told) => told.as_str() == text,

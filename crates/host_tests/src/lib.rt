@@ -4,9 +4,9 @@
 //! A contract says what a call does on every value. It can't say that this is what was meant, nor that
 //! memory is left for the call. So the calls of `Ncp` are made here in tables of acts, each with what has to
 //! be told and what has to go out next, in octets that were written by hand from the formats. The machines
-//! above it are told notices, and what they say is compared with texts that were written from the rules.
+//! above it are given notices, and what they say is compared with texts that were written from the rules.
 //!
-//! The tests stand in a crate of their own, since a crate with tests is proved twice, with them and without
+//! The tests are in a crate of their own, since a crate with tests is proved twice, with them and without
 //! them. The tables are constants, since the prover reads a table in a function's body as code.
 #![tactic(auto)]
 

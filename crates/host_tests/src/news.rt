@@ -1,4 +1,4 @@
-//! What machines are told, and what they say.
+//! The notices to machines, and what they say.
 
 use crate::acts::{host, spell};
 use bit_messages::{BitFault, Bits};
@@ -6,21 +6,21 @@ use icp::{Outcome, Said};
 use sockets::{Notice, Request};
 use std::alloc::Global;
 
-/// Something that a machine is told. A peer is told by the number of its IMP.
+/// A notice to a machine. A peer is given by the number of its IMP.
 #[derive(Clone, Copy)]
 pub(crate) enum News {
     Opened(u32, u8, u32),
-    /// So many bits of the octets beside it arrived on a socket.
+    /// This many bits of the octets beside it arrived on a socket.
     Arrived(u32, usize),
     Ended(u32),
     Reset(u8),
     Interrupt(u32),
 }
 
-/// What a machine is told, with octets.
+/// The notices to a machine, with octets.
 pub(crate) type Row = (News, &'static [u8]);
 
-/// What a machine is told, and all that it says.
+/// The notices to a machine, and all that it says.
 pub(crate) type Scene = (&'static [Row], &'static str);
 
 /// The notice.
@@ -47,7 +47,7 @@ pub(crate) fn notice(alloc: Global, row: &Row) -> Result<Notice, BitFault> {
     })
 }
 
-/// Puts a word behind a text.
+/// Puts a word after a text.
 pub(crate) fn put(out: &mut String, word: &str) -> Result<(), BitFault> {
     if write!(out, "{word}").is_err() {
         return Err(BitFault::OutOfMemory);
@@ -55,7 +55,7 @@ pub(crate) fn put(out: &mut String, word: &str) -> Result<(), BitFault> {
     Ok(())
 }
 
-/// Puts a request behind a text.
+/// Puts a request after a text.
 fn tell_one(out: &mut String, request: &Request) -> Result<(), BitFault> {
     let done = match request {
         Request::Listen { socket, size } => write!(out, "listen {socket} {size}"),
@@ -88,7 +88,7 @@ fn tell_one(out: &mut String, request: &Request) -> Result<(), BitFault> {
     put(out, ", ")
 }
 
-/// Puts requests behind a text.
+/// Puts requests after a text.
 pub(crate) fn tell(out: &mut String, requests: &[Request]) -> Result<(), BitFault> {
     for request in requests {
         tell_one(out, request)?;
@@ -96,7 +96,7 @@ pub(crate) fn tell(out: &mut String, requests: &[Request]) -> Result<(), BitFaul
     Ok(())
 }
 
-/// Puts lines behind a text, in octets.
+/// Puts lines after a text, in octets.
 pub(crate) fn tell_lines(out: &mut String, lines: &[terminal::Line]) -> Result<(), BitFault> {
     for line in lines {
         put(out, "line ")?;
@@ -108,7 +108,7 @@ pub(crate) fn tell_lines(out: &mut String, lines: &[terminal::Line]) -> Result<(
     Ok(())
 }
 
-/// Puts an outcome behind a text.
+/// Puts an outcome after a text.
 pub(crate) fn tell_outcome(out: &mut String, outcome: &Outcome) -> Result<(), BitFault> {
     let done = match outcome {
         Outcome::Done { receive, send } => {
@@ -123,7 +123,7 @@ pub(crate) fn tell_outcome(out: &mut String, outcome: &Outcome) -> Result<(), Bi
     Ok(())
 }
 
-/// Puts what a machine says behind a text.
+/// Puts what a machine says after a text.
 pub(crate) fn tell_said(out: &mut String, said: &Said) -> Result<(), BitFault> {
     tell(out, &said.requests)?;
     match &said.outcome {

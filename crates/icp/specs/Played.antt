@@ -54,7 +54,7 @@ pub record IsServed (listen base : ℕ) (notices : List Notice) : Type 0 where
 
 -- ---- what a user's outcome says
 
--- the notices behind the first one that tells of the connection of this socket with that partner
+-- the notices after the first one that tells of the connection of this socket with that partner
 abbrev pub since_opened : ℕ → Host → ℕ → List Notice → List Notice
 since_opened own peer foreign [] = []
 since_opened own peer foreign (n ∷ ns) = if is_opened own peer foreign n then ns else since_opened own peer foreign ns

@@ -53,7 +53,7 @@ server_met s n = record s {
   sending = option_or s.sending (opened_on s.send n);
 }
 
--- the first user who comes is told the base, and then that connection is closed
+-- the first user who comes learns the base, and then that connection is closed
 abbrev pub server_says : ServerState → Notice → List Request
 server_says s n =
     if is_none s.user && is_some (opened_on s.listen n)

@@ -14,7 +14,7 @@ pub fn said()
     ensures { (n : ℕ) → n < 2 ^ 32 → socket_of (socket_bits n) ≡ n }
 {}
 
-/// What the outcome of a server says, whatever it was told.
+/// What the outcome of a server says, whatever notices it got.
 pub fn served()
     // it is done with its own two sockets, and only where a user had asked and both were opened by that user, crosswise
     ensures done { (listen base : ℕ) (ns : List Notice) (receive send : ℕ) → (server_played (opening_server listen base) ns).2 ≡ outcome.Done receive send ∷ [] → (receive ≡ base) × (send ≡ base + 1) × IsServed listen base ns }
@@ -23,7 +23,7 @@ pub fn served()
     ensures once { (s : ServerState) (ns : List Notice) → length (server_played s ns).2 ≤ 1 }
 {}
 
-/// What the outcome of a user says, whatever it was told.
+/// What the outcome of a user says, whatever notices it got.
 pub fn connected()
     // it is done with its own two sockets, and only where the server said an even base on the first connection, and both were
     // opened with the base and the socket above it, crosswise

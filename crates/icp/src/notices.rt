@@ -17,7 +17,7 @@ pub struct Partner {
 }
 
 impl Partner {
-    /// Whether it is this socket at this host.
+    /// Returns whether it is this socket at this host.
     pub(crate) fn is(&self, peer: HostAddr, socket: u32) -> bool
         ensures { result ≡ notices.is_partner peer socket self.now }
     {
@@ -25,7 +25,7 @@ impl Partner {
     }
 }
 
-/// The far end, where a connection of this socket was opened.
+/// Returns the far end, if a connection of this socket was opened.
 pub(crate) fn opened_on(socket: u32, notice: &Notice) -> Option<Partner>
     ensures { result ≡ notices.opened_on socket notice.now }
 {
@@ -43,7 +43,7 @@ pub(crate) fn opened_on(socket: u32, notice: &Notice) -> Option<Partner>
     }
 }
 
-/// Whether the connection of this socket with that partner was opened.
+/// Returns whether the connection of this socket with that partner was opened.
 pub(crate) fn is_opened(socket: u32, peer: HostAddr, foreign: u32, notice: &Notice) -> bool
     ensures { result ≡ notices.is_opened socket peer foreign notice.now }
 {
@@ -53,7 +53,7 @@ pub(crate) fn is_opened(socket: u32, peer: HostAddr, foreign: u32, notice: &Noti
     }
 }
 
-/// The bits that arrived, where they arrived on this socket.
+/// Returns the bits that arrived, if they arrived on this socket.
 pub(crate) fn arrived_on(own: u32, notice: &Notice) -> Option<&Bits>
     ensures { MatchOption result (notices.arrived_on own notice.now ≡ None) (λ bits. notices.arrived_on own notice.now ≡ Some bits.now) }
 {
@@ -63,7 +63,7 @@ pub(crate) fn arrived_on(own: u32, notice: &Notice) -> Option<&Bits>
     }
 }
 
-/// Whether a connection of this socket has ended.
+/// Returns whether a connection of this socket has ended.
 pub(crate) fn has_ended(own: u32, notice: &Notice) -> bool
     ensures { result ≡ notices.has_ended own notice.now }
 {
@@ -73,7 +73,7 @@ pub(crate) fn has_ended(own: u32, notice: &Notice) -> bool
     }
 }
 
-/// Whether all connections with this host are gone.
+/// Returns whether all connections with this host are gone.
 pub(crate) fn is_reset(host: HostAddr, notice: &Notice) -> bool
     ensures { result ≡ notices.is_reset host notice.now }
 {
@@ -83,7 +83,7 @@ pub(crate) fn is_reset(host: HostAddr, notice: &Notice) -> bool
     }
 }
 
-/// Whether all connections with the host of a partner are gone.
+/// Returns whether all connections with the host of a partner are gone.
 pub(crate) fn is_reset_of(partner: Option<Partner>, notice: &Notice) -> bool
     ensures { result ≡ notices.is_reset_of partner notice.now }
 {

@@ -18,7 +18,7 @@ pub enum Failure {
     /// All connections with the other host are gone.
     #[error("reset")]
     Reset,
-    /// The server's two sockets were opened, and not by the user who was told of them.
+    /// The server's two sockets were opened, and not by the user who was notified of them.
     #[error("stranger")]
     Stranger,
     /// The server said an odd base.
@@ -53,7 +53,7 @@ pub struct Said {
 }
 
 impl Said {
-    /// It asks for nothing.
+    /// Returns an outcome that asks for nothing.
     pub(crate) fn only(alloc: Global, outcome: Option<Outcome>) -> Said
         ensures requests { result.requests.items ≡ [] }
         ensures outcome { result.outcome ≡ outcome }
@@ -64,7 +64,7 @@ impl Said {
         }
     }
 
-    /// It has failed, and asks for nothing.
+    /// Returns a failure, which asks for nothing.
     pub(crate) fn failed(alloc: Global, failure: Failure) -> Said
         ensures requests { result.requests.items ≡ [] }
         ensures outcome { result.outcome ≡ Some (outcome.Failed failure) }
@@ -73,7 +73,7 @@ impl Said {
     }
 }
 
-/// What comes of a refused request: a machine without an outcome fails with `Local`.
+/// Returns what comes of a refused request: a machine without an outcome fails with `Local`.
 pub(crate) fn local(over: &mut bool, fault: NcpFault) -> Option<Outcome>
     ensures over { over.new ≡ true }
     ensures outcome { result ≡ local_outcome over.old fault }

@@ -54,7 +54,7 @@ impl Model for Server {
     ghost view = { λ s. record { listen = s.listen; receive = s.receive; send = s.send; user = s.user; receiving = s.receiving; sending = s.sending; over = s.over; spent = s.spent } };
 }
 
-/// Whether a socket lies so far above another one.
+/// Returns whether a socket lies so far above another one.
 fn is_step(from: u32, step: u32, socket: u32) -> bool
     ensures { result ≡ (socket == from + step) }
 {
@@ -64,14 +64,14 @@ fn is_step(from: u32, step: u32, socket: u32) -> bool
     }
 }
 
-/// Whether a partner is the socket so far above this one, at the same host.
+/// Returns whether a partner is the socket so far above this one, at the same host.
 fn is_above(user: &Partner, step: u32, partner: &Partner) -> bool
     ensures { result ≡ notices.is_partner user.now.peer (user.now.socket + step) partner.now }
 {
     partner.peer == user.peer && is_step(user.socket, step, partner.socket)
 }
 
-/// Whether the partners of the two ends are the user's sockets.
+/// Returns whether the partners of the two ends are the user's sockets.
 fn are_of(user: Option<Partner>, receiving: &Partner, sending: &Partner) -> bool
     ensures { result ≡ servers.are_of user receiving.now sending.now }
 {
@@ -83,7 +83,7 @@ fn are_of(user: Option<Partner>, receiving: &Partner, sending: &Partner) -> bool
     }
 }
 
-/// What a server asks for first: it listens on its three sockets.
+/// Returns what a server asks for first: it listens on its three sockets.
 fn listens(alloc: Global, listen: u32, receive: u32, send: u32) -> Result<Vec<Request>, AllocError>
     ensures { IfOk result (λ requests. requests.items ≡ request.Listen listen 32 ∷ request.Listen receive 8 ∷ request.Listen send 8 ∷ []) }
 {
@@ -104,8 +104,8 @@ fn listens(alloc: Global, listen: u32, receive: u32, send: u32) -> Result<Vec<Re
 }
 
 impl Server {
-    /// A server on the odd socket `listen`, with an even base, and its first requests: it listens on `listen`
-    /// with bytes of 32 bits, and on the base and the socket above it with octets.
+    /// Starts a server on the odd socket `listen`, with an even base, and returns it with its first requests: it
+    /// listens on `listen` with bytes of 32 bits, and on the base and the socket above it with octets.
     ///
     /// Errors: `BadSocket` where `listen` is even or the base odd, then `OutOfMemory`.
     pub fn start(
@@ -137,49 +137,49 @@ impl Server {
         Ok((server, requests))
     }
 
-    /// Whether it has had its outcome.
+    /// Returns whether it has had its outcome.
     pub fn is_over(&self) -> bool
         ensures { result ≡ self.now.over }
     {
         self.over
     }
 
-    /// The socket on which users ask.
+    /// Returns the socket on which users ask.
     pub fn listen(&self) -> SendSocket
         ensures { result ≡ self.now.listen }
     {
         self.listen
     }
 
-    /// The socket on which it serves and receives.
+    /// Returns the socket on which it serves and receives.
     pub fn receive(&self) -> ReceiveSocket
         ensures { result ≡ self.now.receive }
     {
         self.receive
     }
 
-    /// The socket on which it serves and sends.
+    /// Returns the socket on which it serves and sends.
     pub fn send(&self) -> SendSocket
         ensures { result ≡ self.now.send }
     {
         self.send
     }
 
-    /// Whether both ends on which it serves were opened.
+    /// Returns whether both ends on which it serves were opened.
     pub fn is_open(&self) -> bool
         ensures { result ≡ (is_some self.now.receiving && is_some self.now.sending) }
     {
         self.receiving.is_some() && self.sending.is_some()
     }
 
-    /// Whether running out of memory has made it useless.
+    /// Returns whether running out of memory has made it useless.
     pub fn is_spent(&self) -> bool
         ensures { result ≡ self.now.spent }
     {
         self.spent
     }
 
-    /// Whether one of its connections ended before it was used.
+    /// Returns whether one of its connections ended before it was used.
     fn is_refused(&self, notice: &Notice) -> bool
         ensures { result ≡ servers.server_refused self.now notice.now }
     {
@@ -188,7 +188,7 @@ impl Server {
             || self.user.is_none() && has_ended(self.listen.number(), notice)
     }
 
-    /// Whether the notice says that all connections are gone with a host with which one of its own was opened.
+    /// Returns whether the notice says that all connections are gone with a host with which one of its own was opened.
     fn is_reset(&self, notice: &Notice) -> bool
         ensures { result ≡ servers.server_reset self.now notice.now }
     {
@@ -197,7 +197,7 @@ impl Server {
             || is_reset_of(self.sending, notice)
     }
 
-    /// Why it fails at a notice.
+    /// Returns why it fails at a notice.
     fn failure(&self, notice: &Notice) -> Option<Failure>
         ensures { result ≡ servers.server_failure self.now notice.now }
     {
@@ -210,7 +210,7 @@ impl Server {
         }
     }
 
-    /// The first opening of each of its sockets counts.
+    /// Records the first opening of each of its sockets.
     fn meet(&mut self, notice: &Notice)
         ensures { self.new ≡ servers.server_met self.old notice.now }
     {
@@ -219,7 +219,7 @@ impl Server {
         self.sending = self.sending.or(opened_on(self.send.number(), notice));
     }
 
-    /// What it asks for: the first user who comes is told the base, and that connection is closed.
+    /// Returns what it asks for: the first user who comes learns the base, and that connection is closed.
     fn requests(&self, notice: &Notice) -> Result<Vec<Request>, AllocError>
         ensures requests { IfOk result (λ requests. requests.items ≡ servers.server_says self.now notice.now) }
         ensures memory { OnErr result (0 < length (servers.server_says self.now notice.now)) }
@@ -234,7 +234,7 @@ impl Server {
         Ok(requests)
     }
 
-    /// Its outcome, once both ends are open.
+    /// Returns its outcome, once both ends are open.
     fn verdict(&self) -> Option<Outcome>
         ensures { result ≡ servers.server_verdict self.now self.now.receiving self.now.sending }
     {
@@ -251,7 +251,7 @@ impl Server {
         }
     }
 
-    /// Its turn at a notice.
+    /// Takes its turn at a notice.
     #[tactic(auto, unfolding(crate::specs::Server::server_turn))]
     fn hear(&mut self, notice: &Notice) -> Result<Said, AllocError>
         ensures turn { IfOk result (λ said. servers.server_turn self.old notice.now ≡ (self.new, said.requests.items, said.outcome)) }

@@ -11,7 +11,7 @@ use std::alloc::{AllocError, Global};
 /// How many bits a socket number has.
 pub(crate) const SOCKET_BITS: usize = 32;
 
-/// A socket number in 32 bits, the most significant first.
+/// Returns a socket number in 32 bits, the most significant first.
 pub(crate) fn socket_bits(alloc: Global, socket: u32) -> Result<Bits, AllocError>
     ensures { IfOk result (λ bits. bits ≡ socket_bits socket) }
 {
@@ -22,7 +22,7 @@ pub(crate) fn socket_bits(alloc: Global, socket: u32) -> Result<Bits, AllocError
     }
 }
 
-/// The number in the first four octets.
+/// Returns the number in the first four octets.
 fn number(octets: &[u8]) -> u32
     requires there { 4 ≤ length octets.now }
     ensures { result ≡ number_at w32 octets.now 0 }
@@ -30,7 +30,7 @@ fn number(octets: &[u8]) -> u32
     u32::from_be_bytes([octets[0], octets[1], octets[2], octets[3]])
 }
 
-/// The number in the first 32 bits.
+/// Returns the number in the first 32 bits.
 #[tactic(auto, using(crate::proofs::SocketLemmas::four_octets))]
 pub(crate) fn socket_of(alloc: Global, bits: &Bits) -> Result<u32, AllocError>
     requires there { 32 ≤ length bits.now }
@@ -43,7 +43,7 @@ pub(crate) fn socket_of(alloc: Global, bits: &Bits) -> Result<u32, AllocError>
     }
 }
 
-/// Puts bits behind those that were kept.
+/// Puts bits after those that were kept.
 pub(crate) fn join(kept: &mut Bits, bits: &Bits) -> Result<(), AllocError>
     ensures joined { IfOk result (λ _. kept.new ≡ kept.old ++ bits.now) }
     ensures memory { OnErr result (0 < length bits.now) }

@@ -52,8 +52,8 @@ impl Model for User {
 }
 
 impl User {
-    /// A user at the host's even socket `own` who asks the odd socket `listen` of a peer, and its first
-    /// request.
+    /// Starts a user at the host's even socket `own` who asks the odd socket `listen` of a peer, and returns it with
+    /// its first request.
     ///
     /// Errors: `BadSocket` where `listen` is even, `own` is odd or the socket three above it has more than 32
     /// bits, then `OutOfMemory`.
@@ -77,7 +77,7 @@ impl User {
         Ok((user, requests))
     }
 
-    /// A user before its first request; `None` where a socket is bad.
+    /// Returns a user before its first request; `None` where a socket is bad.
     fn new(alloc: Global, peer: HostAddr, listen: u32, own: u32) -> Option<User>
         ensures { MatchOption result (user_fault listen own ≡ Some fault.BadSocket) (λ user. (user_fault listen own ≡ None) × (user ≡ users.opening_user peer listen own)) }
     {
@@ -99,49 +99,49 @@ impl User {
         })
     }
 
-    /// Whether it has had its outcome.
+    /// Returns whether it has had its outcome.
     pub fn is_over(&self) -> bool
         ensures { result ≡ self.now.over }
     {
         self.over
     }
 
-    /// Its socket that asks.
+    /// Returns its socket that asks.
     pub fn own(&self) -> ReceiveSocket
         ensures { result ≡ self.now.own }
     {
         self.own
     }
 
-    /// The socket on which it is to receive.
+    /// Returns the socket on which it is to receive.
     pub fn receive(&self) -> ReceiveSocket
         ensures { result ≡ self.now.receive }
     {
         self.receive
     }
 
-    /// The socket on which it is to send.
+    /// Returns the socket on which it is to send.
     pub fn send(&self) -> SendSocket
         ensures { result ≡ self.now.send }
     {
         self.send
     }
 
-    /// Whether both connections were opened that are to be used.
+    /// Returns whether both connections were opened that are to be used.
     pub fn is_open(&self) -> bool
         ensures { result ≡ (self.now.receiving && self.now.sending) }
     {
         self.receiving && self.sending
     }
 
-    /// Whether running out of memory has made it useless.
+    /// Returns whether running out of memory has made it useless.
     pub fn is_spent(&self) -> bool
         ensures { result ≡ self.now.spent }
     {
         self.spent
     }
 
-    /// Whether a connection that it has asked for has ended, save the first one once the base is known.
+    /// Returns whether a connection that it has asked for has ended, save the first one once the base is known.
     fn is_refused(&self, notice: &Notice) -> bool
         ensures { result ≡ users.user_refused self.now notice.now }
     {
@@ -153,7 +153,7 @@ impl User {
         }
     }
 
-    /// Why it fails at a notice.
+    /// Returns why it fails at a notice.
     fn failure(&self, notice: &Notice) -> Option<Failure>
         ensures { result ≡ users.user_failure self.now notice.now }
     {
@@ -166,7 +166,7 @@ impl User {
         }
     }
 
-    /// It waits for the first connection: once that is open, 32 bits are granted.
+    /// Waits for the first connection: once that is open, 32 bits are granted.
     fn first(&mut self, notice: &Notice) -> Result<Said, AllocError>
         ensures turn { IfOk result (λ said. users.user_opened self.old notice.now ≡ (self.new, said.requests.items, said.outcome)) }
         ensures memory { OnErr result (0 < length (users.user_opened self.old notice.now).1) }
@@ -187,7 +187,7 @@ impl User {
         })
     }
 
-    /// What it asks for when it knows the base: the first connection is closed, and the two are asked for.
+    /// Returns what it asks for when it knows the base: the first connection is closed, and the two are asked for.
     fn asks(&self, base: ReceiveSocket) -> Result<Vec<Request>, AllocError>
         ensures { IfOk result (λ requests. requests.items ≡ request.Close self.now.own ∷ request.OpenReceive self.now.peer self.now.receive (base + 1) ∷ request.OpenSend self.now.peer self.now.send base 8 ∷ []) }
     {
@@ -209,7 +209,7 @@ impl User {
         Ok(requests)
     }
 
-    /// It knows the base.
+    /// Handles the base, which is known now.
     fn learn(&mut self, base: u32) -> Result<Said, AllocError>
         ensures { IfOk result (λ said. users.user_told self.old base ≡ (self.new, said.requests.items, said.outcome)) }
     {
@@ -231,7 +231,7 @@ impl User {
         })
     }
 
-    /// Bits of the base came.
+    /// Adds bits of the base that came.
     #[tactic(auto, using(crate::proofs::UserLemmas::joined_asks))]
     fn join(&mut self, bits: &Bits) -> Result<Said, AllocError>
         ensures turn { IfOk result (λ said. users.user_joined self.old (self.old.bits ++ bits.now) ≡ (self.new, said.requests.items, said.outcome)) }
@@ -246,7 +246,7 @@ impl User {
         self.learn(base)
     }
 
-    /// It waits for the base.
+    /// Waits for the base.
     fn read(&mut self, notice: &Notice) -> Result<Said, AllocError>
         ensures turn { IfOk result (λ said. users.user_heard self.old (arrived_on self.old.own notice.now) ≡ (self.new, said.requests.items, said.outcome)) }
         ensures memory { OnErr result (brings_bits self.old.own notice.now ≡ false → 0 < length (users.user_heard self.old (arrived_on self.old.own notice.now)).1) }
@@ -257,7 +257,7 @@ impl User {
         }
     }
 
-    /// It waits for the two connections.
+    /// Waits for the two connections.
     fn meet(&mut self, base: ReceiveSocket, notice: &Notice) -> Said
         ensures { users.user_judged (users.user_met self.old base notice.now) ≡ (self.new, result.requests.items, result.outcome) }
     {
@@ -282,7 +282,7 @@ impl User {
         )
     }
 
-    /// Its turn at a notice that isn't its failure.
+    /// Takes its turn at a notice that isn't its failure.
     fn go_on(&mut self, notice: &Notice) -> Result<Said, AllocError>
         ensures turn { IfOk result (λ said. users.user_stage self.old notice.now self.old.base ≡ (self.new, said.requests.items, said.outcome)) }
         ensures memory { OnErr result (users.user_reads self.old notice.now ≡ false → 0 < length (users.user_stage self.old notice.now self.old.base).1) }
@@ -294,7 +294,7 @@ impl User {
         }
     }
 
-    /// Its turn at a notice.
+    /// Takes its turn at a notice.
     #[tactic(auto, unfolding(crate::specs::User::user_turn))]
     fn hear(&mut self, notice: &Notice) -> Result<Said, AllocError>
         ensures turn { IfOk result (λ said. users.user_turn self.old notice.now ≡ (self.new, said.requests.items, said.outcome)) }

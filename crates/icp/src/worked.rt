@@ -41,7 +41,7 @@ pub fn worked_starts()
 /// What a server does.
 #[tactic(auto, unfolding(crate::specs::Server::server_turn))]
 pub fn worked_server()
-    // the user is told the base, and the server is done when both ends are open, in whichever order
+    // the user learns the base, and the server is done when both ends are open, in whichever order
     ensures done { server_ends (opened_notice 7 first 16 ∷ opened_notice 101 first 18 ∷ opened_notice 100 first 19 ∷ []) ≡ outcome.Done 100 101 ∷ [] }
     ensures other_order { server_ends (opened_notice 7 first 16 ∷ opened_notice 100 first 19 ∷ opened_notice 101 first 18 ∷ []) ≡ outcome.Done 100 101 ∷ [] }
     ensures asks { server_asks (opened_notice 7 first 16 ∷ opened_notice 101 first 18 ∷ opened_notice 100 first 19 ∷ []) ≡ request.Send 7 (bits_of (0 ∷ 0 ∷ 0 ∷ 100 ∷ [])) ∷ request.Close 7 ∷ [] }
@@ -55,7 +55,7 @@ pub fn worked_server()
     ensures other_sockets { server_ends (opened_notice 7 first 16 ∷ opened_notice 101 first 20 ∷ opened_notice 100 first 21 ∷ []) ≡ outcome.Failed failure.Stranger ∷ [] }
     ensures other_host { server_ends (opened_notice 7 first 16 ∷ opened_notice 101 first 18 ∷ opened_notice 100 third 19 ∷ []) ≡ outcome.Failed failure.Stranger ∷ [] }
 
-    // the first user counts: a second one is told nothing, and may not have the first one's place
+    // the first user counts: a second one gets no notice, and may not have the first one's place
     ensures second_user { server_asks (opened_notice 7 first 16 ∷ opened_notice 7 third 16 ∷ []) ≡ request.Send 7 (bits_of (0 ∷ 0 ∷ 0 ∷ 100 ∷ [])) ∷ request.Close 7 ∷ [] }
     ensures for_the_first { server_ends (opened_notice 7 first 16 ∷ opened_notice 7 third 16 ∷ opened_notice 101 first 18 ∷ opened_notice 100 first 19 ∷ []) ≡ outcome.Done 100 101 ∷ [] }
     ensures for_the_second { server_ends (opened_notice 7 first 16 ∷ opened_notice 7 third 16 ∷ opened_notice 101 third 18 ∷ opened_notice 100 third 19 ∷ []) ≡ outcome.Failed failure.Stranger ∷ [] }

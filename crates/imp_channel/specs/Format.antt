@@ -57,7 +57,7 @@ spelling f = version ∷ after_version f
 
 -- ---- reading
 
--- so many bits of an octet, that in the lowest place first
+-- this many bits of an octet, that in the lowest place first
 unfoldable pub bits_of : ℕ → ℕ → List Bool
 bits_of zero octet = []
 bits_of (suc count) octet = (octet % 2 == 1) ∷ bits_of count (octet / 2)

@@ -21,7 +21,7 @@ pub struct Channel {
 }
 
 impl Channel {
-    /// A channel that has sent nothing: its first packet goes out under bit 0.
+    /// Returns a channel that has sent nothing: its first packet goes out under bit 0.
     pub(crate) fn new() -> Self
         ensures { result ≡ opening_channel }
     {
@@ -49,7 +49,8 @@ impl Channel {
     }
 }
 
-/// Whether these are the same bits. All are looked at, with no early end, so that eight of them are compared at once.
+/// Returns whether these are the same bits. All are looked at, with no early end, so that eight of them are compared at
+/// once.
 pub(crate) fn are_same(acks: &[bool; ACKS], bits: &[bool; ACKS]) -> bool
     ensures { result ≡ true → acks.now ≡ bits.now }
 {
@@ -60,7 +61,7 @@ pub(crate) fn are_same(acks: &[bool; ACKS], bits: &[bool; ACKS]) -> bool
     same
 }
 
-/// Takes the acknowledgement bit of each channel, and answers how many channels were freed. The channels' own bits stand beside
+/// Takes the acknowledgement bit of each channel, and answers how many channels were freed. The channels' own bits are beside
 /// them, before and after.
 pub(crate) fn acknowledge_all(
     channels: &mut [Channel],

@@ -75,7 +75,7 @@ impl Carried {
         }
     }
 
-    /// The channel, at most 7.
+    /// Returns the channel, at most 7.
     pub fn channel(&self) -> u8
         ensures value { result ≡ self.now.channel }
         ensures in_range { result < ACKS }
@@ -83,21 +83,21 @@ impl Carried {
         self.channel
     }
 
-    /// The packet's bit on its channel.
+    /// Returns the packet's bit on its channel.
     pub fn bit(&self) -> bool
         ensures { result ≡ self.now.bit }
     {
         self.bit
     }
 
-    /// The packet that the frame carries.
+    /// Returns the packet that the frame carries.
     pub fn packet(&self) -> &Packet
         ensures { result.now ≡ self.now.packet }
     {
         &self.packet
     }
 
-    /// The octet that says the channel and the bit.
+    /// Returns the octet that says the channel and the bit.
     fn octet(&self) -> u8
         ensures value { result ≡ channel_octet self.now }
         ensures in_range { self.now.channel < ACKS }
@@ -106,7 +106,7 @@ impl Carried {
         bit + self.channel
     }
 
-    /// The packet by value.
+    /// Returns the packet by value.
     pub fn into_packet(self) -> Packet
         ensures { result ≡ self.packet }
     {
@@ -115,7 +115,7 @@ impl Carried {
 }
 
 impl Frame {
-    /// The frame that these octets spell.
+    /// Returns the frame that these octets spell.
     ///
     /// Errors: `BadVersion` for a first octet that isn't [`VERSION`], whatever follows it; `Short` for fewer
     /// than three octets, a packet frame without a channel, a routes frame with fewer than [`MOST_IMPS`]
@@ -136,9 +136,9 @@ impl Frame {
         read_frame(alloc, rest)
     }
 
-    /// The octets that spell it.
+    /// Returns the octets that spell it.
     ///
-    /// Errors: `OutOfMemory` alone.
+    /// Errors: only `OutOfMemory`.
     pub fn write(&self, alloc: Global) -> Result<Vec<u8>, ChannelFault>
         ensures spelled { IfOk result (λ octets. octets.items ≡ spelling self.now) }
         ensures again { IfOk result (λ octets. read_of octets.items ≡ Ok self.now) }
@@ -260,7 +260,7 @@ fn read_routes(rest: &[u8]) -> Result<Content, ChannelFault>
     }
 }
 
-/// Which kind of frame brings this.
+/// Returns which kind of frame brings this.
 fn kind_octet(content: &Content) -> u8
     ensures { result ≡ kind_octet content.now }
 {
@@ -288,7 +288,7 @@ fn write_rest(content: &Content, alloc: Global, octets: &mut Vec<u8>) -> Result<
     Ok(())
 }
 
-/// The octet of acknowledgement bits, that of channel 0 in the lowest place.
+/// Returns the octet of acknowledgement bits, that of channel 0 in the lowest place.
 fn octet_of(acks: &[bool; ACKS]) -> u8
     ensures octet { result ≡ octet_of acks.now }
     ensures again { bits_of ACKS result ≡ acks.now }
@@ -300,14 +300,14 @@ fn octet_of(acks: &[bool; ACKS]) -> u8
     octet
 }
 
-/// A bit as a number.
+/// Returns a bit as a number.
 fn bit_value(bit: bool) -> u8
     ensures { result ≡ bit_value bit }
 {
     u8::from(bit)
 }
 
-/// The acknowledgement bits of an octet, that in the lowest place first.
+/// Returns the acknowledgement bits of an octet, that in the lowest place first.
 fn bits_of(octet: u8) -> [bool; ACKS]
     ensures bits { result ≡ bits_of ACKS octet }
     ensures again { octet_of result ≡ octet }

@@ -22,7 +22,7 @@ pub fn spellings()
     // what is written is read again
     ensures again { (f : Frame) → IsFrame f → read_of (spelling f) ≡ Ok f }
 
-    // what is read keeps the format, and was its spelling: nothing stands after its end
+    // what is read keeps the format, and was its spelling: nothing is after its end
     ensures read { (octets : List ℕ) (f : Frame) → All (λ n. n < 256) octets → read_of octets ≡ Ok f → IsFrame f × (octets ≡ spelling f) }
 
     // two frames are spelled differently
@@ -31,7 +31,7 @@ pub fn spellings()
 
 /// Frames octet by octet, and octets that are none.
 pub fn worked_frames()
-    // acknowledgements alone: the bit of channel 0 is the lowest
+    // acknowledgements only: the bit of channel 0 is the lowest
     ensures acks { read_of (242 ∷ 1 ∷ 1 ∷ []) ≡ Ok (record { acks = true ∷ replicate 7 false; content = content.Nothing }) }
     ensures last_ack { spelling (record { acks = replicate 7 false ++ true ∷ []; content = content.Nothing }) ≡ 242 ∷ 1 ∷ 128 ∷ [] }
 

@@ -50,7 +50,7 @@ impl Model for Line {
 }
 
 impl Line {
-    /// An end that was just reset: all channels are free, and bit 0 comes first both ways.
+    /// Returns an end that was just reset: all channels are free, and bit 0 comes first both ways.
     pub fn new(alloc: Global) -> Result<Self, AllocError>
         ensures { IfOk result (λ line. line ≡ opening_end) }
     {
@@ -101,7 +101,7 @@ impl Line {
         take_content(&mut self.expected, content)
     }
 
-    /// Whether `receive` would answer `Fresh`. Nothing changes.
+    /// Returns whether `receive` would answer `Fresh`. Nothing changes.
     pub fn is_fresh(&self, frame: &Frame) -> bool
         ensures { result ≡ is_fresh_answer (answer_to self.now frame.now) }
     {
@@ -112,7 +112,7 @@ impl Line {
         }
     }
 
-    /// Whether `receive` would answer `Repeat`. Nothing changes.
+    /// Returns whether `receive` would answer `Repeat`. Nothing changes.
     pub fn is_repeat(&self, frame: &Frame) -> bool
         ensures { result ≡ is_repeat_answer (answer_to self.now frame.now) }
     {
@@ -123,7 +123,7 @@ impl Line {
         }
     }
 
-    /// The frames of all busy channels once more, in channel order. Only a packet's copy needs memory, so a
+    /// Returns the frames of all busy channels once more, in channel order. Only a packet's copy needs memory, so a
     /// line without a busy channel always answers.
     #[tactic(auto, using(crate::proofs::Calls::frames_more, crate::proofs::Calls::none_sent))]
     pub fn resend(&self, alloc: Global) -> Result<Vec<Frame>, AllocError>
@@ -140,7 +140,7 @@ impl Line {
         Ok(frames)
     }
 
-    /// The frame of a channel once more; `None` where the channel is free. Only the packet's copy needs memory.
+    /// Returns the frame of a channel once more; `None` where the channel is free. Only the packet's copy needs memory.
     pub fn again(&self, channel: u8) -> Result<Option<Frame>, AllocError>
         requires { channel < ACKS }
         ensures ok { IfOk result (λ frame. option_to_list frame ≡ frames_of self.now channel (channel_at self.now channel).bit (channel_at self.now channel).packet) }
@@ -156,7 +156,7 @@ impl Line {
         }
     }
 
-    /// Whether no channel is free, so that `submit` would put no packet in. This takes no memory.
+    /// Returns whether no channel is free, so that `submit` would put no packet in. This takes no memory.
     #[tactic(auto, using(crate::proofs::Calls::full_told))]
     pub fn is_full(&self) -> bool
         ensures { result ≡ is_none (position is_free self.now.sending) }
@@ -181,42 +181,42 @@ impl Line {
         Ok(packets)
     }
 
-    /// A frame that brings acknowledgements alone.
+    /// Returns a frame that brings acknowledgements only.
     pub fn ack_frame(&self) -> Frame
         ensures { result ≡ acknowledgement self.now }
     {
         self.frame(Content::Nothing)
     }
 
-    /// A frame that brings distances, beside the acknowledgements.
+    /// Returns a frame that brings distances, beside the acknowledgements.
     pub fn routes_frame(&self, vector: Vector) -> Frame
         ensures { result ≡ routes_frame self.now vector }
     {
         self.frame(Content::Routes(vector))
     }
 
-    /// The packet that waits in a channel; `None` where it is free or isn't in use.
+    /// Returns the packet that waits in a channel; `None` where it is free or isn't in use.
     pub fn packet(&self, channel: u8) -> Option<&Packet>
         ensures { option_copied result ≡ (channel_at self.now channel).packet }
     {
         self.channels.get(channel as usize)?.packet.as_ref()
     }
 
-    /// Its sending channels, in their order.
+    /// Returns its sending channels, in their order.
     pub fn channels(&self) -> &[Channel]
         ensures { result.now ≡ self.now.sending }
     {
         &self.channels
     }
 
-    /// The bit that it expects next on each channel of the other end, that of channel 0 first.
+    /// Returns the bit that it expects next on each channel of the other end, that of channel 0 first.
     pub fn expected(&self) -> &[bool; ACKS]
         ensures { result.now ≡ self.now.expected }
     {
         &self.expected
     }
 
-    /// How many channels are busy: at most eight.
+    /// Returns how many channels are busy: at most eight.
     #[tactic(auto, using(crate::proofs::Calls::packets_counted))]
     pub fn busy_channels(&self) -> usize
         ensures count { result ≡ length (packets_in self.now.sending) }
@@ -226,7 +226,7 @@ impl Line {
         self.busy
     }
 
-    /// Takes the acknowledgement bit of each channel. They matter to a busy one alone. It is all that `receive` does with a frame that
+    /// Takes the acknowledgement bit of each channel. They matter to a busy one only. It is all that `receive` does with a frame that
     /// brings no packet.
     #[tactic(auto, using(crate::proofs::Acknowledging::own_acknowledged))]
     pub fn acknowledge(&mut self, acks: &[bool; ACKS])
@@ -256,7 +256,7 @@ impl Line {
         Ok(())
     }
 
-    /// A frame with this content. Every frame carries the bits that are expected next.
+    /// Returns a frame with this content. Every frame carries the bits that are expected next.
     fn frame(&self, content: Content) -> Frame
         ensures { result ≡ frame_of self.now content }
     {
@@ -281,16 +281,16 @@ fn fill(channels: &mut [Channel], at: usize, packet: Packet) -> bool
     channel.bit
 }
 
-/// The lowest free one of these channels.
+/// Returns the lowest free one of these channels.
 fn lowest_free(channels: &[Channel]) -> Option<usize>
     ensures { result ≡ position is_free channels.now }
 {
     channels.iter().position(|channel| channel.packet.is_none())
 }
 
-/// A frame's packet is on a channel that is in use.
+/// Proves that a frame's packet is on a channel that is in use.
 ///
-/// It is there for the proof alone, and does nothing: `Carried::channel` tells that the channel is one of the eight.
+/// It is there for the proof only, and does nothing: `Carried::channel` tells that the channel is one of the eight.
 fn channel_in_use(content: &Content)
     ensures { is_foreign content.now ≡ false }
 {
@@ -299,7 +299,7 @@ fn channel_in_use(content: &Content)
     }
 }
 
-/// Whether a packet has the bit that is expected on its channel.
+/// Returns whether a packet has the bit that is expected on its channel.
 fn has_expected_bit(expected: &[bool; ACKS], carried: &Carried) -> bool
     ensures { result ≡ has_expected_bit expected.now carried.now }
 {

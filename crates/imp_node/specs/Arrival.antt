@@ -37,7 +37,7 @@ pub data Arrival : Type 0 where
   Passing : Arrival
   -- a piece with an old number, or one that its slot has already or that contradicts it; or a question that is not answered
   Old : Arrival
-  -- what ends a message that isn't whole: its number is noted with this fate, and its source is told so by a packet of this kind.
+  -- what ends a message that isn't whole: its number is noted with this fate, and its source is informed so by a packet of this kind.
   -- A piece with a new number for a host that is down or not there (Dead), or a question about a new number (Never)
   Undeliverable : (new : Fate) → (told : PacketKind) → Arrival
   -- a question about the number noted last, which is answered by a packet of this kind
@@ -134,7 +134,7 @@ frame_taken k f s = with_port s k (record (port_at s.ports k) { line = state_aft
 abbrev pub acknowledged : ℕ → State → List Outgoing
 acknowledged k s = record { port = k; frame = acknowledgement (port_at s.ports k).line } ∷ []
 
--- the neighbour's distances stand in place of those heard before
+-- the neighbour's distances are in place of those heard before
 abbrev pub vector_heard : ℕ → List ℕ → State → State
 vector_heard k distances s = record s { routes = hears s.routes k distances }
 

@@ -61,7 +61,7 @@ no_acks = replicate 8 false
 abbrev pub packet_frame : ℕ → PacketFields → Frame
 packet_frame channel p = record { acks = no_acks; content = content.Packet (record { channel = channel; bit = false; packet = p }) }
 
--- an acknowledgement of channel 0 alone
+-- an acknowledgement of channel 0 only
 abbrev pub ack_frame : Frame
 ack_frame = record { acks = true ∷ replicate 7 false; content = content.Nothing }
 
@@ -103,7 +103,7 @@ queueing queue = record (opening_node 1 2 0) { hosts = up_host ∷ record up_hos
 abbrev pub serving : List Message → State
 serving queue = record (opening_node 1 2 1) { hosts = record up_host { queue = queue } ∷ up_host ∷ []; routes = record { own = 1; heard = Some from_2 ∷ [] } }
 
--- slots of so many flows, each with the first packet of a longer message
+-- slots of this many flows, each with the first packet of a longer message
 abbrev pub slots_of : ℕ → List SlotState
 slots_of count = map (λ link. record { flow = flow (host 0 2) (host 0 1) link; number = 0; pieces = first_packet (flow (host 0 2) (host 0 1) link) 0 (replicate 1008 false) ∷ [] }) (range_with_len 0 count)
 

@@ -66,7 +66,7 @@ noted f n new s = record s { kept = tables.noted s.kept f n new }
 abbrev pub fated : Flow → ℕ → Fate → State → State
 fated f n new s = record s { kept = tables.ended s.kept f n new }
 
--- a whole message waits for its host behind the others
+-- a whole message waits for its host after the others
 abbrev pub message_queued : Message → State → State
 message_queued m s = record s {
   hosts = slice_set s.hosts m.flow.destination.host (record (host_at s m.flow.destination.host) { queue = (host_at s m.flow.destination.host).queue ++ m ∷ [] });

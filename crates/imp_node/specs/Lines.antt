@@ -1,4 +1,4 @@
--- The ends of lines: what is sent again, the distances that are told, and ends that go down and up.
+-- The ends of lines: what is sent again, the distances that are announced, and ends that go down and up.
 use Rattle.std.specs.Prelude.{ℕ, ◌+◌, true, List, [], ◌∷◌, ◌++◌, length, map, Option, Some, None, nat_lt, slice_set, if◌then◌else◌}
 use Rattle.leader1822.specs.declared.carrier.CarrierFault.{CarrierFault}
 use Rattle.leader1822.specs.declared.carrier.CarrierFault.TheVariants as fault
@@ -55,7 +55,7 @@ end_down_refusal s k = end_refusal s k (if (port_at s.ports k).up then None else
 abbrev pub end_up_refusal : State → ℕ → Option CarrierFault
 end_up_refusal s k = end_refusal s k (if (port_at s.ports k).up then Some fault.IsUp else None)
 
--- The packets of its channels wait behind those that wait already, for other routes. The end is as just reset, and the
+-- The packets of its channels wait after those that wait already, for other routes. The end is as just reset, and the
 -- distances that were heard on it are forgotten
 abbrev pub end_down : State → ℕ → ImpTurn
 end_down s k = pump [] (record s {

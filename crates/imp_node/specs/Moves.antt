@@ -68,7 +68,7 @@ IsRefused fate.Dead told s p = (told ≡ kind.Dead) × (p.kind ≡ kind.Data) ×
 IsRefused fate.Never told s p = (told ≡ kind.Never) × (p.kind ≡ kind.Ask)
 IsRefused new told s p = ⊥
 
--- the packet that tells what became of a message of this fate; of one that waits nothing is told
+-- the packet that tells what became of a message of this fate; of one that waits nobody is notified
 abbrev pub TellsFate : Fate → PacketKind → Type 0
 TellsFate fate.Waits told = ⊥
 TellsFate fate.Taken told = told ≡ kind.Rfnm
@@ -126,20 +126,20 @@ FrameMoves f s t = AllUnmoved s t ⊎ ((p : PacketFields) × (carried_by f.conte
 abbrev pub without_first : List Message → Flow → Receiver → Receiver
 without_first others f r = record r { queue = messages_of f others }
 
--- and its source is told, if it is here and the message is outstanding
+-- and its source is notified, if it is here and the message is outstanding
 abbrev pub sender_told : Bool → Release → Answer → Sender → Sender
 sender_told true release.Freed kind from = ended_with kind from
 sender_told true release.Stale kind from = from
 sender_told false release kind from = from
 
--- the source of a message that waited here is told, or nothing is known to it yet
+-- the source of a message that waited here is notified, or nothing is known to it yet
 abbrev pub TellingMoves : Answer → Message → State → State → Type 0
 TellingMoves kind m s t =
     Moved s t m.flow (sender_told (is_from_here s m) (release_in m.number (map.get s.sources m.flow)) kind (sender s m.flow)) (receiver s m.flow)
 
 -- ---- a host goes down, or comes up
 
--- a message that waited is dead, and its source is told if it is here and the message is outstanding, or nothing is known to it yet
+-- a message that waited is dead, and its source is notified if it is here and the message is outstanding, or nothing is known to it yet
 abbrev pub ReturningMoves : Message → State → State → Type 0
 ReturningMoves m s t =
     Moved s t m.flow (sender_told (is_from_here s m) (release_in m.number (map.get s.sources m.flow)) answer.Dead (sender s m.flow)) (fated_with m.number fate.Dead (receiver s m.flow))

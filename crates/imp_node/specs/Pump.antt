@@ -22,7 +22,7 @@ target_by kind.Never p = p.source.imp
 abbrev pub target : PacketFields → ℕ
 target p = target_by p.kind p
 
--- A packet is stored for its route behind those that wait, or dropped where no live route is
+-- A packet is stored for its route after those that wait, or dropped where no live route is
 abbrev pub stored : PacketFields → State → State
 stored p s = record s { store = s.store ++ (if has_route s (target p) then p ∷ [] else []) }
 

@@ -1,4 +1,4 @@
--- What can be asked of an IMP: its flows, and what it holds of messages. (`begins` stands in Offering.)
+-- What can be asked of an IMP: its flows, and what it holds of messages. (`begins` is in Offering.)
 --
 -- Holding is what counts as alive in an IMP: packets in its store, in channels and in slots, and messages in queues. An answer
 -- that waits for a host does not count.

@@ -6,11 +6,11 @@ use Rattle.routing.specs.RouteTable.{next_of}
 use Rattle.imp_node.specs.declared.port.Port.{Port}
 use Rattle.imp_node.specs.State.{State, host_at}
 
--- the packets that wait and those in channels, together, have so many places
+-- the packets that wait and those in channels, together, have this many places
 abbrev pub store_places : ℕ
 store_places = 32
 
--- so many whole messages can wait for a host
+-- this many whole messages can wait for a host
 abbrev pub queue_places : ℕ
 queue_places = 16
 
@@ -22,7 +22,7 @@ busy_channels port = length (packets_in port.line.sending)
 abbrev pub stored_count : State → ℕ
 stored_count s = length s.store + sum_by busy_channels s.ports
 
--- so many packets more have room in the store
+-- this many packets more have room in the store
 abbrev pub has_room : State → ℕ → Bool
 has_room s packets = nat_le (stored_count s + packets) store_places
 

@@ -75,7 +75,7 @@ noted_with n new r = record r { kept = Some (record { number = n; fate = new }) 
 abbrev pub fated_with : ℕ → Fate → Receiver → Receiver
 fated_with n new r = record r { kept = option_map (ended_in n new) r.kept }
 
--- a message waits behind the others
+-- a message waits after the others
 abbrev pub queued_with : Message → Receiver → Receiver
 queued_with m r = record r { queue = r.queue ++ m ∷ [] }
 

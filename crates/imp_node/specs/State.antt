@@ -27,7 +27,7 @@ pub record State : Type 0 where
   pub hosts : List HostState
   -- its ends of lines, one for each port
   pub ports : List Port
-  -- its number, and the distances that its neighbours told last
+  -- its number, and the distances that its neighbours announced last
   pub routes : Table
   -- the packets that wait for a channel, the oldest first
   pub store : List PacketFields
@@ -84,7 +84,7 @@ up_host = record { up = true; answers = []; queue = [] }
 abbrev pub up_port : Port
 up_port = record { up = true; line = line.opening_end }
 
--- IMP `own` with so many hosts and ports: all hosts and ends of lines are up, and nothing was heard, begun or taken
+-- IMP `own` with this many hosts and ports: all hosts and ends of lines are up, and nothing was heard, begun or taken
 abbrev pub opening_node : ℕ → ℕ → ℕ → State
 opening_node own hosts ports = record {
   spent = false;

@@ -61,7 +61,7 @@ all_handed (told ∷ others) sources = all_handed others (handed sources told.fl
 abbrev pub told_back : Message → State → State
 told_back m s = if reply_has_room s m then replied answer.Dead kind.Dead m s else s
 
--- each message that nobody will take is dead, and its source is told where there is room, one after another
+-- each message that nobody will take is dead, and its source is informed where there is room, one after another
 abbrev pub message_returned : Message → State → State
 message_returned m s = told_back m (fated m.flow m.number fate.Dead s)
 

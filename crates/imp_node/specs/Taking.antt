@@ -27,7 +27,7 @@ first_of [] [] = None
 abbrev pub next_for : State → ℕ → Option Inbound
 next_for s h = first_of (host_at s h).answers (host_at s h).queue
 
--- ---- the source is told
+-- ---- the source is notified
 
 -- whether a message's source is a host of this IMP
 abbrev pub is_from_here : State → Message → Bool

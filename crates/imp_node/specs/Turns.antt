@@ -30,7 +30,7 @@ Takes turn new frames = (new ≡ turn.state) × (frames ≡ turn.frames)
 
 -- ---- memory
 
--- a turn puts a frame on some line: this alone may take memory in any call
+-- a turn puts a frame on some line: only this may take memory in any call
 abbrev pub sends : ImpTurn → Bool
 sends turn = nat_lt 0 (length turn.frames)
 

@@ -33,10 +33,9 @@ use packetiser::{Added, Outcome, Packet, PacketFault, PacketKind};
 use std::alloc::AllocError;
 
 impl Imp {
-    /// A frame comes in at a port. Where the end is down, or has no room for the packet that the frame brings,
-    /// the frame counts as lost and nothing changes. Else its acknowledgement bits free channels, its packet
-    /// is taken if it is fresh, and is acknowledged, and distances are noted. It answers the frames to put on
-    /// lines.
+    /// Takes a frame that comes in at a port. Where the end is down, or has no room for the packet that the frame
+    /// brings, the frame counts as lost and nothing changes. Else its acknowledgement bits free channels, its packet is
+    /// taken if it is fresh, and is acknowledged, and distances are noted. It answers the frames to put on lines.
     ///
     /// Errors: `NoSuch` for a port that isn't there. `OutOfMemory` only where a frame is sent, and then the
     /// IMP is spent.
@@ -84,7 +83,7 @@ impl Imp {
         }
     }
 
-    /// Whether a frame brings a fresh packet for which there is no room.
+    /// Returns whether a frame brings a fresh packet for which there is no room.
     fn is_lost(&self, port: u8, frame: &Frame) -> bool
         requires { port < length self.now.ports }
         ensures { result ≡ lost_by (answer_to (port_at self.now.ports port).line frame.now) self.now }
@@ -98,7 +97,7 @@ impl Imp {
         }
     }
 
-    /// Whether there is room for what a fresh packet calls for.
+    /// Returns whether there is room for what a fresh packet calls for.
     fn arrival_has_room(&self, packet: &Packet) -> bool
         ensures { result ≡ arrival_has_room (arrival self.now packet.now) self.now packet.now }
     {
@@ -112,7 +111,7 @@ impl Imp {
         }
     }
 
-    /// Whether there is room for what a fresh piece for this IMP calls for.
+    /// Returns whether there is room for what a fresh piece for this IMP calls for.
     fn data_has_room(&self, packet: &Packet) -> bool
         requires { packet.now.kind ≡ kind.Data }
         ensures { result ≡ arrival_has_room (data_arrival self.now packet.now) self.now packet.now }
@@ -137,7 +136,7 @@ impl Imp {
         }
     }
 
-    /// Whether there is room for the answer to a fresh question for this IMP.
+    /// Returns whether there is room for the answer to a fresh question for this IMP.
     fn ask_has_room(&self, packet: &Packet) -> bool
         ensures { result ≡ arrival_has_room (ask_arrival (asked_in (map.get self.now.kept (flow_of packet.now)) packet.now.number)) self.now packet.now }
     {
@@ -151,7 +150,7 @@ impl Imp {
         }
     }
 
-    /// The line's end at a port takes a frame.
+    /// Lets the line's end at a port take a frame.
     fn receive(&mut self, port: u8, frame: Frame) -> Received
         requires { port < length self.old.ports }
         ensures state { self.new ≡ frame_taken port frame self.old }
@@ -160,7 +159,7 @@ impl Imp {
         self.ports[port as usize].line.receive(frame)
     }
 
-    /// The acknowledgement that goes back at once.
+    /// Returns the acknowledgement that goes back at once.
     #[inline(always)]
     fn acknowledge(&mut self, port: u8) -> Result<Vec<Outgoing>, AllocError>
         requires { port < length self.old.ports }
@@ -209,8 +208,7 @@ impl Imp {
         self.reassemble(packet)
     }
 
-    /// A question about the message of this flow and number is for this IMP: the answer to it goes to the
-    /// source.
+    /// Handles a question about the message of this flow and number, for this IMP: the answer to it goes to the source.
     fn arrive_ask(&mut self, flow: Flow, number: Number) -> Result<(), AllocError>
         requires { IsPacketFlow flow }
         ensures { OnOk result (self.new ≡ asked_about (asked_in (map.get self.old.kept flow) number) flow number self.old) }
@@ -224,7 +222,7 @@ impl Imp {
         }
     }
 
-    /// A new message ends before it is whole: its slot is cleared, its number is noted, and its source is told.
+    /// Ends a new message before it is whole: its slot is cleared, its number is noted, and its source is notified.
     fn turn_away(
         &mut self,
         flow: Flow,
@@ -241,7 +239,7 @@ impl Imp {
         self.tell_back(flow, number, told)
     }
 
-    /// A packet goes to a message's source, and tells what became of it.
+    /// Sends a packet to a message's source that says what became of it.
     fn tell_back(&mut self, flow: Flow, number: Number, told: PacketKind) -> Result<(), AllocError>
         requires flow { IsPacketFlow flow }
         requires answer { Carries told 0 true 0 }
@@ -251,7 +249,7 @@ impl Imp {
         self.admit(answer)
     }
 
-    /// A new piece for a host that is up goes to reassembly.
+    /// Adds a new piece for a host that is up to the reassembly.
     fn reassemble(&mut self, packet: Packet) -> Result<(), AllocError>
         requires data { packet.kind ≡ kind.Data }
         requires format { IsPacket packet }
@@ -271,7 +269,7 @@ impl Imp {
         }
     }
 
-    /// A body is whole: its text waits for the host. A body without a mark has no text.
+    /// Handles a whole body: its text waits for the host. A body without a mark has no text.
     fn complete(&mut self, flow: Flow, number: Number, body: Bits) -> Result<(), AllocError>
         requires flow { IsPacketFlow flow }
         requires size { IsBodySize (length body) }

@@ -15,9 +15,9 @@ use packetiser::PacketKind;
 use std::alloc::AllocError;
 
 impl Imp {
-    /// The IMP asks what became of the outstanding message of a flow from one of its hosts: a question waits
-    /// for the line to the destination's IMP. Without a live route there, and within one IMP, nothing is asked.
-    /// The source may be down. It answers the frames to put on lines.
+    /// Asks what became of the outstanding message of a flow from one of its hosts: a question waits for the line to
+    /// the destination's IMP. Without a live route there, and within one IMP, nothing is asked. The source may be down.
+    /// It answers the frames to put on lines.
     ///
     /// Errors: `NoSuch` where the source isn't one of its hosts, `NotOutstanding` where no message of the flow
     /// is outstanding, `NoRoom` where the question has no room in the store. `OutOfMemory` only where a route
@@ -37,7 +37,7 @@ impl Imp {
         Ok(frames)
     }
 
-    /// Why the IMP may not ask for the message of a flow.
+    /// Returns why the IMP may not ask for the message of a flow.
     fn ask_refusal(&self, flow: &Flow) -> Option<CarrierFault>
         ensures { result ≡ asking.ask_refusal self.now flow.now }
     {
@@ -66,7 +66,7 @@ impl Imp {
         self.pump_alone()
     }
 
-    /// A question about a message is stored for its route, or dropped where no live route is.
+    /// Stores a question about a message for its route, or drops it if there is no live route.
     fn question(&mut self, flow: Flow, number: Number) -> Result<(), AllocError>
         ensures ok { OnOk result (self.new ≡ stored (flows.answer_packet kind.Ask flow number) self.old) }
         ensures memory { OnErr result (has_route self.old flow.destination.imp ≡ true) }

@@ -10,49 +10,49 @@ use packetiser::{Packet, Reassembly};
 use routing::RouteTable;
 
 impl Imp {
-    /// Its hosts, host 0 first, with what waits for each.
+    /// Returns its hosts, host 0 first, with what waits for each.
     pub fn hosts(&self) -> &[Host]
         ensures { result.now ≡ self.now.hosts }
     {
         &self.hosts
     }
 
-    /// Its ends of lines, that of port 0 first.
+    /// Returns its ends of lines, that of port 0 first.
     pub fn ports(&self) -> &[Port]
         ensures { result.now ≡ self.now.ports }
     {
         &self.ports
     }
 
-    /// Its number, and the distances that its neighbours told last.
+    /// Returns its number, and the distances that its neighbours announced last.
     pub fn routes(&self) -> &RouteTable
         ensures { result.now ≡ self.now.routes }
     {
         &self.routes
     }
 
-    /// The packets that wait for a channel, the oldest first.
+    /// Returns the packets that wait for a channel, the oldest first.
     pub fn store(&self) -> &[Packet]
         ensures { result.now ≡ self.now.store }
     {
         &self.store
     }
 
-    /// The messages in reassembly.
+    /// Returns the messages in reassembly.
     pub fn slots(&self) -> &Reassembly
         ensures { result.now ≡ self.now.slots }
     {
         &self.slots
     }
 
-    /// The flows from its hosts of which a message was begun.
+    /// Returns the flows from its hosts of which a message was begun.
     pub fn sources(&self) -> &SourceFlows
         ensures { result.now ≡ self.now.sources }
     {
         &self.sources
     }
 
-    /// The flows to its hosts of which a number is kept.
+    /// Returns the flows to its hosts of which a number is kept.
     pub fn kept_flows(&self) -> &DestFlows
         ensures { result.now ≡ self.now.kept }
     {

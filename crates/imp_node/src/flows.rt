@@ -9,8 +9,8 @@ use leader1822::{Answer, CarrierFault, Flow, ImpNumber};
 use std::alloc::AllocError;
 
 impl Imp {
-    /// The outstanding message of a flow from one of its hosts is given up: Incomplete waits for the source,
-    /// if that is up. It answers the frames to put on lines.
+    /// Gives up the outstanding message of a flow from one of its hosts: Incomplete waits for the source, if that is
+    /// up. It answers the frames to put on lines.
     ///
     /// Errors: `NoSuch` where the source isn't one of its hosts, `NotOutstanding` where no message of the flow
     /// is outstanding. `OutOfMemory` only where the source is up or a frame is sent, and then the IMP is spent.
@@ -28,7 +28,7 @@ impl Imp {
         Ok(frames)
     }
 
-    /// Why the message of a flow may not be given up.
+    /// Returns why the message of a flow may not be given up.
     fn give_up_refusal(&self, flow: &Flow) -> Option<CarrierFault>
         ensures { result ≡ stopping.give_up_refusal self.now flow.now }
     {
@@ -51,8 +51,7 @@ impl Imp {
         self.pump_alone()
     }
 
-    /// The last numbers that it keeps of flows from another IMP are dropped. It answers the frames to put on
-    /// lines.
+    /// Drops the last numbers that it keeps of flows from another IMP. It answers the frames to put on lines.
     ///
     /// Errors: `NoSuch` for its own number. `OutOfMemory` only where a frame is sent, and then the IMP is spent.
     pub fn forget(&mut self, imp: ImpNumber) -> Result<Vec<Outgoing>, CarrierFault>
@@ -78,8 +77,7 @@ impl Imp {
         self.pump_alone()
     }
 
-    /// The slot of a flow is thrown away, with what it holds of a message. It answers the frames to put on
-    /// lines.
+    /// Throws away the slot of a flow, with what it holds of a message. It answers the frames to put on lines.
     ///
     /// Errors: `NoSuch` where the flow has no slot. `OutOfMemory` only where a frame is sent, and then the IMP is
     /// spent.

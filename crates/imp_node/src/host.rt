@@ -22,7 +22,7 @@ use std::mem;
 const QUEUE_PLACES: usize = 16;
 
 /// A host of an IMP: up or down, the answers that wait for it, and the whole messages that wait for it,
-/// the oldest first. The messages stand in a ring that is never overwritten.
+/// the oldest first. The messages are in a ring that is never overwritten.
 #[derive(Drop)]
 pub struct Host {
     up: bool,
@@ -44,7 +44,7 @@ impl Model for Host {
 }
 
 impl Host {
-    /// A host that is up or down, and for which nothing waits.
+    /// Returns a host that is up or down, and for which nothing waits.
     pub(crate) fn new(alloc: Global, up: bool) -> Result<Host, AllocError>
         ensures { IfOk result (λ host. host ≡ record { up = up; answers = []; queue = [] }) }
     {
@@ -55,56 +55,56 @@ impl Host {
         })
     }
 
-    /// Whether it is up.
+    /// Returns whether it is up.
     pub fn is_up(&self) -> bool
         ensures { result ≡ self.now.up }
     {
         self.up
     }
 
-    /// How many messages wait for it.
+    /// Returns how many messages wait for it.
     pub fn message_count(&self) -> usize
         ensures { result ≡ length self.now.queue }
     {
         self.queue.len()
     }
 
-    /// The message at a place of those that wait for it, 0 being the oldest; `None` past the newest.
+    /// Returns the message at a place of those that wait for it, 0 being the oldest; `None` past the newest.
     pub fn message_at(&self, place: usize) -> Option<&Message>
         ensures { option_copied result ≡ slice_get self.now.queue place }
     {
         self.queue.get(place)
     }
 
-    /// How many answers wait for it.
+    /// Returns how many answers wait for it.
     pub fn answer_count(&self) -> usize
         ensures { result ≡ length self.now.answers }
     {
         self.answers.len()
     }
 
-    /// The answer at a place of those that wait for it, 0 being the oldest; `None` past the newest.
+    /// Returns the answer at a place of those that wait for it, 0 being the oldest; `None` past the newest.
     pub fn answer_at(&self, place: usize) -> Option<&Told>
         ensures { option_copied result ≡ slice_get self.now.answers place }
     {
         self.answers.get(place)
     }
 
-    /// Whether an answer about this flow waits.
+    /// Returns whether an answer about this flow waits.
     pub(crate) fn has_answer_about(&self, flow: &Flow) -> bool
         ensures { result ≡ list_any (is_about flow.now) self.now.answers }
     {
         self.answers.iter().any(|told| *flow == told.flow)
     }
 
-    /// Whether one more message has room.
+    /// Returns whether one more message has room.
     pub(crate) fn has_room(&self) -> bool
         ensures { result ≡ nat_lt (length self.now.queue) queue_places }
     {
         self.queue.len() < self.queue.capacity()
     }
 
-    /// Whether a message that waits is sought.
+    /// Returns whether a message that waits is sought.
     pub(crate) fn has(&self, sought: &Sought) -> bool
         ensures { result ≡ list_any (message_is sought.now) self.now.queue }
     {
@@ -118,7 +118,7 @@ impl Host {
         self.up = true;
     }
 
-    /// An answer waits for the host if it is up.
+    /// Queues an answer for the host if it is up.
     pub(crate) fn tell(&mut self, told: Told) -> Result<(), AllocError>
         ensures ok { OnOk result (self.new ≡ given self.old told) }
         ensures memory { OnErr result (self.old.up ≡ true) }
@@ -129,7 +129,7 @@ impl Host {
         Ok(())
     }
 
-    /// A message waits behind the others. There is room for it.
+    /// Queues a message after the others. There is room for it.
     pub(crate) fn enqueue(&mut self, message: Message)
         requires room { nat_lt (length self.old.queue) queue_places ≡ true }
         requires flow { IsPacketFlow message.flow }
@@ -140,7 +140,7 @@ impl Host {
         }
     }
 
-    /// Whether an answer waits.
+    /// Returns whether an answer waits.
     pub(crate) fn has_answer(&self) -> bool
         ensures { result ≡ nat_lt 0 (length self.now.answers) }
     {
@@ -156,21 +156,21 @@ impl Host {
         self.answers.pop_front().unwrap()
     }
 
-    /// Whether a message waits.
+    /// Returns whether a message waits.
     pub(crate) fn has_message(&self) -> bool
         ensures { result ≡ nat_lt 0 (length self.now.queue) }
     {
         !self.queue.is_empty()
     }
 
-    /// Whether an answer or a message waits.
+    /// Returns whether an answer or a message waits.
     pub(crate) fn has_waiting(&self) -> bool
         ensures { result ≡ is_some (first_of self.now.answers self.now.queue) }
     {
         self.has_answer() || self.has_message()
     }
 
-    /// The flow of the oldest message.
+    /// Returns the flow of the oldest message.
     pub(crate) fn next_flow(&self) -> Option<Flow>
         ensures { result ≡ option_map (λ m. m.flow) (slice_get self.now.queue 0) }
     {

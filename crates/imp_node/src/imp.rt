@@ -59,8 +59,8 @@ impl Model for Imp {
 }
 
 impl Imp {
-    /// The IMP with this number, with so many hosts, at most four, and so many ports. All hosts and ends of lines are up, and nothing was
-    /// heard, begun or taken.
+    /// Returns the IMP with this number, with this many hosts, at most four, and this many ports. All hosts and ends of
+    /// lines are up, and nothing was heard, begun or taken.
     ///
     /// Errors: memory runs out, and nothing else.
     pub fn new(alloc: Global, own: ImpNumber, hosts: u8, ports: u8) -> Result<Imp, AllocError>
@@ -89,7 +89,7 @@ impl Imp {
         self.spare.keep(frames);
     }
 
-    /// The IMP's own number.
+    /// Returns the IMP's own number.
     pub(crate) fn number(&self) -> u8
         ensures number { result ≡ states.number self.now }
         ensures within { (1 ≤ result) × (result ≤ most_imps) }
@@ -97,15 +97,15 @@ impl Imp {
         self.routes.own()
     }
 
-    /// Whether it has a host of this number.
+    /// Returns whether it has a host of this number.
     pub(crate) fn is_there(&self, host: u8) -> bool
         ensures { result ≡ states.is_there self.now host }
     {
         (host as usize) < self.hosts.len()
     }
 
-    /// Whether its host of this number is up. A host that isn't there is not up; an IMP has at most four, 0
-    /// to 3. This takes no memory.
+    /// Returns whether its host of this number is up. A host that isn't there is not up; an IMP has at most four, 0 to
+    /// 3. This takes no memory.
     pub fn is_up(&self, host: u8) -> bool
         ensures up { result ≡ states.is_up self.now host }
         ensures there { result ≡ true → host < length self.now.hosts }
@@ -114,14 +114,14 @@ impl Imp {
         (host as usize) < self.hosts.len() && self.hosts[host as usize].is_up()
     }
 
-    /// Whether this is one of its hosts.
+    /// Returns whether this is one of its hosts.
     pub(crate) fn is_own(&self, host: &HostAddr) -> bool
         ensures { result ≡ offering.is_own self.now host.now }
     {
         host.imp() == self.number() && self.is_there(host.host())
     }
 
-    /// Whether an answer about this flow waits for its source.
+    /// Returns whether an answer about this flow waits for its source.
     pub fn has_answer_about(&self, flow: &Flow) -> bool
         ensures { result ≡ list_any (is_about flow.now) (host_at self.now flow.now.source.host).answers }
     {
@@ -129,14 +129,14 @@ impl Imp {
         self.is_there(source.host()) && self.hosts[source.host() as usize].has_answer_about(flow)
     }
 
-    /// Whether a message of this flow may begin: none is outstanding, and no answer waits.
+    /// Returns whether a message of this flow may begin: none is outstanding, and no answer waits.
     pub(crate) fn is_idle(&self, flow: &Flow) -> bool
         ensures { result ≡ flows.is_idle self.now flow.now }
     {
         self.sources.is_idle(flow) && !self.has_answer_about(flow)
     }
 
-    /// Whether a live route leads to another IMP.
+    /// Returns whether a live route leads to another IMP.
     pub(crate) fn has_route(&self, imp: u8) -> bool
         ensures route { result ≡ room.has_route self.now imp }
         ensures within { result ≡ true → imp ≤ most_imps }
@@ -144,7 +144,7 @@ impl Imp {
         self.routes.next(imp).is_some()
     }
 
-    /// Whether so many packets more, at most 8, have room in the store.
+    /// Returns whether this many packets more, at most 8, have room in the store.
     pub(crate) fn has_room(&self, packets: usize) -> bool
         requires { packets ≤ 8 }
         ensures { result ≡ room.has_room self.now packets }
@@ -153,14 +153,14 @@ impl Imp {
         taken <= STORE_PLACES && self.store.len() <= STORE_PLACES - taken
     }
 
-    /// Whether a packet to another IMP has room, or needs none since no live route leads there.
+    /// Returns whether a packet to another IMP has room, or needs none since no live route leads there.
     pub(crate) fn has_room_to(&self, imp: u8) -> bool
         ensures { result ≡ room.has_room_to self.now imp }
     {
         !self.has_route(imp) || self.has_room(1)
     }
 
-    /// Whether one more message has room in the queue of a host.
+    /// Returns whether one more message has room in the queue of a host.
     pub(crate) fn queue_has_room(&self, host: u8) -> bool
         ensures { result ≡ room.queue_has_room self.now host }
     {
@@ -168,7 +168,7 @@ impl Imp {
     }
 }
 
-/// So many hosts that are up, for which nothing waits.
+/// Returns this many hosts that are up, for which nothing waits.
 fn up_hosts(alloc: Global, count: u8) -> Result<Vec<Host>, AllocError>
     ensures { IfOk result (λ hosts. hosts.items ≡ replicate count up_host) }
 {
@@ -179,7 +179,7 @@ fn up_hosts(alloc: Global, count: u8) -> Result<Vec<Host>, AllocError>
     Ok(hosts)
 }
 
-/// So many ends of lines that are up.
+/// Returns this many ends of lines that are up.
 fn up_ports(alloc: Global, count: u8) -> Result<Vec<Port>, AllocError>
     ensures { IfOk result (λ ports. ports.items ≡ replicate count up_port) }
 {
@@ -193,7 +193,7 @@ fn up_ports(alloc: Global, count: u8) -> Result<Vec<Port>, AllocError>
     Ok(ports)
 }
 
-/// How many channels of these ports are busy.
+/// Returns how many channels of these ports are busy.
 pub(crate) fn busy_channels(ports: &[Port]) -> usize
     requires { length ports.now < 256 }
     ensures count { result ≡ sum_by room.busy_channels ports.now }

@@ -85,7 +85,7 @@ pub fn moving()
     // a host takes the oldest answer that waits for it: its flow has one answer less
     ensures answer_taken { (s : State) (h : ℕ) (t : Told) (others : List Told) → is_up s h ≡ true → (host_at s h).answers ≡ t ∷ others → t.flow.source.host ≡ h → Moved s (to_host s h).state t.flow (record (sender s t.flow) { answers = answers_of t.flow others }) (receiver s t.flow) }
 
-    // else the oldest message: its flow has one message less, its fate is Taken, and its source is told where it is at this IMP
+    // else the oldest message: its flow has one message less, its fate is Taken, and its source is informed where it is at this IMP
     ensures message_taken { (s : State) (h : ℕ) (m : Message) (others : List Message) → is_up s h ≡ true → (host_at s h).answers ≡ [] → (host_at s h).queue ≡ m ∷ others → m.flow.destination.host ≡ h → Moved s (to_host s h).state m.flow (sender_told (is_from_here s m) (release_in m.number (map.get s.sources m.flow)) answer.Rfnm (sender s m.flow)) (without_first others m.flow (fated_with m.number fate.Taken (receiver s m.flow))) }
 
     // if neither waits, nothing changes
@@ -95,7 +95,7 @@ pub fn moving()
     ensures give_up { (s : State) (f : Flow) → Moved s (give_up s f).state f (ended_with answer.Incomplete (sender s f)) (receiver s f) }
     ensures forget { (s : State) (imp : ℕ) (f : Flow) → Becomes s (forget s imp).state f (sender s f) (record (receiver s f) { kept = if is_from imp f then None else map.get s.kept f }) }
 
-    // a host goes down by these two steps: it stops, and then each message that waited for it is dead, and its source is told
+    // a host goes down by these two steps: it stops, and then each message that waited for it is dead, and its source is notified
     ensures stopped { (s : State) (h : ℕ) (f : Flow) → Becomes s (stopped s h) f (source_down (f.source.host == h) (sender s f)) (destination_down (f.destination.host == h) (receiver s f)) }
     ensures returned { (m : Message) (s : State) → ReturningMoves m s (message_returned m s) }
 
@@ -266,7 +266,7 @@ pub fn worked_questions()
     // so it is where another number was noted since
     ensures other_number { (after_question 4 (noting 5 fate.Taken)).frames ≡ on_port 0 ack_frame ∷ [] }
 
-    // a new number is noted as one that never came, and its source is told so
+    // a new number is noted as one that never came, and its source is informed so
     ensures new_number { (after_question 6 (noting 5 fate.Taken)).frames ≡ on_port 0 ack_frame ∷ told_back kind.Never 6 ∷ [] }
     ensures first_number { (after_question 0 (serving [])).frames ≡ on_port 0 ack_frame ∷ told_back kind.Never 0 ∷ [] }
     ensures noted { map.get (after_question 6 (noting 5 fate.Taken)).state.kept (flow (host 0 2) (host 0 1) 2) ≡ Some (record { number = 6; fate = fate.Never }) }
@@ -337,7 +337,7 @@ pub fn worked_hosts()
     // IMP 2 was heard: the packet of an empty message goes out, with the number 0
     ensures away { (from_host (imp 1 (Some from_2 ∷ []) []) (empty_message (flow (host 0 1) (host 0 2) 7))).frames ≡ on_port 0 (packet_frame 0 (only_packet (flow (host 0 1) (host 0 2) 7) 0)) ∷ [] }
 
-    // within one IMP a message waits behind fifteen others, and has no room behind sixteen
+    // within one IMP a message waits after fifteen others, and has no room after sixteen
     ensures within { from_host_refusal (queueing (messages_between (host 0 1) (host 1 1) 15)) (empty_message (flow (host 0 1) (host 1 1) 17)) ≡ None }
     ensures queue_full { from_host_refusal (queueing (messages_between (host 0 1) (host 1 1) 16)) (empty_message (flow (host 0 1) (host 1 1) 18)) ≡ Some fault.NoRoom }
     ensures here { (host_at (from_host (queueing (messages_between (host 0 1) (host 1 1) 15)) (empty_message (flow (host 0 1) (host 1 1) 17))).state 1).queue ≡ messages_between (host 0 1) (host 1 1) 16 }

@@ -1,4 +1,4 @@
-//! Calls on the ends of lines: what is sent again, the distances that are told, and ends that go down and up.
+//! Calls on the ends of lines: what is sent again, the distances that are announced, and ends that go down and up.
 
 ghost use Rattle.std.specs.Prelude.{◌≡◌, ◌==◌, ◌<◌, ◌++◌, ◌∷◌, [], true, false, length, map, nat_lt, slice_set, IfOk, OnOk, OnErr, IsSome};
 ghost use Rattle.imp_channel.specs.Holding.{packets_in};
@@ -19,9 +19,9 @@ use routing::Vector;
 use std::alloc::{AllocError, Global};
 
 impl Imp {
-    /// The frames of all busy channels of live ends once more. It answers the frames to put on lines.
+    /// Returns the frames of all busy channels of live ends once more. It answers the frames to put on lines.
     ///
-    /// Errors: `OutOfMemory` alone, only where a frame is sent, and then the IMP is spent.
+    /// Errors: only `OutOfMemory`, only where a frame is sent, and then the IMP is spent.
     pub fn resend(&mut self) -> Result<Vec<Outgoing>, CarrierFault>
         requires { self.old.spent ≡ false }
         ensures turn { Turned None (resend_grows self.old) (λ frames. Takes (lines.resend self.old) self.new frames.items) self.old self.new result }
@@ -43,9 +43,9 @@ impl Imp {
         self.pump(frames)
     }
 
-    /// The IMP's distances go out on each live end. It answers the frames to put on lines.
+    /// Sends the IMP's distances on each live end. It answers the frames to put on lines.
     ///
-    /// Errors: `OutOfMemory` alone, only where a frame is sent, and then the IMP is spent.
+    /// Errors: only `OutOfMemory`, only where a frame is sent, and then the IMP is spent.
     pub fn route(&mut self) -> Result<Vec<Outgoing>, CarrierFault>
         requires { self.old.spent ≡ false }
         ensures turn { Turned None (route_grows self.old) (λ frames. Takes (lines.route self.old) self.new frames.items) self.old self.new result }
@@ -67,7 +67,8 @@ impl Imp {
         self.pump(frames)
     }
 
-    /// Whether no packet waits for a channel: `route` then changes nothing, and only tells the distances. This takes no memory.
+    /// Returns whether no packet waits for a channel: `route` then changes nothing, and only tells the distances. This
+    /// takes no memory.
     #[tactic(auto, using(crate::proofs::RestingLemmas::telling_alone))]
     pub fn only_tells(&self) -> bool
         ensures answer { result ≡ (length self.now.store == 0) }
@@ -76,14 +77,15 @@ impl Imp {
         self.store.is_empty()
     }
 
-    /// How many ports it has.
+    /// Returns how many ports it has.
     pub fn port_count(&self) -> u8
         ensures { result ≡ length self.now.ports }
     {
         self.ports.len() as u8
     }
 
-    /// The frame that tells its distances at a port; `None` where the end there is down or isn't there. This takes no memory.
+    /// Returns the frame that tells its distances at a port; `None` where the end there is down or isn't there. This
+    /// takes no memory.
     pub fn told_at(&self, port: u8) -> Option<Frame>
         ensures { result ≡ lines.told_at self.now port }
     {
@@ -94,7 +96,7 @@ impl Imp {
         Some(self.ports[port as usize].line.routes_frame(distances))
     }
 
-    /// Whether its end at this port is up; an end that isn't there is not.
+    /// Returns whether its end at this port is up; an end that isn't there is not.
     pub(crate) fn is_live(&self, port: u8) -> bool
         ensures up { result ≡ (port_at self.now.ports port).up }
         ensures there { result ≡ true → port < length self.now.ports }
@@ -102,9 +104,8 @@ impl Imp {
         (port as usize) < self.ports.len() && self.ports[port as usize].up
     }
 
-    /// An end goes down. The packets of its channels wait behind those that wait already, for other routes; the
-    /// end is as just reset, and the distances that were heard on it are forgotten. It answers the frames to
-    /// put on lines.
+    /// Takes an end down. The packets of its channels wait after those that wait already, for other routes; the end is
+    /// as just reset, and the distances that were heard on it are forgotten. It answers the frames to put on lines.
     ///
     /// Errors: `NoSuch` for a port that isn't there, `IsDown` where the end is down. `OutOfMemory` only where a
     /// channel is busy or a frame is sent, and then the IMP is spent.
@@ -137,7 +138,7 @@ impl Imp {
         self.pump_alone()
     }
 
-    /// An end comes up. It answers the frames to put on lines.
+    /// Brings an end up. It answers the frames to put on lines.
     ///
     /// Errors: `NoSuch` for a port that isn't there, `IsUp` where the end is up. `OutOfMemory` only where a
     /// frame is sent, and then the IMP is spent.
@@ -186,7 +187,7 @@ fn reset_port(
     Ok(packets)
 }
 
-/// The frames of all busy channels of live ports again, in order of ports and channels, put on an empty list.
+/// Returns the frames of all busy channels of live ports again, in order of ports and channels, put on an empty list.
 fn resent_from(mut frames: Vec<Outgoing>, ports: &[Port]) -> Result<Vec<Outgoing>, AllocError>
     requires few { length ports.now < 256 }
     requires none { frames.items ≡ [] }
@@ -199,7 +200,7 @@ fn resent_from(mut frames: Vec<Outgoing>, ports: &[Port]) -> Result<Vec<Outgoing
     Ok(frames)
 }
 
-/// Puts the frames of a port's busy channels behind the others, if it is live.
+/// Puts the frames of a port's busy channels after the others, if it is live.
 #[tactic(auto, using(crate::proofs::Sending::again_more, crate::proofs::Sending::resent_some))]
 fn push_resent(frames: &mut Vec<Outgoing>, at: u8, port: &Port) -> Result<(), AllocError>
     ensures ok { OnOk result (frames.new.items ≡ frames.old.items ++ lines.resent_by at port.now) }
@@ -217,7 +218,7 @@ fn push_resent(frames: &mut Vec<Outgoing>, at: u8, port: &Port) -> Result<(), Al
     Ok(())
 }
 
-/// Puts the frame of a channel behind the others, if the channel is busy.
+/// Puts the frame of a channel after the others, if the channel is busy.
 fn push_again(
     frames: &mut Vec<Outgoing>,
     at: u8,
@@ -234,7 +235,7 @@ fn push_again(
     Ok(())
 }
 
-/// The frames that tell these distances on live ports, in order of ports, put on an empty list.
+/// Returns the frames that tell these distances on live ports, in order of ports, put on an empty list.
 fn told_from(
     mut frames: Vec<Outgoing>,
     distances: &Vector,
@@ -251,7 +252,7 @@ fn told_from(
     Ok(frames)
 }
 
-/// Puts the frame that tells these distances on a port behind the others, if it is live.
+/// Puts the frame that tells these distances on a port after the others, if it is live.
 fn push_told(
     frames: &mut Vec<Outgoing>,
     distances: &Vector,

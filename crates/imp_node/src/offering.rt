@@ -22,10 +22,10 @@ use packetiser::format::PACKET_BITS;
 use std::alloc::AllocError;
 
 impl Imp {
-    /// A host hands over a message. Where no live route leads to its destination's IMP, or the destination is
-    /// a host of this IMP that is down or not there, no number is begun, and Dead waits for the source at
-    /// once. A message to a host of this IMP waits for that host; any other is cut, and its packets wait for
-    /// lines. It answers the frames to put on lines.
+    /// Takes a message that a host hands over. Where no live route leads to its destination's IMP, or the destination
+    /// is a host of this IMP that is down or not there, no number is begun, and Dead waits for the source at once. A
+    /// message to a host of this IMP waits for that host; any other is cut, and its packets wait for lines. It answers
+    /// the frames to put on lines.
     ///
     /// Errors: `NoSuch` where the source isn't one of its hosts, `IsDown` where it is down, `Blocked` while a
     /// message of the flow is outstanding or an answer about it waits, `NoRoom` where the destination's queue
@@ -45,7 +45,7 @@ impl Imp {
         Ok(frames)
     }
 
-    /// Whether `from_host` would begin a number for a message of this flow, if there were room for it. This
+    /// Returns whether `from_host` would begin a number for a message of this flow, if there were room for it. This
     /// takes no memory.
     pub fn begins(&self, flow: &Flow) -> bool
         ensures { result ≡ offering.begins self.now flow.now }
@@ -54,7 +54,7 @@ impl Imp {
         self.is_own(&source) && self.is_up(source.host()) && self.is_idle(flow) && self.goes(flow)
     }
 
-    /// Whether a message of this flow goes somewhere.
+    /// Returns whether a message of this flow goes somewhere.
     fn goes(&self, flow: &Flow) -> bool
         ensures { result ≡ offering.goes (offering.way_of self.now flow.now) }
     {
@@ -66,7 +66,7 @@ impl Imp {
         }
     }
 
-    /// Why a host may not hand over this message.
+    /// Returns why a host may not hand over this message.
     fn from_host_refusal(&self, message: &HostMessage) -> Option<CarrierFault>
         ensures { result ≡ offering.from_host_refusal self.now message.now }
     {
@@ -84,7 +84,7 @@ impl Imp {
         }
     }
 
-    /// Whether there is room for what a message calls for.
+    /// Returns whether there is room for what a message calls for.
     fn way_has_room(&self, message: &HostMessage) -> bool
         ensures { result ≡ offering.way_has_room (offering.way_of self.now message.now.flow) self.now message.now }
     {
@@ -125,7 +125,7 @@ impl Imp {
         }
     }
 
-    /// A message waits for a host of this IMP.
+    /// Queues a message for a host of this IMP.
     fn place_here(&mut self, flow: Flow, text: Text) -> Result<(), AllocError>
         requires flow { IsPacketFlow flow }
         requires there { flow.destination.host < length self.old.hosts }
@@ -139,7 +139,7 @@ impl Imp {
         Ok(())
     }
 
-    /// The packets of a message wait for lines.
+    /// Stores the packets of a message until lines are free.
     fn place_away(&mut self, message: HostMessage) -> Result<(), AllocError>
         requires flow { IsPacketFlow message.flow }
         requires idle { is_idle_in (map.get self.old.sources message.flow) ≡ true }
@@ -166,7 +166,7 @@ impl Imp {
     }
 }
 
-/// How many packets a text is cut into.
+/// Returns how many packets a text is cut into.
 fn piece_count(text: &Text) -> usize
     ensures count { result ≡ piece_count (body text.now) }
     ensures most { result ≤ 8 }

@@ -14,7 +14,7 @@ pub struct Outgoing {
     pub frame: Frame,
 }
 
-/// Puts a frame for the line at a port behind the others.
+/// Puts a frame for the line at a port after the others.
 #[inline]
 pub(crate) fn push_frame(
     frames: &mut Vec<Outgoing>,

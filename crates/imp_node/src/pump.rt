@@ -15,7 +15,7 @@ use packetiser::{Packet, PacketKind};
 use routing::RouteTable;
 use std::alloc::AllocError;
 
-/// The IMP that a packet is for.
+/// Returns the IMP that a packet is for.
 pub(crate) fn target(packet: &Packet) -> u8
     ensures { result ≡ target packet.now }
 {
@@ -26,8 +26,8 @@ pub(crate) fn target(packet: &Packet) -> u8
     }
 }
 
-/// A packet goes into the lowest free channel of a port, and its frame behind the other frames. Without a
-/// free channel it is handed back.
+/// Puts a packet into the lowest free channel of a port, and its frame after the other frames. Without a free channel
+/// it is handed back.
 fn send_on(
     ports: &mut [Port],
     at: usize,
@@ -52,8 +52,7 @@ fn send_on(
     }
 }
 
-/// A packet goes out on its route's line, is handed back where that has no free channel, and is dropped
-/// without a live route.
+/// Sends a packet on its route's line, hands it back if that has no free channel, and drops it without a live route.
 fn send(
     routes: &RouteTable,
     ports: &mut [Port],
@@ -73,7 +72,7 @@ fn send(
     }
 }
 
-/// Whether a packet has a route's line without a free channel, and so goes on waiting.
+/// Returns whether a packet has a route's line without a free channel, and so keeps waiting.
 #[tactic(auto, using(crate::proofs::Pumping::stays))]
 fn is_stuck(routes: &RouteTable, ports: &[Port], packet: &Packet) -> bool
     requires { length routes.now.heard ≡ length ports.now }
@@ -85,8 +84,7 @@ fn is_stuck(routes: &RouteTable, ports: &[Port], packet: &Packet) -> bool
     }
 }
 
-/// Each waiting packet in order goes out, goes on waiting or is dropped. The frames go behind those that
-/// are there.
+/// Sends, keeps or drops each waiting packet, in order. The frames go after those that are there.
 #[tactic(auto, using(crate::proofs::Pumping::skipped_ports, crate::proofs::Pumping::skipped_waits, crate::proofs::Pumping::skipped_frames))]
 #[inline(never)]
 pub(crate) fn pump(

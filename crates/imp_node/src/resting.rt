@@ -14,8 +14,8 @@ use imp_channel::{ACKS, Content, Frame};
 use routing::Vector;
 
 impl Imp {
-    /// Whether a host is up, nothing waits for it, and no packet waits in the store. A taking of this host then is not refused,
-    /// gives nothing and changes nothing. This takes no memory.
+    /// Returns whether a host is up, nothing waits for it, and no packet waits in the store. A taking of this host then
+    /// is not refused, gives nothing and changes nothing. This takes no memory.
     #[tactic(auto, using(crate::proofs::RestingLemmas::taking_rests))]
     pub fn has_nothing_for(&self, host: u8) -> bool
         ensures answer { result ≡ resting.has_nothing_for self.now host }
@@ -26,8 +26,8 @@ impl Imp {
         self.is_up(host) && !self.hosts[host as usize].has_waiting() && self.store.is_empty()
     }
 
-    /// Whether one of the two ends of a line is down, this IMP's port or the other IMP's, or the distances that this IMP heard
-    /// last at its port are those that the other would tell. This takes no memory.
+    /// Returns whether one of the two ends of a line is down, this IMP's port or the other IMP's, or the distances that
+    /// this IMP heard last at its port are those that the other would tell. This takes no memory.
     pub fn has_heard(&self, port: u8, other: &Imp, other_port: u8) -> bool
         ensures { (result ≡ true) ↔ ((port_at other.now.ports other_port).up ≡ true → (port_at self.now.ports port).up ≡ true → slice_index_or self.now.routes.heard port None ≡ Some (vector_of other.now.routes)) }
     {
@@ -75,7 +75,7 @@ impl Imp {
         Some(self.ack_at(port))
     }
 
-    /// The frame that acknowledges what came in at a port.
+    /// Returns the frame that acknowledges what came in at a port.
     fn ack_at(&self, port: u8) -> Frame
         requires { port < length self.now.ports }
         ensures { result ≡ acknowledgement (port_at self.now.ports port).line }
@@ -83,7 +83,7 @@ impl Imp {
         self.ports[port as usize].line.ack_frame()
     }
 
-    /// Whether a frame brings a packet that was given before, and no packet waits for a channel.
+    /// Returns whether a frame brings a packet that was given before, and no packet waits for a channel.
     fn is_repeat(&self, port: u8, frame: &Frame) -> bool
         ensures answer { result ≡ resting.is_repeat self.now port frame.now }
         ensures there { result ≡ true → port < length self.now.ports }
@@ -93,7 +93,7 @@ impl Imp {
             && self.ports[port as usize].line.is_repeat(frame)
     }
 
-    /// Whether no packet waits for a channel, and what a frame brings is known at this port.
+    /// Returns whether no packet waits for a channel, and what a frame brings is known at this port.
     fn is_quiet(&self, port: u8, frame: &Frame) -> bool
         requires { port < length self.now.ports }
         ensures { (result ≡ true) ↔ (((length self.now.store == 0) ≡ true) × resting.IsKnown self.now port frame.now.content) }
@@ -101,7 +101,7 @@ impl Imp {
         self.store.is_empty() && self.knows(port, &frame.content)
     }
 
-    /// The acknowledgement bits of a frame free channels of the port where it comes in.
+    /// Frees channels of the port where a frame comes in by its acknowledgement bits.
     fn acknowledge_at(&mut self, port: u8, acks: &[bool; ACKS])
         requires { port < length self.old.ports }
         ensures { self.new ≡ with_acks port acks.now self.old }
@@ -109,7 +109,7 @@ impl Imp {
         self.ports[port as usize].line.acknowledge(acks);
     }
 
-    /// Whether what a frame brings is known at this port.
+    /// Returns whether what a frame brings is known at this port.
     fn knows(&self, port: u8, content: &Content) -> bool
         requires { port < length self.now.ports }
         ensures { (result ≡ true) ↔ resting.IsKnown self.now port content.now }
@@ -122,7 +122,7 @@ impl Imp {
     }
 }
 
-/// Whether these distances were heard.
+/// Returns whether these distances were heard.
 fn is_heard(heard: &Option<Vector>, distances: &Vector) -> bool
     ensures { (result ≡ true) ↔ (heard.now ≡ Some distances.now) }
 {

@@ -28,8 +28,8 @@ pub enum Sought {
 }
 
 impl Sought {
-    /// Whether a message or packet of this flow and number is sought, if it travels to the destination or not. Numbers are compared
-    /// first, since most differ.
+    /// Returns whether a message or packet of this flow and number is sought, if it travels to the destination or not.
+    /// Numbers are compared first, since most differ.
     #[tactic(auto, using(crate::proofs::Searching::number_first))]
     pub(crate) fn is_sought(&self, request: bool, flow: &Flow, number: Number) -> bool
         ensures { result ≡ is_sought self.now request flow.now number }
@@ -46,28 +46,28 @@ impl Sought {
         }
     }
 
-    /// Whether this packet is sought.
+    /// Returns whether this packet is sought.
     fn is_packet(&self, packet: &Packet) -> bool
         ensures { result ≡ packet_is self.now packet.now }
     {
         self.is_sought(is_request(packet.kind()), &packet.flow(), packet.number())
     }
 
-    /// Whether this message is sought.
+    /// Returns whether this message is sought.
     pub(crate) fn is_message(&self, message: &Message) -> bool
         ensures { result ≡ message_is self.now message.now }
     {
         self.is_sought(true, &message.flow, message.number)
     }
 
-    /// Whether one of these packets is sought.
+    /// Returns whether one of these packets is sought.
     pub(crate) fn is_among(&self, packets: &[Packet]) -> bool
         ensures { result ≡ list_any (packet_is self.now) packets.now }
     {
         packets.iter().any(|packet| self.is_packet(packet))
     }
 
-    /// Whether the packet of a channel is sought.
+    /// Returns whether the packet of a channel is sought.
     fn is_in_channel(&self, channel: &Channel) -> bool
         ensures { result ≡ list_any (packet_is self.now) (held.packet_of channel.now.packet) }
     {
@@ -77,14 +77,14 @@ impl Sought {
         }
     }
 
-    /// Whether the packet of one of these channels is sought.
+    /// Returns whether the packet of one of these channels is sought.
     fn is_in_channels(&self, channels: &[Channel]) -> bool
         ensures { result ≡ list_any (λ channel. list_any (packet_is self.now) (held.packet_of channel.packet)) channels.now }
     {
         channels.iter().any(|channel| self.is_in_channel(channel))
     }
 
-    /// Whether a packet in the channels of a line's end is sought. None is where no channel is busy.
+    /// Returns whether a packet in the channels of a line's end is sought. None is where no channel is busy.
     #[tactic(auto, using(crate::proofs::Searching::any_in_channels, crate::proofs::Searching::none_in_channels))]
     fn is_on_line(&self, line: &Line) -> bool
         ensures { result ≡ list_any (packet_is self.now) (held.packets_in line.now.sending) }
@@ -95,14 +95,14 @@ impl Sought {
         self.is_in_channels(line.channels())
     }
 
-    /// Whether a packet in the channels of one of these ports is sought.
+    /// Returns whether a packet in the channels of one of these ports is sought.
     fn is_at_ports(&self, ports: &[Port]) -> bool
         ensures { result ≡ list_any (λ port. list_any (packet_is self.now) (held.packets_in port.line.sending)) ports.now }
     {
         ports.iter().any(|port| self.is_on_line(&port.line))
     }
 
-    /// Whether a packet in the channels of these ports is sought.
+    /// Returns whether a packet in the channels of these ports is sought.
     #[tactic(auto, using(crate::proofs::Searching::any_in_ports))]
     pub(crate) fn is_on_lines(&self, ports: &[Port]) -> bool
         ensures { result ≡ list_any (packet_is self.now) (packets_in_channels ports.now) }
@@ -110,7 +110,7 @@ impl Sought {
         self.is_at_ports(ports)
     }
 
-    /// Whether a piece in reassembly is sought.
+    /// Returns whether a piece in reassembly is sought.
     #[tactic(auto, using(crate::proofs::Searching::any_in_slots))]
     pub(crate) fn is_in_slots(&self, reassembly: &Reassembly) -> bool
         ensures { result ≡ list_any (packet_is self.now) (slots.packets_in reassembly.now) }
@@ -125,14 +125,14 @@ impl Sought {
         false
     }
 
-    /// Whether a message in the queue of one of these hosts is sought.
+    /// Returns whether a message in the queue of one of these hosts is sought.
     fn is_at_hosts(&self, hosts: &[Host]) -> bool
         ensures { result ≡ list_any (λ h. list_any (message_is self.now) h.queue) hosts.now }
     {
         hosts.iter().any(|host| host.has(self))
     }
 
-    /// Whether a message in the queues of these hosts is sought.
+    /// Returns whether a message in the queues of these hosts is sought.
     #[tactic(auto, using(crate::proofs::Searching::any_in_queues))]
     pub(crate) fn is_in_queues(&self, hosts: &[Host]) -> bool
         ensures { result ≡ list_any (message_is self.now) (flat_map (λ h. h.queue) hosts.now) }
@@ -141,7 +141,7 @@ impl Sought {
     }
 }
 
-/// Whether a packet of this kind travels to the destination: a piece or a question.
+/// Returns whether a packet of this kind travels to the destination: a piece or a question.
 fn is_request(kind: PacketKind) -> bool
     ensures { result ≡ is_request kind }
 {

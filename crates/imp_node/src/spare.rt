@@ -25,14 +25,14 @@ impl Model for Spare {
 }
 
 impl Spare {
-    /// A list without memory.
+    /// Returns a list without memory.
     pub(crate) fn new(alloc: Global) -> Spare {
         Spare {
             frames: Vec::new(alloc),
         }
     }
 
-    /// Takes the list. One without memory stands in its place.
+    /// Takes the list. One without memory is in its place.
     pub(crate) fn take(&mut self, alloc: Global) -> Vec<Outgoing>
         ensures { result.items ≡ [] }
     {

@@ -21,7 +21,7 @@ use packetiser::{Packet, PacketKind};
 use std::alloc::{AllocError, Global};
 
 impl Imp {
-    /// Every call ends so: waiting packets go out. The frames of the call itself go first.
+    /// Ends every call: waiting packets go out. The frames of the call itself go first.
     #[tactic(auto, using(crate::proofs::RestingLemmas::pump_with))]
     #[inline]
     pub(crate) fn pump(&mut self, mut frames: Vec<Outgoing>) -> Result<Vec<Outgoing>, AllocError>
@@ -34,7 +34,7 @@ impl Imp {
         Ok(frames)
     }
 
-    /// A call that answers no frames of its own ends so. Where no packet waits, there is nothing to do.
+    /// Ends a call that answers no frames of its own. Where no packet waits, there is nothing to do.
     #[tactic(auto, using(crate::proofs::RestingLemmas::pump_rests))]
     pub(crate) fn pump_alone(&mut self) -> Result<Vec<Outgoing>, AllocError>
         ensures ok { IfOk result (λ out. Takes (pumps.pump [] self.old) self.new out.items) }
@@ -47,7 +47,7 @@ impl Imp {
         self.pump(frames)
     }
 
-    /// Memory ran out: it is not to be used again.
+    /// Handles running out of memory: it is not to be used again.
     pub(crate) fn exhaust(&mut self) -> CarrierFault
         ensures state { self.new ≡ record self.old { spent = true } }
         ensures fault { result ≡ fault.OutOfMemory }
@@ -56,7 +56,7 @@ impl Imp {
         CarrierFault::OutOfMemory
     }
 
-    /// An answer waits for the source of its flow. Where the source is down, the flow is idle at once.
+    /// Queues an answer for the source of its flow. Where the source is down, the flow is idle at once.
     #[tactic(auto, using(crate::proofs::Reading::set_same))]
     pub(crate) fn tell(&mut self, kind: Answer, flow: Flow) -> Result<(), AllocError>
         ensures ok { OnOk result (self.new ≡ answer_queued kind flow self.old) }
@@ -72,8 +72,8 @@ impl Imp {
         }
     }
 
-    /// An answer to the message of this number comes to its flow. With another number than the outstanding
-    /// one it changes nothing.
+    /// Applies an answer to the message of this number to its flow. With another number than the outstanding one it
+    /// changes nothing.
     #[tactic(auto, using(crate::proofs::Reading::freed_with, crate::proofs::Reading::stale_with))]
     pub(crate) fn free(
         &mut self,
@@ -90,21 +90,21 @@ impl Imp {
         self.tell(kind, flow)
     }
 
-    /// A number is the last that was noted of its flow, with the fate of its message.
+    /// Notes a number as the last of its flow, with the fate of its message.
     pub(crate) fn note(&mut self, flow: &Flow, number: Number, fate: Fate) -> Result<(), AllocError>
         ensures { OnOk result (self.new ≡ noted flow.now number fate self.old) }
     {
         self.kept.note(flow, number, fate)
     }
 
-    /// The message of this number met another fate, if the number is still its flow's last.
+    /// Changes the fate of the message of this number, if the number is still its flow's last.
     pub(crate) fn end(&mut self, flow: &Flow, number: Number, fate: Fate)
         ensures { self.new ≡ fated flow.now number fate self.old }
     {
         self.kept.end(flow, number, fate);
     }
 
-    /// A whole message waits for its host, which is there and has room for it, behind the others.
+    /// Queues a whole message for its host, which is there and has room for it, after the others.
     pub(crate) fn enqueue(&mut self, message: Message)
         requires there { message.flow.destination.host < length self.old.hosts }
         requires room { room.queue_has_room self.old message.flow.destination.host ≡ true }
@@ -115,7 +115,7 @@ impl Imp {
         self.hosts[host as usize].enqueue(message);
     }
 
-    /// A packet is stored for its route behind those that wait, or dropped where no live route is.
+    /// Stores a packet for its route after those that wait, or drops it if there is no live route.
     pub(crate) fn admit(&mut self, packet: Packet) -> Result<(), AllocError>
         ensures ok { OnOk result (self.new ≡ pumps.stored packet self.old) }
         ensures memory { OnErr result (room.has_route self.old (pumps.target packet) ≡ true) }
@@ -126,8 +126,8 @@ impl Imp {
         Ok(())
     }
 
-    /// An answer goes to the source of a message that waited here: at once where the source is at this IMP,
-    /// else as a packet.
+    /// Sends an answer to the source of a message that waited here: at once where the source is at this IMP, else as a
+    /// packet.
     pub(crate) fn reply(
         &mut self,
         kind: Answer,
@@ -148,7 +148,7 @@ impl Imp {
         }
     }
 
-    /// Whether there is room for such an answer to a message of this flow.
+    /// Returns whether there is room for such an answer to a message of this flow.
     pub(crate) fn reply_has_room(&self, flow: &Flow) -> bool
         ensures { result ≡ reply_has_room self.now (record { flow = flow.now; number = 0; text = [] }) }
     {
@@ -157,7 +157,7 @@ impl Imp {
     }
 }
 
-/// The packet that tells a message's source what became of it.
+/// Returns the packet that tells a message's source what became of it.
 pub(crate) fn answer_packet(alloc: Global, kind: PacketKind, flow: Flow, number: Number) -> Packet
     requires flow { IsPacketFlow flow }
     requires answer { Carries kind 0 true 0 }

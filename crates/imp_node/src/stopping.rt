@@ -18,9 +18,9 @@ use std::alloc::AllocError;
 use std::collections::VecDeque;
 
 impl Imp {
-    /// A host goes down. The answers that wait for it are cleared, so that their flows are idle. So are the
-    /// messages: each gives its source Dead where there is room for that, one after another, and the host
-    /// counts as down by then. It answers the frames to put on lines.
+    /// Takes a host down. The answers that wait for it are cleared, so that their flows are idle. So are the messages:
+    /// each gives its source Dead where there is room for that, one after another, and the host counts as down by then.
+    /// It answers the frames to put on lines.
     ///
     /// Errors: `NoSuch` for a host that isn't there, `IsDown` where it is down. `OutOfMemory` only where a
     /// message waits for the host or a frame is sent, and then the IMP is spent.
@@ -39,7 +39,7 @@ impl Imp {
         Ok(frames)
     }
 
-    /// Why a host may not go down.
+    /// Returns why a host may not go down.
     fn host_down_refusal(&self, host: u8) -> Option<CarrierFault>
         ensures { result ≡ stopping.host_down_refusal self.now host }
     {
@@ -87,7 +87,7 @@ impl Imp {
         self.return_all(queue)
     }
 
-    /// Each message that nobody will take is dead, and gives its source Dead where there is room for that.
+    /// Treats each message that nobody will take as dead, and sends its source Dead if there is room for that.
     fn return_all(&mut self, mut queue: HeapCircularBuffer<Message>) -> Result<(), AllocError>
         requires { AreOfPackets queue.items }
         ensures state { OnOk result (self.new ≡ all_returned queue.items self.old) }
@@ -98,7 +98,7 @@ impl Imp {
         Ok(())
     }
 
-    /// A message that nobody will take is dead, and gives its source Dead if there is room for that.
+    /// Treats a message that nobody will take as dead, and sends its source Dead if there is room for that.
     fn return_one(&mut self, message: Message) -> Result<(), AllocError>
         requires { IsPacketFlow message.flow }
         ensures { OnOk result (self.new ≡ message_returned message self.old) }
@@ -111,7 +111,7 @@ impl Imp {
         Ok(())
     }
 
-    /// A host comes up. It answers the frames to put on lines.
+    /// Brings a host up. It answers the frames to put on lines.
     ///
     /// Errors: `NoSuch` for a host that isn't there, `IsUp` where it is up, `Unsettled` while a message of it
     /// is outstanding. `OutOfMemory` only where a frame is sent, and then the IMP is spent.
@@ -129,7 +129,7 @@ impl Imp {
         Ok(frames)
     }
 
-    /// Why a host may not come up.
+    /// Returns why a host may not come up.
     fn host_up_refusal(&self, host: u8) -> Option<CarrierFault>
         ensures { result ≡ stopping.host_up_refusal self.now host }
     {
@@ -144,7 +144,7 @@ impl Imp {
         }
     }
 
-    /// Whether a message of a host is outstanding.
+    /// Returns whether a message of a host is outstanding.
     fn has_outstanding(&self, host: u8) -> bool
         requires { host < length self.now.hosts }
         ensures { result ≡ has_outstanding (stopping.own_host self.now host) self.now.sources }
@@ -164,7 +164,7 @@ impl Imp {
     }
 }
 
-/// The flows of answers that nobody will take are idle.
+/// Makes the flows of answers that nobody will take idle.
 fn hand_all(sources: &mut SourceFlows, mut answers: VecDeque<Told>)
     ensures { sources.new ≡ all_handed answers.items sources.old }
 {

@@ -14,9 +14,9 @@ use packetiser::PacketKind;
 use std::alloc::AllocError;
 
 impl Imp {
-    /// A host takes the oldest answer that waits for it, else the oldest message, else nothing. With a message
-    /// an RFNM goes to its source in the same step; without a live route that is dropped. It answers what the
-    /// host gets, and the frames to put on lines.
+    /// Gives a host the oldest answer that waits for it, else the oldest message, else nothing. With a message an RFNM
+    /// goes to its source in the same step; without a live route that is dropped. It answers what the host gets, and
+    /// the frames to put on lines.
     ///
     /// Errors: `NoSuch` for a host that isn't there, `IsDown` where it is down, `NoRoom` where the RFNM has no
     /// room in the store. `OutOfMemory` only where a message is taken or a frame is sent, and then the IMP is
@@ -36,7 +36,7 @@ impl Imp {
         Ok(given)
     }
 
-    /// Whether a host gets something when it takes: nothing refuses it, and an answer or a message waits. This
+    /// Returns whether a host gets something when it takes: nothing refuses it, and an answer or a message waits. This
     /// changes nothing, and takes no memory.
     pub fn gives(&self, host: u8) -> bool
         ensures { result ≡ taking.gives self.now host }
@@ -44,14 +44,14 @@ impl Imp {
         self.to_host_refusal(host).is_none() && self.has_waiting(host)
     }
 
-    /// Whether an answer or a message waits for a host.
+    /// Returns whether an answer or a message waits for a host.
     fn has_waiting(&self, host: u8) -> bool
         ensures { result ≡ is_some (taking.next_for self.now host) }
     {
         self.is_there(host) && self.hosts[host as usize].has_waiting()
     }
 
-    /// Why a host may not take.
+    /// Returns why a host may not take.
     fn to_host_refusal(&self, host: u8) -> Option<CarrierFault>
         ensures { result ≡ taking.to_host_refusal self.now host }
     {
@@ -66,7 +66,7 @@ impl Imp {
         }
     }
 
-    /// Whether there is room for the RFNM of the message that a host would take.
+    /// Returns whether there is room for the RFNM of the message that a host would take.
     #[tactic(auto, using(crate::proofs::Takings::room_of_answer, crate::proofs::Takings::room_of_message, crate::proofs::Takings::room_of_none))]
     fn taking_has_room(&self, host: u8) -> bool
         requires { host < length self.now.hosts }
@@ -82,7 +82,7 @@ impl Imp {
         }
     }
 
-    /// A host takes what waits for it, and the IMP pumps.
+    /// Gives a host what waits for it, and pumps.
     fn give(&mut self, host: u8) -> Result<(Option<Inbound>, Vec<Outgoing>), AllocError>
         requires { host < length self.old.hosts }
         ensures given { IfOk result (λ given. given.0 ≡ taking.next_for self.old host) }
@@ -94,7 +94,7 @@ impl Imp {
         Ok((given, frames))
     }
 
-    /// A host takes what waits for it.
+    /// Gives a host what waits for it.
     fn take_next(&mut self, host: u8) -> Result<Option<Inbound>, AllocError>
         requires { host < length self.old.hosts }
         ensures given { IfOk result (λ given. given ≡ taking.next_for self.old host) }
@@ -114,7 +114,7 @@ impl Imp {
         Ok(Some(Inbound::Message(HostMessage { flow, text })))
     }
 
-    /// A host takes the oldest answer, of which its flow becomes idle.
+    /// Gives a host the oldest answer, by which its flow becomes idle.
     fn take_answer(&mut self, host: u8) -> Told
         requires there { host < length self.old.hosts }
         requires waits { 0 < length (host_at self.old host).answers }

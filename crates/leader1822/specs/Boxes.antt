@@ -55,7 +55,7 @@ abbrev pub with_queue : {A : Type 0} → Queues A → Host → List A → Queues
 with_queue queues h [] = map.remove queues h
 with_queue queues h (x ∷ xs) = map.insert queues h (x ∷ xs)
 
--- one more, behind what waits for the host
+-- one more, after what waits for the host
 abbrev pub queued_for : {A : Type 0} → Queues A → Host → A → Queues A
 queued_for queues h x = with_queue queues h (for_host queues h ++ x ∷ [])
 

@@ -45,7 +45,7 @@ host_cmp g h = ordering_then (nat_cmp g.imp h.imp) (nat_cmp g.host h.host)
 abbrev pub host_before : Host → Host → Bool
 host_before g h = is_lt (host_cmp g h)
 
--- each host stands before the next one
+-- each host is before the next one
 abbrev pub InOrder : List Host → Type 0
 InOrder [] = Unit {0}
 InOrder (g ∷ []) = Unit {0}

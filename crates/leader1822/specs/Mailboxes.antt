@@ -14,7 +14,7 @@ use Rattle.leader1822.specs.declared.crossing.Crossing.TheVariants as crossing
 -- ---- one box
 
 -- what is known of a flow's message: none is outstanding, or it waits to be taken, or it was taken and has no answer yet.
--- A message is told by its place in the log and its text
+-- A message is given by its place in the log and its text
 pub data Box : Type 0 where
   Empty : Box
   Waiting : (place : ℕ) → (text : List Bool) → Box
@@ -49,7 +49,7 @@ Fits answer.NotTaken (Taken place text) = ⊥
 
 -- ---- the boxes and the hosts after a log
 
--- the box of a flow after one more crossing, which stands at this place
+-- the box of a flow after one more crossing, which is at this place
 abbrev pub touched : ℕ → Flow → Crossing → Box → Box
 touched place f (crossing.Out m) box = if same_flow f m.flow then Waiting place m.text else box
 touched place f (crossing.In m) box = if same_flow f m.flow then fetched box else box
@@ -90,7 +90,7 @@ abbrev pub IsRun : List Host → List Crossing → Type 0
 IsRun hosts [] = Unit {0}
 IsRun hosts (c ∷ log) = Needs hosts c log × IsRun hosts log
 
--- ---- one flow alone
+-- ---- only one flow
 
 -- what a crossing is for one flow
 pub data Passing : Type 0 where

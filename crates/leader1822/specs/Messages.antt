@@ -1,5 +1,5 @@
 -- What every host may rely on, whatever carries its messages: an RFNM speaks of one message that was taken once, no
--- message is taken twice, and one of which its source was told NotTaken is never taken.
+-- message is taken twice, and one of which its source gets NotTaken is never taken.
 use Rattle.std.specs.Prelude.{◌≡◌, Bool, true, false, List, [], ◌∷◌, ◌++◌, ◌||◌, ◌&&◌, if◌then◌else◌, ◌⊎◌}
 use Rattle.leader1822.specs.Mailboxes.{same_flow}
 use Rattle.leader1822.specs.declared.address.Flow.{Flow}
@@ -59,7 +59,7 @@ is_not_taken answer.Incomplete = false
 is_not_taken answer.Dead = true
 is_not_taken answer.NotTaken = true
 
--- whether the flow's source was told in this part of a log that its message was not taken: by Dead or by NotTaken
+-- whether the flow's source was said in this part of a log that its message was not taken: by Dead or by NotTaken
 abbrev pub told_not_taken : Flow → List Crossing → Bool
 told_not_taken f [] = false
 told_not_taken f (crossing.Out m ∷ log) = told_not_taken f log
@@ -68,7 +68,7 @@ told_not_taken f (crossing.Answer kind g ∷ log) = (same_flow f g && is_not_tak
 told_not_taken f (crossing.Down h ∷ log) = told_not_taken f log
 told_not_taken f (crossing.Up h ∷ log) = told_not_taken f log
 
--- between one message out and the flow's next: once its source is told Dead or NotTaken, the message is taken neither before nor after.
+-- between one message out and the flow's next: once its source gets Dead or NotTaken, the message is taken neither before nor after.
 -- `newer` is any later part of the log
 pub record NeverTaken (log : List Crossing) : Type 0 where
   pub never : (newer since before : List Crossing) (m : HostMessage) → log ≡ newer ++ (since ++ crossing.Out m ∷ before) → went_out m.flow since ≡ false

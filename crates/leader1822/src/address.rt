@@ -23,7 +23,7 @@ impl Model for ImpNumber {
 }
 
 impl ImpNumber {
-    /// The IMP with this number; `None` outside 1 to 63.
+    /// Returns the IMP with this number; `None` outside 1 to 63.
     pub fn new(number: u8) -> Option<ImpNumber>
         ensures { result ≡ imp_at number }
     {
@@ -34,7 +34,7 @@ impl ImpNumber {
         }
     }
 
-    /// The number itself, 1 to 63.
+    /// Returns the number itself, 1 to 63.
     pub fn number(&self) -> u8
         ensures same { result ≡ self.now }
         ensures range { (1 ≤ result) × (result ≤ 63) }
@@ -64,7 +64,7 @@ impl Model for HostAddr {
 }
 
 impl HostAddr {
-    /// Host `host` at IMP `imp`; `None` for a host outside 0 to 3 or an IMP outside 1 to 63.
+    /// Returns host `host` at IMP `imp`; `None` for a host outside 0 to 3 or an IMP outside 1 to 63.
     pub fn new(host: u8, imp: u8) -> Option<HostAddr>
         ensures { result ≡ host_at host imp }
     {
@@ -75,21 +75,21 @@ impl HostAddr {
         }
     }
 
-    /// The first of all hosts in order: host 0 at IMP 1.
+    /// Returns the first of all hosts in order: host 0 at IMP 1.
     pub(crate) fn first() -> HostAddr
         ensures { result ≡ record { imp = 1; host = 0 } }
     {
         HostAddr { imp: 1, host: 0 }
     }
 
-    /// The last of all hosts in order: host 3 at IMP 63.
+    /// Returns the last of all hosts in order: host 3 at IMP 63.
     pub(crate) fn last() -> HostAddr
         ensures { result ≡ record { imp = 63; host = 3 } }
     {
         HostAddr { imp: 63, host: 3 }
     }
 
-    /// Its number at its IMP, 0 to 3.
+    /// Returns its number at its IMP, 0 to 3.
     pub fn host(&self) -> u8
         ensures same { result ≡ self.now.host }
         ensures range { result ≤ 3 }
@@ -97,7 +97,7 @@ impl HostAddr {
         self.host
     }
 
-    /// The number of its IMP, 1 to 63.
+    /// Returns the number of its IMP, 1 to 63.
     pub fn imp(&self) -> u8
         ensures same { result ≡ self.now.imp }
         ensures range { (1 ≤ result) × (result ≤ 63) }
@@ -105,7 +105,7 @@ impl HostAddr {
         self.imp
     }
 
-    /// The address octet: the host in the upper two bits, the IMP in the lower six (BBN Report 1822, the
+    /// Returns the address octet: the host in the upper two bits, the IMP in the lower six (BBN Report 1822, the
     /// leader).
     pub fn octet(&self) -> u8
         ensures value { result ≡ address_octet self.now }
@@ -115,7 +115,7 @@ impl HostAddr {
         64 * host + imp
     }
 
-    /// The host that an address octet names; `None` where its IMP is 0.
+    /// Returns the host that an address octet names; `None` where its IMP is 0.
     pub fn from_octet(octet: u8) -> Option<HostAddr>
         ensures { result ≡ host_of_octet octet }
     {

@@ -13,7 +13,7 @@ ghost use Rattle.leader1822.specs.declared.message.HostMessage.{HostMessage};
 use crate::{Crossing, HostAddr, HostMessage, Inbound, NetEvent};
 use thiserror::Error;
 
-/// Why a carrier refuses a call. They stand in the order in which a carrier looks for them, except
+/// Why a carrier refuses a call. They are in the order in which a carrier looks for them, except
 /// that it looks for `Stopped` before all others.
 #[derive(Clone, Copy, Debug, Drop, PartialEq, Eq, Error)]
 pub enum CarrierFault {
@@ -75,32 +75,31 @@ pub trait Carrier: Drop {
     /// How a quiet round may go.
     ghost rounds: { Self → Result Unit CarrierFault → Self → Type 0 };
 
-    /// A message goes from its source to the network. Its `Out` is put on the log.
+    /// Offers a message to the network. Its `Out` is put on the log.
     fn offer_out(&mut self, message: HostMessage) -> Result<(), CarrierFault>
         ensures relation { offers self.old message result self.new }
         ensures shown { ShowsOffer (seen self.old) message result (seen self.new) };
 
-    /// A host takes what came for it: a message whose destination it is, an answer about a flow whose
-    /// source it is, or `None`. The message's `In`, or the `Answer`, is put on the log.
+    /// Gives a host what came for it: a message whose destination it is, an answer about a flow whose source it is, or
+    /// `None`. The message's `In`, or the `Answer`, is put on the log.
     fn take_in(&mut self, host: HostAddr) -> Result<Option<Inbound>, CarrierFault>
         ensures relation { takes self.old host result self.new }
         ensures shown { ShowsTake (seen self.old) host result (seen self.new) };
 
-    /// Something happens inside the network. `HostDown` and `HostUp` put the host's `Down` or `Up` on the
-    /// log, `ImpDown` the `Down` of each host of the IMP that was up, in their order, and every other
-    /// event nothing.
+    /// Lets an event happen inside the network. `HostDown` and `HostUp` put the host's `Down` or `Up` on the log,
+    /// `ImpDown` the `Down` of each host of the IMP that was up, in their order, and every other event nothing.
     fn step(&mut self, event: NetEvent) -> Result<(), CarrierFault>
         ensures relation { steps self.old event result self.new }
         ensures shown { ShowsStep (seen self.old) event result (seen self.new) };
 
-    /// A round in which what is inside the network may move on. Nothing is put on the log.
+    /// Lets one round pass, in which what is inside the network may move on. Nothing is put on the log.
     fn quiet_round(&mut self) -> Result<(), CarrierFault>
         ensures relation { rounds self.old result self.new }
         ensures shown { ShowsRound (seen self.old) result (seen self.new) };
 
-    /// Whether it is known that the network rests: a quiet round leaves it as it is, and so does a taking of any host, which
-    /// brings nothing. A carrier may answer `false` though it rests, and one that doesn't say otherwise does. This takes no
-    /// memory.
+    /// Returns whether it is known that the network rests: a quiet round leaves it as it is, and so does a taking of
+    /// any host, which brings nothing. A carrier may answer `false` though it rests, and one that doesn't say otherwise
+    /// does. This takes no memory.
     fn rests(&self) -> bool
         ensures running { result ≡ true → (seen self.now).stopped ≡ false }
         ensures unchanged { result ≡ true → Rests rounds takes self.now }
@@ -108,12 +107,12 @@ pub trait Carrier: Drop {
         false
     }
 
-    /// All crossings so far, oldest first. They are a run of the mailboxes.
+    /// Returns all crossings so far, oldest first. They are a run of the mailboxes.
     fn log(&self) -> &[Crossing]
         ensures value { result.now ≡ reverse (seen self.now).log }
         ensures run { IsRun (seen self.now).hosts (seen self.now).log };
 
-    /// All hosts of the network, in order of IMP and host.
+    /// Returns all hosts of the network, in order of IMP and host.
     fn hosts(&self) -> &[HostAddr]
         ensures value { result.now ≡ (seen self.now).hosts }
         ensures ordered { InOrder (seen self.now).hosts };

@@ -54,7 +54,7 @@ impl Model for Contents {
 }
 
 impl Contents {
-    /// These hosts, all up, with nothing in transit.
+    /// Returns these hosts, all up, with nothing in transit.
     pub(crate) fn new(alloc: Global, hosts: Vec<HostAddr>) -> Contents
         ensures { result ≡ record { boxes = boxes.opening_boxes hosts.items; flows = map.empty } }
     {
@@ -71,77 +71,77 @@ impl Contents {
 
     // ---- looking
 
-    /// The hosts of the network, in order.
+    /// Returns the hosts of the network, in order.
     pub(crate) fn hosts(&self) -> &[HostAddr]
         ensures { result.now ≡ self.now.boxes.hosts }
     {
         self.hosts.all()
     }
 
-    /// The log, oldest first.
+    /// Returns the log, oldest first.
     pub(crate) fn log(&self) -> &[Crossing]
         ensures { result.now ≡ reverse self.now.boxes.log }
     {
         &self.log
     }
 
-    /// The hosts that are down, in the order in which they went down.
+    /// Returns the hosts that are down, in the order in which they went down.
     pub(crate) fn down(&self) -> &[HostAddr]
         ensures { result.now ≡ self.now.boxes.down }
     {
         &self.down
     }
 
-    /// The messages that wait for each host.
+    /// Returns the messages that wait for each host.
     pub(crate) fn messages(&self) -> &Queues<HostMessage>
         ensures { result.now ≡ self.now.boxes.messages }
     {
         &self.messages
     }
 
-    /// The answers that wait for each host.
+    /// Returns the answers that wait for each host.
     pub(crate) fn answers(&self) -> &Queues<(Answer, Flow)>
         ensures { result.now ≡ self.now.boxes.answers }
     {
         &self.answers
     }
 
-    /// Whether running out of memory has stopped them.
+    /// Returns whether running out of memory has stopped them.
     pub(crate) fn has_stopped(&self) -> bool
         ensures { result ≡ self.now.boxes.stopped }
     {
         self.stopped
     }
 
-    /// Whether this is a host of the network.
+    /// Returns whether this is a host of the network.
     fn is_there(&self, host: &HostAddr) -> bool
         ensures { result ≡ is_host self.now.boxes.hosts host.now }
     {
         self.hosts.contains(host)
     }
 
-    /// Whether this host is down.
+    /// Returns whether this host is down.
     fn is_down(&self, host: &HostAddr) -> bool
         ensures { result ≡ is_host self.now.boxes.down host.now }
     {
         self.down.contains(host)
     }
 
-    /// Whether this is a host of the network that isn't down.
+    /// Returns whether this is a host of the network that isn't down.
     fn is_running(&self, host: &HostAddr) -> bool
         ensures { result ≡ boxes.is_running self.now.boxes.hosts self.now.boxes.down host.now }
     {
         self.is_there(host) && !self.is_down(host)
     }
 
-    /// Whether a message of the flow waits.
+    /// Returns whether a message of the flow waits.
     fn has_message(&self, flow: &Flow) -> bool
         ensures { result ≡ is_message (map.get self.now.flows flow.now) }
     {
         matches!(self.flows.get(flow), Some(Pending::Message))
     }
 
-    /// Whether a message of the flow, or an answer about it, waits.
+    /// Returns whether a message of the flow, or an answer about it, waits.
     fn is_busy(&self, flow: &Flow) -> bool
         requires { IsIndexed self.now }
         ensures { result ≡ boxes.is_busy self.now.boxes flow.now }
@@ -149,7 +149,7 @@ impl Contents {
         self.flows.get(flow).is_some()
     }
 
-    /// Whether a message of the flow, or an RFNM about it, waits.
+    /// Returns whether a message of the flow, or an RFNM about it, waits.
     fn is_outstanding(&self, flow: &Flow) -> bool
         requires kept { IsKept self.now }
         requires running { self.now.boxes.stopped ≡ false }
@@ -158,7 +158,7 @@ impl Contents {
         is_unanswered(self.flows.get(flow))
     }
 
-    /// Whether a message from a host that is down waits.
+    /// Returns whether a message from a host that is down waits.
     fn is_unsettled(&self, host: &HostAddr) -> bool
         requires kept { IsKept self.now }
         requires running { self.now.boxes.stopped ≡ false }
@@ -168,7 +168,7 @@ impl Contents {
         self.flows.has_from(*host)
     }
 
-    /// Whether nothing waits for any host.
+    /// Returns whether nothing waits for any host.
     pub(crate) fn is_empty(&self) -> bool
         requires kept { IsKept self.now }
         requires running { self.now.boxes.stopped ≡ false }
@@ -179,7 +179,7 @@ impl Contents {
 
     // ---- refusing
 
-    /// Why a message of this flow may not be offered.
+    /// Returns why a message of this flow may not be offered.
     pub(crate) fn offer_refusal(&self, flow: &Flow) -> Option<CarrierFault>
         requires { IsKept self.now }
         ensures { result ≡ boxes.offer_refusal self.now.boxes flow.now }
@@ -197,7 +197,7 @@ impl Contents {
         }
     }
 
-    /// Why this host may not take, or may not go down.
+    /// Returns why this host may not take, or may not go down.
     pub(crate) fn host_refusal(&self, host: &HostAddr) -> Option<CarrierFault>
         ensures { result ≡ boxes.host_refusal self.now.boxes host.now }
     {
@@ -212,7 +212,7 @@ impl Contents {
         }
     }
 
-    /// Why the message of this flow may not be given up.
+    /// Returns why the message of this flow may not be given up.
     pub(crate) fn give_up_refusal(&self, flow: &Flow) -> Option<CarrierFault>
         requires { IsKept self.now }
         ensures { result ≡ boxes.give_up_refusal self.now.boxes flow.now }
@@ -228,7 +228,7 @@ impl Contents {
         }
     }
 
-    /// Why this host may not come up.
+    /// Returns why this host may not come up.
     pub(crate) fn host_up_refusal(&self, host: &HostAddr) -> Option<CarrierFault>
         requires { IsKept self.now }
         ensures { result ≡ boxes.host_up_refusal self.now.boxes host.now }
@@ -257,7 +257,7 @@ impl Contents {
         Ok(())
     }
 
-    /// Puts a message behind those that wait for its destination.
+    /// Puts a message after those that wait for its destination.
     fn enqueue(&mut self, message: HostMessage) -> Result<(), AllocError>
         ensures ok { OnOk result (self.new ≡ record { boxes = record self.old.boxes { messages = boxes.queued_for self.old.boxes.messages message.flow.destination message }; flows = map.insert self.old.flows message.flow pending.Message }) }
         ensures err { OnErr result (KeepsLog self.old.boxes self.new.boxes) }
@@ -268,7 +268,7 @@ impl Contents {
         self.messages.push(destination, message)
     }
 
-    /// Puts an answer behind those that wait for the source of its flow.
+    /// Puts an answer after those that wait for the source of its flow.
     fn answer(&mut self, kind: Answer, flow: &Flow) -> Result<(), AllocError>
         ensures ok { OnOk result (self.new ≡ record { boxes = record self.old.boxes { answers = boxes.queued_for self.old.boxes.answers flow.now.source (kind, flow.now) }; flows = map.insert self.old.flows flow.now (pending.Answer kind) }) }
         ensures err { OnErr result (KeepsLog self.old.boxes self.new.boxes) }
@@ -298,7 +298,7 @@ impl Contents {
         CarrierFault::OutOfMemory
     }
 
-    /// A message waits for its destination; where that is down or not there, Dead waits for the source.
+    /// Queues a message for its destination, or Dead for the source if that host is down or doesn't exist.
     fn admit(&mut self, message: HostMessage) -> Result<(), AllocError>
         ensures ok { OnOk result (self.new ≡ held_admitted self.old message) }
         ensures err { OnErr result (KeepsLog self.old.boxes self.new.boxes) }
@@ -310,7 +310,7 @@ impl Contents {
         }
     }
 
-    /// A message goes out.
+    /// Lets a message go out.
     pub(crate) fn offer(&mut self, message: HostMessage) -> Result<(), AllocError>
         ensures ok { OnOk result (self.new ≡ held_offered self.old message) }
         ensures err { OnErr result (KeepsLog self.old.boxes self.new.boxes) }
@@ -360,14 +360,14 @@ impl Contents {
         Ok(Inbound::Message(message))
     }
 
-    /// From now on nothing waits of a flow.
+    /// Makes a flow idle.
     fn forget(&mut self, flow: &Flow)
         ensures { self.new ≡ record self.old { flows = map.remove self.old.flows flow.now } }
     {
         self.flows.remove(flow);
     }
 
-    /// A host takes the oldest answer that waits for it, else the oldest message.
+    /// Gives a host the oldest answer that waits for it, else the oldest message.
     pub(crate) fn take(&mut self, host: &HostAddr) -> Result<Option<Inbound>, AllocError>
         ensures next { IfOk result (λ o. o ≡ boxes.next_for self.old.boxes host.now) }
         ensures ok { OnOk result (self.new ≡ held_taken self.old host.now (boxes.next_for self.old.boxes host.now)) }
@@ -419,7 +419,7 @@ impl Contents {
         self.answer(Answer::Incomplete, &flow)
     }
 
-    /// Withdraws the RFNM of a flow, and puts Incomplete in its place, behind the other answers.
+    /// Withdraws the RFNM of a flow, and queues Incomplete in its place, after the other answers.
     fn give_up_rfnm(&mut self, flow: Flow)
         requires one { length (filter (boxes.is_rfnm_about flow) (boxes.for_host self.old.boxes.answers flow.source)) ≡ 1 }
         requires known { IsSome (map.get self.old.flows flow) }
@@ -449,7 +449,7 @@ impl Contents {
         }
     }
 
-    /// Clears the messages that wait for a host, and gives them.
+    /// Clears the messages that wait for a host, and returns them.
     fn drop_messages(&mut self, host: &HostAddr) -> Option<VecDeque<HostMessage>>
         ensures all { waiting_in result ≡ boxes.for_host self.old.boxes.messages host.now }
         ensures left { self.new ≡ record self.old { boxes = record self.old.boxes { messages = boxes.with_queue self.old.boxes.messages host.now [] } } }
@@ -499,7 +499,7 @@ impl Contents {
     }
 }
 
-/// Whether what waits of a flow is a message, or the RFNM of one.
+/// Returns whether what waits of a flow is a message, or the RFNM of one.
 fn is_unanswered(pending: Option<Pending>) -> bool
     ensures { result ≡ is_unanswered pending }
 {
@@ -510,7 +510,7 @@ fn is_unanswered(pending: Option<Pending>) -> bool
     }
 }
 
-/// From now on nothing waits of the flows of these answers.
+/// Makes the flows of these answers idle.
 fn forget_all(flows: &mut Flows, answers: VecDeque<(Answer, Flow)>)
     ensures { flows.new ≡ cleared flows.old answers.items }
 {

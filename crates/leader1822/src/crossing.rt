@@ -14,7 +14,7 @@ pub enum Answer {
     Incomplete,
     /// The destination is down, not there or out of reach. It did not take the message, and never will.
     Dead,
-    /// The destination did not take the message, and never will. Hosts are told `Incomplete` for it.
+    /// The destination did not take the message, and never will. Hosts gets `Incomplete` for it.
     NotTaken,
 }
 
@@ -25,7 +25,7 @@ pub enum Crossing {
     Out(HostMessage),
     /// The message's destination took it from its IMP.
     In(HostMessage),
-    /// The source of the flow was told what became of its outstanding message.
+    /// The source of the flow learns what became of its outstanding message.
     Answer(Answer, Flow),
     /// The host went down.
     Down(HostAddr),

@@ -39,7 +39,7 @@ impl Model for Flows {
 }
 
 impl Flows {
-    /// Nothing waits of any flow.
+    /// Returns the flows of which nothing waits.
     pub(crate) fn new(alloc: Global) -> Flows
         ensures { result ≡ map.empty }
     {
@@ -48,21 +48,21 @@ impl Flows {
         }
     }
 
-    /// Whether nothing waits of any flow.
+    /// Returns whether nothing waits of any flow.
     pub(crate) fn is_empty(&self) -> bool
         ensures { result ≡ true → self.now ≡ map.empty }
     {
         self.flows.is_empty()
     }
 
-    /// What waits of a flow.
+    /// Returns what waits of a flow.
     pub(crate) fn get(&self, flow: &Flow) -> Option<Pending>
         ensures { result ≡ map.get self.now flow.now }
     {
         self.flows.get(flow).copied()
     }
 
-    /// From now on this waits of a flow. It needs memory only if nothing of the flow waited before.
+    /// Sets what waits of a flow. It needs memory only if nothing of the flow waited before.
     pub(crate) fn set(&mut self, flow: Flow, pending: Pending) -> Result<(), AllocError>
         ensures ok { OnOk result (self.new ≡ map.insert self.old flow pending) }
         ensures fresh { OnErr result (map.get self.old flow ≡ None) }
@@ -81,14 +81,14 @@ impl Flows {
         }
     }
 
-    /// From now on nothing waits of a flow.
+    /// Makes a flow idle.
     pub(crate) fn remove(&mut self, flow: &Flow)
         ensures { self.new ≡ map.remove self.old flow.now }
     {
         self.flows.remove(flow);
     }
 
-    /// Whether anything waits of a flow from a host.
+    /// Returns whether anything waits of a flow from a host.
     pub(crate) fn has_from(&self, host: HostAddr) -> bool
         ensures some { result ≡ true → (f : Flow) × (f.source ≡ host) × IsSome (map.get self.now f) }
         ensures none { result ≡ false → (f : Flow) → IsNamed f → f.source ≡ host → map.get self.now f ≡ None }

@@ -31,7 +31,7 @@ impl Model for Hosts {
 }
 
 impl Hosts {
-    /// These hosts, in this order. This takes no memory.
+    /// Returns these hosts, in this order. This takes no memory.
     pub fn new(hosts: Vec<HostAddr>) -> Hosts
         ensures { result ≡ hosts.items }
     {
@@ -39,14 +39,14 @@ impl Hosts {
         Hosts { hosts, named }
     }
 
-    /// All of them, in order.
+    /// Returns all of them, in order.
     pub fn all(&self) -> &[HostAddr]
         ensures { result.now ≡ self.now }
     {
         &self.hosts
     }
 
-    /// Whether this is one of them.
+    /// Returns whether this is one of them.
     pub fn contains(&self, host: &HostAddr) -> bool
         ensures { result ≡ is_host self.now host.now }
     {
@@ -54,7 +54,7 @@ impl Hosts {
     }
 }
 
-/// For each address octet, whether it names one of these hosts.
+/// Returns, for each address octet, whether it names one of these hosts.
 #[tactic(auto, using(std::proofs::lemmas::List::Folds::list_any_more))]
 fn table_of(hosts: &[HostAddr]) -> [bool; OCTETS]
     ensures { IsTable hosts.now result }
@@ -66,7 +66,7 @@ fn table_of(hosts: &[HostAddr]) -> [bool; OCTETS]
     named
 }
 
-/// The address octet of a host names a host.
+/// Marks the address octet of a host.
 fn mark(named: &mut [bool; OCTETS], host: &HostAddr)
     ensures { (h : Host) → IsAddress h → slice_index_or named.new (address_octet h) false ≡ (slice_index_or named.old (address_octet h) false || same_host h host.now) }
 {

@@ -47,7 +47,7 @@ pub fn worked_leaders()
     ensures answer_written { (kind : Answer) → spelling (leader.Answer kind (record { imp = 2; host = 2 }) (record { 0 = 255 })) ≡ answer_type kind ∷ 130 ∷ 255 ∷ 0 ∷ [] }
     ensures types { (answer_type answer.Rfnm ≡ 5) × (answer_type answer.Dead ≡ 7) × (answer_type answer.Incomplete ≡ 9) × (answer_type answer.NotTaken ≡ 9) }
 
-    // hosts write no answers, and no one type 8: the lower four bits of the first octet are looked at alone
+    // hosts write no answers, and no one type 8: the lower four bits of the first octet are looked at only
     ensures host_answer { read_from_host (5 ∷ 130 ∷ 255 ∷ 0 ∷ []) ≡ Err (leader_fault.UnknownType 5) }
     ensures unknown { (read_from_imp (72 ∷ 130 ∷ 255 ∷ 0 ∷ []) ≡ Err (leader_fault.UnknownType 8)) × (read_from_host (72 ∷ 130 ∷ 255 ∷ 0 ∷ []) ≡ Err (leader_fault.UnknownType 8)) }
 
@@ -59,7 +59,7 @@ pub fn worked_leaders()
 
 /// Hosts in order, as a carrier names them.
 pub fn hosts()
-    // a host stands at one place alone
+    // a host is at one place only
     ensures once { (hosts : List Host) (i j : ℕ) (h : Host) → InOrder hosts → slice_get hosts i ≡ Some h → slice_get hosts j ≡ Some h → i ≡ j }
 {}
 
@@ -137,24 +137,24 @@ pub fn unsafe_logs()
     // a message taken before any went out
     ensures early { (m : HostMessage) → SafeMessages (crossing.In m ∷ []) → ⊥ }
 
-    // a message taken before its source is told NotTaken, and one taken after that
+    // a message taken before its source gets NotTaken, and one taken after that
     ensures taken_and_told { (m : HostMessage) → NeverTaken (crossing.Answer answer.NotTaken m.flow ∷ crossing.In m ∷ crossing.Out m ∷ []) → ⊥ }
     ensures told_and_taken { (m : HostMessage) → NeverTaken (crossing.In m ∷ crossing.Answer answer.NotTaken m.flow ∷ crossing.Out m ∷ []) → ⊥ }
 
     // the same with a later message of the flow on top
     ensures taken_below { (m : HostMessage) → NeverTaken (crossing.Out m ∷ crossing.Answer answer.NotTaken m.flow ∷ crossing.In m ∷ crossing.Out m ∷ []) → ⊥ }
 
-    // a message taken before its source is told Dead, and one taken after that
+    // a message taken before its source gets Dead, and one taken after that
     ensures taken_and_dead { (m : HostMessage) → NeverTaken (crossing.Answer answer.Dead m.flow ∷ crossing.In m ∷ crossing.Out m ∷ []) → ⊥ }
     ensures dead_and_taken { (m : HostMessage) → NeverTaken (crossing.In m ∷ crossing.Answer answer.Dead m.flow ∷ crossing.Out m ∷ []) → ⊥ }
 {}
 
-/// What every host may rely on, from the mailboxes alone.
+/// What every host may rely on, from the mailboxes only.
 pub fn messages()
     ensures { (hosts : List Host) (log : List Crossing) → IsRun hosts log → SafeMessages log }
 {}
 
-/// What a source that is told Dead or NotTaken may rely on, from the mailboxes alone: its message was not taken,
+/// What a source that gets Dead or NotTaken may rely on, from the mailboxes only: its message was not taken,
 /// and never will be.
 pub fn messages_not_taken()
     ensures { (hosts : List Host) (log : List Crossing) → IsRun hosts log → NeverTaken log }

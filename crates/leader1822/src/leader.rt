@@ -47,7 +47,7 @@ pub enum LeaderFault {
 }
 
 impl Leader {
-    /// The leader that a host wrote, in the first four octets. The flags and the last octet are ignored.
+    /// Returns the leader that a host wrote, in the first four octets. The flags and the last octet are ignored.
     ///
     /// Errors: `ShortLeader` below four octets; `UnknownType` for a type other than 0 (regular) and 4
     /// (NOP); `BadImp` for IMP 0, save in a NOP.
@@ -65,7 +65,7 @@ impl Leader {
         }
     }
 
-    /// The leader that an IMP wrote, in the first four octets. The flags and the last octet are ignored.
+    /// Returns the leader that an IMP wrote, in the first four octets. The flags and the last octet are ignored.
     ///
     /// Errors: `ShortLeader` below four octets; `UnknownType` for a type other than 0 (regular), 4 (NOP),
     /// 5 (RFNM), 7 (destination dead) and 9 (incomplete transmission); `BadImp` for IMP 0, save in a NOP.
@@ -85,8 +85,8 @@ impl Leader {
         }
     }
 
-    /// Its four octets, flags and last octet zero. A NOP has all octets but the first zero. `NotTaken`
-    /// has the type of `Incomplete`, and is read again as that.
+    /// Returns its four octets, flags and last octet zero. A NOP has all octets but the first zero. `NotTaken` has the
+    /// type of `Incomplete`, and is read again as that.
     pub fn write(&self) -> [u8; 4]
         ensures spelled { result ≡ spelling self.now }
         ensures again { (rest : List ℕ) → read_from_imp (result ++ rest) ≡ Ok (as_read self.now) }
@@ -103,7 +103,7 @@ impl Leader {
     }
 }
 
-/// The type of message that carries an answer.
+/// Returns the type of message that carries an answer.
 fn type_of(kind: Answer) -> u8
     ensures { result ≡ answer_type kind }
 {
@@ -114,7 +114,7 @@ fn type_of(kind: Answer) -> u8
     }
 }
 
-/// A regular leader with this address octet.
+/// Returns a regular leader with this address octet.
 fn regular(address: u8, link: u8) -> Result<Leader, LeaderFault>
     ensures { result ≡ regular_leader address link }
 {
@@ -125,7 +125,7 @@ fn regular(address: u8, link: u8) -> Result<Leader, LeaderFault>
     })
 }
 
-/// The leader of an answer with this address octet.
+/// Returns the leader of an answer with this address octet.
 fn answer(kind: Answer, address: u8, link: u8) -> Result<Leader, LeaderFault>
     ensures { result ≡ answer_leader kind address link }
 {

@@ -25,7 +25,7 @@ impl Model for Text {
 }
 
 impl Text {
-    /// These bits as a text; `None` for more than 8063 of them.
+    /// Returns these bits as a text; `None` for more than 8063 of them.
     pub fn new(bits: Bits) -> Option<Text>
         ensures short { IsSome result ↔ (length bits ≤ MAX_TEXT_BITS) }
         ensures same { IfSome result (λ text. text ≡ bits) }
@@ -37,7 +37,7 @@ impl Text {
         }
     }
 
-    /// Its bits, at most 8063.
+    /// Returns its bits, at most 8063.
     pub fn bits(&self) -> &Bits
         ensures same { result.now ≡ self.now }
         ensures short { length self.now ≤ MAX_TEXT_BITS }

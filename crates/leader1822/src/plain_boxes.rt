@@ -35,7 +35,7 @@ impl Model for PlainBoxes {
 }
 
 impl PlainBoxes {
-    /// A network of these hosts, all up, with nothing in transit.
+    /// Returns a network of these hosts, all up, with nothing in transit.
     pub fn new(alloc: Global, hosts: Vec<HostAddr>) -> PlainBoxes
         requires { InOrder hosts.items }
         ensures { result ≡ opening_boxes hosts.items }
@@ -45,35 +45,36 @@ impl PlainBoxes {
         }
     }
 
-    /// The hosts that are down, in the order in which they went down.
+    /// Returns the hosts that are down, in the order in which they went down.
     pub fn down(&self) -> &[HostAddr]
         ensures { result.now ≡ self.now.down }
     {
         self.contents.down()
     }
 
-    /// How many messages wait for a host.
+    /// Returns how many messages wait for a host.
     pub fn message_count(&self, host: &HostAddr) -> usize
         ensures { result ≡ length (boxes.for_host self.now.messages host.now) }
     {
         self.contents.messages().count(host)
     }
 
-    /// The message at a place of those that wait for a host, 0 being the oldest; `None` past the newest.
+    /// Returns the message at a place of those that wait for a host, 0 being the oldest; `None` past the newest.
     pub fn message_at(&self, host: &HostAddr, place: usize) -> Option<&HostMessage>
         ensures { option_copied result ≡ slice_get (boxes.for_host self.now.messages host.now) place }
     {
         self.contents.messages().at(host, place)
     }
 
-    /// How many answers wait for a host.
+    /// Returns how many answers wait for a host.
     pub fn answer_count(&self, host: &HostAddr) -> usize
         ensures { result ≡ length (boxes.for_host self.now.answers host.now) }
     {
         self.contents.answers().count(host)
     }
 
-    /// The answer at a place of those that wait for a host, 0 being the oldest, with the flow that it is about;
+    /// Returns the answer at a place of those that wait for a host, 0 being the oldest, with the flow that it is about;
+    /// `None` past the newest.
     /// `None` past the newest.
     pub fn answer_at(&self, host: &HostAddr, place: usize) -> Option<(Answer, Flow)>
         ensures { result ≡ slice_get (boxes.for_host self.now.answers host.now) place }
@@ -132,8 +133,7 @@ impl Carrier for PlainBoxes {
 
     ghost rounds = { BoxesRound };
 
-    /// The message waits for its destination; where that is down or not there, Dead waits for the source
-    /// at once.
+    /// Queues the message for its destination, or Dead for the source at once if that host is down or doesn't exist.
     ///
     /// Errors: `NoSuch` where the source isn't a host of the network, `IsDown` where it is down,
     /// `Blocked` while a message of the flow, or an answer about it, waits.
@@ -147,8 +147,8 @@ impl Carrier for PlainBoxes {
         Ok(())
     }
 
-    /// The host gets the oldest answer that waits for it, else the oldest message, else `None`. With a
-    /// message, RFNM waits for its source, if that is up.
+    /// Gives the host the oldest answer that waits for it, else the oldest message, else `None`. With a message, RFNM
+    /// waits for its source, if that is up.
     ///
     /// Errors: `NoSuch` where it isn't a host of the network, `IsDown` where it is down. It needs memory
     /// only where something waits.
@@ -162,9 +162,9 @@ impl Carrier for PlainBoxes {
         Ok(inbound)
     }
 
-    /// `GiveUp` takes the message of the flow out of its queue, or withdraws its RFNM, and Incomplete
-    /// waits for the source, if that is up. `HostDown` clears what waits for the host, and each message
-    /// gives its source Dead, if that is up. `HostUp` lets the host take and offer again.
+    /// Lets an event happen: `GiveUp` takes the message of the flow out of its queue, or withdraws its RFNM, and queues
+    /// Incomplete for the source, if that is up. `HostDown` clears what waits for the host, and each message gives its
+    /// source Dead, if that is up. `HostUp` lets the host take and offer again.
     ///
     /// Errors: of `GiveUp` `NoSuch` where the source isn't a host of the network, `NotOutstanding` where
     /// neither a message of the flow nor its RFNM waits; of `HostDown` `NoSuch` and `IsDown`; of `HostUp`
@@ -181,7 +181,7 @@ impl Carrier for PlainBoxes {
         }
     }
 
-    /// Nothing is in transit here, so nothing changes, and no memory is needed.
+    /// Changes nothing, since nothing is in transit here, and needs no memory.
     fn quiet_round(&mut self) -> Result<(), CarrierFault> {
         if self.contents.has_stopped() {
             return Err(CarrierFault::Stopped);
@@ -189,7 +189,7 @@ impl Carrier for PlainBoxes {
         Ok(())
     }
 
-    /// Nothing is in transit here, so the network rests while nothing waits for any host. It is always known.
+    /// Returns `true` while nothing waits for any host, since nothing is in transit here. It is always known.
     fn rests(&self) -> bool {
         !self.contents.has_stopped() && self.contents.is_empty()
     }

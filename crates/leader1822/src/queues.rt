@@ -35,7 +35,7 @@ impl<T> Model for Queues<T> {
 }
 
 impl<T: Drop> Queues<T> {
-    /// Nothing waits for any host.
+    /// Returns the queues in which nothing waits for any host.
     pub(crate) fn new(alloc: Global) -> Queues<T>
         ensures { result ≡ map.empty }
     {
@@ -45,7 +45,7 @@ impl<T: Drop> Queues<T> {
         }
     }
 
-    /// How many wait for a host.
+    /// Returns how many wait for a host.
     pub(crate) fn count(&self, host: &HostAddr) -> usize
         ensures { result ≡ length (for_host self.now host.now) }
     {
@@ -55,7 +55,7 @@ impl<T: Drop> Queues<T> {
         }
     }
 
-    /// What stands at a place of those that wait for a host, 0 being the oldest.
+    /// Returns what is at a place of those that wait for a host, 0 being the oldest.
     pub(crate) fn at(&self, host: &HostAddr, place: usize) -> Option<&T>
         ensures { option_copied result ≡ slice_get (for_host self.now host.now) place }
     {
@@ -65,9 +65,9 @@ impl<T: Drop> Queues<T> {
         }
     }
 
-    /// Nothing changes where what waits for a host is put in its own place.
+    /// Proves that nothing changes if what waits for a host is put in its own place.
     ///
-    /// It is there for the proof alone, and does nothing: a caller that changes no queue learns this equation.
+    /// It is there for the proof only, and does nothing: a caller that changes no queue learns this equation.
     pub(crate) fn stays(&self, host: &HostAddr)
         ensures { with_queue self.now host.now (for_host self.now host.now) ≡ self.now }
     {
@@ -75,7 +75,7 @@ impl<T: Drop> Queues<T> {
         let _ = host;
     }
 
-    /// Puts one more behind what waits for a host.
+    /// Puts one more after what waits for a host.
     pub(crate) fn push(&mut self, host: HostAddr, item: T) -> Result<(), AllocError>
         ensures { OnOk result (self.new ≡ queued_for self.old host item) }
     {
@@ -124,15 +124,15 @@ impl Queues<HostMessage> {
 }
 
 impl Queues<(Answer, Flow)> {
-    /// Puts an answer behind those that wait for the source of its flow.
+    /// Puts an answer after those that wait for the source of its flow.
     pub(crate) fn push_answer(&mut self, kind: Answer, flow: &Flow) -> Result<(), AllocError>
         ensures { OnOk result (self.new ≡ queued_for self.old flow.now.source (kind, flow.now)) }
     {
         self.push(flow.source, (kind, *flow))
     }
 
-    /// Withdraws the one RFNM about a flow, and puts Incomplete behind what waits for the flow's source. The
-    /// RFNM leaves room for it.
+    /// Withdraws the one RFNM about a flow, and queues Incomplete for the flow's source, after the rest. The RFNM
+    /// leaves room for it.
     pub(crate) fn replace_rfnm(&mut self, flow: &Flow)
         requires { length (filter (is_rfnm_about flow.now) (for_host self.old flow.now.source)) ≡ 1 }
         ensures { self.new ≡ with_queue self.old flow.now.source (filter (λ a. not (is_rfnm_about flow.now a)) (for_host self.old flow.now.source) ++ (answer.Incomplete, flow.now) ∷ []) }

@@ -35,7 +35,7 @@ pub enum Fate {
 }
 
 impl Fate {
-    /// What a question about a message of this fate is answered.
+    /// Returns what a question about a message of this fate is answered.
     fn told(self) -> Asked
         ensures { result ≡ told_by self }
     {
@@ -58,7 +58,7 @@ pub struct Noted {
 }
 
 impl Noted {
-    /// What is kept after the message of this number met another fate.
+    /// Returns what is kept after the message of this number met another fate.
     fn ended(self, number: Number, fate: Fate) -> Noted
         ensures { result ≡ ended_in number fate self }
     {
@@ -107,7 +107,7 @@ impl Model for DestFlows {
 }
 
 impl DestFlows {
-    /// A destination that keeps no number.
+    /// Returns a destination that keeps no number.
     pub fn new(alloc: Global) -> DestFlows
         ensures { result ≡ map.empty }
     {
@@ -150,8 +150,8 @@ impl DestFlows {
         }
     }
 
-    /// What a question about the message of this number comes to: `Note` if the number is new, else the
-    /// answer by its fate if the number is the flow's last, and else `Silent`.
+    /// Returns what a question about the message of this number comes to: `Note` if the number is new, else the answer
+    /// by its fate if the number is the flow's last, and else `Silent`.
     pub fn asked(&self, flow: &Flow, number: Number) -> Asked
         ensures { result ≡ asked_in (map.get self.now flow.now) number }
     {
@@ -171,21 +171,21 @@ impl DestFlows {
         self.flows.drop_from(imp);
     }
 
-    /// Whether it keeps a last number of a flow whose source is at this IMP.
+    /// Returns whether it keeps a last number of a flow whose source is at this IMP.
     pub fn keeps(&self, imp: ImpNumber) -> bool
         ensures { result ≡ has_from imp self.now }
     {
         self.flows.has_from(imp)
     }
 
-    /// Each flow of which a number is kept, with that number and its message's fate, in the order of the flows.
+    /// Returns each flow of which a number is kept, with that number and its message's fate, in the order of the flows.
     pub fn iter(&self) -> btree_map::Iter<'_, Flow, Noted>
         ensures { result ≡ map.entries self.now }
     {
         self.flows.iter()
     }
 
-    /// The last number that it keeps of a flow.
+    /// Returns the last number that it keeps of a flow.
     pub fn kept(&self, flow: &Flow) -> Option<Number>
         ensures { result ≡ kept_in (map.get self.now flow.now) }
     {

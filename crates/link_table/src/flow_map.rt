@@ -28,7 +28,7 @@ impl<V> Model for FlowMap<V> {
 }
 
 impl<V: Copy> FlowMap<V> {
-    /// The map in which there is no flow.
+    /// Returns the map in which there is no flow.
     pub fn new(alloc: Global) -> FlowMap<V>
         ensures { result ≡ map.empty }
     {
@@ -37,14 +37,14 @@ impl<V: Copy> FlowMap<V> {
         }
     }
 
-    /// What is known of a flow.
+    /// Returns what is known of a flow.
     pub fn get(&self, flow: &Flow) -> Option<V>
         ensures { result ≡ map.get self.now flow.now }
     {
         self.flows.get(flow).copied()
     }
 
-    /// What is known of each flow, in the order of the flows.
+    /// Returns what is known of each flow, in the order of the flows.
     pub fn iter(&self) -> btree_map::Iter<'_, Flow, V>
         ensures { result ≡ map.entries self.now }
     {
@@ -80,7 +80,7 @@ impl<V: Copy> FlowMap<V> {
         self.flows.retain(|flow, _| flow.source.imp() != number);
     }
 
-    /// Whether anything is known of a flow whose source is at this IMP.
+    /// Returns whether anything is known of a flow whose source is at this IMP.
     pub fn has_from(&self, imp: ImpNumber) -> bool
         ensures { result ≡ has_from imp self.now }
     {

@@ -137,7 +137,7 @@ pub fn numbers_of_sources()
 
 /// The fate that is kept with a number.
 pub fn worked_fates()
-    // it changes for the number that is kept alone: what becomes of an older message is passed over
+    // it changes for the number that is kept only: what becomes of an older message is passed over
     ensures ended { ended_in 5 fate.Dead (record { number = 5; fate = fate.Waits }) ≡ record { number = 5; fate = fate.Dead } }
     ensures other { (ended_in 4 fate.Dead (record { number = 5; fate = fate.Waits }) ≡ record { number = 5; fate = fate.Waits }) × (ended_in 6 fate.Taken (record { number = 5; fate = fate.Waits }) ≡ record { number = 5; fate = fate.Waits }) }
 {}

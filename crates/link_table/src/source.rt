@@ -33,7 +33,7 @@ pub enum Release {
 }
 
 impl Standing {
-    /// The number of the last message begun.
+    /// Returns the number of the last message begun.
     pub fn last(self) -> Number
         ensures { result ≡ last_of self }
     {
@@ -42,15 +42,15 @@ impl Standing {
         }
     }
 
-    /// Whether that message has no answer yet.
+    /// Returns whether that message has no answer yet.
     fn is_outstanding(self) -> bool
         ensures { result ≡ is_some (outstanding_in (Some self)) }
     {
         matches!(self, Standing::Outstanding(_))
     }
 
-    /// The standing after an answer to the message of this number: only the outstanding message is
-    /// answered by it.
+    /// Returns the standing after an answer to the message of this number: only the outstanding message is answered by
+    /// it.
     fn answered(self, number: Number) -> Standing
         ensures { result ≡ answered_in number self }
     {
@@ -60,7 +60,7 @@ impl Standing {
         }
     }
 
-    /// The standing after an outstanding message was given up.
+    /// Returns the standing after an outstanding message was given up.
     fn given_up(self) -> Standing
         ensures { result ≡ given_up_in self }
     {
@@ -70,7 +70,7 @@ impl Standing {
         }
     }
 
-    /// The standing after the host took the answer.
+    /// Returns the standing after the host took the answer.
     fn handed(self) -> Standing
         ensures { result ≡ handed_in self }
     {
@@ -102,7 +102,7 @@ impl Model for SourceFlows {
 }
 
 impl SourceFlows {
-    /// A source of which nothing was begun.
+    /// Returns a source of which nothing was begun.
     pub fn new(alloc: Global) -> SourceFlows
         ensures { result ≡ map.empty }
     {
@@ -170,21 +170,21 @@ impl SourceFlows {
         }
     }
 
-    /// Each flow of which a message was begun, with its standing, in the order of the flows.
+    /// Returns each flow of which a message was begun, with its standing, in the order of the flows.
     pub fn iter(&self) -> btree_map::Iter<'_, Flow, Standing>
         ensures { result ≡ map.entries self.now }
     {
         self.flows.iter()
     }
 
-    /// Whether a message of the flow may begin: none is outstanding and no answer waits.
+    /// Returns whether a message of the flow may begin: none is outstanding and no answer waits.
     pub fn is_idle(&self, flow: &Flow) -> bool
         ensures { result ≡ is_idle_in (map.get self.now flow.now) }
     {
         matches!(self.flows.get(flow), None | Some(Standing::Idle(_)))
     }
 
-    /// Whether any message of this host has no answer yet. A host that was down comes up only when this is
+    /// Returns whether any message of this host has no answer yet. A host that was down comes up only when this is
     /// false.
     pub fn has_outstanding(&self, host: HostAddr) -> bool
         ensures { result ≡ has_outstanding host self.now }
@@ -192,7 +192,7 @@ impl SourceFlows {
         self.flows.iter().any(|(flow, standing)| flow.source == host && standing.is_outstanding())
     }
 
-    /// Whether any message to a host at this IMP has no answer yet. That IMP forgets the numbers of this
+    /// Returns whether any message to a host at this IMP has no answer yet. That IMP forgets the numbers of this
     /// source's flows only when this is false.
     pub fn has_outstanding_to(&self, imp: ImpNumber) -> bool
         ensures { result ≡ has_outstanding_to imp self.now }
@@ -202,7 +202,7 @@ impl SourceFlows {
             && standing.is_outstanding())
     }
 
-    /// The number of the outstanding message of a flow.
+    /// Returns the number of the outstanding message of a flow.
     pub fn outstanding(&self, flow: &Flow) -> Option<Number>
         ensures { result ≡ outstanding_in (map.get self.now flow.now) }
     {
@@ -212,7 +212,7 @@ impl SourceFlows {
         }
     }
 
-    /// The number of the last message begun of a flow.
+    /// Returns the number of the last message begun of a flow.
     pub fn last(&self, flow: &Flow) -> Option<Number>
         ensures { result ≡ last_in (map.get self.now flow.now) }
     {

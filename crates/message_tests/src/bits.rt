@@ -77,7 +77,7 @@ fn each_fault_has_its_text(rt: HostRuntime) {
     assert_eq!(rt; are_told, [true; 4]);
 }
 
-/// Whether bits 4 to 12 of `41 42`, with so many ones behind them, have this length and are these octets,
+/// Whether bits 4 to 12 of `41 42`, with this many ones after them, have this length and are these octets,
 /// copied and lent.
 fn is_part(
     alloc: Global,
@@ -105,7 +105,7 @@ fn a_slice_shifts_across_octets(rt: HostRuntime) {
     }
 }
 
-/// Whether so many bits from a place on, cut out at once, are those that are taken one at a time; and whether they and the bits
+/// Whether this many bits from a place on, cut out at once, are those that are taken one at a time; and whether they and the bits
 /// before that place, appended at once, are all of these taken one at a time.
 fn agrees(alloc: Global, from: u8, count: u8) -> Result<[bool; 2], BitFault> {
     let whole = Bits::from_octets(alloc, &[0x41, 0x9A, 0x00, 0xFF, 0x5C, 0xE3, 0x17], 56)?;
@@ -170,7 +170,7 @@ fn bad_bounds_are_out_of_range(rt: HostRuntime) {
     }
 }
 
-/// Whether the text of a body, which is so many bits of these octets, has this length and these octets.
+/// Whether the text of a body, which is this many bits of these octets, has this length and these octets.
 fn is_stripped_to(
     alloc: Global,
     octets: &[u8],
@@ -195,7 +195,7 @@ fn a_body_is_stripped_however_many_zeros_follow(rt: HostRuntime) {
     }
 }
 
-/// How many bits the text of a body has, which is so many zeros and the first bits of octets.
+/// How many bits the text of a body has, which is this many zeros and the first bits of octets.
 fn text_length(
     alloc: Global,
     before: usize,
@@ -222,7 +222,7 @@ fn what_is_no_body_is_refused_by_name(rt: HostRuntime) {
     }
 }
 
-/// Whether a text of so many zeros has a body of this length with the mark behind the text, which gives the
+/// Whether a text of this many zeros has a body of this length with the mark after the text, which gives the
 /// text back, with sixteen more zeros too.
 fn is_filled(alloc: Global, text: usize, body: usize) -> Result<[bool; 4], BitFault> {
     let bits = alike(alloc, false, text)?;
@@ -260,7 +260,7 @@ fn the_empty_text_has_a_body_of_sixteen_bits(rt: HostRuntime) {
     assert_eq!(rt; is_empty_body(rt.alloc(), &[0x80, 0]), Ok(true));
 }
 
-/// Whether so many octets of `41 42 43` from a place on are these.
+/// Whether this many octets of `41 42 43` from a place on are these.
 fn are_from(alloc: Global, from: usize, count: usize, octets: &[u8]) -> Result<bool, BitFault> {
     let bits = Bits::from_octets(alloc, &[0x41, 0x42, 0x43], 24)?;
     Ok(bits.octets_at(alloc, from, count)?.as_slice() == octets)

@@ -215,9 +215,9 @@ enum Want {
     Message(Way),
     /// An answer is taken.
     Answered(Answer, Way),
-    /// There are so many hosts, and so many crossings on the log.
+    /// There are this many hosts, and this many crossings on the log.
     Seen(usize, usize),
-    /// So many messages and so many answers wait.
+    /// This many messages and this many answers wait.
     Waiting(usize, usize),
     /// It is this host.
     Is(Who),
@@ -234,13 +234,13 @@ enum Outcome {
     Refused(CarrierFault),
     /// Nothing waits.
     Nothing,
-    /// A message of so many bits is taken.
+    /// A message of this many bits is taken.
     Message(Flow, usize),
     /// An answer is taken.
     Answered(Answer, Flow),
-    /// There are so many hosts, and so many crossings on the log.
+    /// There are this many hosts, and this many crossings on the log.
     Seen(usize, usize),
-    /// So many messages and so many answers wait.
+    /// This many messages and this many answers wait.
     Waiting(usize, usize),
     /// It is this host.
     Is(HostAddr),
@@ -358,7 +358,7 @@ fn fits(alloc: Global, boxes: &mut PlainBoxes, act: Act, want: Want) -> Result<b
     Ok(acted(alloc, boxes, act)? == outcome_of(want))
 }
 
-/// How many acts give what stands beside them until one doesn't, over the boxes of two hosts.
+/// How many acts give what is beside them until one doesn't, over the boxes of two hosts.
 fn fitting(alloc: Global, acts: &[(Act, Want)]) -> Result<usize, BitFault> {
     let mut boxes = two_hosts(alloc)?;
     for (place, row) in acts.iter().enumerate() {
@@ -642,7 +642,7 @@ fn the_first_refusal_is_given(rt: HostRuntime) {
     assert_eq!(rt; fitting(rt.alloc(), &REFUSED), Ok(11));
 }
 
-/// Whether copies are equal to what they were made of; whether hosts and flows are equal, and stand in
+/// Whether copies are equal to what they were made of; whether hosts and flows are equal, and are in
 /// order, as they should.
 fn likeness() -> Result<[bool; 12], AllocError> {
     let (low, high) = (HostAddr::new(3, 1).unwrap(), HostAddr::new(0, 2).unwrap());

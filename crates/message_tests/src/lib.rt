@@ -5,8 +5,8 @@
 //! memory is left for the call. So the calls are run here on octets, numbers and lists that were written by
 //! hand from the formats, and on wrong ones beside them.
 //!
-//! The rows call what any caller can call. They stand here and not beside the calls because a crate with
-//! tests is proved twice, with them and without them. This crate has no code but tests, and nothing stands
+//! The rows call what any caller can call. They are here and not beside the calls because a crate with
+//! tests is proved twice, with them and without them. This crate has no code but tests, and nothing is
 //! above it.
 #![tactic(auto)]
 

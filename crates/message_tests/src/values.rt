@@ -4,7 +4,7 @@ use bit_messages::{BitFault, Bits};
 use std::alloc::Global;
 use std::fmt::Display;
 
-/// A list of so many bits, all alike.
+/// A list of this many bits, all alike.
 pub(crate) fn alike(alloc: Global, bit: bool, count: usize) -> Result<Bits, BitFault> {
     let mut bits = Bits::new(alloc);
     for _ in 0..count {
@@ -13,7 +13,7 @@ pub(crate) fn alike(alloc: Global, bit: bool, count: usize) -> Result<Bits, BitF
     Ok(bits)
 }
 
-/// Whether a value is told by this text.
+/// Whether a value is given by this text.
 pub(crate) fn is_told<T: Display + Drop>(alloc: Global, value: T, text: &str) -> bool {
     match format!(in alloc; "{}", value) {
         Ok(told) => told.as_str() == text,

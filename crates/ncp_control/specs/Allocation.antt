@@ -19,7 +19,7 @@ may_send a size bytes = if a.messages == 0 then 0 else min bytes (min (a.bits / 
 abbrev pub spent : Allocation → ℕ → Allocation
 spent a bits = record { messages = a.messages - 1; bits = a.bits - bits }
 
--- so many 128ths of a counter, rounded down; a fraction above 128 counts as the whole
+-- this many 128ths of a counter, rounded down; a fraction above 128 counts as the whole
 abbrev pub share : ℕ → ℕ → ℕ
 share counter fraction = counter * min fraction 128 / 128
 

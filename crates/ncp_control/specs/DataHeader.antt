@@ -10,7 +10,7 @@ octet_at text place =
     octet (slice_index_or text place false) (slice_index_or text (place + 1) false) (slice_index_or text (place + 2) false) (slice_index_or text (place + 3) false)
     (slice_index_or text (place + 4) false) (slice_index_or text (place + 5) false) (slice_index_or text (place + 6) false) (slice_index_or text (place + 7) false)
 
--- the size stands in the second octet, the count in the third and fourth
+-- the size is in the second octet, the count in the third and fourth
 abbrev pub fields_of : List Bool → DataHeader
 fields_of text = record { size = octet_at text 8; count = from_be_bytes w16 (octet_at text 16 ∷ octet_at text 24 ∷ []) }
 

@@ -5,11 +5,11 @@ use Rattle.ncp_control.specs.declared.command.Command.{Command}
 use Rattle.ncp_control.specs.Command.{spelling}
 use Rattle.ncp_control.specs.Reading.{read_of}
 
--- the octets of commands, one behind another
+-- the octets of commands, one after another
 abbrev pub spellings : List Command → List ℕ
 spellings commands = flat_map spelling commands
 
--- octets that are read as these commands, one behind another, and have nothing behind them
+-- octets that are read as these commands, one after another, and have nothing after them
 abbrev pub AreRead : List ℕ → List Command → Type 0
 AreRead octets [] = octets ≡ []
 AreRead octets (c ∷ cs) = (read_of octets ≡ Ok (c, length (spelling c))) × AreRead (drop (length (spelling c)) octets) cs

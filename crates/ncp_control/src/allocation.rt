@@ -29,7 +29,7 @@ impl Default for Allocation {
 }
 
 impl Allocation {
-    /// Nothing is granted yet.
+    /// Returns an allocation in which nothing is granted.
     pub fn new() -> Self
         ensures { result ≡ nothing }
     {
@@ -47,8 +47,8 @@ impl Allocation {
         self.bits = self.bits.saturating_add(bits);
     }
 
-    /// How many of the queued bytes of this size one message may carry now: none without a message, else
-    /// as many as the granted bits allow and as fit into [`MAX_DATA_BITS`].
+    /// Returns how many of the queued bytes of this size one message may carry now: none without a message, else as
+    /// many as the granted bits allow and as fit into [`MAX_DATA_BITS`].
     pub fn may_send(&self, size: u8, bytes: usize) -> u16
         requires { 0 < size }
         ensures { result ≡ may_send self.now size bytes }
@@ -88,7 +88,7 @@ impl Allocation {
     }
 }
 
-/// This many 128ths of a counter, rounded down. A fraction above 128 counts as the whole.
+/// Returns this many 128ths of a counter, rounded down. A fraction above 128 counts as the whole.
 fn share_of(counter: u32, fraction: u8) -> u32
     ensures value { result ≡ share counter fraction }
     ensures most { result ≤ counter }

@@ -22,7 +22,7 @@ impl Model for ByteSize {
 }
 
 impl ByteSize {
-    /// The size of this many bits; `None` for 0.
+    /// Returns the size of this many bits; `None` for 0.
     pub fn new(bits: u8) -> Option<Self>
         ensures { result ≡ (if is_byte_size bits then Some bits else None) }
     {
@@ -33,7 +33,7 @@ impl ByteSize {
         }
     }
 
-    /// Its number of bits.
+    /// Returns its number of bits.
     pub fn bits(self) -> u8
         ensures value { result ≡ self }
         ensures some { IsTrue (is_byte_size result) }

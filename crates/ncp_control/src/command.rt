@@ -33,7 +33,7 @@ pub enum Command {
         own: u32,
         foreign: u32,
     },
-    /// The receiver grants so many messages and bits more.
+    /// The receiver grants this many messages and bits more.
     All {
         link: u8,
         messages: u16,
@@ -45,7 +45,7 @@ pub enum Command {
         messages: u8,
         bits: u8,
     },
-    /// The sender returns so many messages and bits.
+    /// The sender returns this many messages and bits.
     Ret {
         link: u8,
         messages: u16,
@@ -83,14 +83,14 @@ impl Command {
     ghost use Rattle.ncp_control.specs.Reading.{read_of};
     ghost use Rattle.ncp_control.specs.declared.command.Command.TheVariants as command;
 
-    /// Whether the command goes alone in its message: RST and RRP.
+    /// Returns whether the command goes alone in its message: RST and RRP.
     pub fn is_alone(&self) -> bool
         ensures { result ≡ is_alone self.now }
     {
         matches!(self, Command::Rst | Command::Rrp)
     }
 
-    /// The ERR that tells of an error in these octets: the first ten, filled with zeros.
+    /// Returns the ERR that tells of an error in these octets: the first ten, filled with zeros.
     pub fn error(code: u8, octets: &[u8]) -> Command
         ensures { result ≡ command.Err code (detail_of octets.now) }
     {
@@ -100,7 +100,7 @@ impl Command {
         Command::Err { code, detail }
     }
 
-    /// The octets that spell it.
+    /// Returns the octets that spell it.
     #[tactic(auto, using(crate::proofs::Readings::again))]
     pub fn write(&self, alloc: Global) -> Result<Vec<u8>, ControlFault>
         ensures spelled { MatchResult result (λ octets. octets.items ≡ spelling self.now) (λ fault. fault ≡ OutOfMemory) }
@@ -113,7 +113,7 @@ impl Command {
         Ok(octets)
     }
 
-    /// How many octets it has.
+    /// Returns how many octets it has.
     pub fn spelled_len(&self) -> usize
         ensures { result ≡ length (spelling self.now) }
     {

@@ -23,7 +23,7 @@ impl Model for ConnectionLink {
 }
 
 impl ConnectionLink {
-    /// The link of this number; `None` outside 2 to 31.
+    /// Returns the link of this number; `None` outside 2 to 31.
     pub fn new(number: u8) -> Option<Self>
         ensures { result ≡ (if is_connection_link number then Some number else None) }
     {
@@ -34,7 +34,7 @@ impl ConnectionLink {
         }
     }
 
-    /// The link's number, 2 to 31.
+    /// Returns the link's number, 2 to 31.
     pub fn number(self) -> u8
         ensures value { result ≡ self }
         ensures range { IsTrue (is_connection_link result) }

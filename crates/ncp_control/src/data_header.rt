@@ -21,8 +21,8 @@ pub struct DataHeader {
 }
 
 impl DataHeader {
-    /// The header that a text begins with; `None` where the text is malformed: it has fewer than 40 bits,
-    /// or fewer bits of data than size times count. What follows these isn't looked at.
+    /// Returns the header that a text begins with; `None` where the text is malformed: it has fewer than 40 bits, or
+    /// fewer bits of data than size times count. What follows these isn't looked at.
     pub fn read(text: &Bits) -> Option<DataHeader>
         ensures { result ≡ header_of text.now }
     {
@@ -36,7 +36,7 @@ impl DataHeader {
         Some(header)
     }
 
-    /// The 40 bits that spell it.
+    /// Returns the 40 bits that spell it.
     pub fn write(&self, alloc: Global) -> Result<Bits, BitFault>
         ensures { MatchResult result (λ bits. bits ≡ header_bits self.now) (λ fault. fault ≡ OutOfMemory) }
     {
@@ -44,7 +44,7 @@ impl DataHeader {
         Bits::from_octets(alloc, &[0, self.size, high, low, 0], HEADER_BITS)
     }
 
-    /// How many bits of data it announces: size times count.
+    /// Returns how many bits of data it announces: size times count.
     pub fn data_bits(&self) -> u32
         ensures { result ≡ data_bits self.now }
     {
@@ -52,7 +52,7 @@ impl DataHeader {
     }
 }
 
-/// The size and the count that stand in a text's header.
+/// Returns the size and the count that are in a text's header.
 fn fields_of(text: &Bits) -> DataHeader
     requires { HEADER_BITS ≤ length text.now }
     ensures { result ≡ fields_of text.now }

@@ -18,7 +18,7 @@ pub enum ControlFault {
     #[error("short")]
     Short { quoted: usize },
     /// A field of an RTS or an STR is outside its range. The ERR quotes the command's own octets, and
-    /// reading may go on after them.
+    /// reading may continue after them.
     #[error("erroneous")]
     Erroneous { quoted: usize },
     /// No memory was left.

@@ -12,7 +12,7 @@ use std::alloc::Global;
 /// The most octets of commands that one control message has (NIC 8246, the control link).
 pub const MAX_CONTROL_OCTETS: usize = 120;
 
-/// How many commands, from the first on, have room in one control message.
+/// Returns how many commands, from the first on, have room in one control message.
 #[tactic(auto, unfolding(crate::specs::Packing::packed_count))]
 pub fn packed_count(commands: &[Command]) -> usize
     ensures count { result ≡ packed_count commands.now }
@@ -40,7 +40,7 @@ pub fn pack(alloc: Global, commands: &[Command]) -> Result<(Vec<u8>, usize), Con
     ensures count { IfOk result (λ packed. packed.1 ≡ packed_count commands.now) }
     ensures spelled { IfOk result (λ packed. packed.0.items ≡ spellings (take packed.1 commands.now)) }
 
-    // a reader finds these commands again, and nothing behind them
+    // a reader finds these commands again, and nothing after them
     ensures again { IfOk result (λ packed. AreRead packed.0.items (take packed.1 commands.now)) }
 
     // no octets take no memory

@@ -42,8 +42,7 @@ pub fn read_one(octets: &[u8]) -> Result<(Command, usize), ControlFault>
 }
 
 #[tactic(auto, unfolding(crate::specs::Reading::command_of))]
-/// The command of this code with the fields that stand behind it; `None` where a field is outside its
-/// range.
+/// Returns the command of this code with the fields that are behind it; `None` where a field is outside its range.
 fn command_of(code: u8, octets: &[u8]) -> Option<Command>
     requires legal { code ≤ 13 }
     requires whole { length_of code ≤ length octets.now }
@@ -82,7 +81,7 @@ fn command_of(code: u8, octets: &[u8]) -> Option<Command>
     }
 }
 
-/// The RTS in these octets; `None` where a parity or the link is wrong.
+/// Returns the RTS in these octets; `None` where a parity or the link is wrong.
 fn rts_of(octets: &[u8]) -> Option<Command>
     requires { 10 ≤ length octets.now }
     ensures { result ≡ rts_of octets.now }
@@ -94,7 +93,7 @@ fn rts_of(octets: &[u8]) -> Option<Command>
     })
 }
 
-/// The STR in these octets; `None` where a parity is wrong or the size is 0.
+/// Returns the STR in these octets; `None` where a parity is wrong or the size is 0.
 fn str_of(octets: &[u8]) -> Option<Command>
     requires { 10 ≤ length octets.now }
     ensures { result ≡ str_of octets.now }
@@ -106,7 +105,7 @@ fn str_of(octets: &[u8]) -> Option<Command>
     })
 }
 
-/// The ERR in these octets.
+/// Returns the ERR in these octets.
 fn err_of(octets: &[u8]) -> Command
     requires { 12 ≤ length octets.now }
     ensures { result ≡ err_of octets.now }
@@ -121,7 +120,7 @@ fn err_of(octets: &[u8]) -> Command
     }
 }
 
-/// The number in the two octets from a place on.
+/// Returns the number in the two octets from a place on.
 fn double_at(octets: &[u8], place: usize) -> u16
     requires { place + 2 ≤ length octets.now }
     ensures { result ≡ number_at w16 octets.now place }
@@ -130,7 +129,7 @@ fn double_at(octets: &[u8], place: usize) -> u16
     u16::from_be_bytes([rest[0], rest[1]])
 }
 
-/// The number in the four octets from a place on.
+/// Returns the number in the four octets from a place on.
 fn word_at(octets: &[u8], place: usize) -> u32
     requires { place + 4 ≤ length octets.now }
     ensures { result ≡ number_at w32 octets.now place }

@@ -22,7 +22,7 @@ impl Model for ReceiveSocket {
 }
 
 impl ReceiveSocket {
-    /// The receive socket of this number; `None` for an odd number.
+    /// Returns the receive socket of this number; `None` for an odd number.
     pub fn new(number: u32) -> Option<Self>
         ensures { result ≡ (if is_receive_socket number then Some number else None) }
     {
@@ -33,7 +33,7 @@ impl ReceiveSocket {
         }
     }
 
-    /// The socket's number, which is even.
+    /// Returns the socket's number, which is even.
     pub fn number(self) -> u32
         ensures value { result ≡ self }
         ensures even { IsTrue (is_receive_socket result) }

@@ -22,7 +22,7 @@ impl Model for SendSocket {
 }
 
 impl SendSocket {
-    /// The send socket of this number; `None` for an even number.
+    /// Returns the send socket of this number; `None` for an even number.
     pub fn new(number: u32) -> Option<Self>
         ensures { result ≡ (if is_send_socket number then Some number else None) }
     {
@@ -33,7 +33,7 @@ impl SendSocket {
         }
     }
 
-    /// The socket's number, which is odd.
+    /// Returns the socket's number, which is odd.
     pub fn number(self) -> u32
         ensures value { result ≡ self }
         ensures odd { IsTrue (is_send_socket result) }

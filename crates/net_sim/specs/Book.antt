@@ -1,4 +1,4 @@
--- What a world keeps of its hosts: the crossings, what each user was told, the contacts, what services reported, and a life for
+-- What a world keeps of its hosts: the crossings, the notices to each user, the contacts, what services reported, and a life for
 -- each opened end of a connection (NIC 8246).
 use Rattle.std.specs.Prelude.{ℕ, ◌+◌, ◌==◌, ◌&&◌, Bool, true, false, not, if◌then◌else◌, List, [], ◌∷◌, ◌++◌, map, length}
 use Rattle.leader1822.specs.Host.{Host, same_host}
@@ -134,7 +134,7 @@ pub record Kept : Type 0 where
 abbrev pub opening_kept : Kept
 opening_kept = record { book = opening_book; handed = [] }
 
--- the crossing stands in the log, and a host that stops ends its lives
+-- the crossing is in the log, and a host that stops ends its lives
 abbrev pub crossed : Crossing → Kept → Kept
 crossed c k = record k { book = record k.book { crossings = c ∷ k.book.crossings; lives = lives_crossed c k.book.lives } }
 
@@ -143,7 +143,7 @@ abbrev pub all_crossed : List Crossing → Kept → Kept
 all_crossed [] k = k
 all_crossed (c ∷ cs) k = crossed c (all_crossed cs k)
 
--- a host was told something
+-- a host gets a notice
 abbrev pub book_told : Host → Notice → Kept → Kept
 book_told h n k = record {
   book = record k.book { notices = k.book.notices ++ record { host = h; place = length k.book.crossings; notice = n } ∷ []; lives = lives_told h n k.book.lives };

@@ -12,7 +12,7 @@ use Rattle.net_sim.specs.declared.auditing.said.Audit.{Audit}
 use Rattle.net_sim.specs.declared.auditing.said.Audit.TheVariants as audit
 use Rattle.net_sim.specs.declared.auditing.said.Part.TheVariants as part
 
--- so many of the first entries are well, and with one more they are not
+-- this many of the first entries are well, and with one more they are not
 abbrev pub EndsAt : (ℕ → Type 0) → ℕ → Type 0
 EndsAt AreWell place = AreWell place × (AreWell (place + 1) → ⊥)
 
@@ -44,7 +44,7 @@ ShowsCrossing (finding.List place) log = ⊥
 abbrev pub AreAtPeace : List Crossing → List Life → Life → Type 0
 AreAtPeace log lives y = (x : Life) → Contains lives x → SafePartners log (x ∷ y ∷ [])
 
--- the first life with which the partners are not safe, and the first of those before it with which alone they would not be
+-- the first life with which the partners are not safe, and the first of those before it with which they would not be
 abbrev pub ShowsTwo : Finding → List Crossing → List Life → Type 0
 ShowsTwo (finding.Crossing place) log lives = ⊥
 ShowsTwo (finding.Life place) log lives = ⊥

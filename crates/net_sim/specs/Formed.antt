@@ -43,12 +43,12 @@ coming m = crossing.In m
 
 -- ---- data
 
--- as much of a text as its header announces, behind the 40 bits of the header
+-- as much of a text as its header announces, after the 40 bits of the header
 abbrev pub data_by : List Bool → Option DataHeader → Option (List Bool)
 data_by text None = None
 data_by text (Some h) = Some (data_of (data_bits h) text)
 
--- the data of a text: where it comes in they are what its header announces, and where it goes out all that stands behind the header
+-- the data of a text: where it comes in they are what its header announces, and where it goes out all that is after the header
 abbrev pub AreData : Bool → List Bool → List Bool → Type 0
 AreData true text bits = data_by text (header_of text) ≡ Some bits
 AreData false text bits = drop 40 text ≡ bits
@@ -67,7 +67,7 @@ abbrev pub Carries : Life → ℕ → Crossing → ℕ → List Bool → Type 0
 Carries x link c place bits =
     (m : HostMessage) × (c ≡ crossing_of x m) × (m.flow ≡ flow_of x link) × AreData (receives x) m.text bits × (x.own_stamp < place) × (x.partner_stamp < place)
 
--- so many messages crossed that carry these bits, one after another, each once
+-- this many messages crossed that carry these bits, one after another, each once
 abbrev pub AreCarried : (Crossing → ℕ → List Bool → Type 0) → List Crossing → ℕ → List Bool → Type 0
 AreCarried Does [] count bits = (count ≡ 0) × (bits ≡ [])
 AreCarried Does (c ∷ log) count bits =

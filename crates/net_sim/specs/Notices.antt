@@ -12,7 +12,7 @@ use Rattle.net_sim.specs.Formed.{AreData, HasCrossed, coming, going, request}
 
 -- ---- notices of data
 
--- a user is told that bits were sent, or that they have arrived
+-- a user is informed that bits were sent, or that they have arrived
 abbrev pub is_data : Notice → Bool
 is_data (notice.Sent socket bits) = true
 is_data (notice.Arrived socket bits) = true

@@ -51,7 +51,7 @@ event_of (crossing.Answer kind f) = Told f.source f.destination f.link.0 kind
 event_of (crossing.Down h) = Down h
 event_of (crossing.Up h) = Up h
 
--- of what a user asks for a contact alone matters to a reset
+-- of what a user asks for a contact only matters to a reset
 abbrev pub event_by : Host → Request → Event
 event_by h (request.Contact peer) = Contact h peer
 event_by h r = Idle
@@ -100,16 +100,16 @@ pub record Agrees (q : PairState) (p : Pair) : Type 0 where
   pub phase : p.phase ≡ phase_of q.phase
   pub owed : p.owed ≡ q.owed
   pub busy : (link : ℕ) → is_some (p.out link) ≡ is_busy q.busy link
-  -- an end whose request went out stands in a pair that is ready, and something was said since its connections were dropped last
+  -- an end whose request went out is in a pair that is ready, and something was said since its connections were dropped last
   pub ready : has_asked q.entries ≡ true → program.is_ready q.phase ≡ true
   pub begun : has_asked q.entries ≡ true → p.begun ≡ true
   pub plain : ArePlain q.queue
-  -- data go on connections' links alone
+  -- data go on connections' links only
   pub linked : has_control q.entries ≡ false
 
 -- ---- texts
 
--- RST and RRP don't stand among other commands, and an RTS names a connection's link
+-- RST and RRP don't occur among other commands, and an RTS names a connection's link
 abbrev pub IsPlain : Order → Type 0
 IsPlain (Legal c) = (is_rst c ≡ false) × (is_rrp c ≡ false) × (names_control c ≡ false)
 IsPlain (Wrong code octets) = Unit {0}
@@ -118,7 +118,7 @@ abbrev pub AllPlain : List Order → Type 0
 AllPlain [] = Unit {0}
 AllPlain (o ∷ os) = IsPlain o × AllPlain os
 
--- a control text is an RST or an RRP alone, or has neither
+-- a control text is an RST or an RRP only, or has neither
 abbrev pub IsApart : ℕ → List Bool → Message → Type 0
 IsApart link text Reset = Unit {0}
 IsApart link text Reply = Unit {0}

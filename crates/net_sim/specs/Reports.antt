@@ -1,4 +1,4 @@
--- What services report of initial connections, and what their hosts were told until then (RFC 165).
+-- What services report of initial connections, and what their hosts heard until then (RFC 165).
 use Rattle.std.specs.Prelude.{◌≡◌, ◌⊎◌, ℕ, ◌+◌, ◌≤◌, true, false, List, ◌++◌, map, filter, length, take, None, All}
 use Rattle.leader1822.specs.Host.{Host, same_host}
 use Rattle.host_pairs.specs.declared.notice.Notice.{Notice}
@@ -14,13 +14,13 @@ use Rattle.host_services.specs.declared.service.Service.TheVariants as service
 use Rattle.net_sim.specs.Book.{Reported, Told}
 use Rattle.net_sim.specs.World.{ServiceSeat, WorldState}
 
--- what a host was told, by the notices of all hosts
+-- the notices to a host, by the notices of all hosts
 abbrev pub told_to : Host → List Told → List Notice
 told_to h told = map (λ x. x.notice) (filter (λ x. same_host h x.host) told)
 
 -- ---- machines that may have begun
 
--- sockets with which a server can begin, and the notices after some one of those that its host was told
+-- sockets with which a server can begin, and the notices after some one of those that its host heard
 pub record BegunServer (notices : List Notice) : Type 0 where
   pub listen : ℕ
   pub base : ℕ
@@ -41,7 +41,7 @@ pub record BegunUser (notices : List Notice) : Type 0 where
 
 -- ---- what is reported
 
--- a server is done with these two sockets, its base and the one above it: from some notice on its host was told that a user asks, and
+-- a server is done with these two sockets, its base and the one above it: from some notice on its host was informed that a user asks, and
 -- that both were opened with sockets of that user, crosswise
 pub record ServerIsDone (notices : List Notice) (receive send : ℕ) : Type 0 where
   pub began : BegunServer notices
@@ -49,7 +49,7 @@ pub record ServerIsDone (notices : List Notice) (receive send : ℕ) : Type 0 wh
   pub sends : send ≡ began.base + 1
   pub served : IsServed began.listen began.base began.since
 
--- a user is done with these two sockets, two and three above its own: from some notice on its host was told that the server says an
+-- a user is done with these two sockets, two and three above its own: from some notice on its host was informed that the server says an
 -- even base, and that both were opened with the base and the socket above it, crosswise
 pub record UserIsDone (notices : List Notice) (receive send : ℕ) : Type 0 where
   pub began : BegunUser notices
@@ -57,13 +57,13 @@ pub record UserIsDone (notices : List Notice) (receive send : ℕ) : Type 0 wher
   pub sends : send ≡ began.own + 3
   pub connected : IsConnected began.peer began.listen began.own began.since
 
--- a report is true of a host that was told these notices: a machine that is reported done is done. Of other reports nothing is asked
+-- a report is true of a host that got these notices: a machine that is reported done is done. Of other reports nothing is asked
 abbrev pub IsSo : List Notice → Report → Type 0
 IsSo notices (report.Server (outcome.Done receive send)) = ServerIsDone notices receive send
 IsSo notices (report.User (outcome.Done receive send)) = UserIsDone notices receive send
 IsSo notices r = Unit {0}
 
--- a report is true at its place in the book: of what its host was told until then
+-- a report is true at its place in the book: of what its host heard until then
 pub record IsBacked (told : List Told) (r : Reported) : Type 0 where
   pub within : r.notices ≤ length told
   pub so : IsSo (told_to r.host (take r.notices told)) r.report
@@ -80,7 +80,7 @@ IsRunning notices s = Unit {0}
 abbrev pub AreRunning : List Told → List ServiceSeat → Type 0
 AreRunning told all = All (λ s. All (IsRunning (told_to s.host told)) s.services.running) all
 
--- each report in the book is true at its place; and until memory runs out all that runs is as its host was told
+-- each report in the book is true at its place; and until memory runs out all that runs is as its host heard
 pub record AreReported {C : Type 0} (w : WorldState C) : Type 0 where
   pub reports : All (IsBacked w.kept.book.notices) w.kept.book.reports
   pub services : w.stopped ≡ false → AreRunning w.kept.book.notices w.services

@@ -101,7 +101,7 @@ pub record SafeStreams (log : List Crossing) (lives : List Life) (handed : List 
 
 -- ---- allocation
 
--- so many messages and bits, with what was returned, are no more than what a receiving life granted
+-- this many messages and bits, with what was returned, are no more than what a receiving life granted
 pub record IsGranted (receiver : Life) (count size : ℕ) : Type 0 where
   pub messages : count + receiver.returned.messages ≤ receiver.granted.messages
   pub bits : size + receiver.returned.bits ≤ receiver.granted.bits

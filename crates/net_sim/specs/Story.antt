@@ -58,7 +58,7 @@ pub record IsNext (s : NcpState) (m : HostMessage) : Type 0 where
   pub next : next_in s.peers ≡ Some (peer, parcel)
   pub message : m ≡ message_for s.own peer parcel
 
--- what a moment asks of those before it: what goes out is what the program says, what is taken has RST and RRP alone or neither,
+-- what a moment asks of those before it: what goes out is what the program says, what is taken has RST and RRP only or neither,
 -- and an answer is about a message that is outstanding
 abbrev pub Follows : Moment → List Moment → Type 0
 Follows (Crossed (crossing.Out m)) moments = IsNext (program m.flow.source moments) m

@@ -16,12 +16,12 @@ use Rattle.net_sim.specs.Story.{Moment, Crossed, Asked, program, places}
 
 -- ---- what resets see of a book
 
--- the contacts that were asked for when there were so many crossings, newest first
+-- the contacts that were asked for when there were this many crossings, newest first
 abbrev pub called_at : ℕ → List Called → List Event
 called_at place [] = []
 called_at place (x ∷ xs) = called_at place xs ++ (if x.place == place then Contact x.host x.peer ∷ [] else [])
 
--- crossings and contacts in one list, newest first: a contact stands above the crossings that were before it
+-- crossings and contacts in one list, newest first: a contact is above the crossings that were before it
 abbrev pub events_in : List Called → List Crossing → List Event
 events_in contacts [] = called_at 0 contacts
 events_in contacts (c ∷ log) = called_at (length (c ∷ log)) contacts ++ event_of c ∷ events_in contacts log

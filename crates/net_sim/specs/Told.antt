@@ -20,7 +20,7 @@ host_in (Crossed (crossing.Down h)) = h
 host_in (Crossed (crossing.Up h)) = h
 host_in (Asked h r) = h
 
--- what the host's user is told at a moment, after older moments
+-- the notices to the host's user at a moment, after older moments
 abbrev pub notices_by : Moment → List Moment → List Notice
 notices_by (Crossed (crossing.Out m)) moments = (offered (program m.flow.source moments) (places moments)).1
 notices_by (Crossed (crossing.In m)) moments = (accepted (program m.flow.destination moments) (inbound.Message m) (places moments)).1

@@ -98,7 +98,7 @@ stranger = record sender { host = third; own_stamp = 0; partner_stamp = 2 }
 abbrev pub over : Life → Life
 over x = record x { ended = true }
 
--- who was told when
+-- who got which notice when
 abbrev pub stamp_of : Told → Host × ℕ
 stamp_of n = (n.host, n.place)
 

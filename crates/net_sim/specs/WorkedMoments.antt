@@ -55,6 +55,6 @@ bits_sent =
 abbrev pub sent_moments : List Moment
 sent_moments = Crossed (crossing.In eight_sent) ∷ bits_sent
 
--- who was told what, without the places
+-- who got which notice, without the places
 abbrev pub notice_of : Told → Host × Notice
 notice_of n = (n.host, n.notice)

@@ -1,4 +1,4 @@
--- What two hosts are told while a user of the second connects with a server of the first: words for worked examples.
+-- The notices to two hosts while a user of the second connects with a server of the first: words for worked examples.
 use Rattle.std.specs.Prelude.{ℕ, List, [], ◌∷◌}
 use Rattle.leader1822.specs.Host.{Host}
 use Rattle.host_pairs.specs.declared.notice.Notice.{Notice}
@@ -18,6 +18,6 @@ connecting =
     ∷ said_to first (notice.Opened 101 second 18 0 0) ∷ said_to first (notice.Opened 100 second 19 0 0)
     ∷ said_to second (notice.Opened 18 first 101 0 0) ∷ said_to second (notice.Opened 19 first 100 0 0) ∷ []
 
--- a report of a host, where so many notices stood in the book
+-- a report of a host, where this many notices was in the book
 abbrev pub said_by : Host → ℕ → Report → Reported
 said_by h notices what = record { host = h; notices = notices; report = what }

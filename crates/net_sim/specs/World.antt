@@ -130,7 +130,7 @@ changed c crossings w = record w {
 
 -- ---- what services do in a step
 
--- how many notices stand in the book
+-- how many notices are in the book
 abbrev pub noticed : {C : Type 0} → WorldState C → ℕ
 noticed w = length w.kept.book.notices
 
@@ -138,7 +138,7 @@ noticed w = length w.kept.book.notices
 abbrev pub done_by : Host → ServiceDeskState → Kept → Kept
 done_by h d k = all_reported d.reports (all_asked h d.asked k)
 
--- the services of a host are told this of its program, notice by notice, where so many notices stood in the book before
+-- the services of a host are told this of its program, notice by notice, where this many notices was in the book before
 abbrev pub turn_of : Host → ℕ → ServicesState → NcpState × List Notice → ServicesState × ServiceDeskState
 turn_of h before s turn = services.services_told turn.1 s (opening_desk h before turn.0)
 
@@ -150,12 +150,12 @@ tended h t w = record w {
   kept = done_by h t.1 w.kept;
 }
 
--- a host's program is now this one and told these notices, which go into the book, and then to the host's services one by one. What
+-- a host's program is now this one and gave these notices, which go into the book, and then to the host's services one by one. What
 -- they ask for is asked at once
 abbrev pub world_heard : {C : Type 0} → Host → NcpState × List Notice → WorldState C → WorldState C
 world_heard h turn w = tended h (turn_of h (noticed w) (services_of h w.services) turn) (record w { kept = all_told h turn.1 w.kept })
 
--- this crossed, the host's program is now this one and told these notices, and the world's carrier is now this one
+-- this crossed, the host's program is now this one and gave these notices, and the world's carrier is now this one
 abbrev pub world_moved : {C : Type 0} → C → Host → Crossing → NcpState × List Notice → WorldState C → WorldState C
 world_moved c h x turn w = world_heard h turn (record w { carrier = c; kept = crossed x w.kept })
 
@@ -282,7 +282,7 @@ Runs {C} calls old (e ∷ events) r new =
 abbrev pub RunGives : {C : Type 0} → Calls C → WorldState C → List Event → Result (Unit {0}) WorldFault → WorldState C → Type 0
 RunGives calls old events r new = MatchBool old.stopped (Refuses (Carrier fault.Stopped) old r new) (Runs calls old events r new)
 
--- an event again and again, at most so many times, until nothing crosses by it
+-- an event again and again, at most this many times, until nothing crosses by it
 abbrev pub Repeats : {C : Type 0} → Calls C → Event → ℕ → WorldState C → Result (Unit {0}) WorldFault → WorldState C → Type 0
 Repeats calls e zero old r new = Does old r new
 Repeats {C} calls e (suc times) old r new =
@@ -303,7 +303,7 @@ TurnsOf {C} calls (h ∷ hosts) old r new =
 abbrev pub up_in : List Seat → List Host
 up_in seats = map (λ s. s.host) (filter (λ s. is_some s.program) seats)
 
--- so many times: a quiet round, and then each host that is up
+-- this many times: a quiet round, and then each host that is up
 abbrev pub Calms : {C : Type 0} → Calls C → ℕ → WorldState C → Result (Unit {0}) WorldFault → WorldState C → Type 0
 Calms calls zero old r new = Does old r new
 Calms {C} calls (suc times) old r new =

@@ -22,9 +22,9 @@ use leader1822::HostAddr;
 use sockets::{Ncp, NcpFault, Notice, Request};
 use std::alloc::{AllocError, Global};
 
-/// A request names its peer by an address, and has numbers in their ranges, as the types of both have it.
+/// Proves that a request names its peer by an address and has numbers in their ranges, as their types promise.
 ///
-/// It is there for the proof alone, and does nothing: it looks at the address and at the numbers, and the prover then knows
+/// It is there for the proof only, and does nothing: it looks at the address and at the numbers, and the prover then knows
 /// their ranges, which it does not take from a type by itself.
 pub(crate) fn is_addressed(request: &Request)
     ensures addressed { IsAddressed request.now }
@@ -61,7 +61,7 @@ pub(crate) fn is_addressed(request: &Request)
     }
 }
 
-/// The contact that a request is, if it is one, is put behind those that were asked for before.
+/// Adds the contact that a request is, if it is one, after those that were asked for before.
 pub(crate) fn add_called(
     all: &mut Vec<Called>,
     host: HostAddr,
@@ -90,7 +90,7 @@ pub(crate) fn add_called(
     Ok(())
 }
 
-/// The contacts among these requests.
+/// Returns the contacts among these requests.
 pub(crate) fn called_in(
     alloc: Global,
     host: HostAddr,
@@ -106,7 +106,7 @@ pub(crate) fn called_in(
     Ok(called)
 }
 
-/// Writes down what a host's user asked for, what it was told of it, and what the host's services did then.
+/// Writes down what a host's user asked for, what it was notified of it, and what the host's services did then.
 fn write_asked(
     alloc: Global,
     book: &mut Book,
@@ -149,13 +149,13 @@ fn write_deeds(
     write_crossing(alloc, book, host, &[], Vec::new(alloc), deeds)
 }
 
-/// Whether a copy of a request needs memory. It promises nothing: such a request is only asked about before it is copied, so that
-/// no memory is wanted for one that is refused.
+/// Returns whether a copy of a request needs memory. It promises nothing: such a request is only asked about before it
+/// is copied, so that no memory is wanted for one that is refused.
 fn has_text(request: &Request) -> bool {
     matches!(request, Request::Send { .. })
 }
 
-/// The program in a seat is asked for something, which it refuses or serves. Returns what it tells.
+/// Asks the program in a seat for something, which it refuses or serves. Returns what it tells.
 fn asked_of(seat: &mut Seat, request: &Request) -> Result<Vec<Notice>, WorldFault>
     requires live { IfSome seat.old.program (λ p. p.spent ≡ false) }
     ensures refused { (s : NcpState) (f : NcpFault) → seat.old.program ≡ Some s → refusal s request.now ≡ Some f → (result ≡ Err (world.Program f)) × (seat.new ≡ seat.old) }
@@ -180,8 +180,8 @@ fn asked_of(seat: &mut Seat, request: &Request) -> Result<Vec<Notice>, WorldFaul
 }
 
 impl ServiceSeat {
-    /// The program of the host has served what its user asked for, and has told this: the services have their turns, and all is
-    /// written down. Returns the program.
+    /// Lets the services have their turns after the program of the host has served what its user asked for and answered
+    /// this: the services have their turns, and all is written down. Returns the program.
     fn attend(
         &mut self,
         alloc: Global,
@@ -208,8 +208,8 @@ impl ServiceSeat {
         Ok(program)
     }
 
-    /// The program in a seat of the host has served what its user asked for, and has told this. Where that is something, the
-    /// services have their turns. All is written down.
+    /// Lets the services have their turns after the program in a seat of the host has served what its user asked for
+    /// and answered with notices. Where that is something, the services have their turns. All is written down.
     fn answer(
         &mut self,
         alloc: Global,
@@ -232,7 +232,7 @@ impl ServiceSeat {
         Ok(())
     }
 
-    /// The user of the host asks the program in a seat of it for something. What is refused changes nothing.
+    /// Asks the program in a seat of the host for something on behalf of its user. What is refused changes nothing.
     pub(crate) fn ask(
         &mut self,
         alloc: Global,
@@ -251,7 +251,7 @@ impl ServiceSeat {
         Ok(())
     }
 
-    /// A server begins on the host. Returns the program.
+    /// Starts a server on the host. Returns the program.
     pub(crate) fn begin_server(
         &mut self,
         alloc: Global,
@@ -271,7 +271,7 @@ impl ServiceSeat {
         Ok(program)
     }
 
-    /// A user begins on the host. Returns the program.
+    /// Starts a user on the host. Returns the program.
     pub(crate) fn begin_user(
         &mut self,
         alloc: Global,

@@ -22,8 +22,8 @@ pub use findings::{Finding, locate};
 use leader1822::Crossing;
 pub use said::{Audit, Part};
 
-/// Whether a log, its lives and what was handed over in each of them are a safe book. The log is the oldest first, as
-/// [`crate::Book::crossings`] has it.
+/// Returns whether a log, its lives and what was handed over in each of them are a safe book. The log is the oldest
+/// first, as [`crate::Book::crossings`] has it.
 ///
 /// `Malformed` where there isn't one list of bits for each life, or where a stamp names no request: its own stamp a message on link 0
 /// that went out of the life's host to its peer, its partner's one that came in from the peer, of whose flow a message went out
@@ -37,7 +37,7 @@ pub fn audit(log: &[Crossing], lives: &[Life], handed: &[BitLog]) -> Audit
     judged(log, lives, handed)
 }
 
-/// The answer, by the tests in their order.
+/// Returns the answer, by the tests in their order.
 fn judged(log: &[Crossing], lives: &[Life], handed: &[BitLog]) -> Audit
     ensures { result ≡ tests.judged (reverse log.now) lives.now handed.now }
 {

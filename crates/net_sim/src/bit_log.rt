@@ -8,7 +8,7 @@ use std::marker::Model;
 
 /// A list of bits that grows at its end, and can be cut back to what it was without memory.
 ///
-/// Only so many of the bits count. Where it was cut back, the others go when it grows again.
+/// Only this many of the bits count. Where it was cut back, the others go when it grows again.
 #[derive(Debug, Drop)]
 pub struct BitLog {
     bits: Bits,
@@ -27,7 +27,7 @@ impl Model for BitLog {
 }
 
 impl BitLog {
-    /// The empty list.
+    /// Returns the empty list.
     pub(crate) fn new(alloc: Global) -> BitLog
         ensures { result ≡ [] }
     {
@@ -38,7 +38,7 @@ impl BitLog {
         }
     }
 
-    /// These bits.
+    /// Returns these bits.
     pub fn from_bits(alloc: Global, bits: Bits) -> BitLog
         ensures { result ≡ bits }
     {
@@ -46,14 +46,14 @@ impl BitLog {
         BitLog { bits, len, alloc }
     }
 
-    /// How many bits there are.
+    /// Returns how many bits there are.
     pub fn len(&self) -> usize
         ensures { result ≡ length self.now }
     {
         self.len
     }
 
-    /// The bit at place `i`, counted from 0; `None` past the end.
+    /// Returns the bit at place `i`, counted from 0; `None` past the end.
     pub fn get(&self, i: usize) -> Option<bool>
         ensures { result ≡ slice_get self.now i }
     {
@@ -81,7 +81,7 @@ impl BitLog {
         Ok(())
     }
 
-    /// Only the first `len` bits are left.
+    /// Keeps only the first `len` bits.
     pub(crate) fn cut(&mut self, len: usize)
         ensures { self.new ≡ take len self.old }
     {

@@ -15,14 +15,14 @@ use sockets::{Notice, Request};
 use std::alloc::{AllocError, Global};
 use std::marker::Model;
 
-/// Something that the user of a host was told.
+/// A notice to the user of a host.
 #[derive(Debug, Drop)]
 pub struct Told {
     /// The host whose user it was.
     pub host: HostAddr,
     /// How many crossings there were.
     pub place: usize,
-    /// What it was told.
+    /// The notice.
     pub notice: Notice,
 }
 
@@ -44,7 +44,7 @@ pub(crate) struct Page {
     pub(crate) asked: Option<(HostAddr, Request)>,
     /// Which contacts were asked for.
     pub(crate) called: Vec<Called>,
-    /// What users were told.
+    /// The notices to users.
     pub(crate) told: Vec<Told>,
     /// The host whose services had their turns.
     pub(crate) by: Option<HostAddr>,
@@ -54,8 +54,8 @@ pub(crate) struct Page {
     pub(crate) reports: Vec<Reported>,
 }
 
-/// What a world writes down: all that crossed, what users were told, the contacts that they asked for, what services
-/// reported, a life for each opened end of a connection, and what was handed over to be sent in each. All of them stand in their order,
+/// What a world writes down: all that crossed, the notices to users, the contacts that they asked for, what services
+/// reported, a life for each opened end of a connection, and what was handed over to be sent in each. All of them are in their order,
 /// the oldest first.
 ///
 /// What is written at one time is written whole or not at all: where memory runs out in the lives, they are taken back to what they
@@ -78,7 +78,7 @@ impl Model for Book {
     ghost view = { λ b. record { book = record { crossings = reverse b.crossings.items; notices = b.notices.items; contacts = b.contacts.items; reports = b.reports.items; lives = b.lives.lives }; handed = b.lives.handed } };
 }
 
-/// Copies of what crossed are put behind what had crossed before, one after another.
+/// Copies of what crossed are put after what had crossed before, one after another.
 fn push_copies(all: &mut Vec<Crossing>, news: &[Crossing]) -> Result<(), AllocError>
     ensures done { OnOk result (all.new.items ≡ all.old.items ++ news.now) }
     ensures before { take (length all.old.items) all.new.items ≡ all.old.items }
@@ -89,7 +89,7 @@ fn push_copies(all: &mut Vec<Crossing>, news: &[Crossing]) -> Result<(), AllocEr
     Ok(())
 }
 
-/// Copies of what crossed are put behind what had crossed before, or memory runs out, and none is.
+/// Copies of what crossed are put after what had crossed before, or memory runs out, and none is.
 fn add_copies(all: &mut Vec<Crossing>, news: &[Crossing]) -> Result<(), AllocError>
     ensures done { OnOk result (all.new.items ≡ all.old.items ++ news.now) }
     ensures kept { OnErr result (all.new.items ≡ all.old.items) }
@@ -102,7 +102,7 @@ fn add_copies(all: &mut Vec<Crossing>, news: &[Crossing]) -> Result<(), AllocErr
     Ok(())
 }
 
-/// What a host's user was told is put behind what users were told before, one after another, with the number of crossings.
+/// Adds notices to a host's user after the earlier ones, with the number of crossings.
 fn push_told(
     all: &mut Vec<Told>,
     host: HostAddr,
@@ -122,7 +122,7 @@ fn push_told(
     Ok(())
 }
 
-/// The same, or memory runs out, and none of it is.
+/// Adds all of these notices, or none if memory runs out.
 fn add_told(
     all: &mut Vec<Told>,
     host: HostAddr,
@@ -141,7 +141,7 @@ fn add_told(
 }
 
 impl Book {
-    /// A book in which nothing has happened.
+    /// Returns a book in which nothing has happened.
     pub(crate) fn new(alloc: Global) -> Book
         ensures { result ≡ opening_kept }
     {
@@ -154,56 +154,56 @@ impl Book {
         }
     }
 
-    /// All that crossed, the oldest first.
+    /// Returns all that crossed, the oldest first.
     pub fn crossings(&self) -> &[Crossing]
         ensures { result.now ≡ reverse self.now.book.crossings }
     {
         &self.crossings
     }
 
-    /// How many crossings there will be once these are written, too.
+    /// Returns how many crossings there will be once these are written, too.
     pub(crate) fn place_after(&self, news: &[Crossing]) -> usize
         ensures { result ≡ length self.now.book.crossings + length news.now }
     {
         self.crossings.len() + news.len()
     }
 
-    /// What users were told.
+    /// Returns the notices to users.
     pub fn notices(&self) -> &[Told]
         ensures { result.now ≡ self.now.book.notices }
     {
         &self.notices
     }
 
-    /// The contacts that users asked for.
+    /// Returns the contacts that users asked for.
     pub fn contacts(&self) -> &[Called]
         ensures { result.now ≡ self.now.book.contacts }
     {
         &self.contacts
     }
 
-    /// What services reported.
+    /// Returns what services reported.
     pub fn reports(&self) -> &[Reported]
         ensures { result.now ≡ self.now.book.reports }
     {
         &self.reports
     }
 
-    /// The lives of connections.
+    /// Returns the lives of connections.
     pub fn lives(&self) -> &[Life]
         ensures { result.now ≡ self.now.book.lives }
     {
         self.lives.lives()
     }
 
-    /// What was handed over to be sent, a list of bits for each life.
+    /// Returns what was handed over to be sent, a list of bits for each life.
     pub fn handed(&self) -> &[BitLog]
         ensures { result.now ≡ self.now.handed }
     {
         self.lives.handed()
     }
 
-    /// Writes down what crossed, of which no user was told.
+    /// Writes down what crossed, of which no user was notified.
     pub(crate) fn cross(&mut self, news: &[Crossing]) -> Result<(), AllocError>
         ensures done { OnOk result (self.new ≡ all_crossed (reverse news.now) self.old) }
         ensures kept { OnErr result (self.new ≡ self.old) }
@@ -217,7 +217,7 @@ impl Book {
         Ok(())
     }
 
-    /// Writes down what the user of a host asked for, of which it was told nothing.
+    /// Writes down what the user of a host asked for, of which it gets no notice.
     pub(crate) fn ask(&mut self, host: HostAddr, request: &Request) -> Result<(), AllocError>
         ensures done { OnOk result (self.new ≡ asked host request.now self.old) }
         ensures kept { OnErr result (self.new ≡ self.old) }
@@ -232,7 +232,7 @@ impl Book {
         Ok(())
     }
 
-    /// Writes down what crossed, and what the user of a host was told of it.
+    /// Writes down what crossed, and what the user of a host was notified of it.
     pub(crate) fn tell(
         &mut self,
         host: HostAddr,

@@ -17,7 +17,7 @@ const TAKINGS: u8 = 16;
 /// How often a host offers in one round at most.
 const OFFERS: u8 = 32;
 
-/// The host whose seat is here, if it is up.
+/// Returns the host whose seat is here, if it is up.
 fn up_here(seats: &[Seat], at: usize) -> Option<HostAddr>
     requires { at < length seats.now }
     ensures { (seat : world.Seat) → slice_get seats.now at ≡ Some seat → result ≡ (if is_some seat.program then Some seat.host else None) }
@@ -29,7 +29,7 @@ fn up_here(seats: &[Seat], at: usize) -> Option<HostAddr>
     Some(seat.host)
 }
 
-/// Whether each host that is up has nothing to say.
+/// Returns whether each host that is up has nothing to say.
 fn all_silent(seats: &[Seat]) -> bool
     ensures { result ≡ true → (at : ℕ) → at < length seats.now → IsSilentAt seats.now at }
 {
@@ -42,7 +42,7 @@ fn all_silent(seats: &[Seat]) -> bool
     true
 }
 
-/// Whether the host whose seat is here is down, or has nothing to say.
+/// Returns whether the host whose seat is here is down, or has nothing to say.
 fn is_silent_at(seats: &[Seat], at: usize) -> bool
     requires { at < length seats.now }
     ensures { result ≡ true → IsSilentAt seats.now at }
@@ -50,7 +50,7 @@ fn is_silent_at(seats: &[Seat], at: usize) -> bool
     is_silent(&seats[at])
 }
 
-/// Whether a host is down, or has nothing to say.
+/// Returns whether a host is down, or has nothing to say.
 fn is_silent(seat: &Seat) -> bool
     ensures { result ≡ true → IsSilent seat.now }
 {
@@ -61,10 +61,10 @@ fn is_silent(seat: &Seat) -> bool
 }
 
 impl<C: Carrier> World<C> {
-    /// So many times: a quiet round of the network, and then each host that is up has its turn, in order of IMP and host. It
-    /// takes until nothing waits for it, or 16 times; then it offers until it has nothing to say or is refused, or 32 times.
-    /// It continues after refusals. It needs memory where [`World::step`] does. Rounds that would change nothing are not made once that
-    /// is known.
+    /// Passes `rounds` times: a quiet round of the network, and then each host that is up has its turn, in order of IMP
+    /// and host. It takes until nothing waits for it, or 16 times; then it offers until it has nothing to say or is
+    /// refused, or 32 times. It continues after refusals. It needs memory where [`World::step`] does. Rounds that would
+    /// change nothing are not made once that is known.
     ///
     /// Errors: memory runs out, which ends the calm, and `Stopped` after that.
     pub fn calm(&mut self, rounds: u32) -> Result<(), WorldFault>
@@ -86,16 +86,16 @@ impl<C: Carrier> World<C> {
         Ok(())
     }
 
-    /// Whether more rounds of a calm are known to change nothing: the network is known to rest, and no host that is up has anything
-    /// to say.
+    /// Returns whether more rounds of a calm are known to change nothing: the network is known to rest, and no host
+    /// that is up has anything to say.
     pub fn rests(&self) -> bool
         ensures { result ≡ true → (times : ℕ) → CalmGives (shown (record { seen = C.seen; offers = C.offers; takes = C.takes; steps = C.steps; rounds = C.rounds })) times self.now (Ok tt) self.now }
     {
         self.has_calmed(self.book().crossings().len())
     }
 
-    /// Whether another round would change nothing: nothing has crossed since the book had so many crossings, the network is known
-    /// to rest, and no host that is up has anything to say.
+    /// Returns whether another round would change nothing: nothing has crossed since the book had this many crossings,
+    /// the network is known to rest, and no host that is up has anything to say.
     fn has_calmed(&self, before: usize) -> bool
         ensures running { result ≡ true → self.now.stopped ≡ false }
         ensures carrier { result ≡ true → CarrierRests (shown (record { seen = C.seen; offers = C.offers; takes = C.takes; steps = C.steps; rounds = C.rounds })) self.now.carrier }
@@ -110,7 +110,7 @@ impl<C: Carrier> World<C> {
         all_silent(self.seats())
     }
 
-    /// One quiet round of the network, and then each host that is up has its turn.
+    /// Passes one quiet round of the network, after which each host that is up has its turn.
     fn pass_round(&mut self) -> Result<(), WorldFault>
         ensures { Round (shown (record { seen = C.seen; offers = C.offers; takes = C.takes; steps = C.steps; rounds = C.rounds })) self.old result self.new }
     {
@@ -130,7 +130,7 @@ impl<C: Carrier> World<C> {
         Ok(())
     }
 
-    /// A host takes what came for it, and then says what it has to say. Its seat is likely here.
+    /// Lets a host take what came for it, and then say what it has to say. Its seat is likely here.
     fn take_turn(&mut self, at: usize, host: HostAddr) -> Result<(), WorldFault>
         ensures { CalmTurn (shown (record { seen = C.seen; offers = C.offers; takes = C.takes; steps = C.steps; rounds = C.rounds })) host self.old result self.new }
     {
@@ -141,7 +141,7 @@ impl<C: Carrier> World<C> {
         self.offer_all(at, host)
     }
 
-    /// A host takes until nothing crosses by it, or 16 times. Its seat is likely here.
+    /// Lets a host take until nothing crosses by it, or 16 times. Its seat is likely here.
     fn take_all(&mut self, at: usize, host: HostAddr) -> Result<(), WorldFault>
         ensures { Repeats (shown (record { seen = C.seen; offers = C.offers; takes = C.takes; steps = C.steps; rounds = C.rounds })) (Take host) 16 self.old result self.new }
     {
@@ -158,7 +158,7 @@ impl<C: Carrier> World<C> {
         Ok(())
     }
 
-    /// A host offers until nothing crosses by it, or 32 times. Its seat is likely here.
+    /// Lets a host offer until nothing crosses by it, or 32 times. Its seat is likely here.
     fn offer_all(&mut self, at: usize, host: HostAddr) -> Result<(), WorldFault>
         ensures { Repeats (shown (record { seen = C.seen; offers = C.offers; takes = C.takes; steps = C.steps; rounds = C.rounds })) (Offer host) 32 self.old result self.new }
     {

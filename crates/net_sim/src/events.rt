@@ -19,7 +19,7 @@ use leader1822::{Carrier, HostAddr, NetEvent};
 use sockets::Request;
 use std::alloc::Global;
 
-/// Something happens inside the network, or to a host.
+/// Lets an event happen inside the network, or to a host.
 pub(crate) fn happen<C: Carrier>(
     alloc: Global,
     carrier: &mut C,
@@ -41,7 +41,7 @@ pub(crate) fn happen<C: Carrier>(
     change(alloc, seats, services, book, news)
 }
 
-/// The network has a quiet round.
+/// Passes a quiet round of the network.
 pub(crate) fn pass<C: Carrier>(
     carrier: &mut C,
     seats: &mut [Seat],
@@ -56,7 +56,7 @@ pub(crate) fn pass<C: Carrier>(
     Ok(())
 }
 
-/// A host's next message goes to the network. Its seat is looked for at a likely place first.
+/// Offers a host's next message to the network. Its seat is looked for at a likely place first.
 pub(crate) fn offer<C: Carrier>(
     alloc: Global,
     carrier: &mut C,
@@ -82,7 +82,7 @@ pub(crate) fn offer<C: Carrier>(
     go_out(alloc, seats, services, at, book, &carrier.log()[before..])
 }
 
-/// A host takes what came for it. Its seat is looked for at a likely place first.
+/// Lets a host take what came for it. Its seat is looked for at a likely place first.
 pub(crate) fn take<C: Carrier>(
     alloc: Global,
     carrier: &mut C,
@@ -114,7 +114,7 @@ pub(crate) fn take<C: Carrier>(
     }
 }
 
-/// A host's user asks for something.
+/// Asks a host's program for something on behalf of its user.
 pub(crate) fn ask<C: Carrier>(
     alloc: Global,
     carrier: &mut C,
@@ -129,13 +129,13 @@ pub(crate) fn ask<C: Carrier>(
     requires order { hosts_served services.old ≡ hosts_of seats.old }
     ensures { EventGives (shown (record { seen = C.seen; offers = C.offers; takes = C.takes; steps = C.steps; rounds = C.rounds })) (running carrier.old seats.old services.old book.old) (Ask host request.now) result (world_ended carrier.new seats.new services.new book.new result) }
 {
-    // for the proof alone: the carrier is asked nothing else here, and `log` tells what it shows, which stays the same
+    // for the proof only: the carrier is asked nothing else here, and `log` tells what it shows, which stays the same
     let _ = carrier.log();
     let at = up_at(seats, host)?;
     ask_at(alloc, seats, services, at, book, request)
 }
 
-/// A server begins on a host.
+/// Starts a server on a host.
 pub(crate) fn begin_server<C: Carrier>(
     alloc: Global,
     carrier: &mut C,
@@ -151,13 +151,13 @@ pub(crate) fn begin_server<C: Carrier>(
     requires order { hosts_served services.old ≡ hosts_of seats.old }
     ensures { EventGives (shown (record { seen = C.seen; offers = C.offers; takes = C.takes; steps = C.steps; rounds = C.rounds })) (running carrier.old seats.old services.old book.old) (Server host listen base) result (world_ended carrier.new seats.new services.new book.new result) }
 {
-    // for the proof alone, as in `ask`
+    // for the proof only, as in `ask`
     let _ = carrier.log();
     let at = up_at(seats, host)?;
     server_at(alloc, seats, services, at, book, listen, base)
 }
 
-/// A user begins on a host.
+/// Starts a user on a host.
 pub(crate) fn begin_user<C: Carrier>(
     alloc: Global,
     carrier: &mut C,
@@ -174,13 +174,13 @@ pub(crate) fn begin_user<C: Carrier>(
     requires order { hosts_served services.old ≡ hosts_of seats.old }
     ensures { EventGives (shown (record { seen = C.seen; offers = C.offers; takes = C.takes; steps = C.steps; rounds = C.rounds })) (running carrier.old seats.old services.old book.old) (User host peer listen own) result (world_ended carrier.new seats.new services.new book.new result) }
 {
-    // for the proof alone, as in `ask`
+    // for the proof only, as in `ask`
     let _ = carrier.log();
     let at = up_at(seats, host)?;
     user_at(alloc, seats, services, at, book, peer, listen, own)
 }
 
-/// A line is typed at a host.
+/// Types a line at a host.
 pub(crate) fn type_line<C: Carrier>(
     alloc: Global,
     carrier: &mut C,
@@ -195,13 +195,13 @@ pub(crate) fn type_line<C: Carrier>(
     requires order { hosts_served services.old ≡ hosts_of seats.old }
     ensures { EventGives (shown (record { seen = C.seen; offers = C.offers; takes = C.takes; steps = C.steps; rounds = C.rounds })) (running carrier.old seats.old services.old book.old) (Typed host line.now) result (world_ended carrier.new seats.new services.new book.new result) }
 {
-    // for the proof alone, as in `ask`
+    // for the proof only, as in `ask`
     let _ = carrier.log();
     let at = up_at(seats, host)?;
     type_at(alloc, seats, services, at, book, line)
 }
 
-/// Any of the eight events.
+/// Lets any of the eight events happen.
 pub(crate) fn follow<C: Carrier>(
     alloc: Global,
     carrier: &mut C,
@@ -244,9 +244,9 @@ pub(crate) fn follow<C: Carrier>(
     }
 }
 
-/// A user names its peer by an address, in numbers of their ranges, as the types of both have it.
+/// Proves that a user names its peer by an address, with numbers in their ranges, as their types promise.
 ///
-/// It is there for the proof alone, as `is_addressed` is.
+/// It is there for the proof only, as `is_addressed` is.
 pub(crate) fn is_named(event: &Event)
     ensures { IsNamed event.now }
 {

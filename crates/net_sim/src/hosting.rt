@@ -21,8 +21,8 @@ use leader1822::{Crossing, HostAddr, Inbound};
 use sockets::{Ncp, Notice};
 use std::alloc::{AllocError, Global};
 
-/// Where a host's seat stands in a network whose IMPs are numbered from 1 on and have as many hosts each. It promises nothing: in
-/// another network another host may sit there, or none.
+/// Returns where a host's seat is in a network whose IMPs are numbered from 1 on and all have the same number of hosts.
+/// It promises nothing: in another network another host may sit there, or none.
 pub(crate) fn likely_place(seats: &[Seat], host: HostAddr) -> usize {
     let Some(last) = seats.last() else {
         return 0;
@@ -33,7 +33,7 @@ pub(crate) fn likely_place(seats: &[Seat], host: HostAddr) -> usize {
         .saturating_add(usize::from(host.host()))
 }
 
-/// Whether a host's seat is at this place.
+/// Returns whether a host's seat is at this place.
 fn sits_at(seats: &[Seat], at: usize, host: HostAddr) -> bool
     ensures { OnTrue result ((at < length seats.now) × ((d : Seat) → same_host host (slice_index_or seats.now at d).host ≡ true)) }
 {
@@ -43,14 +43,14 @@ fn sits_at(seats: &[Seat], at: usize, host: HostAddr) -> bool
     host == seats[at].host
 }
 
-/// The first place of a host's seat.
+/// Returns the first place of a host's seat.
 fn first_place(seats: &[Seat], host: HostAddr) -> Option<usize>
     ensures { result ≡ position (λ s. same_host host s.host) seats.now }
 {
     seats.iter().position(|seat| host == seat.host)
 }
 
-/// The place of a host's seat. A likely place is looked at before the others.
+/// Returns the place of a host's seat. A likely place is looked at before the others.
 pub(crate) fn place(seats: &[Seat], likely: usize, host: HostAddr) -> Option<usize>
     requires once { IsOnce (hosts_of seats.now) }
     ensures { result ≡ position (λ s. same_host host s.host) seats.now }
@@ -61,7 +61,7 @@ pub(crate) fn place(seats: &[Seat], likely: usize, host: HostAddr) -> Option<usi
     first_place(seats, host)
 }
 
-/// A copy of something that crossed.
+/// Returns a copy of something that crossed.
 pub(crate) fn copy_of(crossing: &Crossing) -> Result<Crossing, AllocError>
     ensures { IfOk result (λ copy. copy ≡ crossing.now) }
 {
@@ -75,7 +75,7 @@ pub(crate) fn copy_of(crossing: &Crossing) -> Result<Crossing, AllocError>
     Ok(copy)
 }
 
-/// What a host's user was told, with the number of crossings.
+/// Returns the notices to a host's user, with the number of crossings.
 pub(crate) fn told_by(
     alloc: Global,
     host: HostAddr,
@@ -95,7 +95,7 @@ pub(crate) fn told_by(
     Ok(told)
 }
 
-/// The services of a host are told what its program tells. Returns the host as they leave it.
+/// Passes what its program notifies to the services of a host. Returns the host as they leave it.
 pub(crate) fn tend(
     alloc: Global,
     host: HostAddr,
@@ -111,7 +111,7 @@ pub(crate) fn tend(
     Ok(desk)
 }
 
-/// Writes down what crossed at a host, what its user was told of it, and what its services did then.
+/// Writes down what crossed at a host, the notices to its user about it, and what its services did then.
 #[tactic(auto, using(crate::proofs::Books::InOrder::written_both))]
 pub(crate) fn write_crossing(
     alloc: Global,
@@ -141,8 +141,8 @@ pub(crate) fn write_crossing(
 }
 
 impl ServiceSeat {
-    /// The program of the host has told this of what crossed: the services have their turns, and all is written down. Returns
-    /// the program.
+    /// Records what the program of the host made of what crossed: the services have their turns, and all is written
+    /// down. Returns the program.
     fn tell(
         &mut self,
         alloc: Global,
@@ -169,8 +169,8 @@ impl ServiceSeat {
         Ok(program)
     }
 
-    /// The program in a seat of the host has told this of what crossed. Where that is something, the services have their turns.
-    /// All is written down.
+    /// Records what the program in a seat of the host made of what crossed. Where that is something, the services have
+    /// their turns. All is written down.
     fn settle(
         &mut self,
         alloc: Global,
@@ -196,7 +196,7 @@ impl ServiceSeat {
         Ok(())
     }
 
-    /// The program in a seat of the host takes what came for it.
+    /// Hands what came for a host to the program in its seat.
     pub(crate) fn hear(
         &mut self,
         alloc: Global,
@@ -218,7 +218,7 @@ impl ServiceSeat {
         self.settle(alloc, seat, book, news, notices)
     }
 
-    /// The program in a seat of the host is told that its next message went out.
+    /// Lets the program in a seat of the host know that its next message went out.
     pub(crate) fn go_out(
         &mut self,
         alloc: Global,

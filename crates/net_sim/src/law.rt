@@ -46,7 +46,7 @@ pub fn resets()
     // of what a user asks a contact is a step, and all else none
     ensures request { (s : NcpState) (r : Request) (h : Host) (p : Pair) → Agrees (pair_with h s.peers) p → Agrees (pair_with h (served s r).peers) (pair_moved (part_of s.own h (event_by s.own r)) p) }
 
-    // a message that has RST and RRP alone, or neither, is what the law says of an RST, of an RRP or of any other text
+    // a message that has RST and RRP only, or neither, is what the law says of an RST, of an RRP or of any other text
     ensures message { (s : NcpState) (m : HostMessage) (stamp : ℕ) (h : Host) (p : Pair) → IsApart m.flow.link.0 m.text (message_on m.flow.link.0 m.text) → Agrees (pair_with h s.peers) p → Agrees (pair_with h (accepted s (inbound.Message m) stamp).0.peers) (pair_moved (part_of s.own h (event_of (crossing.In m))) p) }
 
     // where the pair isn't through a reset, any other text does nothing
@@ -55,7 +55,7 @@ pub fn resets()
     // an answer about a message that is outstanding
     ensures answer { (s : NcpState) (kind : Answer) (f : Flow) (stamp : ℕ) (h : Host) (p : Pair) → (same_host s.own f.source ≡ true → same_host h f.destination ≡ true → is_some (p.out f.link.0) ≡ true) → Agrees (pair_with h s.peers) p → Agrees (pair_with h (accepted s (inbound.Answer kind f) stamp).0.peers) (pair_moved (part_of s.own h (event_of (crossing.Answer kind f))) p) }
 
-    // what goes out may go by the law, has RST and RRP alone or neither, and the pair is then where the law has it
+    // what goes out may go by the law, has RST and RRP only or neither, and the pair is then where the law has it
     ensures may { (s : NcpState) (g : Peer) (x : Parcel) (p : Pair) → AreInOrder s.peers → next_in s.peers ≡ Some (g, x) → Agrees (pair_with g.host s.peers) p → MaySend p (link_for x) (message_on (link_for x) (text_for g.pair x)) }
     ensures apart { (s : NcpState) (g : Peer) (x : Parcel) (p : Pair) → AreInOrder s.peers → next_in s.peers ≡ Some (g, x) → Agrees (pair_with g.host s.peers) p → IsApart (link_for x) (text_for g.pair x) (message_on (link_for x) (text_for g.pair x)) }
     ensures offer { (s : NcpState) (stamp : ℕ) (g : Peer) (x : Parcel) (h : Host) (p : Pair) → AreInOrder s.peers → next_in s.peers ≡ Some (g, x) → Agrees (pair_with h s.peers) p → Agrees (pair_with h (offered s stamp).0.peers) (pair_moved (part_of s.own h (event_of (crossing.Out (message_for s.own g x)))) p) }
@@ -70,7 +70,7 @@ pub fn stories()
     ensures own { (moments : List Moment) (a : Host) → (program a moments).own ≡ a }
 {}
 
-/// What stands in the book of a world, whatever its carrier is made of: all that crossed, except for the event in which memory ran
+/// What is in the book of a world, whatever its carrier is made of: all that crossed, except for the event in which memory ran
 /// out, after every list of events.
 pub fn books<C: Carrier>()
     // over a carrier whose log is empty
@@ -79,7 +79,7 @@ pub fn books<C: Carrier>()
     // an event that is refused, or in which memory runs out, leaves the book and what was handed over as they were
     ensures refused { (old new : WorldState C) (e : Event) (r : Result (Unit {0}) WorldFault) (f : WorldFault) → r ≡ Err f → StepGives (shown (record { seen = C.seen; offers = C.offers; takes = C.takes; steps = C.steps; rounds = C.rounds })) old e r new → new.kept ≡ old.kept }
 
-    // one event, a list of events, and so many quiet rounds with all that the hosts take and say between them
+    // one event, a list of events, and this many quiet rounds with all that the hosts take and say between them
     ensures step { (old new : WorldState C) (e : Event) (r : Result (Unit {0}) WorldFault) → IsBooked C.seen old → StepGives (shown (record { seen = C.seen; offers = C.offers; takes = C.takes; steps = C.steps; rounds = C.rounds })) old e r new → IsBooked C.seen new }
     ensures run { (old new : WorldState C) (events : List Event) (r : Result (Unit {0}) WorldFault) → IsBooked C.seen old → RunGives (shown (record { seen = C.seen; offers = C.offers; takes = C.takes; steps = C.steps; rounds = C.rounds })) old events r new → IsBooked C.seen new }
     ensures calm { (old new : WorldState C) (times : ℕ) (r : Result (Unit {0}) WorldFault) → IsBooked C.seen old → CalmGives (shown (record { seen = C.seen; offers = C.offers; takes = C.takes; steps = C.steps; rounds = C.rounds })) times old r new → IsBooked C.seen new }
@@ -100,7 +100,7 @@ pub fn orders()
 
 /// The mailboxes, as the law of resets has them, are those of the crossings.
 pub fn mailboxes()
-    // a host is up, a message stands at a place, and a box holds a message where the crossings have it so
+    // a host is up, a message is at a place, and a box holds a message where the crossings have it so
     ensures up { (hosts : List Host) (h : Host) (moments : List Moment) → events.is_up hosts h (events_of moments) ≡ is_up hosts h (crossings_of moments) }
     ensures place { (moments : List Moment) → events.place (events_of moments) ≡ length (crossings_of moments) }
     ensures held { (f : Flow) (moments : List Moment) → boxes f.source f.destination (events_of moments) f.link.0 ≡ seen_box f.link.0 (box_of f (crossings_of moments)) }
@@ -116,14 +116,14 @@ pub fn worlds<C: Carrier>()
     // over a carrier whose log is empty
     ensures opening { (c : C) → (C.seen c).log ≡ [] → IsWhole C.seen (C.seen c).hosts (opening_world (shown (record { seen = C.seen; offers = C.offers; takes = C.takes; steps = C.steps; rounds = C.rounds })) c) }
 
-    // after one event, a list of events, and so many quiet rounds with all that the hosts take and say between them, where users
+    // after one event, a list of events, and this many quiet rounds with all that the hosts take and say between them, where users
     // name hosts by addresses, and sockets by numbers of their types
     ensures step { (hosts : List Host) (old new : WorldState C) (e : Event) (r : Result (Unit {0}) WorldFault) → IsNamed e → IsWhole C.seen hosts old → StepGives (shown (record { seen = C.seen; offers = C.offers; takes = C.takes; steps = C.steps; rounds = C.rounds })) old e r new → IsWhole C.seen hosts new }
     ensures run { (hosts : List Host) (old new : WorldState C) (events : List Event) (r : Result (Unit {0}) WorldFault) → Each IsNamed events → IsWhole C.seen hosts old → RunGives (shown (record { seen = C.seen; offers = C.offers; takes = C.takes; steps = C.steps; rounds = C.rounds })) old events r new → IsWhole C.seen hosts new }
     ensures calm { (hosts : List Host) (old new : WorldState C) (times : ℕ) (r : Result (Unit {0}) WorldFault) → IsWhole C.seen hosts old → CalmGives (shown (record { seen = C.seen; offers = C.offers; takes = C.takes; steps = C.steps; rounds = C.rounds })) times old r new → IsWhole C.seen hosts new }
 {}
 
-/// What becomes of resets in a world, told by the contacts and crossings in its book alone. The carrier's log is a run of the
+/// What becomes of resets in a world, told by the contacts and crossings in its book only. The carrier's log is a run of the
 /// mailboxes, as every carrier promises of it.
 pub fn clean_resets<C: Carrier>()
     // a host that is through a reset with a peer takes of it only what went out after its last clean point
@@ -151,7 +151,7 @@ pub fn clean_takings<C: Carrier>()
 pub fn lawful_worlds<C: Carrier>()
     ensures opening { (c : C) → (C.seen c).log ≡ [] → HaveAddresses (C.seen c).hosts → IsLawful C.seen (C.seen c).hosts (opening_world (shown (record { seen = C.seen; offers = C.offers; takes = C.takes; steps = C.steps; rounds = C.rounds })) c) }
 
-    // by one event, a list of events and so many quiet rounds, where users name hosts by addresses and the carrier's log is still a
+    // by one event, a list of events and this many quiet rounds, where users name hosts by addresses and the carrier's log is still a
     // run of the mailboxes
     ensures step { (hosts : List Host) (old new : WorldState C) (e : Event) (r : Result (Unit {0}) WorldFault) → IsLawful C.seen hosts old → IsNamed e → StepGives (shown (record { seen = C.seen; offers = C.offers; takes = C.takes; steps = C.steps; rounds = C.rounds })) old e r new → IsRun hosts (C.seen new.carrier).log → IsLawful C.seen hosts new }
     ensures run { (hosts : List Host) (old new : WorldState C) (events : List Event) (r : Result (Unit {0}) WorldFault) → IsLawful C.seen hosts old → Each IsNamed events → RunGives (shown (record { seen = C.seen; offers = C.offers; takes = C.takes; steps = C.steps; rounds = C.rounds })) old events r new → IsRun hosts (C.seen new.carrier).log → IsLawful C.seen hosts new }

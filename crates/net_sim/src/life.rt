@@ -14,7 +14,7 @@ use bit_messages::Bits;
 use leader1822::HostAddr;
 use std::alloc::{AllocError, Global};
 
-/// So many messages, and so many bits in all.
+/// This many messages, and this many bits in all.
 #[derive(Clone, Copy, Debug, PartialEq, Eq)]
 pub struct Amount {
     /// How many messages.
@@ -24,7 +24,7 @@ pub struct Amount {
 }
 
 impl Amount {
-    /// An amount of no messages and no bits.
+    /// Returns an amount of no messages and no bits.
     pub(crate) fn nothing() -> Amount
         ensures { result ≡ book.nothing }
     {
@@ -34,7 +34,7 @@ impl Amount {
         }
     }
 
-    /// So much more, where both counts have room for it.
+    /// Adds messages and bits, if both counts have room for them.
     fn add(&mut self, messages: u16, bits: u32)
         requires messages { self.old.messages + messages < 2 ^ 128 }
         requires bits { self.old.bits + bits < 2 ^ 128 }
@@ -44,7 +44,7 @@ impl Amount {
         self.bits += u128::from(bits);
     }
 
-    /// No more than it was.
+    /// Lowers both counts to what they were.
     fn cut(&mut self, was: &Amount)
         ensures { self.new ≡ cut_amount was.now self.old }
     {
@@ -53,8 +53,8 @@ impl Amount {
     }
 }
 
-/// One end of a connection from its opening on (NIC 8246). It begins where the user of its host is told that the
-/// end is open, and ends where that user is told that the end is over, or that all connections with its peer are
+/// One end of a connection from its opening on (NIC 8246). It begins where the user of its host is informed that the
+/// end is open, and ends where that user is informed that the end is over, or that all connections with its peer are
 /// gone, or where its host stops. Stamps are places in the log.
 #[derive(Debug, Drop)]
 pub struct Life {
@@ -111,35 +111,35 @@ pub(crate) enum Ending {
 }
 
 impl Life {
-    /// Whether it is the life of this host's socket: one that has ended is not.
+    /// Returns whether it is the life of this host's socket: one that has ended is not.
     fn is_at(&self, host: HostAddr, socket: u32) -> bool
         ensures { result ≡ lives_at host socket self.now }
     {
         host == self.host && self.socket == socket && !self.ended
     }
 
-    /// Whether it is the life of this end.
+    /// Returns whether it is the life of this end.
     fn is_between(&self, host: HostAddr, socket: u32, peer: HostAddr, foreign: u32) -> bool
         ensures { result ≡ lives_between host socket peer foreign self.now }
     {
         self.is_at(host, socket) && peer == self.peer && self.foreign == foreign
     }
 
-    /// Whether it is a life of this host with this peer.
+    /// Returns whether it is a life of this host with this peer.
     fn is_with(&self, host: HostAddr, peer: HostAddr) -> bool
         ensures { result ≡ lives_with host peer self.now }
     {
         host == self.host && peer == self.peer && !self.ended
     }
 
-    /// Whether it is a life of this host.
+    /// Returns whether it is a life of this host.
     fn is_on(&self, host: HostAddr) -> bool
         ensures { result ≡ lives_on host self.now }
     {
         host == self.host && !self.ended
     }
 
-    /// Whether it is one of those that end.
+    /// Returns whether it is one of those that end.
     fn is_of(&self, ending: &Ending) -> bool
         ensures { result ≡ ends ending.now self.now }
     {
@@ -155,7 +155,7 @@ impl Life {
         }
     }
 
-    /// It ends, where it is one of those that do, and that is noted.
+    /// Ends this life if it is one of those that end, and records that.
     pub(crate) fn end_at(
         &mut self,
         at: usize,
@@ -174,7 +174,7 @@ impl Life {
         Ok(())
     }
 
-    /// Its counts.
+    /// Returns its counts.
     fn mark(&self) -> Mark
         ensures { result ≡ mark_of self.now }
     {
@@ -186,7 +186,7 @@ impl Life {
         }
     }
 
-    /// Its counts, which only grew, are these again.
+    /// Restores the counts, which have only grown since.
     pub(crate) fn put_back(&mut self, was: &Mark)
         ensures { self.new ≡ life_back was.now self.old }
     {
@@ -196,8 +196,8 @@ impl Life {
         self.returned.cut(&was.returned);
     }
 
-    /// A message more was sent or taken at a socket, with these bits: in this life, where it is that of the socket. How it was
-    /// is noted.
+    /// Adds a message that was sent or taken at a socket to this life, with its bits: in this life, where it is that of
+    /// the socket. How it was is noted.
     pub(crate) fn carry_at(
         &mut self,
         at: usize,
@@ -226,7 +226,7 @@ impl Life {
         Ok(())
     }
 
-    /// So much more was granted at a socket. How the life was is noted.
+    /// Adds what was granted at a socket. How the life was is noted.
     pub(crate) fn grant_at(
         &mut self,
         at: usize,
@@ -255,7 +255,7 @@ impl Life {
         Ok(())
     }
 
-    /// So much more was returned at a socket. How the life was is noted.
+    /// Adds what was returned at a socket. How the life was is noted.
     pub(crate) fn give_back_at(
         &mut self,
         at: usize,
@@ -284,7 +284,7 @@ impl Life {
         Ok(())
     }
 
-    /// Bits more were handed over to be sent at a socket. How many there were is noted.
+    /// Adds bits that were handed over to be sent at a socket. How many there were is noted.
     pub(crate) fn hand_at(
         &self,
         at: usize,

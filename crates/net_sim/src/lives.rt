@@ -26,7 +26,7 @@ use std::mem;
 
 /// The lives, and what was handed over to be sent in each.
 ///
-/// Nothing changes a life that has ended. So it is known where those stand that are open, and only these are looked at.
+/// Nothing changes a life that has ended. So it is known where those are that are open, and only these are looked at.
 ///
 /// No count of a life passes 4294967295 times the number of changes that were written, so none overflows.
 #[derive(Drop)]
@@ -51,7 +51,7 @@ impl Model for Lives {
     ghost invariant = { λ l. AreKnown l.open.known l.open.hosts l.open.sockets l.lives.items × AreWithin l.changes l.lives.items };
 }
 
-/// Lives end, of those at these places.
+/// Ends those of the lives at these places that end.
 fn end(
     lives: &mut [Life],
     places: &[usize],
@@ -70,7 +70,7 @@ fn end(
     Ok(())
 }
 
-/// A message was sent or taken in the life of a socket.
+/// Adds a message that was sent or taken to the life of a socket.
 fn carry(
     lives: &mut [Life],
     places: &[usize],
@@ -93,7 +93,7 @@ fn carry(
     Ok(())
 }
 
-/// So much was granted in the life of a socket.
+/// Adds what was granted to the life of a socket.
 fn grant(
     lives: &mut [Life],
     places: &[usize],
@@ -117,7 +117,7 @@ fn grant(
     Ok(())
 }
 
-/// So much was returned in the life of a socket.
+/// Adds what was returned to the life of a socket.
 fn give_back(
     lives: &mut [Life],
     places: &[usize],
@@ -141,7 +141,7 @@ fn give_back(
     Ok(())
 }
 
-/// Bits were handed over to be sent in the life of a socket.
+/// Adds bits that were handed over to the life of a socket.
 fn hand(
     lives: &[Life],
     places: &[usize],
@@ -163,7 +163,7 @@ fn hand(
     Ok(())
 }
 
-/// Whether a host stops by what crossed. Any other crossing leaves the lives as they are.
+/// Returns whether a host stops by what crossed. Any other crossing leaves the lives as they are.
 fn is_stop(crossing: &Crossing) -> bool
     ensures { OnFalse result ((l : LivesState) → all.crossed crossing.now l ≡ l) }
 {
@@ -173,7 +173,7 @@ fn is_stop(crossing: &Crossing) -> bool
     }
 }
 
-/// Whether no host stops by all of this, so that the lives stay as they are.
+/// Returns whether no host stops by all of this, so that the lives stay as they are.
 fn none_stops(news: &[Crossing]) -> bool
     ensures { OnTrue result ((l : LivesState) → all.all_crossed news.now l ≡ l) }
 {
@@ -186,7 +186,7 @@ fn none_stops(news: &[Crossing]) -> bool
 }
 
 impl Lives {
-    /// No lives.
+    /// Returns no lives.
     pub(crate) fn new(alloc: Global) -> Lives
         ensures { result ≡ all.none }
     {
@@ -200,7 +200,7 @@ impl Lives {
         }
     }
 
-    /// The lives that end are marked as ended.
+    /// Marks the lives that end as ended.
     fn end(&mut self, ending: &Ending, done: &mut Vec<Undo>) -> Result<(), AllocError>
         ensures done { OnOk result (self.new ≡ all.lives_state_ended ending.now self.old) }
         ensures back { GoesBack done.old.items self.old done.new.items self.new }
@@ -209,7 +209,7 @@ impl Lives {
         end(&mut self.lives, self.open.of(ending), ending, done)
     }
 
-    /// A message was sent or taken in the life of a socket.
+    /// Adds a message that was sent or taken to the life of a socket.
     fn carry(
         &mut self,
         host: HostAddr,
@@ -233,7 +233,7 @@ impl Lives {
         )
     }
 
-    /// So much was granted in the life of a socket.
+    /// Adds what was granted to the life of a socket.
     fn grant(
         &mut self,
         host: HostAddr,
@@ -259,7 +259,7 @@ impl Lives {
         )
     }
 
-    /// So much was returned in the life of a socket.
+    /// Adds what was returned to the life of a socket.
     fn give_back(
         &mut self,
         host: HostAddr,
@@ -285,7 +285,7 @@ impl Lives {
         )
     }
 
-    /// Bits were handed over to be sent in the life of a socket.
+    /// Adds bits that were handed over to the life of a socket.
     fn hand(
         &mut self,
         host: HostAddr,
@@ -309,7 +309,7 @@ impl Lives {
         )
     }
 
-    /// A life begins, with nothing counted or handed over yet.
+    /// Begins a life, with nothing counted or handed over yet.
     fn begin(&mut self, life: Life, done: &mut Vec<Undo>) -> Result<(), AllocError>
         requires { IsWithin 0 life }
         ensures done { OnOk result (self.new ≡ all.begun life self.old) }
@@ -328,7 +328,7 @@ impl Lives {
         Ok(())
     }
 
-    /// Something crossed: a host that stops ends its lives.
+    /// Records what crossed: a host that stops ends its lives.
     fn cross(&mut self, crossing: &Crossing, done: &mut Vec<Undo>) -> Result<(), AllocError>
         ensures done { OnOk result (self.new ≡ all.crossed crossing.now self.old) }
         ensures back { GoesBack done.old.items self.old done.new.items self.new }
@@ -339,7 +339,7 @@ impl Lives {
         }
     }
 
-    /// The user of a host was told something.
+    /// Records a notice to the user of a host.
     fn tell(
         &mut self,
         host: HostAddr,
@@ -402,7 +402,7 @@ impl Lives {
         }
     }
 
-    /// The user of a host asked for something, and wasn't refused.
+    /// Records what the user of a host asked for, and wasn't refused.
     fn ask(
         &mut self,
         host: HostAddr,
@@ -430,7 +430,7 @@ impl Lives {
         }
     }
 
-    /// All of these crossed, one after another.
+    /// Records all of these crossings, one after another.
     fn cross_all(&mut self, crossings: &[Crossing], done: &mut Vec<Undo>) -> Result<(), AllocError>
         ensures done { OnOk result (self.new ≡ all.all_crossed crossings.now self.old) }
         ensures back { GoesBack done.old.items self.old done.new.items self.new }
@@ -441,7 +441,7 @@ impl Lives {
         Ok(())
     }
 
-    /// Users were told all of this, one after another.
+    /// Records all of these notices to users, one after another.
     fn tell_all(&mut self, told: &[Told], done: &mut Vec<Undo>) -> Result<(), AllocError>
         ensures done { OnOk result (self.new ≡ all.all_told told.now self.old) }
         ensures back { GoesBack done.old.items self.old done.new.items self.new }
@@ -452,7 +452,7 @@ impl Lives {
         Ok(())
     }
 
-    /// The services of a host asked for all of this, one after another, and weren't refused.
+    /// Records all that the services of a host asked for, and weren't refused, one after another.
     fn ask_all(
         &mut self,
         host: HostAddr,
@@ -468,8 +468,8 @@ impl Lives {
         Ok(())
     }
 
-    /// All of this happened, in this order: crossings, what a user asked for, what users were told, and what the services of
-    /// a host asked for then.
+    /// Records all of this, in this order: crossings, what a user asked for, the notices to users, and what the
+    /// services of a host asked for then.
     fn go_through(
         &mut self,
         news: &[Crossing],
@@ -490,7 +490,7 @@ impl Lives {
         }
     }
 
-    /// All that was done is taken back. Where the open lives stand is learnt anew when it is wanted.
+    /// Takes back all that was done. Where the open lives are is learnt anew when it is wanted.
     fn go_back(&mut self, done: Vec<Undo>)
         ensures { self.new ≡ all_undone done.items self.old }
     {
@@ -498,7 +498,7 @@ impl Lives {
         self.open.forget();
     }
 
-    /// An empty list for what is done. It has the room that an earlier one had.
+    /// Returns an empty list for what is done. It has the room that an earlier one had.
     fn empty_list(&mut self) -> Vec<Undo>
         ensures state { self.new ≡ self.old }
         ensures list { result.items ≡ [] }
@@ -508,7 +508,7 @@ impl Lives {
         list
     }
 
-    /// All that was done stays, or it is taken back where memory ran out.
+    /// Keeps all that was done, or takes it back if memory ran out.
     fn conclude(
         &mut self,
         outcome: Result<(), AllocError>,
@@ -526,7 +526,7 @@ impl Lives {
         outcome
     }
 
-    /// All of these crossed, and then users were told all this.
+    /// Records all of these crossings, and then all of these notices.
     fn cross_and_tell(
         &mut self,
         news: &[Crossing],
@@ -540,7 +540,7 @@ impl Lives {
         self.tell_all(told, done)
     }
 
-    /// All of these crossed and nothing else happened, or memory runs out, and then the lives are what they were.
+    /// Records all of these crossings and nothing else; if memory runs out, the lives are what they were.
     pub(crate) fn cross_only(&mut self, news: &[Crossing]) -> Result<(), AllocError>
         ensures done { OnOk result (self.new ≡ all.all_crossed news.now self.old) }
         ensures kept { OnErr result (self.new ≡ self.old) }
@@ -553,7 +553,8 @@ impl Lives {
         self.conclude(crossed, undo)
     }
 
-    /// The user of a host asked for this and nothing else happened, or memory runs out, and then the lives are what they were.
+    /// Records that the user of a host asked for this and nothing else; if memory runs out, the lives are what they
+    /// were.
     pub(crate) fn ask_only(&mut self, host: HostAddr, request: &Request) -> Result<(), AllocError>
         ensures done { OnOk result (self.new ≡ all.asked host request.now self.old) }
         ensures kept { OnErr result (self.new ≡ self.old) }
@@ -563,7 +564,7 @@ impl Lives {
         self.conclude(asked, undo)
     }
 
-    /// All of these crossed and then users were told all this, or memory runs out, and then the lives are what they were.
+    /// Records all of these crossings and then these notices; if memory runs out, the lives are what they were.
     pub(crate) fn hear(&mut self, news: &[Crossing], told: &[Told]) -> Result<(), AllocError>
         ensures done { OnOk result (self.new ≡ all.all_told told.now (all.all_crossed news.now self.old)) }
         ensures kept { OnErr result (self.new ≡ self.old) }
@@ -573,7 +574,7 @@ impl Lives {
         self.conclude(heard, undo)
     }
 
-    /// All of this happened, or memory runs out, and then the lives are what they were.
+    /// Records all of this; if memory runs out, the lives are what they were.
     pub(crate) fn follow(&mut self, news: &[Crossing], page: &Page) -> Result<(), AllocError>
         ensures done { OnOk result (self.new ≡ all.followed news.now page.now.asked page.now.told.items page.now.by page.now.ran.items self.old) }
         ensures kept { OnErr result (self.new ≡ self.old) }
@@ -583,14 +584,14 @@ impl Lives {
         self.conclude(followed, done)
     }
 
-    /// The lives, in the order of opening.
+    /// Returns the lives, in the order of opening.
     pub(crate) fn lives(&self) -> &[Life]
         ensures { result.now ≡ self.now.lives }
     {
         &self.lives
     }
 
-    /// What was handed over to be sent in each.
+    /// Returns what was handed over to be sent in each.
     pub(crate) fn handed(&self) -> &[BitLog]
         ensures { result.now ≡ self.now.handed }
     {

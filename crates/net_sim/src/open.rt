@@ -1,4 +1,4 @@
-//! Where the lives that haven't ended stand: by host, and by host and socket.
+//! Where the lives that haven't ended are: by host, and by host and socket.
 
 ghost use Rattle.std.specs.Prelude.{◌≡◌, ◌<◌, ◌++◌, ℕ, false, List, [], ◌∷◌, filter, length, slice_index_or, OnErr, OnOk};
 ghost use Rattle.net_sim.specs.Inside.Open.{AreKnown, Covers, Extends, host_key, places_at, places_of, socket_key};
@@ -31,7 +31,7 @@ impl Model for Table {
     ghost view = { λ t. map (λ list. list.items) t.lists.items };
 }
 
-/// Whether there is an open life at this place.
+/// Returns whether there is an open life at this place.
 fn is_open(lives: &[Life], at: usize) -> bool
     ensures { result ≡ is_open_at lives.now at }
 {
@@ -58,7 +58,7 @@ fn put_behind_open(list: &mut Vec<usize>, lives: &[Life], at: usize) -> Result<(
     Ok(())
 }
 
-/// A place more at the end. Where the list would have to grow, the places of lives that have ended go first.
+/// Adds a place at the end. Where the list would have to grow, the places of lives that have ended go first.
 fn put(list: &mut Vec<usize>, lives: &[Life], at: usize) -> Result<(), AllocError>
     ensures { OnOk result (Extends lives.now at list.old.items list.new.items) }
 {
@@ -70,7 +70,7 @@ fn put(list: &mut Vec<usize>, lives: &[Life], at: usize) -> Result<(), AllocErro
 }
 
 impl Table {
-    /// No places.
+    /// Returns no places.
     fn new(alloc: Global) -> Table
         ensures { result ≡ [] }
     {
@@ -80,7 +80,7 @@ impl Table {
         }
     }
 
-    /// The places with this number.
+    /// Returns the places with this number.
     fn at(&self, key: usize) -> &[usize]
         ensures { result.now ≡ slice_index_or self.now key [] }
     {
@@ -101,7 +101,7 @@ impl Table {
         Ok(())
     }
 
-    /// The place behind these lives is one more with this number.
+    /// Adds the place after these lives to those with this number.
     fn add(&mut self, key: usize, lives: &[Life]) -> Result<(), AllocError>
         ensures here { OnOk result (Extends lives.now (length lives.now) (slice_index_or self.old key []) (slice_index_or self.new key [])) }
         ensures others { OnOk result ((k : ℕ) → (k ≡ key → ⊥) → slice_index_or self.new k [] ≡ slice_index_or self.old k []) }
@@ -111,14 +111,14 @@ impl Table {
     }
 }
 
-/// The number of a host's list.
+/// Returns the number of a host's list.
 fn host_number(host: HostAddr) -> usize
     ensures { result ≡ host_key host }
 {
     usize::from(host.octet())
 }
 
-/// The number of the list of a host's socket. Others may share it.
+/// Returns the number of the list of a host's socket. Others may share it.
 fn socket_number(host: HostAddr, socket: u32) -> usize
     ensures { result ≡ socket_key host socket }
 {
@@ -134,7 +134,7 @@ pub(crate) struct Open {
 }
 
 impl Open {
-    /// Those of no lives.
+    /// Returns those of no lives.
     pub(crate) fn new(alloc: Global) -> Open
         ensures { (result.hosts ≡ []) × (result.sockets ≡ []) }
     {
@@ -145,14 +145,14 @@ impl Open {
         }
     }
 
-    /// Where to look for the life of a host's socket.
+    /// Returns where to look for the life of a host's socket.
     pub(crate) fn at(&self, host: HostAddr, socket: u32) -> &[usize]
         ensures { result.now ≡ places_at host socket self.now.sockets }
     {
         self.sockets.at(socket_number(host, socket))
     }
 
-    /// Where to look for the lives that end.
+    /// Returns where to look for the lives that end.
     pub(crate) fn of(&self, ending: &Ending) -> &[usize]
         ensures { result.now ≡ places_of ending.now self.now.hosts self.now.sockets }
     {
@@ -162,7 +162,7 @@ impl Open {
         }
     }
 
-    /// A life of a host's socket begins, behind these.
+    /// Adds a life of a host's socket, after these.
     fn add(&mut self, host: HostAddr, socket: u32, lives: &[Life]) -> Result<(), AllocError>
         ensures done { OnOk result ((x : Life) → x.host ≡ host → x.socket ≡ socket → Covers self.old.hosts self.old.sockets lives.now → Covers self.new.hosts self.new.sockets (lives.now ++ x ∷ [])) }
         ensures known { self.new.known ≡ self.old.known }
@@ -172,7 +172,7 @@ impl Open {
         Ok(())
     }
 
-    /// A life of a host's socket begins, behind these. Without memory for its place no places are known any more.
+    /// Adds a life of a host's socket, after these. Without memory for its place no places are known any more.
     pub(crate) fn enter(
         &mut self,
         host: HostAddr,
@@ -190,14 +190,14 @@ impl Open {
         added
     }
 
-    /// No places are known any more.
+    /// Forgets all places.
     pub(crate) fn forget(&mut self)
         ensures { self.new.known ≡ false }
     {
         self.known = false;
     }
 
-    /// The places of these lives are known. They are learnt anew where they had been forgotten.
+    /// Makes the places of these lives known. They are learnt anew where they had been forgotten.
     pub(crate) fn know(&mut self, alloc: Global, lives: &[Life]) -> Result<(), AllocError>
         requires { AreKnown self.old.known self.old.hosts self.old.sockets lives.now }
         ensures known { OnOk result (Covers self.new.hosts self.new.sockets lives.now) }

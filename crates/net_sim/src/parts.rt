@@ -26,7 +26,7 @@ use leader1822::{CarrierFault, Crossing, HostAddr, HostMessage, Inbound};
 use sockets::{NcpFault, Request};
 use std::alloc::Global;
 
-/// The place where a host's program runs.
+/// Returns the place where a host's program runs.
 pub(crate) fn up_at(seats: &[Seat], host: HostAddr) -> Result<usize, WorldFault>
     requires once { IsOnce (hosts_of seats.now) }
     ensures { MatchResult result (λ at. (s : NcpState) × Sits host at s seats.now) (λ f. IsAway host f seats.now) }
@@ -34,7 +34,7 @@ pub(crate) fn up_at(seats: &[Seat], host: HostAddr) -> Result<usize, WorldFault>
     up_near(seats, likely_place(seats, host), host)
 }
 
-/// The same, where a likely place of the host's seat is known. It is looked at before the others.
+/// Returns the same place, if a likely place of the host's seat is known. It is looked at before the others.
 pub(crate) fn up_near(seats: &[Seat], likely: usize, host: HostAddr) -> Result<usize, WorldFault>
     requires once { IsOnce (hosts_of seats.now) }
     ensures { MatchResult result (λ at. (s : NcpState) × Sits host at s seats.now) (λ f. IsAway host f seats.now) }
@@ -48,7 +48,7 @@ pub(crate) fn up_near(seats: &[Seat], likely: usize, host: HostAddr) -> Result<u
     Ok(at)
 }
 
-/// A host's program takes what came for its host. The last of the log, from a place on, has just crossed.
+/// Hands what came for a host to its program. The last of the log, from a place on, has just crossed.
 pub(crate) fn hear(
     alloc: Global,
     seats: &mut [Seat],
@@ -70,7 +70,7 @@ pub(crate) fn hear(
     Ok(())
 }
 
-/// What a host's program says next. It needs memory only if it says something.
+/// Returns what a host's program says next. It needs memory only if it says something.
 #[tactic(auto, unfolding(sockets::specs::Sending::next_out))]
 pub(crate) fn next_out(seats: &[Seat], at: usize) -> Result<Option<HostMessage>, WorldFault>
     requires within { at < length seats.now }
@@ -85,7 +85,7 @@ pub(crate) fn next_out(seats: &[Seat], at: usize) -> Result<Option<HostMessage>,
     Ok(message)
 }
 
-/// A host's program is told that its next message went out. The last of the log, from a place on, has just crossed.
+/// Lets a host's program know that its next message went out. The last of the log, from a place on, has just crossed.
 pub(crate) fn go_out(
     alloc: Global,
     seats: &mut [Seat],
@@ -106,7 +106,7 @@ pub(crate) fn go_out(
     Ok(())
 }
 
-/// Hosts stop and start. The last of the log, from a place on, has just crossed.
+/// Stops and starts hosts. The last of the log, from a place on, has just crossed.
 #[tactic(auto, using(crate::proofs::Books::InOrder::turned_reversed, crate::proofs::Books::InOrder::emptied_reversed))]
 pub(crate) fn change(
     alloc: Global,
@@ -128,7 +128,7 @@ pub(crate) fn change(
     Ok(())
 }
 
-/// A host's user asks for something.
+/// Asks a host's program for something on behalf of its user.
 pub(crate) fn ask_at(
     alloc: Global,
     seats: &mut [Seat],
@@ -146,7 +146,7 @@ pub(crate) fn ask_at(
     services[at].ask(alloc, &mut seats[at], book, request)
 }
 
-/// Why a host's program would refuse to send a line.
+/// Returns why a host's program would refuse to send a line.
 #[tactic(auto, unfolding(sockets::specs::Requests::refusal))]
 fn line_refusal(seat: &Seat, socket: u32, line: &TypedLine) -> Option<NcpFault>
     ensures { (s : NcpState) → seat.now.program ≡ Some s → result ≡ refusal s (requests.Send socket (line_bits line.now)) }
@@ -157,7 +157,7 @@ fn line_refusal(seat: &Seat, socket: u32, line: &TypedLine) -> Option<NcpFault>
     program.send_refusal(socket, line.bits())
 }
 
-/// A line is typed at a host, at the terminal that came last.
+/// Types a line at a host, at the terminal that came last.
 pub(crate) fn type_at(
     alloc: Global,
     seats: &mut [Seat],
@@ -183,7 +183,7 @@ pub(crate) fn type_at(
     ask_at(alloc, seats, services, at, book, &request)
 }
 
-/// A server begins at a host.
+/// Starts a server at a host.
 pub(crate) fn server_at(
     alloc: Global,
     seats: &mut [Seat],
@@ -208,7 +208,7 @@ pub(crate) fn server_at(
     Ok(())
 }
 
-/// A user begins at a host.
+/// Starts a user at a host.
 pub(crate) fn user_at(
     alloc: Global,
     seats: &mut [Seat],

@@ -22,7 +22,7 @@ pub struct Seat {
 }
 
 impl Seat {
-    /// Its host stops, where this is the host: it loses its program.
+    /// Stops the host of this seat, if it is this one: it loses its program.
     fn stop(&mut self, host: HostAddr)
         ensures { self.new ≡ world.with_program (same_host host self.old.host) None self.old }
     {
@@ -31,7 +31,7 @@ impl Seat {
         }
     }
 
-    /// Its host starts, where this is the host: it has a new program.
+    /// Starts the host of this seat, if it is this one: it has a new program.
     fn start(&mut self, alloc: Global, host: HostAddr)
         ensures { self.new ≡ world.with_program (same_host host self.old.host) (Some (opening_state host)) self.old }
     {
@@ -51,7 +51,7 @@ pub struct ServiceSeat {
 }
 
 impl ServiceSeat {
-    /// Its host stops, where this is the host: it loses its services.
+    /// Stops the host of this seat, if it is this one: it loses its services.
     fn stop(&mut self, alloc: Global, host: HostAddr)
         ensures { self.new ≡ world.with_services (same_host host self.old.host) no_services self.old }
     {
@@ -61,7 +61,7 @@ impl ServiceSeat {
     }
 }
 
-/// Nothing runs on any of the hosts.
+/// Returns the services of hosts on which nothing runs.
 pub(crate) fn opening_services(
     alloc: Global,
     hosts: &[HostAddr],
@@ -78,7 +78,7 @@ pub(crate) fn opening_services(
     Ok(all)
 }
 
-/// A host loses its services.
+/// Removes the services of a host.
 fn empty(alloc: Global, all: &mut [ServiceSeat], host: HostAddr)
     ensures { all.new ≡ world.serviced host no_services all.old }
 {
@@ -87,7 +87,7 @@ fn empty(alloc: Global, all: &mut [ServiceSeat], host: HostAddr)
     }
 }
 
-/// Hosts that stop lose their services, crossing by crossing.
+/// Removes the services of hosts that stop, crossing by crossing.
 pub(crate) fn empty_all(alloc: Global, all: &mut [ServiceSeat], crossings: &[Crossing])
     ensures { all.new ≡ emptied_in_order crossings.now all.old }
 {
@@ -98,7 +98,7 @@ pub(crate) fn empty_all(alloc: Global, all: &mut [ServiceSeat], crossings: &[Cro
     }
 }
 
-/// A seat for each host, each with a program that has just come up.
+/// Returns a seat for each host, each with a program that has just come up.
 pub(crate) fn opening_seats(alloc: Global, hosts: &[HostAddr]) -> Result<Vec<Seat>, AllocError>
     ensures { IfOk result (λ seats. seats.items ≡ world.opening_seats hosts.now) }
 {
@@ -113,7 +113,7 @@ pub(crate) fn opening_seats(alloc: Global, hosts: &[HostAddr]) -> Result<Vec<Sea
     Ok(seats)
 }
 
-/// A host stops, and its program is gone.
+/// Stops a host, whose program is gone.
 fn stop(seats: &mut [Seat], host: HostAddr)
     ensures { seats.new ≡ world.seated host None seats.old }
 {
@@ -122,7 +122,7 @@ fn stop(seats: &mut [Seat], host: HostAddr)
     }
 }
 
-/// A host starts, with a new program.
+/// Starts a host, with a new program.
 fn start(alloc: Global, seats: &mut [Seat], host: HostAddr)
     ensures { seats.new ≡ world.seated host (Some (opening_state host)) seats.old }
 {
@@ -131,7 +131,7 @@ fn start(alloc: Global, seats: &mut [Seat], host: HostAddr)
     }
 }
 
-/// A host that stops loses its program, and one that starts has a new one.
+/// Removes the program of a host that stops, and gives one that starts a new one.
 fn turn(alloc: Global, seats: &mut [Seat], crossing: &Crossing)
     ensures { seats.new ≡ world.seats_turned crossing.now seats.old }
 {
@@ -142,7 +142,7 @@ fn turn(alloc: Global, seats: &mut [Seat], crossing: &Crossing)
     }
 }
 
-/// The same, crossing by crossing.
+/// Does the same, crossing by crossing.
 pub(crate) fn turn_all(alloc: Global, seats: &mut [Seat], crossings: &[Crossing])
     ensures { seats.new ≡ turned_in_order crossings.now seats.old }
 {

@@ -24,7 +24,7 @@ impl Model for Tally {
 }
 
 impl Tally {
-    /// Not yet.
+    /// Returns a count of zero.
     pub(crate) fn new(alloc: Global) -> Tally
         ensures { result ≡ 0 }
     {
@@ -34,7 +34,7 @@ impl Tally {
         }
     }
 
-    /// Once more.
+    /// Increments the count.
     pub(crate) fn add_one(&mut self) -> Result<(), AllocError>
         ensures done { OnOk result (self.new ≡ self.old + 1) }
         ensures small { OnOk result (self.new < 2 ^ 96) }

@@ -23,7 +23,7 @@ pub(crate) struct Mark {
 /// How something that was done to the lives is taken back.
 #[derive(Drop)]
 pub(crate) enum Undo {
-    /// A life began. Before that there were so many, and so many lists of what was handed over.
+    /// A life began. Before that there were this many, and this many lists of what was handed over.
     Begun {
         /// How many lives there were.
         lives: usize,

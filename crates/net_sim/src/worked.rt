@@ -29,10 +29,10 @@ pub fn worked_lives()
     ensures more { (book_told first (notice.Arrived 16 four) (asked first (request.Grant 16 1 10) used)).book.lives ≡ giver ∷ record taker { bits = eight ++ four; messages = 2; granted = record { messages = 3; bits = 110 } } ∷ [] }
     ensures returned_again { (book_told first (notice.Returned 16 1 6) used).book.lives ≡ giver ∷ record taker { returned = record { messages = 2; bits = 10 } } ∷ [] }
 
-    // what is told to one host is about its own sockets
+    // a notice to one host is about its own sockets
     ensures own_socket { (book_told second (notice.Arrived 16 four) used).book.lives ≡ giver ∷ taker ∷ [] }
 
-    // it ends with its end, and the partner's life goes on until it is told too
+    // it ends with its end, and the partner's life isn't over until it is reported too
     ensures ended { (book_told first (notice.Ended 16 second 33) used).book.lives ≡ giver ∷ over taker ∷ [] }
 
     // an end of the same socket with another partner isn't meant
@@ -63,15 +63,15 @@ pub fn worked_books()
     // bits that are handed over aren't sent yet
     ensures unsent { (asked second (request.Send 33 four) used).book.lives ≡ giver ∷ taker ∷ [] }
 
-    // a notice stands behind the crossing that it comes of, in its order
+    // a notice is after the crossing that it comes of, in its order
     ensures notices { map stamp_of used.book.notices ≡ (second, 6) ∷ (first, 6) ∷ (second, 6) ∷ (first, 6) ∷ (first, 6) ∷ [] }
     ensures placed { map (λ n. n.place) (book_told first (notice.Ready second) (crossed (crossing.Up first) used)).book.notices ≡ 6 ∷ 6 ∷ 6 ∷ 6 ∷ 6 ∷ 7 ∷ [] }
 
-    // a contact stands in it with its host, its peer and its place, and no other request does
+    // a contact is in it with its host, its peer and its place, and no other request does
     ensures contact { (asked second (request.Contact first) used).book.contacts ≡ record { host = second; place = 6; peer = first } ∷ [] }
     ensures others { (asked second (request.Echo first 65) used).book.contacts ≡ [] }
 
-    // the crossings stand in it, the newest first
+    // the crossings are in it, the newest first
     ensures crossings { used.book.crossings ≡ crossings }
 {}
 
@@ -176,7 +176,7 @@ pub fn worked_worlds()
     ensures both { up_in (changed fresh.carrier (crossing.Down second ∷ crossing.Down first ∷ []) fresh).seats ≡ [] }
     ensures anew { seat_of first (changed fresh.carrier (crossing.Up first ∷ crossing.Down first ∷ []) busy).seats ≡ Some (record { host = first; program = Some (opening_state first) }) }
 
-    // what a user asks for stands in the book before what it is told of it, and changes its own host alone
+    // what a user asks for is in the book before what it is notified of it, and changes its own host only
     ensures asked { busy.kept.book.contacts ≡ record { host = first; place = 0; peer = second } ∷ [] }
     ensures served { (seat_of first busy.seats ≡ Some (record { host = first; program = Some (served (opening_state first) (request.Contact second)) })) × (seat_of second busy.seats ≡ seat_of second fresh.seats) }
 {}

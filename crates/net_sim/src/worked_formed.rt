@@ -40,7 +40,7 @@ pub fn unformed_requests()
     ensures foreign_socket { IsFormed given_log (record one_given { socket = 35 }) → ⊥ }
 {}
 
-/// A life's bits are those of so many messages of data, which crossed behind both requests, on its link and between its two hosts.
+/// A life's bits are those of this many messages of data, which crossed after both requests, on its link and between its two hosts.
 pub fn unformed_data()
     // data that came in before the own request went out, and before the partner's came in
     ensures before_own { IsFormed (crossing.Out rts ∷ crossing.In eight_sent ∷ crossing.In str ∷ []) (record one_taken { own_stamp = 2; partner_stamp = 0 }) → ⊥ }

@@ -18,7 +18,7 @@ ghost use Rattle.sockets.specs.declared.request.Request.TheVariants as request;
 
 /// What is kept of moments.
 pub fn worked_tellings()
-    // each host is told that the pair is ready, the second where it takes the RST and the first where it takes the RRP
+    // each host is informed that the pair is ready, the second where it takes the RST and the first where it takes the RRP
     ensures ready { (map notice_of (kept_in contacted).book.notices ≡ (second, notice.Ready first) ∷ (first, notice.Ready second) ∷ []) × (map stamp_of (kept_in contacted).book.notices ≡ (second, 2) ∷ (first, 5) ∷ []) }
 
     // a contact tells its own host that an older one is over, and nobody else
@@ -48,14 +48,14 @@ pub fn worked_timelines()
 
 /// What a taking may come to.
 pub fn worked_takings()
-    // data that is taken in a contact is told, and an STR opens an end
+    // data that is taken in a contact is announced, and an STR opens an end
     ensures told { IsUnheard (program first bits_sent) (accepted (program first bits_sent) (inbound.Message eight_sent) (places bits_sent)) → ⊥ }
     ensures opened { IsUnheard (program first str_sent) (accepted (program first str_sent) (inbound.Message str) (places str_sent)) → ⊥ }
 
     // before any contact neither comes to anything
     ensures early { IsUnheard (program first []) (accepted (program first []) (inbound.Message eight_sent) 0) × IsUnheard (program first []) (accepted (program first []) (inbound.Message str) 0) }
 
-    // nothing comes of a taking only where nothing is told, no pair changes, and what listens stays
+    // nothing comes of a taking only where nobody is notified, no pair changes, and what listens stays
     ensures notice { (n : Notice) → IsUnheard (program first contacted) (program first contacted, n ∷ []) → ⊥ }
     ensures pair { IsUnheard (program second []) (program second contacted, []) → ⊥ }
     ensures listening { IsUnheard (program second contacted) (program second (Asked second (request.Listen 33 8) ∷ contacted), []) → ⊥ }

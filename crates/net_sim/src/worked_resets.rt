@@ -11,10 +11,10 @@ ghost use Rattle.sockets.specs.Worked.{first, second, third};
 
 /// Crossings and contacts in one list.
 pub fn worked_events()
-    // each contact stands above the crossings that were before it, and of two at one place the later one stands above
+    // each contact is above the crossings that were before it, and of two at one place the later one is above
     ensures placed { events_in (call first 0 second ∷ call second 1 first ∷ call first 1 third ∷ []) (crossing.In (message first second 2) ∷ crossing.Out (message first second 2) ∷ []) ≡ In first second 2 (Other eight) ∷ Contact first third ∷ Contact second first ∷ Out first second 2 (Other eight) ∷ Contact first second ∷ [] }
 
-    // one after the last crossing stands above it
+    // one after the last crossing is above it
     ensures last { events_in (call first 1 second ∷ []) (crossing.Out (message first second 2) ∷ []) ≡ Contact first second ∷ Out first second 2 (Other eight) ∷ [] }
     ensures none { events_in contacts [] ≡ Contact first second ∷ [] }
 {}

@@ -49,7 +49,8 @@ impl<C: Carrier> Model for World<C> {
 }
 
 impl<C: Carrier> World<C> {
-    /// Hosts with programs that have just come up, over a carrier whose log is empty and that hasn't stopped, and an empty book.
+    /// Returns a world of hosts with programs that have just come up, over a carrier whose log is empty and that hasn't
+    /// stopped, with an empty book.
     ///
     /// It fails only where no memory is left for the seats of the hosts.
     pub fn new(alloc: Global, carrier: C) -> Result<World<C>, AllocError>
@@ -70,9 +71,9 @@ impl<C: Carrier> World<C> {
         })
     }
 
-    /// What happened so far. It is that of a lawful world, of which `law::clean_resets` speaks: a host that is through a
-    /// reset with a peer takes of it, RST and RRP aside, only what went out after its last clean point. And by `law::books` a message that was
-    /// answered by RFNM was taken exactly once, and none was taken twice.
+    /// Returns what happened so far. It is that of a lawful world, of which `law::clean_resets` speaks: a host that is
+    /// through a reset with a peer takes of it, RST and RRP aside, only what went out after its last clean point. And
+    /// by `law::books` a message that was answered by RFNM was taken exactly once, and none was taken twice.
     pub fn book(&self) -> &Book
         ensures value { result.now ≡ self.now.kept }
         ensures lawful { IsLawful C.seen (C.seen self.now.carrier).hosts self.now }
@@ -80,7 +81,8 @@ impl<C: Carrier> World<C> {
         &self.book
     }
 
-    /// What was handed over to be sent, a list of bits for each life, in the order in which the book has the lives. For a receiving life it is empty.
+    /// Returns what was handed over to be sent, a list of bits for each life, in the order in which the book has the
+    /// lives. For a receiving life it is empty.
     pub fn handed(&self) -> &[BitLog]
         ensures value { result.now ≡ self.now.kept.handed }
         ensures empty { AreUnhanded self.now.kept.book.lives self.now.kept.handed }
@@ -88,7 +90,7 @@ impl<C: Carrier> World<C> {
         self.book().handed()
     }
 
-    /// The hosts with their programs, in the carrier's order.
+    /// Returns the hosts with their programs, in the carrier's order.
     pub(crate) fn seats(&self) -> &[Seat]
         ensures value { result.now ≡ self.now.seats }
         ensures once { self.now.stopped ≡ false → IsOnce (hosts_of self.now.seats) }
@@ -96,14 +98,14 @@ impl<C: Carrier> World<C> {
         &self.seats
     }
 
-    /// Whether running out of memory has stopped it.
+    /// Returns whether running out of memory has stopped it.
     pub(crate) fn is_stopped(&self) -> bool
         ensures { result ≡ self.now.stopped }
     {
         self.stopped
     }
 
-    /// Whether it is known that the carrier rests. A world that has stopped doesn't ask.
+    /// Returns whether it is known that the carrier rests. A world that has stopped doesn't ask.
     pub(crate) fn carrier_rests(&self) -> bool
         ensures running { result ≡ true → self.now.stopped ≡ false }
         ensures carrier { result ≡ true → CarrierRests (shown (record { seen = C.seen; offers = C.offers; takes = C.takes; steps = C.steps; rounds = C.rounds })) self.now.carrier }
@@ -114,7 +116,7 @@ impl<C: Carrier> World<C> {
         self.carrier.rests()
     }
 
-    /// One event happens, or is refused.
+    /// Lets one event happen, or refuses it.
     ///
     /// Errors: `Carrier(NoSuch)` for an event at a host that the network doesn't have and `Carrier(IsDown)` at one that is
     /// down, before anything else; what the carrier refuses; what the host's program refuses, as `Program`, and so
@@ -128,7 +130,7 @@ impl<C: Carrier> World<C> {
         self.follow(&event)
     }
 
-    /// One event after the other. It continues after a refusal, and ends when memory runs out.
+    /// Lets one event happen after the other. It continues after a refusal, and ends when memory runs out.
     pub fn run(&mut self, events: &[Event]) -> Result<(), WorldFault>
         ensures { RunGives (shown (record { seen = C.seen; offers = C.offers; takes = C.takes; steps = C.steps; rounds = C.rounds })) self.old events.now result self.new }
     {
@@ -144,7 +146,7 @@ impl<C: Carrier> World<C> {
         Ok(())
     }
 
-    /// One event happens, or is refused.
+    /// Lets one event happen, or refuses it.
     fn follow(&mut self, event: &Event) -> Result<(), WorldFault>
         ensures { StepGives (shown (record { seen = C.seen; offers = C.offers; takes = C.takes; steps = C.steps; rounds = C.rounds })) self.old event.now result self.new }
     {
@@ -160,13 +162,13 @@ impl<C: Carrier> World<C> {
             &mut self.book,
             event,
         );
-        // for the proof alone: the log is a run of the mailboxes, which is a part of what a world keeps
+        // for the proof only: the log is a run of the mailboxes, which is a part of what a world keeps
         let _ = self.carrier.log();
         self.stopped = runs_out(&done);
         done
     }
 
-    /// A host takes what came for it, as in [`World::step`]. Its seat is looked for at a likely place first.
+    /// Lets a host take what came for it, as [`World::step`] does. Its seat is looked for at a likely place first.
     pub(crate) fn take_near(&mut self, likely: usize, host: HostAddr) -> Result<(), WorldFault>
         ensures { StepGives (shown (record { seen = C.seen; offers = C.offers; takes = C.takes; steps = C.steps; rounds = C.rounds })) self.old (Take host) result self.new }
     {
@@ -182,13 +184,14 @@ impl<C: Carrier> World<C> {
             likely,
             host,
         );
-        // for the proof alone, as in `follow`
+        // for the proof only, as in `follow`
         let _ = self.carrier.log();
         self.stopped = runs_out(&taken);
         taken
     }
 
-    /// A host's next message goes to the network, as in [`World::step`]. Its seat is looked for at a likely place first.
+    /// Offers a host's next message to the network, as [`World::step`] does. Its seat is looked for at a likely place
+    /// first.
     pub(crate) fn offer_near(&mut self, likely: usize, host: HostAddr) -> Result<(), WorldFault>
         ensures { StepGives (shown (record { seen = C.seen; offers = C.offers; takes = C.takes; steps = C.steps; rounds = C.rounds })) self.old (Offer host) result self.new }
     {
@@ -204,16 +207,16 @@ impl<C: Carrier> World<C> {
             likely,
             host,
         );
-        // for the proof alone, as in `follow`
+        // for the proof only, as in `follow`
         let _ = self.carrier.log();
         self.stopped = runs_out(&sent);
         sent
     }
 }
 
-/// Each host has an address, as the type of an address has it.
+/// Proves that each host has an address, as the type of an address promises.
 ///
-/// It is there for the proof alone, and does nothing: of each host that it looks at the prover then knows the ranges.
+/// It is there for the proof only, and does nothing: of each host that it looks at the prover then knows the ranges.
 fn are_addresses(hosts: &[HostAddr])
     ensures { All (λ h. IsAddress h) hosts.now }
 {
@@ -222,7 +225,7 @@ fn are_addresses(hosts: &[HostAddr])
     }
 }
 
-/// Whether memory ran out.
+/// Returns whether memory ran out.
 fn runs_out(done: &Result<(), WorldFault>) -> bool
     ensures { result ≡ parts.runs_out done.now }
 {
@@ -235,7 +238,7 @@ fn runs_out(done: &Result<(), WorldFault>) -> bool
     )
 }
 
-/// Whether a list of events ends after this answer.
+/// Returns whether a list of events ends after this answer.
 pub(crate) fn stops(done: &Result<(), WorldFault>) -> bool
     ensures { result ≡ world.stops done.now }
 {

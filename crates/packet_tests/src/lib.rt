@@ -2,8 +2,8 @@
 //!
 //! `message_tests` says why there are such rows.
 //!
-//! The rows call what any caller can call. They stand here and not beside the calls because a crate with
-//! tests is proved twice, with them and without them. This crate has no code but tests, and nothing stands
+//! The rows call what any caller can call. They are here and not beside the calls because a crate with
+//! tests is proved twice, with them and without them. This crate has no code but tests, and nothing is
 //! above it.
 #![tactic(auto)]
 

@@ -58,7 +58,7 @@ const NO_FRAMES: [(&[u8], ChannelFault); 20] = [
         &[0xF2, 0, 0, 0, 1, 0x01, 0x42, 5, 0, 0, 0x80, 0, 16, 0, 0],
         ChannelFault::BadLength,
     ),
-    // another version: alone, with a frame's rest and with a whole frame behind it; a frame without its
+    // another version: only, with a frame's rest and with a whole frame behind it; a frame without its
     // version; then with a kind that is none, with a cut packet, and with an answer that has bits
     (&[0xF3], ChannelFault::BadVersion),
     (&[0xF3, 1, 1], ChannelFault::BadVersion),
@@ -85,7 +85,7 @@ fn octets_that_are_no_frame_are_refused(rt: HostRuntime) {
 }
 
 /// Why a routes frame is none with its fourth distance changed to this one: with its last octet missing, with
-/// all, and with an octet behind them.
+/// all, and with an octet after them.
 fn routes_refusals(alloc: Global, distance: u8) -> [Option<ChannelFault>; 3] {
     let mut longer = [0; 67];
     longer[..66].copy_from_slice(&ROUTES);
@@ -234,7 +234,7 @@ enum Came {
     Fresh,
     /// A frame brought a packet once more.
     Repeat,
-    /// A frame brought acknowledgements alone.
+    /// A frame brought acknowledgements only.
     Acknowledgements,
     /// A frame brought distances.
     Distances,
@@ -342,7 +342,7 @@ enum Act<'a> {
     Resend(&'a [u8]),
     /// The end is reset, and gives one packet back.
     Reset(&'a [u8]),
-    /// Distances are told.
+    /// Distances are sent.
     Tell(&'a [u8]),
 }
 
@@ -531,10 +531,10 @@ fn filled(alloc: Global, line: &mut Line) -> ([Came; 8], [Came; 5]) {
     (first, then)
 }
 
-/// What stands in an end's channels: what is sent again, and what a reset gives back.
+/// What is in an end's channels: what is sent again, and what a reset gives back.
 type Standing = ([(u8, bool, Number); 8], ([Number; 8], usize));
 
-/// What comes of the answers, and what stands in the channels then.
+/// What comes of the answers, and what is in the channels then.
 fn taken_in_turn(alloc: Global) -> Result<(([Came; 8], [Came; 5]), Standing), AllocError> {
     let mut line = Line::new(alloc)?;
     let came = filled(alloc, &mut line);

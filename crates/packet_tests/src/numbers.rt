@@ -153,7 +153,7 @@ fn acted(flows: &mut SourceFlows, act: Act, flow: &Flow) -> Came {
 /// An act, its flow, and what has to come of it.
 type Row = (Act, Way, Came);
 
-/// How many acts give what stands beside them, from the first on, where no message was begun before.
+/// How many acts give what is beside them, from the first on, where no message was begun before.
 fn fitting(alloc: Global, rows: &[Row]) -> usize {
     let mut flows = SourceFlows::new(alloc);
     for (place, row) in rows.iter().enumerate() {

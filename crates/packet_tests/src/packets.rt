@@ -6,7 +6,7 @@ use leader1822::{HostMessage, Number, Text};
 use packetiser::{Added, Held, Outcome, Packet, PacketFault, PacketKind, Reassembly, cut};
 use std::alloc::{AllocError, Global};
 
-/// So many bits: ones where an even piece of the body has them, zeros where an odd one has.
+/// This many bits: ones where an even piece of the body has them, zeros where an odd one has.
 fn striped(alloc: Global, count: usize) -> Result<Bits, BitFault> {
     let mut bits = Bits::new(alloc);
     for k in 0..count {
@@ -15,7 +15,7 @@ fn striped(alloc: Global, count: usize) -> Result<Bits, BitFault> {
     Ok(bits)
 }
 
-/// The packets of the message with this number and so many such bits from 0/1 to 0/2.
+/// The packets of the message with this number and this many such bits from 0/1 to 0/2.
 fn pieces(
     alloc: Global,
     link: u8,
@@ -101,7 +101,7 @@ fn fitting_anew(alloc: Global, rows: &[Row]) -> Result<usize, PacketFault> {
     fitting(alloc, &mut slots, rows)
 }
 
-/// Whether a piece of a message of so many bits makes it whole, as reassembly said before, and whether
+/// Whether a piece of a message of this many bits makes it whole, as reassembly said before, and whether
 /// nothing is held then.
 fn completes(
     alloc: Global,
@@ -115,7 +115,7 @@ fn completes(
     Ok([is_whole, slots.held(0).is_none()])
 }
 
-/// Whether a message is whole, with the body of so many bits.
+/// Whether a message is whole, with the body of this many bits.
 fn has_body(alloc: Global, added: &Added, count: usize) -> Result<bool, PacketFault> {
     let Ok(text) = striped(alloc, count) else {
         return Err(PacketFault::OutOfMemory);
@@ -129,7 +129,7 @@ fn has_body(alloc: Global, added: &Added, count: usize) -> Result<bool, PacketFa
     }
 }
 
-/// Which links have a message held that is numbered like its link, one bit for each of so many messages.
+/// Which links have a message held that is numbered like its link, one bit for each of this many messages.
 fn links_held(slots: &Reassembly, count: usize) -> Option<u16> {
     let mut links = 0;
     for k in 0..count {
@@ -156,7 +156,7 @@ fn is_written(alloc: Global, packet: &Packet, octets: &[u8]) -> bool {
     }
 }
 
-/// Whether the request's message, with the number 0, is cut into one packet that is written as it stands here.
+/// Whether the request's message, with the number 0, is cut into one packet that is written as it is here.
 fn request_cut(alloc: Global) -> Result<bool, PacketFault> {
     let Ok(bits) = Bits::from_octets(alloc, &REQUEST, 120) else {
         return Err(PacketFault::OutOfMemory);
@@ -172,7 +172,7 @@ fn request_cut(alloc: Global) -> Result<bool, PacketFault> {
     }
 }
 
-/// Whether a copy of the request is written as it stands here.
+/// Whether a copy of the request is written as it is here.
 fn request_copied(alloc: Global) -> Result<bool, PacketFault> {
     let request = Packet::read(alloc, &RTS)?;
     let copy = request.clone()?;
@@ -263,7 +263,7 @@ const RTS: [u8; 25] = [
 /// What becomes of a header when one octet of it is changed to 0, 127 and 255.
 type Sweep = [[Result<bool, PacketFault>; 3]; 9];
 
-/// How many shorter fronts of a packet are short, from the empty one on.
+/// How many shorter prefixes of a packet are short, from the empty one on.
 fn short_fronts(alloc: Global, octets: &[u8]) -> usize {
     for end in 0..octets.len() {
         let (front, _) = octets.split_at(end);
@@ -274,7 +274,7 @@ fn short_fronts(alloc: Global, octets: &[u8]) -> usize {
     octets.len()
 }
 
-/// How many octets of a packet can be changed as the table says, from the first on; those behind the header
+/// How many octets of a packet can be changed as the table says, from the first on; those after the header
 /// can be any.
 fn changeable(alloc: Global, octets: &[u8], table: &Sweep) -> usize {
     for at in 0..octets.len() {
@@ -376,7 +376,7 @@ fn a_full_packet_is_read_and_refused_octet_by_octet(rt: HostRuntime) {
     assert_eq!(rt; found, [Ok([true; 3]); 2]);
 }
 
-/// The verdict on a packet with the last flag that says that it has so many bits, all of them zeros, with
+/// The verdict on a packet with the last flag that says that it has this many bits, all of them zeros, with
 /// their octets.
 fn verdict_zeros(alloc: Global, count: u16) -> Result<bool, PacketFault> {
     let mut octets = [0; 137];
@@ -525,7 +525,7 @@ fn a_request_is_cut_into_its_packet(rt: HostRuntime) {
     assert_eq!(rt; request_cut(rt.alloc()), Ok(true));
 }
 
-/// Whether a message of so many bits is cut into so many packets, each with its place, the last flag and
+/// Whether a message of this many bits is cut into this many packets, each with its place, the last flag and
 /// 1008 bits where these belong, the last with the rest of the bits.
 fn is_cut(alloc: Global, count: usize, packets: usize, rest: usize) -> Result<bool, PacketFault> {
     let pieces = pieces(alloc, 5, 0, count)?;
@@ -614,7 +614,7 @@ fn the_longest_message_rejoins(rt: HostRuntime) {
     assert_eq!(rt; longest_rejoined(rt.alloc()), Ok((7, [true, true])));
 }
 
-/// Pieces of eight messages, and what comes behind them.
+/// Pieces of eight messages, and what comes after them.
 const EIGHT_HELD: [Row; 13] = [
     (2, 0, 1008, 0, Outcome::Kept),
     (3, 0, 3000, 0, Outcome::Kept),

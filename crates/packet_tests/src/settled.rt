@@ -42,7 +42,7 @@ fn told(tables: &[RouteTable; 4]) -> [Said; 4] {
     found
 }
 
-/// IMPs 1, 2 and 3 in a row, and IMP 4 alone, after so many rounds.
+/// IMPs 1, 2 and 3 in a row, and IMP 4 only, after this many rounds.
 fn row(alloc: Global, rounds: u32) -> Result<[Said; 4], AllocError> {
     let mut tables = [
         misled(alloc, 1, 1)?,
@@ -131,7 +131,7 @@ fn no_round_changes_nothing(rt: HostRuntime) {
     assert_eq!(rt; row_at_first(rt.alloc()), Ok(misled));
 }
 
-/// Distances of the first four IMPs in the row after so many rounds, from misled tables: those that nobody is right about
+/// Distances of the first four IMPs in the row after this many rounds, from misled tables: those that nobody is right about
 /// have grown by one a round.
 fn after(rounds: u8) -> [Said; 4] {
     let far = rounds.saturating_add(1);

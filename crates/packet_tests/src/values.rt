@@ -44,7 +44,7 @@ pub(crate) fn from_imp_4() -> Flow {
     }
 }
 
-/// Whether a value is told by this text.
+/// Whether a value is given by this text.
 pub(crate) fn is_told<T: Display + Drop>(alloc: Global, value: T, text: &str) -> bool {
     match format!(in alloc; "{}", value) {
         Ok(told) => told.as_str() == text,

@@ -15,7 +15,7 @@ use Rattle.packetiser.specs.declared.fault.PacketFault.TheVariants as fault
 
 -- ---- places
 
--- where the octets of a packet stand: its kind, the addresses of its message's source and destination, the link, the two
+-- where the octets of a packet are: its kind, the addresses of its message's source and destination, the link, the two
 -- octets of the number, the place of its piece with the last flag, and the two that say how many bits follow the header
 abbrev pub kind_at : ℕ
 kind_at = 0
@@ -81,7 +81,7 @@ two_octets octets first = 256 * slice_index octets first + slice_index octets (f
 abbrev pub bit_count : List ℕ → ℕ
 bit_count octets = two_octets octets count_at
 
--- how many octets a packet with so many bits has
+-- how many octets a packet with this many bits has
 abbrev pub octet_count : ℕ → ℕ
 octet_count bits = header_octets + (bits + 7) / 8
 

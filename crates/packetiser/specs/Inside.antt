@@ -14,7 +14,7 @@ abbrev pub is_there_and : (SlotState → Bool) → Option SlotState → Bool
 is_there_and test None = false
 is_there_and test (Some s) = test s
 
--- no key stands there twice
+-- no key is there twice
 abbrev pub AreApart : List ℕ → Type 0
 AreApart [] = Unit {0}
 AreApart (key ∷ keys) = All (λ other. other ≢ key) keys × AreApart keys

@@ -20,7 +20,7 @@ pub record IsBodySize (size : ℕ) : Type 0 where
   pub units : size % 16 ≡ 0
   pub most : size ≤ most_pieces * piece_bits
 
--- the places 0, 1, .. of so many pieces
+-- the places 0, 1, .. of this many pieces
 abbrev pub places : ℕ → List ℕ
 places count = range_with_len 0 count
 

@@ -1,6 +1,6 @@
 -- Messages in reassembly (Heart et al., SJCC 1970: the destination IMP collects a message's packets).
 --
--- The slots are a list in order of their flows. `pieces_at` goes by that order; `held` names messages in an order that isn't told.
+-- The slots are a list in order of their flows. `pieces_at` goes by that order; `held` names messages in an unspecified order.
 use Rattle.std.specs.Prelude.{◌≡◌, ℕ, ◌+◌, ◌≤◌, ◌<◌, Bool, true, false, not, List, [], ◌∷◌, length, Option, Some, None, nat_lt, ◌==◌, ◌||◌, ◌&&◌, if◌then◌else◌, filter, All}
 use Rattle.std.specs.List.{find, list_any, flat_map}
 use Rattle.leader1822.specs.Flow.{same_flow, flow_before}
@@ -27,7 +27,7 @@ pub record IsPieceFor (f : Flow) (number : ℕ) (p : PacketFields) : Type 0 wher
   pub flow : flow_of p ≡ f
   pub same_number : p.number ≡ number
 
--- the places of pieces rise, so each place stands there at most once
+-- the places of pieces rise, so each place is there at most once
 abbrev pub PlacesRise : List PacketFields → Type 0
 PlacesRise [] = Unit {0}
 PlacesRise (q ∷ qs) = All (λ r. q.place < r.place) qs × PlacesRise qs
@@ -39,7 +39,7 @@ pub record IsSlot (s : SlotState) : Type 0 where
   pub packets : All IsPacket s.pieces
   pub places : PlacesRise s.pieces
 
--- the slots stand in order of their flows, so that there is at most one for each
+-- the slots are in order of their flows, so that there is at most one for each
 abbrev pub IsInOrder : List SlotState → Type 0
 IsInOrder [] = Unit {0}
 IsInOrder (s ∷ slots) = All (λ t. flow_before s.flow t.flow ≡ true) slots × IsInOrder slots
@@ -159,6 +159,6 @@ grows_by outcome.Full held = false
 abbrev pub grows : List SlotState → PacketFields → Bool
 grows slots p = grows_by (outcome_of slots p) (kept_for slots p)
 
--- an order of the slots that isn't told: callers rely only on each slot standing in it once
+-- an unspecified order of the slots: callers rely only on each slot standing in it once
 unfoldable pub in_some_order : List SlotState → List SlotState
 in_some_order slots = slots

@@ -12,10 +12,10 @@ use bit_messages::Bits;
 use leader1822::{Flow, HostMessage, Number};
 use std::alloc::Global;
 
-/// The packets of a message with this number: the pieces of its body in order, the last one marked
-/// (Heart et al., SJCC 1970). There are one to eight.
+/// Returns the packets of a message with this number: the pieces of its body in order, the last one marked (Heart et
+/// al., SJCC 1970). There are one to eight.
 ///
-/// Errors: `OutOfMemory` alone.
+/// Errors: only `OutOfMemory`.
 #[tactic(auto, using(crate::proofs::Pieces::packets_more))]
 pub fn cut(alloc: Global, message: &HostMessage, number: Number) -> Result<Vec<Packet>, PacketFault>
     ensures { GivesIfMemory (λ packets. packets.items ≡ packets_of message.now.flow number (body message.now.text)) result }
@@ -29,7 +29,7 @@ pub fn cut(alloc: Global, message: &HostMessage, number: Number) -> Result<Vec<P
     Ok(packets)
 }
 
-/// The body of a message.
+/// Returns the body of a message.
 #[tactic(auto, using(crate::proofs::Pieces::body_sized))]
 fn body_of(alloc: Global, message: &HostMessage) -> Result<Bits, PacketFault>
     ensures body { GivesIfMemory (λ bits. bits ≡ body message.now.text) result }
@@ -38,14 +38,14 @@ fn body_of(alloc: Global, message: &HostMessage) -> Result<Bits, PacketFault>
     message.text.bits().pad16(alloc).map_err(out_of_memory)
 }
 
-/// How many pieces a body has.
+/// Returns how many pieces a body has.
 fn piece_count(body: &Bits) -> usize
     ensures { result ≡ piece_count body.now }
 {
     body.len().div_ceil(PACKET_BITS)
 }
 
-/// The packet with the piece at a place where there is one.
+/// Returns the packet with the piece at a place where there is one.
 fn piece_packet(
     alloc: Global,
     flow: Flow,
@@ -62,7 +62,7 @@ fn piece_packet(
     Ok(Packet::new(PacketKind::Data, flow, number, place as u8, last, bits))
 }
 
-/// The piece of a body at a place where there is one.
+/// Returns the piece of a body at a place where there is one.
 fn piece(alloc: Global, body: &Bits, place: usize) -> Result<Bits, PacketFault>
     requires few { place < MAX_PACKETS }
     requires there { place < piece_count body.now }

@@ -41,7 +41,7 @@ impl<T: Drop> From<AllocFailed<T>> for PacketFault {
     }
 }
 
-/// The fault of a call on bits that can only have found no memory.
+/// Returns the fault of a call on bits that can only have found no memory.
 pub(crate) fn out_of_memory(fault: BitFault) -> PacketFault
     requires { fault ≡ bit_fault.OutOfMemory }
     ensures { result ≡ OutOfMemory }

@@ -1,21 +1,21 @@
 //! The sizes of the packet format and of reassembly.
 
-/// Where the octet of a packet's kind stands.
+/// Where the octet of a packet's kind is.
 pub const KIND_AT: usize = 0;
 
-/// Where the address of its message's source stands.
+/// Where the address of its message's source is.
 pub const SOURCE_AT: usize = 1;
 
-/// Where the address of its message's destination stands.
+/// Where the address of its message's destination is.
 pub const DESTINATION_AT: usize = 2;
 
-/// Where its message's link stands.
+/// Where its message's link is.
 pub const LINK_AT: usize = 3;
 
 /// Where the two octets of its message's number begin.
 pub const NUMBER_AT: usize = 4;
 
-/// Where the place of its piece stands, with the last flag.
+/// Where the place of its piece is, with the last flag.
 pub const PLACE_AT: usize = 6;
 
 /// Where the two octets that say how many bits it has begin.

@@ -26,7 +26,7 @@ pub fn spellings()
     // what is written is read again
     ensures again { (p : PacketFields) → IsPacket p → read_of (spelling p) ≡ Ok p }
 
-    // what is read is a packet, and was its spelling: nothing stands after its end
+    // what is read is a packet, and was its spelling: nothing is after its end
     ensures read { (octets : List ℕ) (p : PacketFields) → All (λ n. n < 256) octets → read_of octets ≡ Ok p → IsPacket p × (octets ≡ spelling p) }
 
     // two packets are spelled differently
@@ -118,7 +118,7 @@ pub fn rejoining()
     // so the message is rejoined whatever comes of other flows in between
     ensures interleaved { (flow : Flow) (number : ℕ) (w : List Bool) (slots : List SlotState) (ks : List ℕ) (j k : ℕ) (events : List Event) → Holds flow number w (j ∷ ks) slots → j < piece_count w → k < piece_count w → All (IsAmongOthers flow w) events → all_came w (places_in events (j ∷ ks)) ≡ false → answer_of (after_events flow number w slots events) (piece_packet flow number w k) ≡ answer_to w (places_in events (j ∷ ks)) k }
 
-    // a packet and an emptied slot touch their own flow's slot alone
+    // a packet and an emptied slot touch their own flow's slot only
     ensures other_packets { (slots : List SlotState) (p : PacketFields) (f : Flow) → same_flow f (flow_of p) ≡ false → slot_of (added slots p) f ≡ slot_of slots f }
     ensures other_discards { (slots : List SlotState) (f g : Flow) → same_flow f g ≡ false → slot_of (without slots g) f ≡ slot_of slots f }
     ensures discarded { (slots : List SlotState) (f : Flow) → slot_of (without slots f) f ≡ None }
@@ -163,7 +163,7 @@ pub fn not_gathered()
     // other bits than those that came
     ensures other_bits { (p : PacketFields) → IsGathered [] p (record p { bits = true ∷ p.bits } ∷ []) → ⊥ }
 
-    // the first piece alone, and the last one alone
+    // the first piece only, and the last one only
     ensures last_missing { (p : PacketFields) → IsGathered [] (record p { place = 0; last = false }) (record p { place = 0; last = false } ∷ []) → ⊥ }
     ensures first_missing { (p : PacketFields) → IsGathered [] (record p { place = 1; last = true }) (record p { place = 1; last = true } ∷ []) → ⊥ }
 {}

@@ -65,9 +65,8 @@ impl Model for Packet {
 }
 
 impl Packet {
-    /// The packet with these fields. The place is 0 to 7. A piece has 16 to 1008 bits in units of sixteen, 1008
-    /// if it isn't the last, and the one at place 7 is the last. An answer has place 0, the last flag and no
-    /// bits.
+    /// Returns the packet with these fields. The place is 0 to 7. A piece has 16 to 1008 bits in units of sixteen, 1008
+    /// if it isn't the last, and the one at place 7 is the last. An answer has place 0, the last flag and no bits.
     pub fn new(
         kind: PacketKind,
         flow: Flow,
@@ -97,7 +96,7 @@ impl Packet {
         }
     }
 
-    /// Whether it is a piece, an answer or a question, and which answer.
+    /// Returns whether it is a piece, an answer or a question, and which answer.
     pub fn kind(&self) -> PacketKind
         ensures same { result ≡ self.now.kind }
         ensures format { IsPacket self.now }
@@ -105,7 +104,7 @@ impl Packet {
         self.kind
     }
 
-    /// The flow of its message.
+    /// Returns the flow of its message.
     pub fn flow(&self) -> Flow
         ensures { result ≡ flow_of self.now }
     {
@@ -116,14 +115,14 @@ impl Packet {
         }
     }
 
-    /// The number of its message.
+    /// Returns the number of its message.
     pub fn number(&self) -> Number
         ensures { result ≡ self.now.number }
     {
         self.number
     }
 
-    /// Which piece of its message it carries: 0 to 7.
+    /// Returns which piece of its message it carries: 0 to 7.
     pub fn place(&self) -> u8
         ensures same { result ≡ self.now.place }
         ensures range { result ≤ 7 }
@@ -131,28 +130,28 @@ impl Packet {
         self.place
     }
 
-    /// Whether it carries the last piece of its message.
+    /// Returns whether it carries the last piece of its message.
     pub fn is_last(&self) -> bool
         ensures { result ≡ self.now.last }
     {
         self.last
     }
 
-    /// The bits of its piece; none of an answer.
+    /// Returns the bits of its piece; none of an answer.
     pub fn bits(&self) -> &Bits
         ensures { result.now ≡ self.now.bits }
     {
         &self.bits
     }
 
-    /// Its bits, taken out of a packet that is no longer needed.
+    /// Returns the bits of a packet that is no longer needed.
     pub fn into_bits(self) -> Bits
         ensures { result ≡ self.bits }
     {
         self.bits
     }
 
-    /// The packet that these octets spell.
+    /// Returns the packet that these octets spell.
     ///
     /// Errors: `Short` for fewer than 9 octets, or fewer than the number of bits asks for; `NotCanonical`
     /// for a kind above 4, an IMP numbered 0, a bit between place and last flag, place 7 without
@@ -187,7 +186,7 @@ impl Packet {
         })
     }
 
-    /// The octets that spell it.
+    /// Returns the octets that spell it.
     pub fn write(&self, alloc: Global) -> Result<Vec<u8>, PacketFault>
         ensures spelled { GivesIfMemory (λ octets. octets.items ≡ spelling self.now) result }
         ensures again { IfOk result (λ octets. read_of octets.items ≡ Ok self.now) }
@@ -234,7 +233,7 @@ impl Clone for Packet {
     }
 }
 
-/// The octet of a kind.
+/// Returns the octet of a kind.
 fn kind_octet(kind: PacketKind) -> u8
     ensures { result ≡ kind_octet kind }
 {
@@ -247,7 +246,7 @@ fn kind_octet(kind: PacketKind) -> u8
     }
 }
 
-/// The kind with this octet, which is at most 4.
+/// Returns the kind with this octet, which is at most 4.
 fn kind_of(octet: u8) -> PacketKind
     ensures { result ≡ kind_of octet }
 {
@@ -260,7 +259,7 @@ fn kind_of(octet: u8) -> PacketKind
     }
 }
 
-/// The octet of a place and a last flag.
+/// Returns the octet of a place and a last flag.
 fn place_octet(place: u8, last: bool) -> u8
     requires { place ≤ 7 }
     ensures { result ≡ place_octet place last }
@@ -268,14 +267,14 @@ fn place_octet(place: u8, last: bool) -> u8
     if last { place + 128 } else { place }
 }
 
-/// Whether an address octet names an IMP: its lower six bits are 1 to 63.
+/// Returns whether an address octet names an IMP: its lower six bits are 1 to 63.
 fn is_address(octet: u8) -> bool
     ensures { result ≡ is_address octet }
 {
     1 <= octet % 64
 }
 
-/// The host that such an address octet names.
+/// Returns the host that such an address octet names.
 fn host_of(octet: u8) -> HostAddr
     requires { is_address octet ≡ true }
     ensures { result ≡ host_of octet }
@@ -283,7 +282,7 @@ fn host_of(octet: u8) -> HostAddr
     HostAddr::from_octet(octet).unwrap()
 }
 
-/// The number that two octets say, of which the first is the higher one.
+/// Returns the number that two octets say, of which the first is the higher one.
 fn two_octets(octets: &[u8], first: usize) -> u16
     requires { first + 1 < length octets.now }
     ensures { result ≡ two_octets octets.now first }
@@ -291,7 +290,7 @@ fn two_octets(octets: &[u8], first: usize) -> u16
     256 * octets[first] as u16 + octets[first + 1] as u16
 }
 
-/// How many bits a packet says that it has.
+/// Returns how many bits a packet says that it has.
 fn bit_count(octets: &[u8]) -> usize
     requires { HEADER_OCTETS ≤ length octets.now }
     ensures { result ≡ bit_count octets.now }
@@ -299,7 +298,7 @@ fn bit_count(octets: &[u8]) -> usize
     usize::from(two_octets(octets, COUNT_AT))
 }
 
-/// Whether there are fewer octets than a header has, or than the number of bits asks for.
+/// Returns whether there are fewer octets than a header has, or than the number of bits asks for.
 #[tactic(auto, unfolding(crate::specs::Format::is_short))]
 fn is_short(octets: &[u8]) -> bool
     ensures same { result ≡ is_short octets.now }
@@ -308,7 +307,7 @@ fn is_short(octets: &[u8]) -> bool
     octets.len() < HEADER_OCTETS || octets.len() < octet_count(bit_count(octets))
 }
 
-/// How many octets a packet with so many bits has.
+/// Returns how many octets a packet with this many bits has.
 fn octet_count(bits: usize) -> usize
     requires { bits ≤ 65535 }
     ensures { result ≡ octet_count bits }
@@ -316,7 +315,7 @@ fn octet_count(bits: usize) -> usize
     HEADER_OCTETS + bits.div_ceil(8)
 }
 
-/// Whether octets with a header are refused as `NotCanonical`.
+/// Returns whether octets with a header are refused as `NotCanonical`.
 #[tactic(auto, unfolding(crate::specs::Format::is_not_canonical))]
 fn is_not_canonical(octets: &[u8]) -> bool
     requires { HEADER_OCTETS ≤ length octets.now }
@@ -332,7 +331,7 @@ fn is_not_canonical(octets: &[u8]) -> bool
         || octets.len() > octet_count(bit_count(octets))
 }
 
-/// Whether octets with a header are refused as `BadLength`.
+/// Returns whether octets with a header are refused as `BadLength`.
 #[tactic(auto, unfolding(crate::specs::Format::is_bad_length))]
 fn is_bad_length(octets: &[u8]) -> bool
     requires { HEADER_OCTETS ≤ length octets.now }

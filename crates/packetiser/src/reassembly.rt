@@ -74,7 +74,7 @@ impl Model for Reassembly {
 }
 
 impl Reassembly {
-    /// No message in reassembly. Room for eight is reserved, so that only their pieces take memory later.
+    /// Returns no message in reassembly. Room for eight is reserved, so that only their pieces take memory later.
     ///
     /// Errors: memory runs out.
     pub fn new(alloc: Global) -> Result<Reassembly, AllocError>
@@ -85,7 +85,7 @@ impl Reassembly {
         })
     }
 
-    /// What `add` would answer to this piece of a message.
+    /// Returns what `add` would answer to this piece of a message.
     pub fn outcome(&self, packet: &Packet) -> Outcome
         requires { packet.now.kind ≡ PacketKind.Data }
         ensures { result ≡ outcome_of self.now packet.now }
@@ -102,7 +102,7 @@ impl Reassembly {
         }
     }
 
-    /// Whether a bit 1 stands in this piece or in those that are held of its message. If `outcome` is Whole,
+    /// Returns whether a bit 1 is in this piece or in those that are held of its message. If `outcome` is Whole,
     /// this is whether the body has a mark.
     pub fn is_marked(&self, packet: &Packet) -> bool
         ensures { result ≡ has_mark (joined_pieces (gathered self.now packet.now)) }
@@ -110,7 +110,7 @@ impl Reassembly {
         packet.bits().has_mark() || has_mark(self.slots.kept_for(packet))
     }
 
-    /// Whether pieces of a message of this flow are held.
+    /// Returns whether pieces of a message of this flow are held.
     pub fn has_slot(&self, flow: &Flow) -> bool
         ensures { result ≡ is_some (slot_of self.now flow.now) }
     {
@@ -156,7 +156,7 @@ impl Reassembly {
         self.slots.clear(&flow);
     }
 
-    /// The `k`th message in reassembly, counted from 0; `None` past the last. Each message stands at one
+    /// Returns the `k`th message in reassembly, counted from 0; `None` past the last. Each message is at one
     /// `k`, in an order that isn't specified.
     #[tactic(auto, unfolding(crate::specs::Slots::in_some_order))]
     pub fn held(&self, k: usize) -> Option<Held>
@@ -170,15 +170,15 @@ impl Reassembly {
         })
     }
 
-    /// How many messages are in reassembly: at most eight.
+    /// Returns how many messages are in reassembly: at most eight.
     pub fn count(&self) -> usize
         ensures { result ≡ length self.now }
     {
         self.slots.len()
     }
 
-    /// The pieces that are held of the message at this place of those in reassembly, 0 being the first in the order
-    /// of their flows. The pieces stand in order of their own places.
+    /// Returns the pieces that are held of the message at this place of those in reassembly, 0 being the first in the
+    /// order of their flows. The pieces are in order of their own places.
     pub fn pieces_at(&self, place: usize) -> &[Packet]
         requires { place < length self.now }
         ensures { option_map (λ s. s.pieces) (slice_get self.now place) ≡ Some result.now }
@@ -201,7 +201,7 @@ impl Reassembly {
     }
 }
 
-/// Whether a piece that is held leaves no place for a packet.
+/// Returns whether a piece that is held leaves no place for a packet.
 fn is_old(pieces: &[Packet], packet: &Packet) -> bool
     ensures { result ≡ is_old pieces.now packet.now }
 {
@@ -212,14 +212,14 @@ fn is_old(pieces: &[Packet], packet: &Packet) -> bool
     })
 }
 
-/// Whether a bit 1 stands in pieces.
+/// Returns whether a bit 1 is in pieces.
 fn has_mark(pieces: &[Packet]) -> bool
     ensures { result ≡ list_any (λ q. has_mark q.bits) pieces.now }
 {
     pieces.iter().any(|piece| piece.bits().has_mark())
 }
 
-/// Whether pieces are whole from a place on.
+/// Returns whether pieces are whole from a place on.
 fn is_whole_from(place: usize, pieces: &[Packet]) -> bool
     ensures { result ≡ is_whole_from place pieces.now }
 {
@@ -236,7 +236,7 @@ fn is_whole_from(place: usize, pieces: &[Packet]) -> bool
     }
 }
 
-/// Whether pieces are whole from a place on with this packet.
+/// Returns whether pieces are whole from a place on with this packet.
 fn completes(place: usize, pieces: &[Packet], packet: &Packet) -> bool
     ensures { result ≡ is_whole_from place (with_piece packet.now pieces.now) }
 {
@@ -257,7 +257,7 @@ fn completes(place: usize, pieces: &[Packet], packet: &Packet) -> bool
     }
 }
 
-/// The bits of pieces and a packet, in order of their places. A packet alone gives its own bits.
+/// Returns the bits of pieces and a packet, in order of their places. A packet only gives its own bits.
 fn join(alloc: Global, pieces: &[Packet], packet: Packet) -> Result<Bits, PacketFault>
     ensures joined { GivesIfMemory (λ bits. bits ≡ joined_pieces (with_piece packet pieces.now)) result }
     ensures memory { result ≡ Err fault.OutOfMemory → 0 < length pieces.now }

@@ -33,28 +33,28 @@ impl Model for Slot {
 }
 
 impl Slot {
-    /// Whether it is of this flow.
+    /// Returns whether it is of this flow.
     fn is_of(&self, flow: &Flow) -> bool
         ensures { result ≡ same_flow flow.now self.now.flow }
     {
         *flow == self.flow
     }
 
-    /// Whether its flow comes before this one.
+    /// Returns whether its flow comes before this one.
     fn is_before(&self, flow: &Flow) -> bool
         ensures { result ≡ flow_before self.now.flow flow.now }
     {
         self.flow < *flow
     }
 
-    /// The pieces that it holds, in order of their places.
+    /// Returns the pieces that it holds, in order of their places.
     pub(crate) fn all_pieces(&self) -> &[Packet]
         ensures { result.now ≡ self.now.pieces }
     {
         self.pieces.as_slice()
     }
 
-    /// What it holds of the message with this number.
+    /// Returns what it holds of the message with this number.
     fn pieces(&self, number: Number) -> &[Packet]
         ensures { result.now ≡ pieces_for (Some self.now) number }
     {
@@ -83,7 +83,7 @@ impl Slot {
 
 /// The slots in use, in order of their flows.
 ///
-/// The slots stand in a slab and `order` has their keys. There is always room for [`SLOTS`] of them, so only the
+/// The slots are in a slab and `order` has their keys. There is always room for [`SLOTS`] of them, so only the
 /// pieces of a slot take further memory.
 #[derive(Debug, Drop)]
 pub(crate) struct SlotTable {
@@ -104,7 +104,7 @@ impl Model for SlotTable {
 }
 
 impl SlotTable {
-    /// A table with no slot in use.
+    /// Returns a table with no slot in use.
     pub(crate) fn new(alloc: Global) -> Result<Self, AllocError>
         ensures { IfOk result (λ table. table ≡ []) }
     {
@@ -114,7 +114,7 @@ impl SlotTable {
         })
     }
 
-    /// The slot at a place of the order.
+    /// Returns the slot at a place of the order.
     pub(crate) fn get(&self, at: usize) -> Option<&Slot>
         ensures { option_copied result ≡ slice_get self.now at }
     {
@@ -122,7 +122,7 @@ impl SlotTable {
         self.slots.get(*key)
     }
 
-    /// The pieces of a packet's message that are held.
+    /// Returns the pieces of a packet's message that are held.
     pub(crate) fn kept_for(&self, packet: &Packet) -> &[Packet]
         ensures { result.now ≡ kept_for self.now packet.now }
     {
@@ -132,7 +132,7 @@ impl SlotTable {
         }
     }
 
-    /// Whether a flow has a slot, or one is free.
+    /// Returns whether a flow has a slot, or one is free.
     pub(crate) fn has_room(&self, flow: &Flow) -> bool
         ensures { result ≡ has_room self.now flow.now }
     {
@@ -162,14 +162,14 @@ impl SlotTable {
         }
     }
 
-    /// How many slots are in use.
+    /// Returns how many slots are in use.
     pub(crate) fn len(&self) -> usize
         ensures { result ≡ length self.now }
     {
         self.order.len()
     }
 
-    /// The slot of a flow.
+    /// Returns the slot of a flow.
     pub(crate) fn slot_of(&self, flow: &Flow) -> Option<&Slot>
         ensures { option_copied result ≡ slot_of self.now flow.now }
     {
@@ -177,14 +177,14 @@ impl SlotTable {
         self.get(at)
     }
 
-    /// Where the slot of a flow is.
+    /// Returns where the slot of a flow is.
     fn place_of(&self, flow: &Flow) -> Option<usize>
         ensures { result ≡ position (λ s. same_flow flow.now s.flow) self.now }
     {
         first_of(&self.slots, &self.order, flow)
     }
 
-    /// Where a slot of a flow belongs.
+    /// Returns where a slot of a flow belongs.
     fn place_for(&self, flow: &Flow) -> usize
         ensures place { result ≡ position_or_len (λ s. not (flow_before s.flow flow.now)) self.now }
         ensures within { result ≤ length self.now }
@@ -247,21 +247,21 @@ impl SlotTable {
     }
 }
 
-/// Where the key of a flow's slot is.
+/// Returns where the key of a flow's slot is.
 fn first_of(slots: &Slab<Slot>, order: &[usize], flow: &Flow) -> Option<usize>
     ensures { result ≡ position (λ key. is_there_and (λ s. same_flow flow.now s.flow) (get slots.now key)) order.now }
 {
     order.iter().position(|key| is_of(slots, *key, flow))
 }
 
-/// Where the first key is whose slot doesn't come before a flow's.
+/// Returns where the first key is whose slot doesn't come before a flow's.
 fn first_after(slots: &Slab<Slot>, order: &[usize], flow: &Flow) -> Option<usize>
     ensures { result ≡ position (λ key. not (is_there_and (λ s. flow_before s.flow flow.now) (get slots.now key))) order.now }
 {
     order.iter().position(|key| !is_before(slots, *key, flow))
 }
 
-/// Whether the slot at a key is of this flow.
+/// Returns whether the slot at a key is of this flow.
 fn is_of(slots: &Slab<Slot>, key: usize, flow: &Flow) -> bool
     ensures { result ≡ is_there_and (λ s. same_flow flow.now s.flow) (get slots.now key) }
 {
@@ -271,7 +271,7 @@ fn is_of(slots: &Slab<Slot>, key: usize, flow: &Flow) -> bool
     }
 }
 
-/// Whether the flow of the slot at a key comes before this one.
+/// Returns whether the flow of the slot at a key comes before this one.
 fn is_before(slots: &Slab<Slot>, key: usize, flow: &Flow) -> bool
     ensures { result ≡ is_there_and (λ s. flow_before s.flow flow.now) (get slots.now key) }
 {
@@ -281,7 +281,7 @@ fn is_before(slots: &Slab<Slot>, key: usize, flow: &Flow) -> bool
     }
 }
 
-/// Where a packet's piece belongs among pieces in order of their places.
+/// Returns where a packet's piece belongs among pieces in order of their places.
 #[tactic(auto, using(crate::proofs::Slots::position_given))]
 pub(crate) fn place_among(pieces: &[Packet], packet: &Packet) -> usize
     ensures place { result ≡ position_or_len (λ q. not (nat_lt q.place packet.now.place)) pieces.now }
@@ -290,7 +290,7 @@ pub(crate) fn place_among(pieces: &[Packet], packet: &Packet) -> usize
     first_from(pieces, packet.place()).unwrap_or(pieces.len())
 }
 
-/// Where the first piece is that doesn't lie below a place.
+/// Returns where the first piece is that doesn't lie below a place.
 fn first_from(pieces: &[Packet], place: u8) -> Option<usize>
     ensures { result ≡ position (λ q. not (nat_lt q.place place)) pieces.now }
 {
@@ -307,7 +307,7 @@ fn insert_piece(pieces: &mut Vec<Packet>, packet: Packet) -> Result<(), PacketFa
     Ok(())
 }
 
-/// A list of one piece.
+/// Returns a list of one piece.
 fn one_piece(alloc: Global, packet: Packet) -> Result<Vec<Packet>, PacketFault>
     ensures { GivesIfMemory (λ pieces. pieces.items ≡ packet ∷ []) result }
 {

@@ -2,7 +2,7 @@
 -- them said, the newest first.
 use Rattle.std.specs.Prelude.{◌≡◌, ◌⊎◌, ℕ, ◌+◌, List, [], ◌∷◌, ◌++◌}
 
--- a request is told by the place where the message that carries it went out
+-- a request is given by the place where the message that carries it went out
 pub data Mark : Type 0 where
   Ask : (place : ℕ) → Mark
   Close : Mark

@@ -84,7 +84,7 @@ abbrev pub IsLater : Mark → ℕ → Type 0
 IsLater (Ask p) next = next ≤ p
 IsLater Close next = Unit {0}
 
--- a host says what it may. It hears its peer in a stay alone, and what it heard there, with this, is what its peer said first:
+-- a host says what it may. It hears its peer in a stay only, and what it heard there, with this, is what its peer said first:
 -- that is what a reset gives
 abbrev pub May : Move → Side → Side → Type 0
 May (Say m) x peer = MayGo m x.end × IsLater m x.next

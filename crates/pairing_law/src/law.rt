@@ -17,7 +17,7 @@ ghost use Rattle.pairing_law.specs.Partners.{IsOpen, OwnOnce, PartnerOnce, SafeP
 ghost use Rattle.pairing_law.specs.Links.{Sockets, Word, Receiver, Sender, Step, Says, Hears, Leaves, Meets, events_at, receiver, sender, stays, said_words, heard_words, IsFreeLink, IsUnused, MayStep, AreSteps};
 ghost use Rattle.pairing_law.specs.Example.{connected, over, again, refused, both_close, late, left_events, anew, stale, unreset, first_sockets, second_sockets, asked_link, taken_link, used_link, next_link};
 
-/// Whatever two hosts say of one pair of their sockets, and whenever they leave and meet again. What is assumed of them stands in
+/// Whatever two hosts say of one pair of their sockets, and whenever they leave and meet again. What is assumed of them is in
 /// `IsRun`: the rules by which a host speaks, and what a reset gives.
 pub fn partners()
     // no two ends have one request, their own or their partner's, and partners are partners both ways
@@ -31,7 +31,7 @@ pub fn partners()
     ensures two { (events : List Event) (mark : Mark) → IsRun (Two (Hear mark) ∷ events) → fits mark (both events).two.end ≡ true }
 {}
 
-/// Whatever two hosts say of all their connections one way, of which a receiver's request names the link. What is assumed stands
+/// Whatever two hosts say of all their connections one way, of which a receiver's request names the link. What is assumed is
 /// in `AreSteps`.
 pub fn links()
     // for each pair of their sockets it is as above
@@ -44,7 +44,7 @@ pub fn links()
     ensures unused { (steps : List Step) (word : Word) (p : ℕ) → AreSteps (Hears Sender word ∷ steps) → word.mark ≡ Ask p → IsUnused word.link steps }
 {}
 
-/// What a reset gives, over the law of resets alone: where a host hears its peer, and how they meet.
+/// What a reset gives, over the law of resets only: where a host hears its peer, and how they meet.
 pub fn resets()
     // a host that is through a reset takes a text only in a stay
     ensures in_stay { (hosts : List Host) (events : List reset.Event) (a b : Host) (link : ℕ) (text : List Bool) → reset_run.IsRun hosts (reset.In a b link (reset.Other text) ∷ events) → (pair b a events).phase ≡ Ready → stay.stays b a events ≡ true }
@@ -93,7 +93,7 @@ pub fn worked_connection()
     // then the same sockets are connected by requests of their own
     ensures again { ((both again).one.lives ≡ record { own = 9; partner = 8 } ∷ record { own = 3; partner = 5 } ∷ []) × ((both again).two.lives ≡ record { own = 8; partner = 9 } ∷ record { own = 5; partner = 3 } ∷ []) }
 
-    // each request belongs to the connection that so many CLS of its sender come before
+    // each request belongs to the connection that this many CLS of its sender come before
     ensures counted { closes (both again).one.said ≡ 1 }
     ensures first { Asks 0 3 (both again).one.said }
     ensures second { Asks 1 9 (both again).one.said }
@@ -140,7 +140,7 @@ pub fn worked_links()
     ensures asked { AreSteps taken_link }
     ensures taken { ((sender first_sockets taken_link).end.partner ≡ Some 3) × (heard_words Sender taken_link ≡ said_words Receiver taken_link) }
 
-    // while it stands its link isn't free for another, and the sender has it
+    // while it is its link isn't free for another, and the sender has it
     ensures used { IsFreeLink 5 taken_link → ⊥ }
     ensures has { IsUnused 5 taken_link → ⊥ }
 
@@ -178,7 +178,7 @@ pub fn worked_rules()
 
 /// What is out of order.
 pub fn worked_errors()
-    // a CLS of what nobody asked for, a second request, a request behind a CLS, a second CLS
+    // a CLS of what nobody asked for, a second request, a request after a CLS, a second CLS
     ensures nobody { fits Close nothing ≡ false }
     ensures second { fits (Ask 7) (record { asked = None; partner = Some 3; gone = false; taken = false }) ≡ false }
     ensures behind { fits (Ask 7) (record { asked = Some 3; partner = None; gone = false; taken = true }) ≡ false }

@@ -1,4 +1,4 @@
--- When it is told that something couldn't be written.
+-- When it is informed that something couldn't be written.
 use Rattle.std.specs.Prelude.{◌≡◌, Bool, true, false, Result, Ok, Err}
 use Rattle.replay.specs.declared.events.ReplayFault.{ReplayFault}
 use Rattle.replay.specs.declared.events.ReplayFault.TheVariants as fault

@@ -28,7 +28,7 @@ pub data Shown : Type 0 where
   Crossed : Crossing → Shown
   Refused : CarrierFault → Shown
 
--- what stands behind the bits of a message where texts are printed: its octets, as a script spells them
+-- what is after the bits of a message where texts are printed: its octets, as a script spells them
 abbrev pub spelled : Crossing → List ℕ
 spelled (crossing.Out m) = codes " " ++ octets_text m.text
 spelled (crossing.In m) = codes " " ++ octets_text m.text

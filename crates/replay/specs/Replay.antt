@@ -54,7 +54,7 @@ IfGiven (Ok (Some given)) More End = More
 IfGiven (Ok None) More End = End
 IfGiven (Err f) More End = End
 
--- a host takes until nothing waits for it, until it is refused, or so many times
+-- a host takes until nothing waits for it, until it is refused, or this many times
 abbrev pub Takings : {C : Type 0} → Calls C → Host → ℕ → Part C
 Takings {C} calls h zero old r new = Nothing old r new
 Takings {C} calls h (suc times) old r new =
@@ -74,7 +74,7 @@ Quiet {C} calls old r new = (answer : Result (Unit {0}) CarrierFault) × calls.r
 abbrev pub Round : {C : Type 0} → Calls C → Part C
 Round calls old r new = Chain (Quiet calls) (AllTake calls (calls.seen old).hosts) old r new
 
--- so many rounds
+-- this many rounds
 abbrev pub Rounds : {C : Type 0} → Calls C → ℕ → Part C
 Rounds {C} calls zero old r new = Nothing old r new
 Rounds {C} calls (suc times) old r new = Chain (Round calls) (Rounds calls times) old r new
@@ -121,7 +121,7 @@ BeginsWith (event.Net e) first = first ≡ event.Net e
 BeginsWith (event.Calm rounds) first = (fewer : ℕ) × (first ≡ event.Calm fewer) × (fewer ≤ rounds)
 
 -- the carrier processed this event, or the first rounds of a calm, and may have answered anything; how much was written of
--- what it showed the writer alone knows
+-- what it showed only the writer knows
 pub record MayDo {C : Type 0} (calls : Calls C) (old : C) (e : RawEvent) (new : C) (shown : List Shown) : Type 0 where
   pub processed : RawEvent
   pub begins : BeginsWith e processed

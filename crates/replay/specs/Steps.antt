@@ -17,7 +17,7 @@ pub record Grew (old new : Seen) : Type 0 where
   pub grown : new.log ≡ crossings ++ old.log
   pub hosts : new.hosts ≡ old.hosts
 
--- crossings were printed, and behind them a refusal, or memory had run out
+-- crossings were printed, and after them a refusal, or memory had run out
 abbrev pub PrintEnds : Detail → List Crossing → Result (Unit {0}) CarrierFault → Result (Unit {0}) ReplayFault → Option (List ℕ) → Option (List ℕ) → Type 0
 PrintEnds detail crossings outcome (Ok done) before after = GoesOn outcome × Appends before after (output detail (shown_crossings crossings ++ shown_refusal outcome))
 PrintEnds detail crossings outcome (Err fault.OutOfMemory) before after = Halts outcome × Appends before after (output detail (shown_crossings crossings))

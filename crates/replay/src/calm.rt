@@ -15,7 +15,7 @@ use leader1822::{Carrier, CarrierFault, HostAddr};
 /// How often a host takes in one round at most.
 const TAKINGS: u8 = 16;
 
-/// Lets so many rounds pass, and prints after each what crossed in it. Refusals are not printed. Where the network rests, the
+/// Lets this many rounds pass, and prints after each what crossed in it. Refusals are not printed. Where the network rests, the
 /// rounds that are left would change nothing and print nothing, and are not made.
 pub(crate) fn replay_calm<C: Carrier, W: Output>(
     carrier: &mut C,
@@ -74,7 +74,7 @@ fn take_all<C: Carrier>(carrier: &mut C, host: HostAddr) -> Result<(), CarrierFa
     Ok(())
 }
 
-/// What a calm tells of an outcome: it continues after a refusal, but not after memory has run out.
+/// Answers what a calm makes of an outcome: it continues after a refusal, but not after memory has run out.
 fn calmly(outcome: Result<(), CarrierFault>) -> Result<(), CarrierFault>
     ensures calm { result ≡ calmly outcome }
     ensures told { IfErr result (λ f. Halts (Err f)) }

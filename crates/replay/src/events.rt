@@ -63,7 +63,7 @@ impl From<WriteFailed> for ReplayFault {
 /// - `OutOfMemory`: memory ran out at one event. The lines of the events before it were written, and no line
 ///   of its own. If it was a calm, what crossed before memory ran out was written too.
 /// - `CannotWrite`: a write failed. The carrier had already processed the event whose line it was, or of a
-///   calm all rounds up to the one whose line it was. Nothing more was asked of the writer, which alone knows
+///   calm all rounds up to the one whose line it was. Nothing more was asked of the writer, which is the only one to know
 ///   how much of its last lines it wrote.
 pub fn replay_events<C: Carrier, W: Output>(
     carrier: &mut C,
@@ -92,7 +92,7 @@ pub fn replay_events<C: Carrier, W: Output>(
     ensures cannot_write { result ≡ Err ReplayFault.CannotWrite → (shown : List Shown) × EndsIn (record { seen = C.seen; offers = C.offers; takes = C.takes; steps = C.steps; rounds = C.rounds }) MayDo carrier.old events.now carrier.new shown }
 {
     let outcome = replay_in_turn(carrier, events, detail, writer);
-    // for the proof alone: the log is a run of the mailboxes, and of each run the promise about messages is proved
+    // for the proof only: the log is a run of the mailboxes, and of each run the promise about messages is proved
     let _log = carrier.log();
     outcome
 }
@@ -171,7 +171,7 @@ fn replay_taking<C: Carrier, W: Output>(
     print_outcome(line, carrier.log(), booked, outcome, detail, writer)
 }
 
-/// Whether a taking was refused.
+/// Returns whether a taking was refused.
 fn outcome_of(answer: Result<Option<Inbound>, CarrierFault>) -> Result<(), CarrierFault>
     ensures { result ≡ outcome_of answer }
 {

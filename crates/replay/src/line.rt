@@ -52,7 +52,7 @@ fn put_digits(octets: &mut [u8], start: usize, number: u64) -> usize
 }
 
 impl Line {
-    /// The end of a line, with nothing before it yet.
+    /// Returns the end of a line, with nothing before it yet.
     pub fn new() -> Line
         ensures { result ≡ 10 ∷ [] }
     {
@@ -79,7 +79,7 @@ impl Line {
         self.put_octet(b'\n');
     }
 
-    /// Its octets.
+    /// Returns its octets.
     pub fn as_octets(&self) -> &[u8]
         ensures { result.now ≡ self.now }
     {
@@ -156,7 +156,7 @@ impl Line {
         self.put_host(flow.source);
     }
 
-    /// Puts a message that crosses in front, behind this word: its flow and how many bits its text has.
+    /// Puts a message that crosses in front, after this word: its flow and how many bits its text has.
     #[tactic(auto, using(crate::proofs::Lines::message_before))]
     fn put_message(&mut self, word: &[u8], message: &HostMessage)
         requires { (length word.now ≤ 4) × (length self.old ≤ 2) }
@@ -178,7 +178,7 @@ impl Line {
         self.put_word(answer_head(kind));
     }
 
-    /// Puts a host that goes down or comes up in front, behind this word.
+    /// Puts a host that goes down or comes up in front, after this word.
     #[tactic(auto, using(crate::proofs::Lines::one_before))]
     fn put_change(&mut self, word: &[u8], host: HostAddr)
         requires { (length word.now ≤ 5) × (length self.old ≤ 2) }
@@ -188,7 +188,7 @@ impl Line {
         self.put_word(word);
     }
 
-    /// Puts a crossing in front. Of a text only the number of bits is told.
+    /// Puts a crossing in front. Of a text only the number of bits is printed.
     pub(crate) fn put_crossing(&mut self, crossing: &Crossing)
         requires { length self.old ≤ 2 }
         ensures { self.new ≡ crossing_text crossing.now ++ self.old }
@@ -203,7 +203,7 @@ impl Line {
     }
 }
 
-/// The words for what became of a message, with a space behind them.
+/// Returns the words for what became of a message, with a space after them.
 fn answer_head(kind: Answer) -> &'static [u8]
     ensures words { result.now ≡ codes "answer " ++ (answer_text kind ++ codes " ") }
     ensures short { length result.now ≤ 18 }

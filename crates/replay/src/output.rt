@@ -71,7 +71,7 @@ pub struct Printer<W> {
 }
 
 impl<W: Write> Printer<W> {
-    /// An output over a writer, of which no write has failed.
+    /// Returns an output over a writer, of which no write has failed.
     pub fn new(writer: W) -> Printer<W>
         ensures contents { ⟦<Printer<W> as Output>⟧.contents result ≡ W.contents writer }
         ensures failed { ⟦<Printer<W> as Output>⟧.failed result ≡ false }
@@ -83,7 +83,7 @@ impl<W: Write> Printer<W> {
         }
     }
 
-    /// The writer.
+    /// Returns the writer.
     pub fn into_inner(self) -> W
         ensures { W.contents result ≡ ⟦<Printer<W> as Output>⟧.contents self }
     {

@@ -114,7 +114,7 @@ pub fn print_crossing_in<W: Output>(
     }
 }
 
-/// Prints what stands behind the bits of a message: a space and its octets. It prints nothing for what is no message.
+/// Prints what is after the bits of a message: a space and its octets. It prints nothing for what is no message.
 fn print_spelled<W: Output>(crossing: &Crossing, writer: &mut W) -> Result<(), WriteFailed>
     requires { W.failed writer.old ≡ false }
     ensures written { OnOk result (Appends (W.contents writer.old) (W.contents writer.new) (spelled crossing.now)) }
@@ -166,7 +166,7 @@ fn print_octets<W: Output>(octets: &[u8], writer: &mut W) -> Result<(), WriteFai
     Ok(())
 }
 
-/// The upper case hexadecimal digit of a value.
+/// Returns the upper case hexadecimal digit of a value.
 fn digit(value: u8) -> u8
     requires { value < 16 }
     ensures { result ≡ slice_index upper_digits value }
@@ -197,7 +197,7 @@ fn print_refusal<W: Output>(
     Ok(writer.write_all(b"\n")?)
 }
 
-/// The name of a refusal. `None` where running out of memory has stopped the carrier.
+/// Returns the name of a refusal. `None` where running out of memory has stopped the carrier.
 pub fn carrier_refusal(fault: CarrierFault) -> Option<&'static str>
     ensures name { IfSome result (λ name. name.now ≡ fault_name fault) }
     ensures goes_on { IsSome result ↔ GoesOn (Err fault) }

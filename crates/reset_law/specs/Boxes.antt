@@ -6,7 +6,7 @@ use Rattle.leader1822.specs.declared.crossing.Answer.{Answer}
 use Rattle.leader1822.specs.declared.crossing.Answer.TheVariants as answer
 use Rattle.reset_law.specs.Events.{Message, Event, Contact, Out, In, Told, Down, Up, Idle, place, when, are}
 
--- none is outstanding, or a message waits to be taken, or it was taken and has no answer yet. A message is told by the place
+-- none is outstanding, or a message waits to be taken, or it was taken and has no answer yet. A message is given by the place
 -- where it went out
 pub data Box : Type 0 where
   Empty : Box

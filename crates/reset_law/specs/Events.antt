@@ -17,7 +17,7 @@ pub data Event : Type 0 where
   Out : (a b : Host) → (link : ℕ) → (message : Message) → Event
   -- `b` takes a message of `a`
   In : (a b : Host) → (link : ℕ) → (message : Message) → Event
-  -- `a` is told what became of its message for `b`
+  -- `a` learns what became of its message for `b`
   Told : (a b : Host) → (link : ℕ) → (kind : Answer) → Event
   -- a host stops, or starts
   Down : (h : Host) → Event
@@ -25,7 +25,7 @@ pub data Event : Type 0 where
   -- a host does something else by itself
   Idle : Event
 
--- the place of the next crossing: so many have been
+-- the place of the next crossing: this many have been
 abbrev pub place : List Event → ℕ
 place [] = 0
 place (Contact a b ∷ events) = place events

@@ -1,4 +1,4 @@
--- Clean points, determined by contacts, messages and answers alone: no phase of a host program occurs here.
+-- Clean points, determined by contacts, messages and answers only: no phase of a host program occurs here.
 use Rattle.std.specs.Prelude.{ℕ, ◌<◌, Bool, true, false, not, ◌&&◌, ◌||◌, ◌==◌, List, [], ◌∷◌, Option, Some, None, if◌then◌else◌}
 use Rattle.leader1822.specs.Host.{Host}
 use Rattle.leader1822.specs.declared.crossing.Answer.{Answer}

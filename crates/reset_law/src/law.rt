@@ -19,7 +19,7 @@ pub fn worked_reset()
     ensures ready { ((pair one two reset).phase ≡ Ready) × ((pair two one reset).phase ≡ Ready) }
     ensures clean { ((monitor one two reset).clean ≡ Some 4) × ((monitor two one reset).clean ≡ Some 1) }
 
-    // what goes out next stands at place 5, after both
+    // what goes out next is at place 5, after both
     ensures next { boxes one two message 0 ≡ Waiting 5 (Other (true ∷ [])) }
 {}
 

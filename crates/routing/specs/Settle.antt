@@ -30,12 +30,12 @@ after_round graph told t = record { own = t.own; heard = map (λ imp. Some (slic
 abbrev pub one_round : List (ℕ × ℕ) → List Table → List Table
 one_round graph tables = map (after_round graph (map vector_of tables)) tables
 
--- the tables after so many rounds
+-- the tables after this many rounds
 unfoldable pub settled : List (ℕ × ℕ) → List Table → ℕ → List Table
 settled graph tables zero = tables
 settled graph tables (suc rounds) = one_round graph (settled graph tables rounds)
 
--- an IMP of a network with so many
+-- an IMP of a network with this many
 abbrev pub IsImp : ℕ → ℕ → Type 0
 IsImp count imp = (0 < imp) × (imp ≤ count)
 

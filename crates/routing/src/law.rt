@@ -13,7 +13,7 @@ pub fn tables()
     ensures vector { (t : Table) → IsVector (vector_of t) }
     ensures told { (t : Table) (imp : ℕ) → 0 < imp → imp ≤ most_imps → distance_in (vector_of t) imp ≡ distance_to t imp }
 
-    // a distance is 0 to the IMP itself alone
+    // a distance is 0 to the IMP itself only
     ensures own { (t : Table) (imp : ℕ) → distance_to t imp ≡ 0 → imp ≡ t.own }
 
     // where another IMP is at a finite distance, the next line leads there

@@ -36,7 +36,7 @@ impl Model for RouteTable {
 }
 
 impl RouteTable {
-    /// The table of an IMP with this number and this many ports. Nothing was heard on any port.
+    /// Returns the table of an IMP with this number and this many ports. Nothing was heard on any port.
     ///
     /// Errors: memory runs out, which can happen only if there are ports.
     pub fn new(alloc: Global, own: u8, ports: u8) -> Result<Self, AllocError>
@@ -72,7 +72,7 @@ impl RouteTable {
         self.told = told_by(self.own, &self.heard);
     }
 
-    /// The IMP's distances: 0 to itself, and to any other IMP the least that was heard plus one, at most
+    /// Returns the IMP's distances: 0 to itself, and to any other IMP the least that was heard plus one, at most
     /// [`INFINITE`]. This takes no memory.
     pub fn vector(&self) -> Vector
         ensures { result ≡ vector_of self.now }
@@ -80,31 +80,30 @@ impl RouteTable {
         self.told.copy()
     }
 
-    /// The IMP's distances as [`vector`](Self::vector) gives them, without a copy.
+    /// Returns the IMP's distances as [`vector`](Self::vector) gives them, without a copy.
     pub fn distances(&self) -> &Vector
         ensures { result.now ≡ vector_of self.now }
     {
         &self.told
     }
 
-    /// The IMP's own number.
+    /// Returns the IMP's own number.
     pub fn own(&self) -> u8
         ensures { result ≡ self.now.own }
     {
         self.own
     }
 
-    /// The distances last heard on each port, in the order of the ports; `None` where nothing was heard since the
-    /// line came up.
+    /// Returns the distances last heard on each port, in the order of the ports; `None` where nothing was heard since
+    /// the line came up.
     pub fn heard(&self) -> &[Option<Vector>]
         ensures { result.now ≡ self.now.heard }
     {
         &self.heard
     }
 
-    /// The lowest port whose neighbour attains the IMP's distance to another IMP. `None` for the IMP
-    /// itself, and for an IMP at the infinite distance, such as one that there can't be. This takes no
-    /// memory.
+    /// Returns the lowest port whose neighbour attains the IMP's distance to another IMP. `None` for the IMP itself,
+    /// and for an IMP at the infinite distance, such as one that there can't be. This takes no memory.
     #[tactic(auto, unfolding(crate::specs::RouteTable::next_of))]
     pub fn next(&self, imp: u8) -> Option<usize>
         ensures next { result ≡ next_of self.now imp }
@@ -117,7 +116,7 @@ impl RouteTable {
         first_port(&self.heard, imp, distance)
     }
 
-    /// Hears on each port what the neighbour there told.
+    /// Hears on each port what the neighbour there announced.
     pub(crate) fn hear_neighbours(&mut self, graph: &[(u8, u8)], told: &[Vector])
         requires ports { length self.old.heard ≡ length (neighbours graph.now self.old.own) }
         requires named { All (λ line. IsImp (length told.now) line.0 × IsImp (length told.now) line.1) graph.now }
@@ -127,7 +126,7 @@ impl RouteTable {
         self.told = told_by(self.own, &self.heard);
     }
 
-    /// The distance to one IMP.
+    /// Returns the distance to one IMP.
     fn distance_to(&self, imp: u8) -> u8
         ensures value { result ≡ distance_to self.now imp }
         ensures most { result ≤ infinite }
@@ -141,7 +140,7 @@ impl RouteTable {
     }
 }
 
-/// The distances of an IMP whose ports have heard this.
+/// Returns the distances of an IMP whose ports have heard this.
 fn told_by(own: u8, ports: &[Option<Vector>]) -> Vector
     ensures { IsKept (record { own = own; heard = ports.now }) result }
 {
@@ -153,7 +152,7 @@ fn told_by(own: u8, ports: &[Option<Vector>]) -> Vector
     Vector::new(distances)
 }
 
-/// The distance to an IMP, of which this is the least that was heard.
+/// Returns the distance to an IMP, of which this is the least that was heard.
 fn distance_by(own: u8, imp: u8, least: u8) -> u8
     ensures value { result ≡ (if imp == own then 0 else min (least + 1) infinite) }
     ensures most { result ≤ infinite }
@@ -168,7 +167,7 @@ fn distance_by(own: u8, imp: u8, least: u8) -> u8
     }
 }
 
-/// Whether these distances were heard on a port.
+/// Returns whether these distances were heard on a port.
 fn is_heard(heard: &Option<Vector>, distances: &Vector) -> bool
     ensures { (result ≡ true) ↔ (heard.now ≡ Some distances.now) }
 {
@@ -178,7 +177,7 @@ fn is_heard(heard: &Option<Vector>, distances: &Vector) -> bool
     }
 }
 
-/// The IMP at the other end of a line; `None` for a line of other IMPs.
+/// Returns the IMP at the other end of a line; `None` for a line of other IMPs.
 fn other_end(imp: u8, line: (u8, u8)) -> Option<u8>
     ensures { result ≡ other_end imp line }
 {
@@ -191,7 +190,7 @@ fn other_end(imp: u8, line: (u8, u8)) -> Option<u8>
     }
 }
 
-/// Writes what an IMP's neighbours told over what its ports had heard.
+/// Writes what an IMP's neighbours announced over what its ports had heard.
 fn hear_lines(own: u8, graph: &[(u8, u8)], told: &[Vector], heard: &mut [Option<Vector>])
     requires ports { length heard.old ≡ length (neighbours graph.now own) }
     requires named { All (λ line. IsImp (length told.now) line.0 × IsImp (length told.now) line.1) graph.now }
@@ -206,7 +205,7 @@ fn hear_lines(own: u8, graph: &[(u8, u8)], told: &[Vector], heard: &mut [Option<
     }
 }
 
-/// The least distance to each IMP that was heard on any port, that to IMP 1 first. It takes one port's
+/// Returns the least distance to each IMP that was heard on any port, that to IMP 1 first. It takes one port's
 /// distances after the other, which is faster than to ask every port for each IMP.
 fn all_least_heard(ports: &[Option<Vector>]) -> [u8; MOST_IMPS]
     ensures least { (place : ℕ) → place < most_imps → slice_index_or result place 0 ≡ least_heard ports.now (place + 1) }
@@ -221,7 +220,7 @@ fn all_least_heard(ports: &[Option<Vector>]) -> [u8; MOST_IMPS]
     least
 }
 
-/// The lowest port on which a distance to an IMP is attained.
+/// Returns the lowest port on which a distance to an IMP is attained.
 fn first_port(ports: &[Option<Vector>], imp: u8, distance: u8) -> Option<usize>
     ensures first { result ≡ position (λ heard. heard_distance heard imp + 1 == distance) ports.now }
     ensures within { IfSome result (λ port. port < length ports.now) }
@@ -231,7 +230,7 @@ fn first_port(ports: &[Option<Vector>], imp: u8, distance: u8) -> Option<usize>
         .position(|heard| heard_distance(heard, imp) + 1 == distance)
 }
 
-/// The distance to an IMP that was heard on a port; infinite where nothing was heard.
+/// Returns the distance to an IMP that was heard on a port; infinite where nothing was heard.
 fn heard_distance(heard: &Option<Vector>, imp: u8) -> u8
     ensures value { result ≡ heard_distance heard.now imp }
     ensures most { result ≤ infinite }
@@ -243,7 +242,7 @@ fn heard_distance(heard: &Option<Vector>, imp: u8) -> u8
     }
 }
 
-/// The distance to an IMP in these distances; infinite to an IMP that there can't be.
+/// Returns the distance to an IMP in these distances; infinite to an IMP that there can't be.
 fn distance_in(distances: &[u8], imp: u8) -> u8
     requires { IsVector distances.now }
     ensures value { result ≡ distance_in distances.now imp }

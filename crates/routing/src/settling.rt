@@ -9,7 +9,7 @@ use crate::{RouteTable, Vector};
 use std::alloc::{AllocError, Global};
 
 /// Lets the tables of a network exchange their distances, for this many rounds: in each round every IMP hears, on
-/// each of its ports, what the neighbour there told when the round began.
+/// each of its ports, what the neighbour there announced when the round began.
 ///
 /// `graph` has the live lines, each as a pair of IMPs, and an IMP's ports are its lines in that order.
 /// `tables` are those of IMP 1, IMP 2 and so on. After [`INFINITE`](crate::INFINITE) rounds, from whatever
@@ -39,7 +39,7 @@ pub fn settle(
     Ok(())
 }
 
-/// The vectors of tables, in their order.
+/// Returns the vectors of tables, in their order.
 fn vectors(alloc: Global, tables: &[RouteTable]) -> Result<Vec<Vector>, AllocError>
     ensures { IfOk result (λ told. told.items ≡ map vector_of tables.now) }
 {
@@ -56,7 +56,7 @@ fn tell_all(tables: &[RouteTable], told: &mut Vec<Vector>)
     }
 }
 
-/// Each table hears what its neighbours told.
+/// Lets each table hear what its neighbours sent.
 fn hear_all(graph: &[(u8, u8)], told: &[Vector], tables: &mut [RouteTable])
     requires ports { All (λ t. length t.heard ≡ length (neighbours graph.now t.own)) tables.old }
     requires named { All (λ line. IsImp (length told.now) line.0 × IsImp (length told.now) line.1) graph.now }

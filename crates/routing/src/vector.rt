@@ -39,14 +39,14 @@ impl Clone for Vector {
 
     ghost is_infallible = { λ _. ⊤ };
 
-    /// The same distances. This takes no memory.
+    /// Returns the same distances. This takes no memory.
     fn clone(&self) -> Result<Self, AllocError> {
         Ok(self.copy())
     }
 }
 
 impl Vector {
-    /// The vector with these distances, on the condition that none is above [`INFINITE`].
+    /// Returns the vector with these distances, on the condition that none is above [`INFINITE`].
     pub fn new(distances: [u8; MOST_IMPS]) -> Self
         requires { All (λ d. d ≤ infinite) distances }
         ensures { result ≡ distances }
@@ -54,8 +54,7 @@ impl Vector {
         Vector { distances }
     }
 
-    /// The vector with these distances; `None` where they aren't [`MOST_IMPS`] numbers of at most
-    /// [`INFINITE`].
+    /// Returns the vector with these distances; `None` where they aren't [`MOST_IMPS`] numbers of at most [`INFINITE`].
     pub fn from_slice(distances: &[u8]) -> Option<Self>
         ensures { result ≡ (if is_vector distances.now then Some distances.now else None) }
     {
@@ -67,7 +66,7 @@ impl Vector {
         Some(Vector { distances: copy })
     }
 
-    /// A copy of the vector.
+    /// Returns a copy of the vector.
     pub(crate) fn copy(&self) -> Self
         ensures { result ≡ self.now }
     {
@@ -86,15 +85,15 @@ impl Vector {
         }
     }
 
-    /// Whether another vector has the same distances. It looks at all of them, with no early end, which is faster
-    /// where vectors mostly are the same.
+    /// Returns whether another vector has the same distances. It looks at all of them, with no early end, which is
+    /// faster where vectors mostly are the same.
     pub fn is_same(&self, other: &Vector) -> bool
         ensures { (result ≡ true) ↔ (self.now ≡ other.now) }
     {
         are_same(&self.distances, &other.distances)
     }
 
-    /// The distances, that to IMP 1 first.
+    /// Returns the distances, that to IMP 1 first.
     pub fn distances(&self) -> &[u8]
         ensures value { result.now ≡ self.now }
         ensures a_vector { IsVector self.now }
@@ -107,7 +106,7 @@ impl Vector {
 /// Half of the places, which are an odd number.
 const HALF: usize = MOST_IMPS / 2;
 
-/// Whether these are the same numbers, place by place. Two halves that share the place in the middle are
+/// Returns whether these are the same numbers, place by place. Two halves that share the place in the middle are
 /// compared side by side: as many octets as the processor takes at once then leave no rest.
 fn are_same(these: &[u8; MOST_IMPS], those: &[u8; MOST_IMPS]) -> bool
     ensures { (result ≡ true) ↔ (these.now ≡ those.now) }
@@ -121,7 +120,7 @@ fn are_same(these: &[u8; MOST_IMPS], those: &[u8; MOST_IMPS]) -> bool
     same
 }
 
-/// Whether no distance is above the infinite one.
+/// Returns whether no distance is above the infinite one.
 fn all_in_range(distances: &[u8]) -> bool
     ensures test { result ≡ list_all (λ d. nat_le d infinite) distances.now }
     ensures fact { IsTrue result ↔ All (λ d. d ≤ infinite) distances.now }

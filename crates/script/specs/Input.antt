@@ -7,7 +7,7 @@ use Rattle.script.specs.Script.{lines_of}
 abbrev pub ended_line : List ℕ → List ℕ
 ended_line line = line ++ 10 ∷ []
 
--- an input is a topology, the first line that is exactly `%`, and a script, or nothing behind that line
+-- an input is a topology, the first line that is exactly `%`, and a script, or nothing after that line
 pub record IsParted (input topology script : List ℕ) : Type 0 where
   pub before : List (List ℕ)
   pub front : topology ≡ flat_map ended_line before

@@ -34,7 +34,7 @@ IsOfHosts (net.Abandon f) = IsFlow f
 IsOfHosts (net.Ask f) = IsFlow f
 IsOfHosts e = ⊥
 
--- IMPs alone
+-- IMPs only
 abbrev pub IsOfImps : NetEvent → Type 0
 IsOfImps (net.Resend imp) = IsImp imp
 IsOfImps (net.Route imp) = IsImp imp

@@ -11,6 +11,6 @@ pub enum RawEvent {
     Take(HostAddr),
     /// This happens inside the network.
     Net(NetEvent),
-    /// So many rounds pass. In each the network has a quiet round, and then each host takes what waits for it.
+    /// This many rounds pass. In each the network has a quiet round, and then each host takes what waits for it.
     Calm(u32),
 }

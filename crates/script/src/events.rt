@@ -14,7 +14,7 @@ use crate::word::{cut, is_word, plain_number, read_count, read_host, read_octet,
 use leader1822::{Flow, HostMessage, Link};
 use std::alloc::{AllocError, Global};
 
-/// The events of a script, in order. Empty lines and lines that begin with `#` are ignored, but they are
+/// Returns the events of a script, in order. Empty lines and lines that begin with `#` are ignored, but they are
 /// counted.
 ///
 /// Errors: `BadLine` with the number of the first line, counted from 1, that is not an event. `OutOfMemory` only
@@ -41,7 +41,7 @@ pub fn read_script(alloc: Global, text: &[u8]) -> Result<Vec<RawEvent>, LineFaul
     Ok(events)
 }
 
-/// Whether a line is empty or a comment.
+/// Returns whether a line is empty or a comment.
 pub fn is_passed_over(line: &[u8]) -> bool
     ensures { result ≡ is_passed_over line.now }
 {
@@ -51,7 +51,7 @@ pub fn is_passed_over(line: &[u8]) -> bool
     }
 }
 
-/// The event that a line asks for. `None` if the line is not a valid event.
+/// Returns the event that a line asks for. `None` if the line is not a valid event.
 ///
 /// Errors: `AllocError`, only for a message.
 fn read_event(alloc: Global, line: &[u8]) -> Result<Option<RawEvent>, AllocError>
@@ -67,7 +67,7 @@ fn read_event(alloc: Global, line: &[u8]) -> Result<Option<RawEvent>, AllocError
     Ok(read_plain(word, rest))
 }
 
-/// The event of a line without a text, from its first word and what follows it.
+/// Returns the event of a line without a text, from its first word and what follows it.
 fn read_plain(word: &[u8], rest: &[u8]) -> Option<RawEvent>
     requires word { Lacks 32 word.now }
     requires not_out { word.now ≢ codes "out" }
@@ -82,7 +82,7 @@ fn read_plain(word: &[u8], rest: &[u8]) -> Option<RawEvent>
     Some(RawEvent::Net(read_net(word, rest)?))
 }
 
-/// The first two words, and what stands after them.
+/// Returns the first two words, and what follows them.
 #[inline]
 pub(crate) fn cut_twice(words: &[u8]) -> Option<(&[u8], &[u8], &[u8])>
     ensures { MatchOption result ((a b c : List ℕ) → words.now ≢ a ++ 32 ∷ (b ++ 32 ∷ c)) (λ parts. (words.now ≡ parts.0.now ++ 32 ∷ (parts.1.now ++ 32 ∷ parts.2.now)) × Lacks 32 parts.0.now × Lacks 32 parts.1.now) }
@@ -92,7 +92,7 @@ pub(crate) fn cut_twice(words: &[u8]) -> Option<(&[u8], &[u8], &[u8])>
     Some((first, second, rest))
 }
 
-/// The flow that three words spell.
+/// Returns the flow that three words spell.
 fn read_flow(source: &[u8], destination: &[u8], link: &[u8]) -> Option<Flow>
     ensures { ReadsFlow source.now destination.now link.now result }
 {
@@ -103,7 +103,7 @@ fn read_flow(source: &[u8], destination: &[u8], link: &[u8]) -> Option<Flow>
     })
 }
 
-/// The flow that is spelled `source destination link`.
+/// Returns the flow that is spelled `source destination link`.
 pub(crate) fn read_three(words: &[u8]) -> Option<Flow>
     ensures { ReadsAs flow_text IsFlow words.now result }
 {
@@ -111,7 +111,7 @@ pub(crate) fn read_three(words: &[u8]) -> Option<Flow>
     read_flow(source, destination, link)
 }
 
-/// The message that is spelled `source destination link bits octets`.
+/// Returns the message that is spelled `source destination link bits octets`.
 ///
 /// Errors: `AllocError`, only where all words but the last are good and the last one is hexadecimal.
 fn read_message(alloc: Global, words: &[u8]) -> Result<Option<HostMessage>, AllocError>

@@ -1,7 +1,7 @@
 //! Octets in upper case hexadecimal.
 //!
 //! The digits of a text can't be foretold, so a branch for each of them would be costly. They are tested and
-//! read by arithmetic alone.
+//! read by arithmetic only.
 
 ghost use Rattle.std.specs.Prelude.{◌≡◌, ◌≢◌, ℕ, ◌<◌, ◌%◌, true, List, length, slice_index, Ok, MatchOption, IfOk, IfErr};
 ghost use Rattle.std.specs.List.{list_all};
@@ -10,8 +10,8 @@ ghost use Rattle.script.specs.Spelling.{IsHex, is_upper_digit};
 
 use std::alloc::{AllocError, Global};
 
-/// The octets that a word spells in upper case hexadecimal. A word that spells none is refused before memory
-/// is taken.
+/// Returns the octets that a word spells in upper case hexadecimal. A word that spells none is refused before memory is
+/// taken.
 ///
 /// Errors: `AllocError`, only for a word of hexadecimal octets.
 pub(crate) fn read_octets(alloc: Global, word: &[u8]) -> Result<Option<Vec<u8>>, AllocError>
@@ -24,7 +24,7 @@ pub(crate) fn read_octets(alloc: Global, word: &[u8]) -> Result<Option<Vec<u8>>,
     Ok(Some(spelled_octets(alloc, word)?))
 }
 
-/// Whether each octet of a word is an upper case hexadecimal digit.
+/// Returns whether each octet of a word is an upper case hexadecimal digit.
 fn has_upper_digits(word: &[u8]) -> bool
     ensures { result ≡ list_all is_upper_digit word.now }
 {
@@ -35,14 +35,14 @@ fn has_upper_digits(word: &[u8]) -> bool
     all
 }
 
-/// Whether an octet is an upper case hexadecimal digit.
+/// Returns whether an octet is an upper case hexadecimal digit.
 fn is_upper_digit(octet: u8) -> bool
     ensures { result ≡ is_upper_digit octet }
 {
     (48 <= octet) & (octet <= 57) | (65 <= octet) & (octet <= 70)
 }
 
-/// The octets that these digits spell, two digits each.
+/// Returns the octets that these digits spell, two digits each.
 fn spelled_octets(alloc: Global, word: &[u8]) -> Result<Vec<u8>, AllocError>
     requires even { length word.now % 2 ≡ 0 }
     requires digits { list_all is_upper_digit word.now ≡ true }
@@ -56,7 +56,7 @@ fn spelled_octets(alloc: Global, word: &[u8]) -> Result<Vec<u8>, AllocError>
     Ok(octets)
 }
 
-/// The value of an upper case hexadecimal digit.
+/// Returns the value of an upper case hexadecimal digit.
 fn value_of(digit: u8) -> u8
     requires { is_upper_digit digit ≡ true }
     ensures small { result < 16 }

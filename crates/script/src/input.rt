@@ -10,8 +10,8 @@ use crate::word::cut;
 /// The most octets that an input may have.
 pub const MAX_INPUT: usize = 1_048_576;
 
-/// The topology and the script of an input: what stands before its first marker, the line that is exactly
-/// `%`, and what stands after that line. `None` where there is no marker.
+/// Returns the topology and the script of an input: what precedes its first marker, the line that is exactly
+/// `%`, and what follows that line. `None` where there is no marker.
 pub fn split_input(input: &[u8]) -> Option<(&[u8], &[u8])>
     requires { length input.now ≤ MAX_INPUT }
     ensures short { IfSome result (λ parts. length parts.1.now ≤ length input.now) }
@@ -30,7 +30,7 @@ pub fn split_input(input: &[u8]) -> Option<(&[u8], &[u8])>
     None
 }
 
-/// The text after a line. It is empty where there is no further line.
+/// Returns the text after a line. It is empty where there is no further line.
 fn text_behind(more: Option<&[u8]>) -> &[u8]
     ensures { MatchOption more.entry (result.now ≡ []) (λ text. result.now ≡ text.now) }
 {
@@ -40,14 +40,14 @@ fn text_behind(more: Option<&[u8]>) -> &[u8]
     }
 }
 
-/// Whether a line is the marker between topology and script.
+/// Returns whether a line is the marker between topology and script.
 fn is_marker(line: &[u8]) -> bool
     ensures { IsTrue result ↔ (line.now ≡ codes "%") }
 {
     line.len() == 1 && line[0] == b'%'
 }
 
-/// The first line of a text, and the text after it where there is a further line.
+/// Returns the first line of a text, and the text after it where there is a further line.
 pub fn first_line(text: &[u8]) -> (&[u8], Option<&[u8]>)
     ensures lines { lines_of text.now ≡ result.0.now ∷ lines_after result.1 }
     ensures whole { MatchOption result.1 (text.now ≡ result.0.now) (λ more. text.now ≡ result.0.now ++ 10 ∷ more.now) }

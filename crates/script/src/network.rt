@@ -9,7 +9,8 @@ use crate::events::{cut_twice, read_three};
 use crate::word::{cut, is_word, plain_number, read_direction, read_host, read_imp};
 use leader1822::{Direction, ImpNumber, NetEvent};
 
-/// What happens inside a network by a line, from its first word and what follows it. Frames come first, as the most frequent.
+/// Returns what happens inside a network by a line, from its first word and what follows it. Frames come first, as the
+/// most frequent.
 pub fn read_net(word: &[u8], rest: &[u8]) -> Option<NetEvent>
     requires { All (λ x. (x == 32) ≡ false) word.now }
     ensures { ReadsAs net_spelling IsNetEvent (word.now ++ 32 ∷ rest.now) result }
@@ -23,7 +24,7 @@ pub fn read_net(word: &[u8], rest: &[u8]) -> Option<NetEvent>
     read_imp_event(word, rest)
 }
 
-/// The event that a line names by a host or a flow.
+/// Returns the event that a line names by a host or a flow.
 fn read_host_event(word: &[u8], rest: &[u8]) -> Option<NetEvent>
     requires { Lacks 32 word.now }
     ensures { ReadsAs net_spelling IsOfHosts (word.now ++ 32 ∷ rest.now) result }
@@ -43,7 +44,7 @@ fn read_host_event(word: &[u8], rest: &[u8]) -> Option<NetEvent>
     }
 }
 
-/// The event that a line names by IMPs alone.
+/// Returns the event that a line names by IMPs only.
 fn read_imp_event(word: &[u8], rest: &[u8]) -> Option<NetEvent>
     requires { Lacks 32 word.now }
     ensures { ReadsAs net_spelling IsOfImps (word.now ++ 32 ∷ rest.now) result }
@@ -64,7 +65,7 @@ fn read_imp_event(word: &[u8], rest: &[u8]) -> Option<NetEvent>
     }
 }
 
-/// The event that a line names by a line of the network.
+/// Returns the event that a line names by a line of the network.
 fn read_line_event(word: &[u8], rest: &[u8]) -> Option<NetEvent>
     requires { Lacks 32 word.now }
     ensures { ReadsAs net_spelling IsOfLines (word.now ++ 32 ∷ rest.now) result }
@@ -94,7 +95,7 @@ fn read_line_event(word: &[u8], rest: &[u8]) -> Option<NetEvent>
     }
 }
 
-/// The frame that is spelled `line direction place`.
+/// Returns the frame that is spelled `line direction place`.
 #[inline(always)]
 fn read_frame(words: &[u8]) -> Option<(u32, Direction, u32)>
     ensures { ReadsAs frame_text IsFrame words.now result }
@@ -107,7 +108,7 @@ fn read_frame(words: &[u8]) -> Option<(u32, Direction, u32)>
     ))
 }
 
-/// The end of a line that is spelled `imp line`.
+/// Returns the end of a line that is spelled `imp line`.
 fn read_end(words: &[u8]) -> Option<(ImpNumber, u32)>
     ensures { ReadsAs pair_text IsEnd words.now result }
 {
@@ -115,7 +116,7 @@ fn read_end(words: &[u8]) -> Option<(ImpNumber, u32)>
     Some((read_imp(imp)?, plain_number(line)?))
 }
 
-/// The two IMPs that are spelled `imp imp`.
+/// Returns the two IMPs that are spelled `imp imp`.
 fn read_two_imps(words: &[u8]) -> Option<(ImpNumber, ImpNumber)>
     ensures { ReadsAs pair_text AreImps words.now result }
 {

@@ -14,7 +14,7 @@ use bit_messages::{BitFault, Bits, MAX_TEXT_BITS};
 use leader1822::{Direction, HostAddr, ImpNumber, Text};
 use std::alloc::{AllocError, Global};
 
-/// What stands before the first separator, and what stands after it. `None` where there is no separator.
+/// Returns what precedes the first separator, and what follows it. `None` where there is no separator.
 #[inline]
 pub fn cut(text: &[u8], separator: u8) -> Option<(&[u8], &[u8])>
     ensures { MatchOption result (All (λ x. (x == separator) ≡ false) text.now) (λ parts. (text.now ≡ parts.0.now ++ separator ∷ parts.1.now) × All (λ x. (x == separator) ≡ false) parts.0.now) }
@@ -26,8 +26,8 @@ pub fn cut(text: &[u8], separator: u8) -> Option<(&[u8], &[u8])>
     Some((&text[..at], &text[at + 1..]))
 }
 
-/// The place of the first separator, or the number of octets where there is none. Four octets are looked at in each turn, since
-/// all that is read is searched so.
+/// Returns the place of the first separator, or the number of octets where there is none. Four octets are looked at in
+/// each turn, since all that is read is searched so.
 fn place_of(text: &[u8], separator: u8) -> usize
     ensures inside { result ≤ length text.now }
     ensures lacks { Lacks separator (take result text.now) }
@@ -55,8 +55,8 @@ fn place_of(text: &[u8], separator: u8) -> usize
     at
 }
 
-/// Whether a word is this one. Where their lengths differ, no octet is looked at. A key is short, and known where a word is compared
-/// with it, so that each of its octets becomes one test there.
+/// Returns whether a word is this one. Where their lengths differ, no octet is looked at. A key is short, and known
+/// where a word is compared with it, so that each of its octets becomes one test there.
 #[inline(always)]
 pub fn is_word(word: &[u8], key: &[u8]) -> bool
     ensures { IsTrue result ↔ (word.now ≡ key.now) }
@@ -74,7 +74,7 @@ pub fn is_word(word: &[u8], key: &[u8]) -> bool
     true
 }
 
-/// The number up to `most` that a word spells, without sign and leading zeros.
+/// Returns the number up to `most` that a word spells, without sign and leading zeros.
 pub fn read_number(word: &[u8], most: u32) -> Option<u32>
     ensures { ReadsAs decimal (λ n. n ≤ most) word.now result }
 {
@@ -82,7 +82,7 @@ pub fn read_number(word: &[u8], most: u32) -> Option<u32>
     if number <= most { Some(number) } else { None }
 }
 
-/// The number of 32 bits that a word spells.
+/// Returns the number of 32 bits that a word spells.
 pub fn plain_number(word: &[u8]) -> Option<u32>
     ensures { ReadsAs decimal (λ n. n < 2 ^ 32) word.now result }
 {
@@ -96,8 +96,8 @@ pub fn plain_number(word: &[u8]) -> Option<u32>
     }
 }
 
-/// The number of 32 bits that at most ten digits spell, read from the first to the last. `None` where one of them is no digit, and
-/// where the number has more bits.
+/// Returns the number of 32 bits that at most ten digits spell, read from the first to the last. `None` where one of
+/// them is no digit, and where the number has more bits.
 fn spelled_number(word: &[u8]) -> Option<u32>
     requires { length word.now ≤ 10 }
     ensures { MatchOption result (AllDigits 10 word.now → 2 ^ 32 ≤ digits_value 10 word.now) (λ n. AllDigits 10 word.now × (n ≡ digits_value 10 word.now) × (n < 2 ^ 32)) }
@@ -112,7 +112,7 @@ fn spelled_number(word: &[u8]) -> Option<u32>
     u32::try_from(number).ok()
 }
 
-/// Whether the first octet shows that a word is no number.
+/// Returns whether the first octet shows that a word is no number.
 fn begins_wrong(word: &[u8]) -> bool
     ensures { result ≡ begins_wrong word.now }
 {
@@ -122,7 +122,7 @@ fn begins_wrong(word: &[u8]) -> bool
     }
 }
 
-/// The number from 0 to 255 that a word spells.
+/// Returns the number from 0 to 255 that a word spells.
 pub(crate) fn read_octet(word: &[u8]) -> Option<u8>
     ensures { ReadsAs decimal (λ n. n < 256) word.now result }
 {
@@ -136,7 +136,7 @@ pub(crate) fn read_octet(word: &[u8]) -> Option<u8>
     u8::try_from(number).ok()
 }
 
-/// The number that one digit spells.
+/// Returns the number that one digit spells.
 #[inline]
 fn read_digit(digit: u8) -> Option<u8>
     ensures octet { ReadsAs decimal (λ n. n < 256) (digit ∷ []) result }
@@ -148,7 +148,7 @@ fn read_digit(digit: u8) -> Option<u8>
     Some(digit - b'0')
 }
 
-/// The number that two digits spell.
+/// Returns the number that two digits spell.
 #[inline]
 fn read_two_digits(tens: u8, ones: u8) -> Option<u8>
     ensures { ReadsAs decimal (λ n. n < 256) (tens ∷ ones ∷ []) result }
@@ -159,14 +159,14 @@ fn read_two_digits(tens: u8, ones: u8) -> Option<u8>
     Some((tens - b'0') * 10 + (ones - b'0'))
 }
 
-/// The IMP that a word spells by its number, 1 to 63.
+/// Returns the IMP that a word spells by its number, 1 to 63.
 pub(crate) fn read_imp(word: &[u8]) -> Option<ImpNumber>
     ensures { ReadsAs decimal IsImp word.now result }
 {
     ImpNumber::new(read_octet(word)?)
 }
 
-/// The direction of a line that a word spells: `+` is from its first IMP to its second, `-` is back.
+/// Returns the direction of a line that a word spells: `+` is from its first IMP to its second, `-` is back.
 pub(crate) fn read_direction(word: &[u8]) -> Option<Direction>
     ensures { ReadsAs direction_text IsDirection word.now result }
 {
@@ -179,7 +179,7 @@ pub(crate) fn read_direction(word: &[u8]) -> Option<Direction>
     }
 }
 
-/// The host that a word spells as `host/imp`. The number of each host has one digit.
+/// Returns the host that a word spells as `host/imp`. The number of each host has one digit.
 #[inline]
 pub fn read_host(word: &[u8]) -> Option<HostAddr>
     ensures { ReadsAs host_text IsHost word.now result }
@@ -193,7 +193,7 @@ pub fn read_host(word: &[u8]) -> Option<HostAddr>
     HostAddr::new(host, imp)
 }
 
-/// The text of `count` bits whose octets a word spells, as [`read_bits`] reads them.
+/// Returns the text of `count` bits whose octets a word spells, as [`read_bits`] reads them.
 ///
 /// Errors: `AllocError`, only for a word of hexadecimal octets.
 pub(crate) fn read_text(
@@ -211,8 +211,8 @@ pub(crate) fn read_text(
     }
 }
 
-/// The `count` bits whose octets a word spells: in upper case hexadecimal with unused bits zero, or as `-`
-/// for no bits.
+/// Returns the `count` bits whose octets a word spells: in upper case hexadecimal with unused bits zero, or as `-` for
+/// no bits.
 ///
 /// Errors: `AllocError`, only for a word of hexadecimal octets.
 pub fn read_bits(alloc: Global, count: usize, word: &[u8]) -> Result<Option<Bits>, AllocError>
@@ -239,9 +239,9 @@ pub fn read_bits(alloc: Global, count: usize, word: &[u8]) -> Result<Option<Bits
     }
 }
 
-/// The first `count` bits of these octets. `None` where they have fewer.
+/// Returns the first `count` bits of these octets. `None` where they have fewer.
 ///
-/// Errors: `AllocError`, only where there are so many.
+/// Errors: `AllocError`, only where there are this many.
 fn first_bits(alloc: Global, octets: &[u8], count: usize) -> Result<Option<Bits>, AllocError>
     ensures read { IfOk result (λ read. MatchOption read (8 * length octets.now < count) (λ bits. (count ≤ 8 * length octets.now) × (bits ≡ take count (bits_of octets.now)))) }
     ensures memory { IfErr result (λ _. (0 < count) × (count ≤ 8 * length octets.now)) }
@@ -253,7 +253,7 @@ fn first_bits(alloc: Global, octets: &[u8], count: usize) -> Result<Option<Bits>
     }
 }
 
-/// The number of bits of a message's text that a word spells.
+/// Returns the number of bits of a message's text that a word spells.
 pub(crate) fn read_count(word: &[u8]) -> Option<usize>
     ensures { ReadsAs decimal (λ n. n ≤ 8063) word.now result }
 {

@@ -64,7 +64,7 @@ impl Write for FailingWriter {
     }
 }
 
-/// How a run ends whose read fails after so many, and whether it wrote nothing and read no more.
+/// How a run ends whose read fails after this many, and whether it wrote nothing and read no more.
 fn run_failing_reads(alloc: Global, reads: u32) -> Ended {
     let mut reader = Reader::new(FailingReader {
         given: 0,
@@ -98,7 +98,7 @@ const OFFERED_AND_TAKEN: &[u8] = b"out 0/1 1/1 5 12\nin 0/1 1/1 5 12\nend\n";
 /// What it prints with its text.
 const WITH_TEXT: &[u8] = b"out 0/1 1/1 5 12 ABC0\nin 0/1 1/1 5 12 ABC0\nend\n";
 
-/// How a run ends whose write fails after so many octets, and whether it wrote these and no more.
+/// How a run ends whose write fails after this many octets, and whether it wrote these and no more.
 fn run_failing_writes(alloc: Global, detail: Detail, printed: &[u8], room: usize) -> Ended {
     let mut writer = Printer::new(FailingWriter {
         kept: Vec::new(alloc),

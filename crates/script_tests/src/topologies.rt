@@ -107,7 +107,7 @@ fn documents_and_their_topologies(rt: HostRuntime) {
     }
 }
 
-/// The number that comes so many steps after this one, where 1 follows 63.
+/// The number that comes this many steps after this one, where 1 follows 63.
 fn after(imp: u8, steps: u8) -> u8
     requires imp { imp ≤ 63 }
     requires steps { steps ≤ 2 }
@@ -117,7 +117,7 @@ fn after(imp: u8, steps: u8) -> u8
     if number > 63 { number - 63 } else { number }
 }
 
-/// Puts a line between two IMPs behind a document.
+/// Puts a line between two IMPs after a document.
 fn join(alloc: Global, document: &mut String, a: u8, b: u8) -> Result<(), AllocError> {
     let line = format!(in alloc; "[[line]]\na = {a}\nb = {b}\n")?;
     document.push_str(&line)

@@ -38,7 +38,7 @@ accepted_answer s kind f =
     else (s, []))
     else (s, [])
 
--- what comes in, with its place in the log: the host after it, and what is told
+-- what comes in, with its place in the log: the host after it, and the notices
 unfoldable pub accepted : NcpState → Inbound → ℕ → NcpState × List Notice
 accepted s (inbound.Message m) stamp = accepted_message s m stamp
 accepted s (inbound.Answer kind f) stamp = accepted_answer s kind f

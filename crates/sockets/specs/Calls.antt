@@ -20,6 +20,6 @@ abbrev pub IsServed : {X : Type 0} → (X → List Notice) → NcpState → Requ
 IsServed {X} notices old r result new =
     refusal old r ≡ None → MatchResult result (λ x. (new ≡ served old r) × (notices x ≡ served_notices old r)) (λ f. IsSpent f new)
 
--- something of the network was taken or went out: the one new host and what is told, unless memory runs out
+-- something of the network was taken or went out: the one new host and the notices, unless memory runs out
 abbrev pub Turns : {X : Type 0} → (X → List Notice) → NcpState × List Notice → Result X NcpFault → NcpState → Type 0
 Turns {X} notices turn result new = MatchResult result (λ x. turn ≡ (new, notices x)) (λ f. IsSpent f new)

@@ -14,7 +14,7 @@ use Rattle.sockets.specs.Sending.{next_out, offered}
 use Rattle.host_pairs.specs.declared.notice.Notice.{Notice}
 use Rattle.sockets.specs.declared.request.Request.{Request}
 
--- two hosts, the messages and the answers that wait for them, how many crossings there were, and what each host was told, in order
+-- two hosts, the messages and the answers that wait for them, how many crossings there were, and the notices to each host, in order
 pub record Talk : Type 0 where
   pub left : NcpState
   pub right : NcpState
@@ -48,7 +48,7 @@ state_of t h = if same_host h t.left.own then t.left else t.right
 abbrev pub with_state : Talk → Host → NcpState → Talk
 with_state t h s = record t { left = if same_host h t.left.own then s else t.left; right = if same_host h t.left.own then t.right else s }
 
--- a host's state and what it was told
+-- a host's state and The notice
 abbrev pub talk_turned : Host → NcpState × List Notice → Talk → Talk
 talk_turned h turn t = record (with_state t h turn.0) { notices = t.notices ++ map (λ n. (h, n)) turn.1 }
 

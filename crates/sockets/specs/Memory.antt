@@ -32,7 +32,7 @@ abbrev pub queued_by_closing : NcpState → ℕ → Option Host → ℕ
 queued_by_closing s socket None = 0
 queued_by_closing s socket (Some peer) = length (closed_end socket (pair_with peer s.peers)).queue - length (pair_with peer s.peers).queue
 
--- how much more is kept once a request is served: for a contact what is told and a host that comes to be known, for a send its bits,
+-- how much more is kept once a request is served: for a contact the notices and a host that comes to be known, for a send its bits,
 -- for a close the commands that it queues at once; for any other request one thing, a socket that listens or a command
 abbrev pub newly_kept : NcpState → Request → ℕ
 newly_kept s (request.Contact peer) = length (contact_notices peer (pair_with peer s.peers).phase) + newly_known s (served s (request.Contact peer))

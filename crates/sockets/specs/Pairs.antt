@@ -37,7 +37,7 @@ placed p (q ∷ qs) =
 abbrev pub without_peer : Host → List Peer → List Peer
 without_peer h peers = filter (λ p. not (same_host h p.host)) peers
 
--- a peer's pair is now this one; one that is as at the opening isn't kept
+-- a peer's pair is now this one; one that is in the initial state isn't kept
 abbrev pub with_pair : Host → PairState → List Peer → List Peer
 with_pair h q peers = if is_opening q then without_peer h peers else placed (record { host = h; pair = q }) peers
 

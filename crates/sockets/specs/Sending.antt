@@ -44,6 +44,6 @@ abbrev pub offered_by : NcpState → ℕ → Option (Peer × Parcel) → NcpStat
 offered_by s stamp None = (s, [])
 offered_by s stamp (Some (p, parcel)) = offered_as s stamp p parcel (parcel_gone p.host stamp p.pair.busy parcel (desk_of p.pair s.listening))
 
--- the carrier took what goes out next, with its place in the log: the host after it, and what is told
+-- the carrier took what goes out next, with its place in the log: the host after it, and the notices
 unfoldable pub offered : NcpState → ℕ → NcpState × List Notice
 offered s stamp = offered_by s stamp (next_in s.peers)

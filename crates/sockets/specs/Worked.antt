@@ -114,17 +114,17 @@ second_in steps = state_of (talk steps) second
 abbrev pub news : List Step → List Step → List (Host × Notice)
 news before steps = (played steps (record (talk before) { notices = [] })).notices
 
--- ---- one host alone
+-- ---- only one host
 
--- after a control message of a peer with these octets, and what it is told
+-- after a control message of a peer with these octets, and what it is reported
 abbrev pub control_heard : NcpState → Host → List ℕ → NcpState × List Notice
 control_heard s from octets = accepted s (inbound.Message (control from s.own octets)) 20
 
--- after any message of a peer with these octets, and what it is told
+-- after any message of a peer with these octets, and what it is reported
 abbrev pub got : NcpState → Host → ℕ → List ℕ → NcpState × List Notice
 got s from link octets = accepted s (inbound.Message (message from s.own link octets)) 20
 
--- after an answer about its own message to a peer, and what it is told
+-- after an answer about its own message to a peer, and what it is reported
 abbrev pub answer_heard : NcpState → Answer → Host → ℕ → NcpState × List Notice
 answer_heard s kind to link = accepted s (inbound.Answer kind (on_link s.own to link)) 20
 
@@ -151,7 +151,7 @@ STR send receive size = 2 ∷ socket send ++ socket receive ++ size ∷ []
 abbrev pub CLS : ℕ → ℕ → List ℕ
 CLS own foreign = 3 ∷ socket own ++ socket foreign
 
--- so many messages and so many bits, both below 256
+-- this many messages and this many bits, both below 256
 abbrev pub ALL : ℕ → ℕ → ℕ → List ℕ
 ALL link messages bits = 4 ∷ link ∷ 0 ∷ messages ∷ 0 ∷ 0 ∷ 0 ∷ bits ∷ []
 
@@ -173,7 +173,7 @@ ECO octet = 9 ∷ octet ∷ []
 abbrev pub ERP : ℕ → List ℕ
 ERP octet = 10 ∷ octet ∷ []
 
--- a kind of error, and what it quotes, with so many zeros behind it
+-- a kind of error, and what it quotes, with this many zeros behind it
 abbrev pub ERR : ℕ → List ℕ → ℕ → List ℕ
 ERR code octets zeros = 11 ∷ code ∷ octets ++ replicate zeros 0
 
@@ -183,7 +183,7 @@ RST = 12 ∷ []
 abbrev pub RRP : List ℕ
 RRP = 13 ∷ []
 
--- every command but RST and RRP, about sockets and links that nobody uses, and behind them a code that no command has
+-- every command but RST and RRP, about sockets and links that nobody uses, and after them a code that no command has
 abbrev pub every_command : List ℕ
 every_command =
     0 ∷ RTS 16 33 5 ++ STR 35 18 8 ++ CLS 20 37 ++ ALL 6 1 8 ++ GVB 6 64 128 ++ RET 7 2 9 ++ INR 6 ++ INS 7

@@ -33,7 +33,7 @@ impl Ncp {
         }
     }
 
-    /// Puts what is known of a peer back, and gives what is told.
+    /// Puts what is known of a peer back, and returns the notices.
     pub(crate) fn finish(&mut self, peer: HostAddr, turn: Turn) -> Result<Vec<Notice>, AllocError>
         ensures state { IfOk result (λ notices. accepting.after_turn self.old peer turn ≡ (self.new, notices.items)) }
         ensures memory { OnErr result (length self.old.peers < length (with_pair peer turn.pair self.old.peers)) }
@@ -48,7 +48,7 @@ impl Ncp {
         Ok(notices)
     }
 
-    /// A message comes in.
+    /// Takes a message that comes in.
     fn accept_message(
         &mut self,
         message: &HostMessage,
@@ -70,7 +70,7 @@ impl Ncp {
         self.finish(source, turn)
     }
 
-    /// Whether a message to a peer has no answer yet.
+    /// Returns whether a message to a peer has no answer yet.
     fn is_busy(&self, peer: HostAddr, link: u8) -> bool
         ensures { result ≡ is_busy (pair_with peer self.now.peers).busy link }
     {
@@ -80,7 +80,7 @@ impl Ncp {
         }
     }
 
-    /// An RFNM is taken where the pair stands, if it frees its link and nothing else comes of it; else nothing changes.
+    /// Takes an RFNM in place, if it frees its link and nothing else comes of it; else changes nothing.
     #[tactic(auto, using(crate::proofs::CallLemmas::freed_quietly))]
     fn free(&mut self, kind: Answer, peer: HostAddr, link: u8) -> bool
         ensures state { OnTrue result (accepting.after_turn self.old peer (answered_turn peer kind link (accepting.turn_of self.old peer)) ≡ (self.new, [])) }
@@ -92,7 +92,7 @@ impl Ncp {
         }
     }
 
-    /// An answer comes in.
+    /// Takes an answer that comes in.
     fn accept_answer(&mut self, kind: Answer, flow: Flow) -> Result<Vec<Notice>, AllocError>
         ensures state { IfOk result (λ notices. accepting.accepted_answer self.old kind flow ≡ (self.new, notices.items)) }
         ensures memory { OnErr result (0 < said_by_inbound self.old (inbound.Answer kind flow) 0 + newly_known self.old (accepting.accepted_answer self.old kind flow).0) }
@@ -113,7 +113,7 @@ impl Ncp {
         self.finish(destination, turn)
     }
 
-    /// Takes what comes in from the IMP, with its place in the log, and returns what is told of it.
+    /// Takes what comes in from the IMP, with its place in the log, and returns what is notified of it.
     ///
     /// A message for another host, and an answer to a message that isn't out, change nothing.
     ///

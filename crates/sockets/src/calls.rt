@@ -26,7 +26,7 @@ use std::alloc::AllocError;
 // ---- what is done to a peer
 
 impl Ncp {
-    /// All that was with a peer is gone, and an RST will go out.
+    /// Forgets all that there was with a peer, and makes an RST go out.
     fn reset(&mut self, peer: HostAddr) -> Result<Vec<Notice>, AllocError>
         ensures state { OnOk result (self.new ≡ with_peer self.old peer asked.contacted) }
         ensures notices { IfOk result (λ notices. notices.items ≡ asked.contact_notices peer (pair_with peer self.old.peers).phase) }
@@ -42,7 +42,7 @@ impl Ncp {
         Ok(notices)
     }
 
-    /// A new end with a peer, and its request.
+    /// Adds a new end with a peer, and queues its request.
     #[tactic(auto, using(crate::proofs::OwnedLemmas::known_but))]
     fn request(&mut self, peer: HostAddr, entry: Entry, command: Command) -> Result<(), AllocError>
         requires joint { is_alone command ≡ false }
@@ -55,7 +55,7 @@ impl Ncp {
         self.peers.learn(self.alloc, owned, own)
     }
 
-    /// A command waits to go out to a peer.
+    /// Queues a command for a peer.
     fn command(&mut self, peer: HostAddr, command: Command) -> Result<(), AllocError>
         requires joint { is_alone command ≡ false }
         ensures { OnOk result (self.new ≡ with_peer self.old peer (asked.commanded command)) }
@@ -63,7 +63,7 @@ impl Ncp {
         self.peers.command(self.alloc, peer, command)
     }
 
-    /// Bits of a socket wait to be sent to a peer.
+    /// Queues bits of a socket to be sent to a peer.
     fn add_bits(&mut self, peer: HostAddr, socket: u32, bits: &Bits) -> Result<(), AllocError>
         ensures state { OnOk result (self.new ≡ with_peer self.old peer (with_end socket (with_more_bits bits.now))) }
         ensures memory { OnErr result (0 < length bits.now + newly_known self.old (with_peer self.old peer (with_end socket (with_more_bits bits.now)))) }
@@ -76,7 +76,7 @@ impl Ncp {
         self.peers.put(peer, pair)
     }
 
-    /// The peer is granted more.
+    /// Grants the peer more.
     fn grant_more(
         &mut self,
         peer: HostAddr,
@@ -93,7 +93,7 @@ impl Ncp {
             .grant(alloc, peer, socket, messages, bits, command)
     }
 
-    /// The connection of a socket with a peer closes, at once or when it is drained.
+    /// Closes the connection of a socket with a peer, at once or when it is drained.
     fn close_end(&mut self, peer: HostAddr, socket: u32) -> Result<(), AllocError>
         ensures state { OnOk result (self.new ≡ with_peer self.old peer (asked.closed_end socket)) }
         ensures memory { OnErr result (0 < queued_by_closing self.old socket (Some peer) + newly_known self.old (with_peer self.old peer (asked.closed_end socket))) }
@@ -103,7 +103,7 @@ impl Ncp {
         self.peers.put(peer, pair)
     }
 
-    /// A socket listens, behind the others.
+    /// Adds a listening socket after the others.
     fn add_listener(&mut self, listener: Listener) -> Result<(), AllocError>
         ensures { OnOk result (self.new ≡ record self.old { listening = self.old.listening ++ listener ∷ [] }) }
     {
@@ -216,7 +216,7 @@ impl Ncp {
         self.send_bits(socket, &bits)
     }
 
-    /// The same, where the bits stay with the caller.
+    /// Does the same, with bits that stay with the caller.
     #[tactic(auto, unfolding(crate::specs::Requests::refusal, crate::specs::Requests::served, crate::specs::Requests::served_notices))]
     fn send_bits(&mut self, socket: u32, bits: &Bits) -> Result<(), NcpFault>
         requires live { self.old.spent ≡ false }
@@ -229,7 +229,7 @@ impl Ncp {
         self.end(done)
     }
 
-    /// Grants the sender to an open receiving socket so many messages and bits more (ALL).
+    /// Grants the sender to an open receiving socket this many messages and bits more (ALL).
     ///
     /// Errors, the first that applies: `WrongEnd` for an odd socket, `NoSuchSocket` where it has no own end,
     /// `NotOpen`, `Closing`, `OverGrant` where what is open would pass 65535 messages or 4294967295 bits,
@@ -325,7 +325,7 @@ impl Ncp {
         self.end(done)
     }
 
-    /// Runs a request, as the programs above the sockets make them, and returns what is told of it.
+    /// Runs a request, as the programs above the sockets make them, and returns what is notified of it.
     ///
     /// Errors: those of the request's own call, `OutOfMemory` only where something more is kept once it is served.
     pub fn ask(&mut self, request: Request) -> Result<Vec<Notice>, NcpFault>

@@ -20,21 +20,21 @@ pub(crate) enum Due {
     Known(Outgoing),
 }
 
-/// Whether commands wait, and the link of commands has no message outstanding. It promises nothing: what goes next is told either way,
-/// and bytes that go while commands have to wait are looked for once.
+/// Returns whether commands wait, and the link of commands has no message outstanding. It promises nothing: what goes
+/// next is told either way, and bytes that go while commands have to wait are looked for once.
 fn commands_may_go(pair: &Pair) -> bool {
     !pair.queue.as_slice().is_empty() && !is_busy(&pair.busy, 0)
 }
 
 impl Due {
-    /// Whether something goes.
+    /// Returns whether something goes.
     pub(crate) fn is_due(self) -> bool
         ensures { result ≡ is_due self }
     {
         !matches!(self, Due::Nothing)
     }
 
-    /// What goes out of a pair next.
+    /// Returns what goes out of a pair next.
     pub(crate) fn of(pair: &Pair) -> Due
         ensures { GoesNext pair.now result }
     {
@@ -44,7 +44,7 @@ impl Due {
         Due::exact(pair, pair.next())
     }
 
-    /// What goes out of a pair next, as the pair tells it.
+    /// Returns what goes out of a pair next, as the pair tells it.
     #[tactic(auto, using(crate::proofs::DueLemmas::known_next))]
     pub(crate) fn exact(pair: &Pair, out: Option<Outgoing>) -> Due
         requires next { MatchOption out (next_of pair.now ≡ None) (λ out. next_of pair.now ≡ Some (parcel_of pair.now.entries out)) }
@@ -58,7 +58,7 @@ impl Due {
         }
     }
 
-    /// Whether something goes out of a pair next.
+    /// Returns whether something goes out of a pair next.
     #[tactic(auto, using(crate::proofs::DueLemmas::none_next))]
     fn some_of(pair: &Pair) -> Due
         ensures { GoesNext pair.now result }

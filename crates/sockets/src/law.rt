@@ -24,7 +24,7 @@ ghost use Rattle.host_pairs.specs.declared.notice.Notice.TheVariants as notice;
 ghost use Rattle.sockets.specs.declared.request.Request.{Request};
 ghost use Rattle.sockets.specs.declared.request.Request.TheVariants as request;
 
-/// Dialogues of two hosts, and what each of them is told.
+/// Dialogues of two hosts, and the notices to each of them.
 pub fn worked_dialogues()
     // a contact makes both hosts ready: the second by the RST, the first by the RRP
     ensures reset { (talk reset).notices ≡ (second, notice.Ready first) ∷ (first, notice.Ready second) ∷ [] }
@@ -119,7 +119,7 @@ pub fn parcels()
     ensures reply { (own : Host) (p : Peer) → message_for own p Reply ≡ control own p.host (13 ∷ []) }
 {}
 
-/// Whom the host's user is told of.
+/// Whom the host's user is notified of.
 pub fn notices()
     // what a message tells is about its source, what an answer tells about the destination of what is answered
     ensures message { (s : NcpState) (m : HostMessage) (stamp : ℕ) → AreAbout m.flow.source (accepted s (inbound.Message m) stamp).1 }

@@ -5,7 +5,7 @@
 //! Host/Host Protocol for the ARPA Network). Here lives that program as a machine: what its user asks for,
 //! what comes in from the IMP, and what goes out next.
 //!
-//! What it does with one peer stands in `host_pairs`; here are the peers, the sockets that listen, and the calls.
+//! What it does with one peer is in `host_pairs`; here are the peers, the sockets that listen, and the calls.
 //! Nothing here knows of IMPs, of the log or of programs above the sockets.
 #![tactic(auto)]
 

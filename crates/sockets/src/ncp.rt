@@ -35,7 +35,7 @@ impl Model for Ncp {
 }
 
 impl Ncp {
-    /// The program of a host that has just come up: it has spoken to nobody, and nothing listens.
+    /// Returns the program of a host that has just come up: it has spoken to nobody, and nothing listens.
     pub fn new(alloc: Global, own: HostAddr) -> Ncp
         ensures { result ≡ pairs.opening_state own }
     {
@@ -48,14 +48,14 @@ impl Ncp {
         }
     }
 
-    /// The host's own address.
+    /// Returns the host's own address.
     pub fn own(&self) -> HostAddr
         ensures { result ≡ self.now.own }
     {
         self.own
     }
 
-    /// Whether running out of memory has made it useless.
+    /// Returns whether running out of memory has made it useless.
     pub fn is_spent(&self) -> bool
         ensures { result ≡ self.now.spent }
     {

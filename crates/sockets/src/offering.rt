@@ -14,7 +14,7 @@ use leader1822::HostAddr;
 use std::alloc::AllocError;
 
 impl Peers {
-    /// The first peer that something goes to, and what.
+    /// Returns the first peer that something goes to, and what.
     fn next(&self) -> Option<(HostAddr, Outgoing)>
         ensures next { MatchOption result (sending.next_in self.now ≡ None) (λ found. sending.next_in self.now ≡ Some (record { host = found.0; pair = pair_with found.0 self.now }, parcel_of (pair_with found.0 self.now).entries found.1)) }
         ensures there { IfSome result (λ found. IsThere (pair_with found.0 self.now).entries found.1) }
@@ -28,7 +28,7 @@ impl Peers {
 }
 
 impl Ncp {
-    /// What goes out next has gone out.
+    /// Records that what goes out next has gone out.
     #[tactic(auto, unfolding(crate::specs::Sending::offered))]
     fn leave(&mut self, stamp: usize) -> Result<Vec<Notice>, AllocError>
         ensures state { IfOk result (λ notices. sending.offered self.old stamp ≡ (self.new, notices.items)) }
@@ -43,7 +43,7 @@ impl Ncp {
     }
 
     /// Tells the program that the carrier has taken the message of [`Ncp::next_out`], with its place in the log:
-    /// the link has a message outstanding, and what went out waits no longer. Returns what is told of it.
+    /// the link has a message outstanding, and what went out waits no longer. Returns what is notified of it.
     ///
     /// Errors: `OutOfMemory`, only where something goes out, and then the program is spent.
     pub fn offered(&mut self, stamp: usize) -> Result<Vec<Notice>, NcpFault>

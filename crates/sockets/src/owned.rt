@@ -36,7 +36,7 @@ fn add_each(sockets: &mut BTreeSet<u32>, entries: &[Entry]) -> Result<(), AllocE
     Ok(())
 }
 
-/// The sockets of all ends.
+/// Returns the sockets of all ends.
 fn owned_by(alloc: Global, peers: &[Peer]) -> Result<BTreeSet<u32>, AllocError>
     ensures { IfOk result (λ sockets. (socket : ℕ) → contains nat_cmp sockets socket ≡ some_own socket peers.now) }
 {
@@ -47,7 +47,8 @@ fn owned_by(alloc: Global, peers: &[Peer]) -> Result<BTreeSet<u32>, AllocError>
     Ok(sockets)
 }
 
-/// Whether a number is greater than all of these. Sockets often come in order of their numbers, and then none is searched for.
+/// Returns whether a number is greater than all of these. Sockets often come in order of their numbers, and then none
+/// is searched for.
 #[tactic(auto, using(crate::proofs::OwnedLemmas::beyond_all))]
 fn is_beyond(sockets: &BTreeSet<u32>, socket: u32) -> bool
     ensures { OnTrue result (contains nat_cmp sockets.now socket ≡ false) }
@@ -58,7 +59,7 @@ fn is_beyond(sockets: &BTreeSet<u32>, socket: u32) -> bool
     }
 }
 
-/// One socket more.
+/// Returns the sockets with one more.
 fn with_socket(mut sockets: BTreeSet<u32>, own: u32) -> Result<BTreeSet<u32>, AllocError>
     ensures { IfOk result (λ more. (socket : ℕ) → contains nat_cmp more socket ≡ false → (contains nat_cmp sockets socket ≡ false) × ((own == socket) ≡ false)) }
 {
@@ -67,7 +68,7 @@ fn with_socket(mut sockets: BTreeSet<u32>, own: u32) -> Result<BTreeSet<u32>, Al
 }
 
 impl Owned {
-    /// Whether it is known that no end is on this socket.
+    /// Returns whether it is known that no end is on this socket.
     pub(crate) fn lacks(&self, socket: u32) -> bool
         ensures { OnTrue result ((peers : List Peer) → AreKnown self.now peers → some_own socket peers ≡ false) }
     {
@@ -77,7 +78,8 @@ impl Owned {
         }
     }
 
-    /// What is known once one more end was requested, on this socket. All ends are looked through if many were requested in a row.
+    /// Returns what is known once one more end was requested, on this socket. All ends are looked through if many were
+    /// requested in a row.
     pub(crate) fn learnt(
         self,
         alloc: Global,

@@ -30,14 +30,14 @@ use std::alloc::{AllocError, Global};
 use std::marker::Model;
 use std::mem;
 
-/// How many ends are requested in a row before it is learnt which sockets have an end. To learn it costs as much as so many looks at
+/// How many ends are requested in a row before it is learnt which sockets have an end. To learn it costs as much as this many looks at
 /// all ends.
 const MANY: usize = 32;
 
 /// The other hosts that this one has to do with, in order of their address octets. A host that isn't here has
-/// a pair as at the opening.
+/// a pair in the initial state.
 ///
-/// Beside each stands what goes to it next, so that the next message is found without a look at the others, and its connections are
+/// Beside each is what goes to it next, so that the next message is found without a look at the others, and its connections are
 /// looked through once for each change. And so far as it is known which sockets have an end, one without an end is found without a
 /// look at all ends; that is learnt once many ends were requested in a row. The place of the peer that was changed last is where one is
 /// looked for first.
@@ -65,7 +65,7 @@ impl Model for Peers {
 }
 
 impl Peers {
-    /// A list without peers.
+    /// Returns a list without peers.
     pub fn new(alloc: Global) -> Peers
         ensures { result ≡ [] }
     {
@@ -78,7 +78,7 @@ impl Peers {
         }
     }
 
-    /// What is known of a peer; `None` where that is as at the opening.
+    /// Returns what is known of a peer; `None` if that is the initial state.
     pub fn pair(&self, host: HostAddr) -> Option<&Pair>
         ensures { MatchOption result (pair_with host self.now ≡ opening_pair) (λ pair. pair_with host self.now ≡ pair.now) }
     {
@@ -88,7 +88,7 @@ impl Peers {
         }
     }
 
-    /// The peers, in order of their address octets.
+    /// Returns the peers, in order of their address octets.
     pub fn as_slice(&self) -> &[Peer]
         ensures value { result.now ≡ self.now }
         ensures order { AreInOrder self.now }
@@ -96,14 +96,14 @@ impl Peers {
         &self.peers
     }
 
-    /// Whether it is known that no end is on this socket.
+    /// Returns whether it is known that no end is on this socket.
     pub fn lacks(&self, socket: u32) -> bool
         ensures { OnTrue result (some_own socket self.now ≡ false) }
     {
         self.owned.lacks(socket)
     }
 
-    /// What is known of the sockets with an end is taken out, to be kept past the request of one more end.
+    /// Takes out what is known of the sockets with an end, to be kept past the request of one more end.
     pub fn take_owned(&mut self) -> Owned
         ensures known { AreKnown result self.old }
         ensures kept { self.new ≡ self.old }
@@ -111,7 +111,7 @@ impl Peers {
         mem::replace(&mut self.owned, Owned::Unknown)
     }
 
-    /// One more end was requested, on this socket, since that was known.
+    /// Records that one more end was requested on this socket since the set was computed.
     pub fn learn(&mut self, alloc: Global, owned: Owned, own: u32) -> Result<(), AllocError>
         requires { AreKnownBut own owned self.old }
         ensures { self.new ≡ self.old }
@@ -125,7 +125,7 @@ impl Peers {
         Ok(())
     }
 
-    /// This host's own end on a socket, and its peer.
+    /// Returns this host's own end on a socket, and its peer.
     #[tactic(auto, using(crate::proofs::OwnedLemmas::no_owner))]
     pub fn owner(&self, socket: u32) -> Option<(HostAddr, &Entry)>
         ensures found { MatchOption result (owner_of socket self.now ≡ None) (λ found. owner_of socket self.now ≡ Some (found.0, found.1.now)) }
@@ -144,7 +144,7 @@ impl Peers {
         None
     }
 
-    /// The first peer that something goes to, and what.
+    /// Returns the first peer that something goes to, and what.
     #[tactic(auto, using(crate::proofs::DueLemmas::same_length))]
     pub fn first(&self) -> Option<(&Peer, Outgoing)>
         ensures next { MatchOption result (next_in self.now ≡ None) (λ found. next_in self.now ≡ Some (found.0.now, parcel_of found.0.now.pair.entries found.1)) }
@@ -179,7 +179,8 @@ impl Peers {
         )
     }
 
-    /// An RFNM on a link of a peer is taken where it stands, if it frees the link and nothing else comes of it; else nothing changes.
+    /// Takes an RFNM on a link of a peer in place, if it frees the link and nothing else comes of it; else changes
+    /// nothing.
     #[tactic(auto, using(crate::proofs::PeerLemmas::quiet_there, crate::proofs::PeerLemmas::freed_there))]
     pub fn free(&mut self, host: HostAddr, link: u8) -> bool
         ensures quiet { OnTrue result (is_quiet (pair_with host self.old) ≡ true) }
@@ -197,7 +198,7 @@ impl Peers {
         true
     }
 
-    /// A command waits to go out to a peer, whose pair is changed where it stands.
+    /// Queues a command for a peer, and changes its pair in place.
     pub fn command(
         &mut self,
         alloc: Global,
@@ -221,7 +222,7 @@ impl Peers {
         }
     }
 
-    /// A new end with a peer, and its request, where the pair stands.
+    /// Adds a new end with a peer, and queues its request, in place.
     #[tactic(auto, using(crate::proofs::PeerLemmas::requested_there))]
     pub fn request(
         &mut self,
@@ -241,7 +242,7 @@ impl Peers {
         request_at(&mut self.peers, &mut self.due, at, host, entry, command)
     }
 
-    /// A peer is granted more, and its pair is changed where it stands.
+    /// Grants a peer more, and changes its pair in place.
     pub fn grant(
         &mut self,
         alloc: Global,
@@ -269,8 +270,8 @@ impl Peers {
         }
     }
 
-    /// Bits of a socket wait to be sent to a peer, where its pair stands; `None` where the peer isn't known or its pair is as at the
-    /// opening, and then nothing changes.
+    /// Queues bits of a socket to be sent to a peer, in place; `None` if the peer isn't known or its pair is in the
+    /// initial state, and then nothing changes.
     #[tactic(auto, using(crate::proofs::PeerLemmas::added_there))]
     pub fn add_bits(
         &mut self,
@@ -293,7 +294,7 @@ impl Peers {
         Some(bits_at(&mut self.peers, &mut self.due, at, host, socket, bits))
     }
 
-    /// Puts what is known of a peer in. One with a pair as at the opening isn't kept.
+    /// Puts what is known of a peer in. One with a pair in the initial state isn't kept.
     pub fn put(&mut self, host: HostAddr, pair: Pair) -> Result<(), AllocError>
         ensures state { OnOk result (self.new ≡ with_pair host pair self.old) }
         ensures memory { OnErr result (length self.old < length (with_pair host pair self.old)) }
@@ -307,7 +308,7 @@ impl Peers {
     }
 }
 
-/// The first place of a peer that something goes to.
+/// Returns the first place of a peer that something goes to.
 fn first_due(due: &[Due]) -> Option<usize>
     ensures { result ≡ position is_due due.now }
 {
@@ -329,7 +330,7 @@ fn remove(peers: &mut Vec<Peer>, due: &mut Vec<Due>, recent: usize, host: HostAd
     }
 }
 
-/// Gives what is known of a host, and leaves a pair as at the opening in its place.
+/// Gives what is known of a host, and leaves a pair in the initial state in its place.
 #[tactic(auto, using(crate::proofs::DueLemmas::same_length))]
 fn swap(
     peers: &mut Vec<Peer>,
@@ -376,7 +377,7 @@ fn free_at(peers: &mut Vec<Peer>, due: &mut Vec<Due>, at: usize, host: HostAddr,
     due[at] = Due::of(&peer.pair);
 }
 
-/// A command waits to go out to the host at a place.
+/// Queues a command for the host at a place.
 #[tactic(auto, using(crate::proofs::DueLemmas::same_length))]
 fn command_at(
     peers: &mut Vec<Peer>,
@@ -402,7 +403,7 @@ fn command_at(
     done
 }
 
-/// A new end with the host at a place, and its request.
+/// Adds a new end with the host at a place, and queues its request.
 #[tactic(auto, using(crate::proofs::DueLemmas::same_length))]
 fn request_at(
     peers: &mut Vec<Peer>,
@@ -429,7 +430,7 @@ fn request_at(
     done
 }
 
-/// The host at a place is granted more.
+/// Grants the host at a place more.
 #[tactic(auto, using(crate::proofs::DueLemmas::same_length))]
 fn grant_at(
     peers: &mut Vec<Peer>,
@@ -458,7 +459,7 @@ fn grant_at(
     done
 }
 
-/// Bits of a socket wait to be sent to the host at a place.
+/// Queues bits of a socket to be sent to the host at a place.
 #[tactic(auto, using(crate::proofs::DueLemmas::same_length))]
 fn bits_at(
     peers: &mut Vec<Peer>,
@@ -485,7 +486,7 @@ fn bits_at(
     done
 }
 
-/// Puts a host among the peers, or in the place of what stood there of it.
+/// Puts a host among the peers, or in the place of what was there of it.
 #[tactic(auto, using(crate::proofs::PeerLemmas::missing_more))]
 fn insert(
     peers: &mut Vec<Peer>,
@@ -510,7 +511,7 @@ fn insert(
     }
 }
 
-/// Puts a host in the place of what stood there of it.
+/// Puts a host in the place of what was there of it.
 #[tactic(auto, using(crate::proofs::DueLemmas::same_length))]
 fn put_at(peers: &mut Vec<Peer>, due: &mut Vec<Due>, at: usize, host: HostAddr, pair: Pair)
     requires there { at < length peers.old.items }
@@ -554,7 +555,8 @@ fn insert_at(
     Ok(())
 }
 
-/// The place of a host among the peers, or that at which it would stand. It is looked for where the last one stood first.
+/// Returns the place of a host among the peers, or the place where it would be inserted. It is looked for where the
+/// last one was first.
 fn place(peers: &[Peer], recent: usize, host: HostAddr) -> Result<usize, usize>
     requires { AreInOrder peers.now }
     ensures bound { MatchResult result (λ at. at < length peers.now) (λ at. at ≤ length peers.now) }
@@ -573,7 +575,7 @@ fn place(peers: &[Peer], recent: usize, host: HostAddr) -> Result<usize, usize>
     }
 }
 
-/// Whether a host stands at this place.
+/// Returns whether a host is at this place.
 fn stands_at(peers: &[Peer], at: usize, host: HostAddr) -> bool
     ensures yes { OnTrue result ((at < length peers.now) × ((d : Peer) → same_host host (slice_index_or peers.now at d).host ≡ true)) }
     ensures no { OnFalse result (at < length peers.now → (d : Peer) → same_host host (slice_index_or peers.now at d).host ≡ false) }
@@ -584,7 +586,7 @@ fn stands_at(peers: &[Peer], at: usize, host: HostAddr) -> bool
     host == peers[at].host
 }
 
-/// How many of the peers stand before a host.
+/// Returns how many of the peers come before a host.
 fn first_from(peers: &[Peer], host: HostAddr) -> usize
     requires { AreInOrder peers.now }
     ensures bound { result ≤ length peers.now }

@@ -23,8 +23,8 @@ use leader1822::HostAddr;
 use ncp_control::{Allocation, ByteSize, Command, ConnectionLink, ReceiveSocket, SendSocket};
 
 impl Ncp {
-    /// Why a request would be refused now: the first fault that applies, and none where the request would be served.
-    /// Nothing changes, and no memory is needed.
+    /// Returns why a request would be refused now: the first fault that applies, and none where the request would be
+    /// served. Nothing changes, and no memory is needed.
     #[tactic(auto, unfolding(crate::specs::Requests::refusal))]
     pub fn refusal(&self, request: &Request) -> Option<NcpFault>
         ensures { result ≡ requests.refusal self.now request.now }
@@ -56,15 +56,15 @@ impl Ncp {
         }
     }
 
-    /// Why so many bits would be refused to be sent on a socket now: the first fault that applies. Nothing changes, and no memory
-    /// is needed.
+    /// Returns why this many bits would be refused to be sent on a socket now: the first fault that applies. Nothing
+    /// changes, and no memory is needed.
     pub fn send_refusal(&self, socket: u32, bits: usize) -> Option<NcpFault>
         ensures { result ≡ requests.send_refusal self.now socket bits }
     {
         self.check_send(socket, bits).err()
     }
 
-    /// Whether the reset with a peer is done.
+    /// Returns whether the reset with a peer is done.
     pub(crate) fn is_ready(&self, peer: HostAddr) -> bool
         ensures { result ≡ is_ready (pair_with peer self.now.peers).phase }
     {
@@ -74,7 +74,7 @@ impl Ncp {
         }
     }
 
-    /// The ends of the connections with a peer.
+    /// Returns the ends of the connections with a peer.
     fn entries(&self, peer: HostAddr) -> &[Entry]
         ensures { result.now ≡ (pair_with peer self.now.peers).entries }
     {
@@ -84,14 +84,14 @@ impl Ncp {
         }
     }
 
-    /// Whether a socket listens, or has an end that this host opened or listened for.
+    /// Returns whether a socket listens, or has an end that this host opened or listened for.
     fn is_used(&self, socket: u32) -> bool
         ensures { result ≡ requests.is_used self.now socket }
     {
         listens_on(&self.listening, socket) || self.peers.owner(socket).is_some()
     }
 
-    /// Whether a socket is used, or has an end with this foreign socket.
+    /// Returns whether a socket is used, or has an end with this foreign socket.
     #[tactic(auto, using(crate::proofs::OwnedLemmas::no_end, crate::proofs::OwnedLemmas::no_owner))]
     fn is_taken(&self, peer: HostAddr, own: u32, foreign: u32) -> bool
         ensures { result ≡ requests.is_taken self.now peer own foreign }
@@ -105,7 +105,7 @@ impl Ncp {
         self.peers.owner(own).is_some() || has_end(self.entries(peer), own, foreign)
     }
 
-    /// A socket that may listen, with a size that isn't 0.
+    /// Returns a socket that may listen, with a size that isn't 0.
     pub(crate) fn check_listen(&self, socket: u32, size: u8) -> Result<ByteSize, NcpFault>
         ensures { MatchResult result (λ checked. (requests.listen_refusal self.now socket size ≡ None) × (checked ≡ size)) (λ f. requests.listen_refusal self.now socket size ≡ Some f) }
     {
@@ -115,7 +115,7 @@ impl Ncp {
         ByteSize::new(size).ok_or(NcpFault::BadSize)
     }
 
-    /// The sockets and the size of a sending end that may be opened.
+    /// Returns the sockets and the size of a sending end that may be opened.
     pub(crate) fn check_open_send(
         &self,
         peer: HostAddr,
@@ -141,7 +141,7 @@ impl Ncp {
         Ok((send, receive, size))
     }
 
-    /// The sockets of a receiving end that may be opened, and its link.
+    /// Returns the sockets of a receiving end that may be opened, and its link.
     pub(crate) fn check_open_receive(
         &self,
         peer: HostAddr,
@@ -166,7 +166,7 @@ impl Ncp {
         Ok((receive, send, link))
     }
 
-    /// The open end on a socket, and its peer.
+    /// Returns the open end on a socket, and its peer.
     fn open_end(&self, socket: u32) -> Result<(HostAddr, &Entry), NcpFault>
         ensures order { IfOk result (λ found. AreInOrder self.now.peers) }
         ensures open { MatchResult result (λ found. (owner_of socket self.now.peers ≡ Some (found.0, found.1.now)) × (requests.on_open (λ e. None) (owner_of socket self.now.peers) ≡ None)) (λ f. (others : Entry → Option NcpFault) → requests.on_open others (owner_of socket self.now.peers) ≡ Some f) }
@@ -180,7 +180,7 @@ impl Ncp {
         Ok((peer, entry))
     }
 
-    /// The peer to which bits of a socket go.
+    /// Returns the peer to which bits of a socket go.
     pub(crate) fn check_send(&self, socket: u32, bits: usize) -> Result<HostAddr, NcpFault>
         ensures order { IfOk result (λ peer. AreInOrder self.now.peers) }
         ensures checked { MatchResult result (λ peer. (requests.send_refusal self.now socket bits ≡ None) × ((change : PairState → PairState) → at_owner self.now (owner_of socket self.now.peers) (λ e. change) ≡ with_peer self.now peer change)) (λ f. requests.send_refusal self.now socket bits ≡ Some f) }
@@ -201,7 +201,7 @@ impl Ncp {
         Ok(peer)
     }
 
-    /// The peer that is granted more, and the link.
+    /// Returns the peer that is granted more, and the link.
     pub(crate) fn check_grant(
         &self,
         socket: u32,
@@ -226,7 +226,7 @@ impl Ncp {
         Ok((peer, entry.link_number()))
     }
 
-    /// The peer that is asked for allocation, and the link.
+    /// Returns the peer that is asked for allocation, and the link.
     pub(crate) fn check_ask_back(&self, socket: u32) -> Result<(HostAddr, u8), NcpFault>
         ensures { MatchResult result (λ found. (requests.ask_back_refusal self.now socket ≡ None) × ((change : ℕ → PairState → PairState) → at_owner self.now (owner_of socket self.now.peers) (λ e. change (link_of e.link)) ≡ with_peer self.now found.0 (change found.1))) (λ f. requests.ask_back_refusal self.now socket ≡ Some f) }
     {
@@ -243,7 +243,7 @@ impl Ncp {
         Ok((peer, entry.link_number()))
     }
 
-    /// The peer that is interrupted, and the command that does it.
+    /// Returns the peer that is interrupted, and the command that does it.
     pub(crate) fn check_interrupt(&self, socket: u32) -> Result<(HostAddr, Command), NcpFault>
         ensures joint { IfOk result (λ found. is_alone found.1 ≡ false) }
         ensures checked { MatchResult result (λ found. (requests.interrupt_refusal self.now socket ≡ None) × ((change : Command → PairState → PairState) → at_owner self.now (owner_of socket self.now.peers) (λ e. change (interrupt_of e)) ≡ with_peer self.now found.0 (change found.1))) (λ f. requests.interrupt_refusal self.now socket ≡ Some f) }
@@ -258,7 +258,7 @@ impl Ncp {
         Ok((peer, entry.interrupt()))
     }
 
-    /// The peer of a connection that may be closed. What listens may always be closed, and is seen to before.
+    /// Returns the peer of a connection that may be closed. What listens may always be closed, and is seen to before.
     pub(crate) fn check_close(&self, socket: u32) -> Result<HostAddr, NcpFault>
         ensures host { IfOk result (λ peer. owner_host (owner_of socket self.now.peers) ≡ Some peer) }
         ensures order { IfOk result (λ peer. AreInOrder self.now.peers) }

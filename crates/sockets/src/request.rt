@@ -34,7 +34,7 @@ pub enum Request {
         socket: u32,
         bits: Bits,
     },
-    /// Grant the sender of an open receiving socket so many messages and bits more.
+    /// Grant the sender of an open receiving socket this many messages and bits more.
     Grant {
         socket: u32,
         messages: u16,

@@ -15,7 +15,7 @@ use leader1822::{Flow, HostMessage, Link, Text};
 use std::alloc::AllocError;
 
 impl Ncp {
-    /// The message that goes out to a peer.
+    /// Returns the message that goes out to a peer.
     fn message_for(&self, peer: &Peer, out: &Outgoing) -> Result<HostMessage, AllocError>
         requires there { IsThere peer.now.pair.entries out.now }
         requires room { HasRoom peer.now.pair.entries peer.now.pair.queue out.now }
@@ -37,7 +37,7 @@ impl Ncp {
         Ok(HostMessage { flow, text })
     }
 
-    /// The message that goes out next; `None` where nothing can go. The peers have their turns in order of
+    /// Returns the message that goes out next; `None` where nothing can go. The peers have their turns in order of
     /// their address octets. Nothing changes until the carrier has taken the message.
     ///
     /// Errors: `OutOfMemory`, which leaves the program as it was.

@@ -31,7 +31,7 @@ pub fn worked_requests()
     ensures second_after_refusal { next_out (control_heard (second_in reset) first (RTS 16 33 5 ++ RTS 16 33 6)).0 ≡ Some (control second first (CLS 33 16 ++ ERR 3 (RTS 16 33 6) 0)) }
     ensures refused_without_link { next_out (control_heard (second_in reset) first (RTS 16 33 5 ++ RTS 18 35 5 ++ INR 5)).0 ≡ Some (control second first (CLS 33 16 ++ CLS 35 18 ++ ERR 5 (INR 5) 8)) }
 
-    // a link in use is looked at before all else: the socket goes on listening. So it is while the end is closing
+    // a link in use is looked at before all else: the socket keeps listening. So it is while the end is closing
     ensures link_in_use { next_out (control_heard (served (second_in opened_connection) (request.Listen 35 8)) first (RTS 18 35 2 ++ RTS 18 35 3)).0 ≡ Some (control second first (ERR 3 (RTS 18 35 2) 0 ++ STR 35 18 8)) }
     ensures link_of_closing { next_out (control_heard (second_in opened_connection) first (CLS 16 33 ++ RTS 18 35 2)).0 ≡ Some (control second first (CLS 33 16 ++ ERR 3 (RTS 18 35 2) 0)) }
 
@@ -47,7 +47,7 @@ pub fn worked_requests()
     ensures receiver_not_open { next_out (got (served ready (request.OpenReceive second 16 33)) second 2 (0 ∷ 8 ∷ 0 ∷ 0 ∷ 0 ∷ [])).0 ≡ Some (control first second (RTS 16 33 2 ++ ERR 5 (0 ∷ 8 ∷ 0 ∷ 0 ∷ 0 ∷ []) 5)) }
     ensures sender_not_open { next_out (control_heard (served (second_in reset) (request.Listen 33 8)) first (RTS 16 33 5 ++ ALL 5 1 8)).0 ≡ Some (control second first (STR 33 16 8 ++ ERR 5 (ALL 5 1 8) 2)) }
 
-    // what is closed before its request has gone out sends both, and its end is told of; the refused end at the other host is not
+    // what is closed before its request has gone out sends both, and its end is notified of; the refused end at the other host is not
     ensures closed_unasked_says { next_out (served (served ready (request.OpenReceive second 16 33)) (request.Close 16)) ≡ Some (control first second (RTS 16 33 2 ++ CLS 16 33)) }
     ensures closed_unasked_tells { news reset closed_unasked ≡ (first, notice.Ended 16 second 33) ∷ [] }
 
@@ -76,7 +76,7 @@ pub fn worked_links()
     ensures linked { next_bytes [] (open_sender (Some 2) ∷ []) ≡ Some (Bytes (open_sender (Some 2)) 8 1) }
     ensures not_linked { next_bytes [] (open_sender None ∷ []) ≡ None }
 
-    // without a free link a request is refused, and the socket goes on listening
+    // without a free link a request is refused, and the socket keeps listening
     ensures listens_without_link { refusal (control_heard (served (first_in (reset ++ many_opened)) (request.Listen 76 8)) second (STR 33 76 8)).0 (request.Grant 76 0 0) ≡ Some fault.NoSuchSocket }
     ensures listens_on { refusal (control_heard (served (first_in (reset ++ many_opened)) (request.Listen 76 8)) second (STR 33 76 8)).0 (request.Listen 76 8) ≡ Some fault.InUse }
 
@@ -113,7 +113,7 @@ pub fn worked_closings()
 
 /// What becomes of data, and of an allocation.
 pub fn worked_data()
-    // what is granted may be used to the last bit. Bits behind the data and the octets of zeros are ignored
+    // what is granted may be used to the last bit. Bits after the data and the octets of zeros are ignored
     ensures covered { (got (served (first_in opened_connection) (request.Grant 16 1 16)) second 2 (0 ∷ 8 ∷ 0 ∷ 2 ∷ 0 ∷ 65 ∷ 66 ∷ [])).1 ≡ notice.Arrived 16 (bits_of (65 ∷ 66 ∷ [])) ∷ [] }
     ensures more_than_announced { (got (served (first_in opened_connection) (request.Grant 16 1 16)) second 2 (7 ∷ 8 ∷ 0 ∷ 1 ∷ 9 ∷ 65 ∷ 66 ∷ 67 ∷ [])).1 ≡ notice.Arrived 16 (bits_of (65 ∷ [])) ∷ [] }
 
@@ -149,7 +149,7 @@ pub fn worked_data()
     ensures what_is_left { next_out (control_heard (answer_heard (gone (second_in (opened_connection ++ sending))) answer.Rfnm first 2).0 first (ALL 2 0 4)).0 ≡ Some (message second first 2 (0 ∷ 8 ∷ 0 ∷ 1 ∷ 0 ∷ 13 ∷ [])) }
     ensures nothing_sent { next_out (control_heard (served (second_in opened_connection) (request.Send 33 [])) first (ALL 2 1 8)).0 ≡ None }
 
-    // either end is told that the other interrupts
+    // either end is informed that the other interrupts
     ensures interrupted_by_sender { (control_heard (first_in opened_connection) second (INS 2)).1 ≡ notice.Interrupt 16 ∷ [] }
     ensures interrupted_by_receiver { (control_heard (second_in opened_connection) first (INR 2)).1 ≡ notice.Interrupt 33 ∷ [] }
 
@@ -230,7 +230,7 @@ pub fn worked_resets()
     // one RRP answers every RST before it, and what waited to be said is gone
     ensures one_reply { next_out (delivered (control_heard (served ready (request.Echo second 65)) second (RST ++ RST)).0 second 0) ≡ None }
 
-    // a contact with a ready pair drops its connections, which the user is told
+    // a contact with a ready pair drops its connections, which the user is notified
     ensures contact_tells { served_notices (first_in opened_connection) (request.Contact second) ≡ notice.PairReset second ∷ [] }
     ensures contact_drops { refusal (served (first_in opened_connection) (request.Contact second)) (request.Grant 16 0 0) ≡ Some fault.NoSuchSocket }
     ensures contact_drops_commands { next_out (control_heard (delivered (served (served ready (request.Echo second 65)) (request.Contact second)) second 0) second RRP).0 ≡ None }
@@ -265,7 +265,7 @@ pub fn worked_phases()
     ensures ready_commands { next_out (control_heard (second_in reset) first every_command).0 ≡ Some (control second first (CLS 33 16 ++ CLS 18 35 ++ ERR 4 (CLS 20 37) 1 ++ ERR 5 (ALL 6 1 8) 2 ++ ERR 5 (GVB 6 64 128) 6 ++ ERR 5 (RET 7 2 9) 2 ++ ERR 5 (INR 6) 8 ++ ERR 5 (INS 7) 8 ++ ERP 65 ++ ERR 1 (14 ∷ []) 9)) }
     ensures ready_notices { (control_heard (second_in reset) first every_command).1 ≡ notice.Echoed first 66 ∷ notice.RemoteError first 77 (take 10 twelve) ∷ [] }
 
-    // an RST is answered by an RRP in every phase; it opens a closed pair, and is told of where the pair was closed or ready
+    // an RST is answered by an RRP in every phase; it opens a closed pair, and is notified of where the pair was closed or ready
     ensures closed_reset { (control_heard closed second RST).1 ≡ notice.Ready second ∷ [] }
     ensures want_reset { next_out (delivered (control_heard want second RST).0 second 0) ≡ Some (control first second RRP) }
     ensures untold_when_wanted { (control_heard want second RST).1 ≡ [] }
@@ -289,18 +289,18 @@ pub fn worked_errors()
     // of a message with fewer bits than it announces, or than a header has, the text is quoted, filled with zeros
     ensures each_text { map (λ n. orders_of (take n (control_text (RTS 16 33 5)))) (0 ∷ 8 ∷ 39 ∷ 40 ∷ 41 ∷ 48 ∷ 119 ∷ []) ≡ (Wrong 3 [] ∷ []) ∷ (Wrong 3 (0 ∷ []) ∷ []) ∷ (Wrong 3 (0 ∷ 8 ∷ 0 ∷ 10 ∷ 0 ∷ []) ∷ []) ∷ (Wrong 3 (0 ∷ 8 ∷ 0 ∷ 10 ∷ 0 ∷ []) ∷ []) ∷ (Wrong 3 (0 ∷ 8 ∷ 0 ∷ 10 ∷ 0 ∷ 0 ∷ []) ∷ []) ∷ (Wrong 3 (0 ∷ 8 ∷ 0 ∷ 10 ∷ 0 ∷ 1 ∷ []) ∷ []) ∷ (Wrong 3 (0 ∷ 8 ∷ 0 ∷ 10 ∷ 0 ∷ 1 ∷ 0 ∷ 0 ∷ 0 ∷ 16 ∷ 0 ∷ 0 ∷ 0 ∷ 33 ∷ 4 ∷ []) ∷ []) ∷ [] }
 
-    // bits behind those that it announces are ignored
+    // bits after those that it announces are ignored
     ensures more_than_announced { next_out (got (second_in reset) first 0 (3 ∷ 8 ∷ 0 ∷ 2 ∷ 5 ∷ 9 ∷ 65 ∷ 9 ∷ 66 ∷ [])).0 ≡ Some (control second first (ERP 65)) }
 
     // 120 octets of commands are read, 121 are not
     ensures greatest_control { (control_heard (second_in reset) first (replicate 118 0 ++ ERP 65)).1 ≡ notice.Echoed first 65 ∷ [] }
     ensures too_great_control { next_out (control_heard (second_in reset) first (replicate 119 0 ++ ECO 65)).0 ≡ Some (control second first (ERR 3 (0 ∷ 8 ∷ 0 ∷ 121 ∷ 0 ∷ []) 5)) }
 
-    // behind a field outside its range the reading goes on; behind an illegal code and missing octets it doesn't, but what came before is heard
+    // after a field outside its range the reading goes on; after an illegal code and missing octets it doesn't, but what came before is heard
     ensures goes_on { next_out (control_heard (second_in reset) first (RTS 16 33 1 ++ RTS 17 33 5 ++ RTS 16 34 5 ++ RTS 16 33 32 ++ STR 33 16 0 ++ ECO 65)).0 ≡ Some (control second first (ERR 3 (RTS 16 33 1) 0 ++ ERR 3 (RTS 17 33 5) 0 ++ ERR 3 (RTS 16 34 5) 0 ++ ERR 3 (RTS 16 33 32) 0 ++ ERR 3 (STR 33 16 0) 0 ++ ERP 65)) }
     ensures ends_at_an_illegal_code { next_out (control_heard (second_in reset) first (ECO 65 ++ 14 ∷ ECO 66)).0 ≡ Some (control second first (ERP 65 ++ ERR 1 (14 ∷ ECO 66) 7)) }
 
-    // an ERR with any code is told of and never answered
+    // an ERR with any code is notified of and never answered
     ensures never_answered { next_out (control_heard (second_in reset) first (ERR 77 (take 10 twelve) 0)).0 ≡ None }
     ensures told_of { (control_heard (second_in reset) first (ERR 77 (take 10 twelve) 0)).1 ≡ notice.RemoteError first 77 (take 10 twelve) ∷ [] }
 {}
@@ -384,7 +384,7 @@ pub fn worked_calls()
 
 /// How much more a host keeps once a request is served.
 pub fn worked_memory()
-    // a first contact makes the peer known, one before the RST has gone out keeps nothing more, and one of a ready pair is told
+    // a first contact makes the peer known, one before the RST has gone out keeps nothing more, and one of a ready pair gives a notice
     ensures contact_known { newly_kept closed (request.Contact second) ≡ 1 }
     ensures contact_again { newly_kept want (request.Contact second) ≡ 0 }
     ensures contact_ready { newly_kept ready (request.Contact second) ≡ 1 }

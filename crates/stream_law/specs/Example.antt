@@ -48,7 +48,7 @@ next =
 abbrev pub ended_events : List Event
 ended_events = Receives (receivers.Close 1) ∷ Receives (receivers.Hear (Cls 1)) ∷ Sends (senders.Close 1) ∷ returned_events
 
--- the receiver closes first: what waits is dropped, though the sender is told that it was taken
+-- the receiver closes first: what waits is dropped, though the sender is informed that it was taken
 abbrev pub quit_events : List Event
 quit_events =
     Receives (receivers.Free 1) ∷ Receives (receivers.Hear (Cls 1)) ∷ Sends (senders.Close 1) ∷ Sends senders.Told ∷ Receives (receivers.Take 1 two) ∷ Receives (receivers.Close 1)

@@ -11,7 +11,7 @@ pub record Receiver : Type 0 where
   pub closed : Bool
   -- what that end may still take
   pub allocation : Allocation
-  -- of each connection: whether it was asked for on this link; the byte size that its STR told; whether its CLS was heard; and whether the own
+  -- of each connection: whether it was asked for on this link; the byte size in its STR; whether its CLS was heard; and whether the own
   -- CLS was said before that
   pub asked : ℕ → Bool
   pub size : ℕ → Option ℕ
@@ -81,7 +81,7 @@ grants c messages bits r = record r {
   granted = for c (counters.added (r.granted c) messages bits) r.granted;
 }
 
--- an open end takes what is returned to it, if there is so much; all else is an error, or comes too late
+-- an open end takes what is returned to it, if there is this much; all else is an error, or comes too late
 abbrev pub takes_back : ℕ → ℕ → Option ℕ → Receiver → Receiver
 takes_back messages bits None r = r
 takes_back messages bits (Some c) r =

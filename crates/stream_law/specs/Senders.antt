@@ -11,7 +11,7 @@ pub record Sender : Type 0 where
   pub shut : Bool
   -- what that end may still send
   pub allocation : Allocation
-  -- of each connection: the byte size that its STR told; whether its CLS is said, which it may be before its RTS is heard
+  -- of each connection: the byte size in its STR; whether its CLS is said, which it may be before its RTS is heard
   pub size : ℕ → Option ℕ
   pub closed : ℕ → Bool
   -- the messages that were sent in it, the oldest first
@@ -36,7 +36,7 @@ pub data Move : Type 0 where
   Close : (connection : ℕ) → Move
   -- it hears what the receiver said
   Hear : (word : Word) → Move
-  -- it is told that its message was taken
+  -- it is informed that its message was taken
   Told : Move
 
 -- what is returned where parts of the allocation are asked back
@@ -87,7 +87,7 @@ moved Told s = s
 
 -- ---- what it may do by its own rules
 
--- it asks once for each connection; it sends at an open end, in bytes of the size that it told, no more than it was granted; and it closes once
+-- it asks once for each connection; it sends at an open end, in bytes of the size that it announced, no more than it was granted; and it closes once
 abbrev pub May : Move → Sender → Type 0
 May (Ask c size) s = s.size c ≡ None
 May (Open c) s = (s.end ≡ Some c) × (is_some (s.size c) ≡ true)

@@ -7,7 +7,7 @@ use Rattle.stream_law.specs.Senders as senders
 use Rattle.stream_law.specs.Senders.{Sender}
 
 -- the mailbox of the link (BBN Report 1822: one message outstanding on a link): a message waits there until it is taken, and is outstanding
--- until its sender is told. A message of data has a byte size and its bits. The number is that of the connection in which it was sent, and
+-- until its sender gets the answer. A message of data has a byte size and its bits. The number is that of the connection in which it was sent, and
 -- its receiver doesn't look at it
 pub data Box : Type 0 where
   Empty : Box

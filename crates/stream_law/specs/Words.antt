@@ -2,8 +2,8 @@
 use Rattle.std.specs.Prelude.{ℕ, ◌==◌, Bool, false, ◌&&◌, nat_lt, nat_le, Option, Some, None, if◌then◌else◌}
 use Rattle.ncp_control.specs.declared.allocation.Allocation.{Allocation}
 
--- A connection is told by a number. Requests and CLS name its sockets, so whoever hears one knows of which connection it is. ALL, GVB and RET
--- name the link alone: their number is that of the connection in which they were said, and nobody who hears them looks at it.
+-- A connection is given by a number. Requests and CLS name its sockets, so whoever hears one knows of which connection it is. ALL, GVB and RET
+-- name the link only: their number is that of the connection in which they were said, and nobody who hears them looks at it.
 pub data Word : Type 0 where
   Rts : (connection : ℕ) → Word
   Str : (connection size : ℕ) → Word
@@ -23,7 +23,7 @@ for c x f k = if k == c then x else f k
 abbrev pub covers : Allocation → ℕ → Bool
 covers a bits = nat_lt 0 a.messages && nat_le bits a.bits
 
--- so much is there
+-- this much is there
 abbrev pub holds : Allocation → ℕ → ℕ → Bool
 holds a messages bits = nat_le messages a.messages && nat_le bits a.bits
 

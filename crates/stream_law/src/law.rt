@@ -10,7 +10,7 @@ ghost use Rattle.stream_law.specs.Within.{IsFront, message_bits, waiting_in, Are
 ghost use Rattle.stream_law.specs.Agreed.{ArePrompt, IsAtRest, AreAgreed};
 ghost use Rattle.stream_law.specs.Example.{two, three, opened_events, granted_events, sent_events, taken_events, returned_events, closed_events, ended_events, quit_events, rested_events, late_events, next, hasty, early};
 
-/// Whatever the two hosts of a link do while they stay together, connection after connection. What is assumed of them stands in
+/// Whatever the two hosts of a link do while they stay together, connection after connection. What is assumed of them is in
 /// `IsRun`: their own rules, and that what one said is heard in order.
 pub fn streams()
     // in each connection what was taken is a prefix of what was sent, and all of it where the sender's CLS was heard and the own wasn't said
@@ -20,7 +20,7 @@ pub fn streams()
     // where the link is asked for, nothing of a connection before is left over
     ensures fresh { (events : List Event) (c : ℕ) → IsRun (Receives (receivers.Ask c) ∷ events) → NothingLeft (stream events) }
 
-    // what waits for an end that doesn't close is taken by it: it is open, the byte size is the one that it was told, and it granted as much
+    // what waits for an end that doesn't close is taken by it: it is open, the byte size is the one that it learnt, and it granted as much
     ensures accepted { (events : List Event) (c size : ℕ) (bits : List Bool) → IsRun (Receives (receivers.Take size bits) ∷ events) → (stream events).receiver.end ≡ Some c → (stream events).receiver.closed ≡ false → (stream events).receiver.over c ≡ false → (stream (Receives (receivers.Take size bits) ∷ events)).receiver.taken c ≡ (stream events).receiver.taken c ++ bits ∷ [] }
 
     // an end that doesn't close has taken all that was sent, except for what waits
@@ -30,7 +30,7 @@ pub fn streams()
     ensures agreed { (events : List Event) (c : ℕ) → IsRun events → ArePrompt events → IsAtRest (stream events) c → AreAgreed (stream events) c }
 {}
 
-/// Data, ALL, GVB and RET name the link alone. Whoever takes one has on that link the end of the connection in which it was said.
+/// Data, ALL, GVB and RET name the link only. Whoever takes one has on that link the end of the connection in which it was said.
 pub fn owners()
     ensures data { (events : List Event) (c size size_told : ℕ) (bits told : List Bool) → IsRun (Receives (receivers.Take size_told told) ∷ events) → (stream events).box ≡ Waiting c size bits → (stream events).receiver.end ≡ Some c }
     ensures returned { (events : List Event) (c messages bits : ℕ) → IsRun (Receives (receivers.Hear (Ret c messages bits)) ∷ events) → (stream events).receiver.end ≡ Some c }
@@ -83,7 +83,7 @@ pub fn worked_runs()
 
 /// What a host may not do.
 pub fn worked_rules()
-    // it sends at an open end, in bytes of the size that it told, what it was granted, and one message at a time
+    // it sends at an open end, in bytes of the size that it announced, what it was granted, and one message at a time
     ensures past { IsRun (Sends (senders.Send 1 1 (two ++ three ++ three ++ three)) ∷ granted_events) → ⊥ }
     ensures ungranted { IsRun (Sends (senders.Send 1 1 []) ∷ opened_events) → ⊥ }
     ensures size { IsRun (Sends (senders.Send 1 8 two) ∷ granted_events) → ⊥ }
@@ -138,7 +138,7 @@ pub fn worked_dropping()
 
 /// What a promise says.
 pub fn worked_within()
-    // fronts are of whole messages, from the first on
+    // prefixes are of whole messages, from the first on
     ensures front { IsFront (two ∷ []) (two ∷ three ∷ []) }
     ensures behind { IsFront (three ∷ []) (two ∷ three ∷ []) → ⊥ }
     ensures longer { IsFront (two ∷ three ∷ []) (two ∷ []) → ⊥ }
@@ -149,7 +149,7 @@ pub fn worked_within()
     ensures many { AreGranted (two ∷ three ∷ []) (record { messages = 1; bits = 2 }) (record { messages = 2; bits = 7 }) → ⊥ }
     ensures much { AreGranted (two ∷ three ∷ []) (record { messages = 1; bits = 2 }) (record { messages = 3; bits = 6 }) → ⊥ }
 
-    // a return behind other words is in transit
+    // a return after other words is in transit
     ensures returned { NoneReturned (Str 2 1 ∷ Cls 1 ∷ Ret 1 0 4 ∷ []) → ⊥ }
 
     // data that wait are left over, and so is an end of the sender that isn't closed

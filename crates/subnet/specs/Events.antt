@@ -1,6 +1,6 @@
 -- What happens in a subnet: for each event the first refusal, and the subnet after it.
 --
--- Refusals stand in one order everywhere: what isn't there, then what is still alive, then IMPs, hosts and ends that are down or
+-- Refusals are in one order everywhere: what isn't there, then what is still alive, then IMPs, hosts and ends that are down or
 -- up, and then the IMP's own. So a step that waits for packets to die is refused for that also where its IMP is down.
 use Rattle.std.specs.Prelude.{ℕ, zero, suc, ◌+◌, Bool, false, not, List, [], ◌∷◌, ◌++◌, length, replicate, Option, Some, None, slice_get, slice_set, slice_index_or, is_none, is_some, nat_lt, ◌==◌, ◌&&◌, ◌||◌, if◌then◌else◌, count_by}
 use Rattle.std.specs.List.{range_with_len}
@@ -143,7 +143,7 @@ abbrev pub all_refreshed : List ℕ → Net → Net
 all_refreshed [] n = n
 all_refreshed (i ∷ numbers) n = all_refreshed numbers (refreshed n i)
 
--- so many frames of a directed line, the oldest first, are each delivered once and dropped
+-- this many frames of a directed line, the oldest first, are each delivered once and dropped
 abbrev pub carried : ℕ → ℕ → Direction → Net → Net
 carried zero l d n = n
 carried (suc count) l d n = carried count l d (drop_frame (deliver n l d 0) l d 0)

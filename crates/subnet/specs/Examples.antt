@@ -182,9 +182,9 @@ expecting_at_3 = record last_in_row { sources = begun map.empty (flow (host 0 3)
 abbrev pub keeping_at_3 : State
 keeping_at_3 = record last_in_row { kept = noted map.empty flow_1_3 0 fate.Taken }
 
--- ---- lines alone
+-- ---- lines only
 
--- a line with so many acknowledgements from IMP 1
+-- a line with this many acknowledgements from IMP 1
 abbrev pub full_of : ℕ → List Wire
 full_of count = wire (replicate count ack_frame) [] ∷ []
 

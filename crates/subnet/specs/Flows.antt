@@ -40,7 +40,7 @@ pub record Alive (n : Net) (f : Flow) (x : Packet) : Type 0 where
   pub flow : flow_of fields ≡ f
   pub packet : packet_of fields ≡ x
 
--- ---- what stands of a flow
+-- ---- what is of a flow
 
 -- a message in a queue as the flow's law sees it
 abbrev pub queued_of : Message → Queued
@@ -86,7 +86,7 @@ view_by imps log f =
     view_of (imp_is_up (imp_at imps f.source.imp)) (sender_at (imp_at imps f.source.imp) f)
     (imp_is_up (imp_at imps f.destination.imp)) (receiver_at (imp_at imps f.destination.imp) f) (box_of f log)
 
--- what stands of a flow, its packets aside
+-- what is of a flow, its packets aside
 abbrev pub view : Net → Flow → View
 view n f = view_by n.imps n.log f
 

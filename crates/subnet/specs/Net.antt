@@ -32,7 +32,7 @@ imp_at imps i = slice_index_or imps i None
 
 -- ---- lines and their ends
 
--- so many frames can be live on a line each way
+-- this many frames can be live on a line each way
 abbrev pub line_places : ℕ
 line_places = 256
 
@@ -59,7 +59,7 @@ line_from l (w ∷ ws) i k =
     then (if k == 0 then Some l else line_from (l + 1) ws i (k - 1))
     else line_from (l + 1) ws i k
 
--- a frame comes behind the others; on a full line it is lost, and those that are there stay
+-- a frame comes after the others; on a full line it is lost, and those that are there stay
 abbrev pub followed_by : List Frame → Frame → List Frame
 followed_by frames f = if nat_lt (length frames) line_places then frames ++ f ∷ [] else frames
 

@@ -26,7 +26,7 @@ opening_subnet hosts sites ends = record {
   log = [];
 }
 
--- an IMP with so many hosts has this one
+-- an IMP with this many hosts has this one
 abbrev pub host_there : Option ℕ → ℕ → Bool
 host_there None h = false
 host_there (Some hosts) h = nat_lt h hosts

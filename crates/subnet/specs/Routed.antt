@@ -1,4 +1,4 @@
--- Distances are told of the IMPs 1 to 63 and of no others: so no route leads elsewhere, and packets can name every host
+-- Distances are notified of the IMPs 1 to 63 and of no others: so no route leads elsewhere, and packets can name every host
 -- to which one leads.
 use Rattle.std.specs.Prelude.{ℕ, ◌+◌, ◌≤◌, ◌<◌, List, Option, Some, None, length, All}
 use Rattle.bit_messages.specs.Body.{most_text_bits}

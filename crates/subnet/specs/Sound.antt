@@ -17,7 +17,7 @@ IsAt i None = Unit {0}
 IsAt i (Some s) = IsImp i s
 
 pub record IsSound (n : Net) : Type 0 where
-  -- what was seen of each flow is a run of its mailbox, and the law of one flow holds of what stands now
+  -- what was seen of each flow is a run of its mailbox, and the law of one flow holds of what is now
   pub flows : AllSound Piece n.hosts n.log (view n) (Alive n)
   -- each IMP that is up has its number, and answers and messages wait at their hosts
   pub imps : (i : ℕ) → IsAt i (imp_at n.imps i)

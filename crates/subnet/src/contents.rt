@@ -14,21 +14,21 @@ use imp_node::Imp;
 use leader1822::{HostAddr, ImpNumber};
 
 impl Subnet {
-    /// How many numbers there are for IMPs, from 0 on. There needn't be an IMP of each.
+    /// Returns how many numbers there are for IMPs, from 0 on. There needn't be an IMP of each.
     pub fn imp_places(&self) -> u8
         ensures { result ≡ length self.now.net.imps }
     {
         self.parts.imp_places()
     }
 
-    /// Whether there is an IMP of this number, up or down.
+    /// Returns whether there is an IMP of this number, up or down.
     pub fn is_imp(&self, number: u8) -> bool
         ensures { result ≡ events.is_imp self.now.net number }
     {
         self.parts.is_imp(number)
     }
 
-    /// The number as that of an IMP, up or down; `None` where there is no such IMP.
+    /// Returns the number as that of an IMP, up or down; `None` if there is no such IMP.
     pub fn imp_number(&self, number: u8) -> Option<ImpNumber>
         ensures { result ≡ (if events.is_imp self.now.net number then Some number else None) }
     {
@@ -39,29 +39,29 @@ impl Subnet {
         }
     }
 
-    /// The IMP of this number; `None` where it is down, or there is none.
+    /// Returns the IMP of this number; `None` where it is down, or there is none.
     pub fn imp(&self, number: u8) -> Option<&Imp>
         ensures { option_copied result ≡ imp_at self.now.net.imps number }
     {
         self.parts.imp(number)
     }
 
-    /// All lines, in the order of their numbers, of which the first is 0.
+    /// Returns all lines, in the order of their numbers, of which the first is 0.
     pub fn lines(&self) -> &[Wire]
         ensures { result.now ≡ self.now.net.lines }
     {
         self.parts.lines.all()
     }
 
-    /// How many lines there are.
+    /// Returns how many lines there are.
     pub fn line_count(&self) -> u32
         ensures { result ≡ length self.now.net.lines }
     {
         self.parts.line_count()
     }
 
-    /// Whether a host gets something when it takes: nothing refuses it, and an answer or a message waits. Whether
-    /// running out of memory has stopped the subnet is not looked at.
+    /// Returns whether a host gets something when it takes: nothing refuses it, and an answer or a message waits.
+    /// Whether running out of memory has stopped the subnet is not looked at.
     pub fn gives(&self, host: &HostAddr) -> bool
         ensures { result ≡ events.gives self.now.net host.now }
     {
@@ -70,14 +70,14 @@ impl Subnet {
 }
 
 impl Parts {
-    /// Whether a host gets something when it takes.
+    /// Returns whether a host gets something when it takes.
     fn gives(&self, host: &HostAddr) -> bool
         ensures { result ≡ events.gives self.now host.now }
     {
         self.is_there(host) && self.imp_gives(host.imp(), host.host())
     }
 
-    /// Whether the IMP of this number is up, and a host of it gets something when it takes.
+    /// Returns whether the IMP of this number is up, and a host of it gets something when it takes.
     fn imp_gives(&self, imp: u8, host: u8) -> bool
         ensures { result ≡ says (λ s. taking.gives s host) (imp_at self.now.imps imp) }
     {

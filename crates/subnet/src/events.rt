@@ -7,7 +7,7 @@ use crate::parts::Parts;
 use leader1822::{CarrierFault, NetEvent};
 
 impl Parts {
-    /// Something happens in the subnet.
+    /// Lets an event happen in the subnet.
     pub(crate) fn step(&mut self, event: NetEvent) -> Result<(), CarrierFault>
         requires { AreLive self.old.imps }
         ensures step { Steps event self.old self.new result }

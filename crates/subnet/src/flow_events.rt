@@ -13,7 +13,7 @@ use crate::seeking::Sought;
 use leader1822::{CarrierFault, Flow, ImpNumber, Number};
 
 impl Parts {
-    /// The destination's IMP throws away the pieces that it holds of a flow's message.
+    /// Throws away the pieces that the destination's IMP holds of a flow's message.
     pub(crate) fn abandon(&mut self, flow: Flow) -> Result<(), CarrierFault>
         requires { AreLive self.old.imps }
         ensures step { Steps (event.Abandon flow) self.old self.new result }
@@ -27,7 +27,7 @@ impl Parts {
         self.at_imp(imp, ImpCall::Abandon(flow))
     }
 
-    /// The source's IMP gives up the outstanding message of a flow.
+    /// Gives up the outstanding message of a flow at the source's IMP.
     pub(crate) fn give_up(&mut self, flow: Flow) -> Result<(), CarrierFault>
         requires { AreLive self.old.imps }
         ensures step { Steps (event.GiveUp flow) self.old self.new result }
@@ -44,7 +44,7 @@ impl Parts {
         self.at_imp(source.imp(), ImpCall::GiveUp(flow))
     }
 
-    /// The source's IMP asks what became of the outstanding message of a flow.
+    /// Asks what became of the outstanding message of a flow, from the source's IMP.
     pub(crate) fn ask(&mut self, flow: Flow) -> Result<(), CarrierFault>
         requires { AreLive self.old.imps }
         ensures step { Steps (event.Ask flow) self.old self.new result }
@@ -58,7 +58,7 @@ impl Parts {
         self.at_imp(source.imp(), ImpCall::Ask(flow))
     }
 
-    /// Whether the outstanding message of a flow is alive.
+    /// Returns whether the outstanding message of a flow is alive.
     fn is_outstanding_alive(&self, flow: &Flow) -> bool
         ensures { result ≡ give_up_alive self.now flow.now (outstanding_at (imp_at self.now.imps flow.now.source.imp) flow.now) }
     {
@@ -69,7 +69,7 @@ impl Parts {
         }
     }
 
-    /// Whether the message of a number, if there is one, is alive.
+    /// Returns whether the message of a number, if there is one, is alive.
     fn is_number_alive(&self, flow: &Flow, number: Option<Number>) -> bool
         ensures { result ≡ give_up_alive self.now flow.now number }
     {
@@ -79,7 +79,7 @@ impl Parts {
         }
     }
 
-    /// An IMP drops the last numbers that it keeps of flows from another IMP.
+    /// Drops the last numbers that an IMP keeps of flows from another IMP.
     #[tactic(auto, using(crate::proofs::Moves::Stepping::forget_step))]
     pub(crate) fn forget(&mut self, at: ImpNumber, from: ImpNumber) -> Result<(), CarrierFault>
         requires { AreLive self.old.imps }
@@ -99,7 +99,7 @@ impl Parts {
         self.at_imp(at.number(), ImpCall::Forget(from))
     }
 
-    /// Whether a message to a host at one IMP is outstanding at another, if that is up.
+    /// Returns whether a message to a host at one IMP is outstanding at another, if that is up.
     fn is_awaiting(&self, from: ImpNumber, at: ImpNumber) -> bool
         ensures { result ≡ is_awaited_at (imp_at self.now.imps from) at }
     {

@@ -97,7 +97,7 @@ pub(crate) fn call_imp(
     call.make_at(&mut imps[at])
 }
 
-/// A frame comes in at a port of the IMP of this number, if it is up.
+/// Takes a frame at a port of the IMP of this number, if it is up.
 ///
 /// Errors: `IsDown` where it is down or not there, and then those of the call.
 pub(crate) fn arrive_at_imp(
@@ -117,7 +117,7 @@ pub(crate) fn arrive_at_imp(
     arrive_at(&mut imps[at], port, frame)
 }
 
-/// The same at the IMP of a place, if one is up there.
+/// Does the same at the IMP of a place, if one is up there.
 #[tactic(auto, using(crate::proofs::Calls::Ending::ends_of_turned))]
 fn arrive_at(place: &mut Option<Imp>, port: u8, frame: Frame) -> Result<Vec<Outgoing>, CarrierFault>
     requires { IfSome place.old (λ s. s.spent ≡ false) }
@@ -130,8 +130,8 @@ fn arrive_at(place: &mut Option<Imp>, port: u8, frame: Frame) -> Result<Vec<Outg
     }
 }
 
-/// A frame comes in at a port of the IMP of this number, if nothing is to be sent for it, or no IMP is up there. It answers whether
-/// it came in; else nothing changes.
+/// Takes a frame at a port of the IMP of this number, if nothing is to be sent for it, or no IMP is up there. It
+/// answers whether it came in; else nothing changes.
 pub(crate) fn takes_at_imp(imps: &mut [Option<Imp>], imp: u8, port: u8, frame: &Frame) -> bool
     requires { AreLive imps.old }
     ensures taken { result ≡ true → imps.new ≡ imps_by imps.old imp (imp_at imps.old imp) (call_turn (call.Arrive port frame.now)) }
@@ -146,7 +146,7 @@ pub(crate) fn takes_at_imp(imps: &mut [Option<Imp>], imp: u8, port: u8, frame: &
     takes_at(&mut imps[at], port, frame)
 }
 
-/// The same at the IMP of a place.
+/// Does the same at the IMP of a place.
 fn takes_at(place: &mut Option<Imp>, port: u8, frame: &Frame) -> bool
     requires { IfSome place.old (λ s. s.spent ≡ false) }
     ensures taken { result ≡ true → place.new ≡ imp_by place.old (call_turn (call.Arrive port frame.now)) }
@@ -160,8 +160,8 @@ fn takes_at(place: &mut Option<Imp>, port: u8, frame: &Frame) -> bool
     }
 }
 
-/// A frame comes in at a port of the IMP of this number, if it brings a packet that was given before and only its acknowledgement is
-/// sent, which is answered. Else nothing changes.
+/// Takes a frame at a port of the IMP of this number, if it brings a packet that was given before and only its
+/// acknowledgement is sent, which is returned. Else nothing changes.
 pub(crate) fn answers_at_imp(
     imps: &mut [Option<Imp>],
     imp: u8,
@@ -181,7 +181,7 @@ pub(crate) fn answers_at_imp(
     answers_at(&mut imps[at], port, frame)
 }
 
-/// The same at the IMP of a place.
+/// Does the same at the IMP of a place.
 fn answers_at(place: &mut Option<Imp>, port: u8, frame: &Frame) -> Option<Frame>
     requires { IfSome place.old (λ s. s.spent ≡ false) }
     ensures taken { IfSome result (λ ack. place.new ≡ imp_by place.old (call_turn (call.Arrive port frame.now))) }
@@ -207,7 +207,7 @@ pub(crate) fn reuse(imps: &mut [Option<Imp>], imp: u8, spare: Vec<Outgoing>)
     }
 }
 
-/// The same at the IMP of a place.
+/// Does the same at the IMP of a place.
 fn reuse_at(place: &mut Option<Imp>, spare: Vec<Outgoing>)
     requires { spare.items ≡ [] }
     ensures { place.new ≡ place.old }

@@ -131,7 +131,7 @@ pub fn at_the_opening()
     ensures sound { (hosts : List Host) (sites : List (Option ℕ)) (ends : List Ends) → AreHosts hosts sites → IsSound (start.opening_subnet hosts sites ends) }
     ensures empty { (hosts : List Host) (sites : List (Option ℕ)) (ends : List Ends) → packets (start.opening_subnet hosts sites ends) ≡ [] }
 
-    // the hosts that stand in the list of the IMPs, one after another, are those of its IMPs
+    // the hosts that are in the list of the IMPs, one after another, are those of its IMPs
     ensures hosts { (sites : List (Option ℕ)) → AreHosts (start.hosts_from 0 sites) sites }
     ensures ordered { (sites : List (Option ℕ)) → InOrder (start.hosts_from 0 sites) }
 {}
@@ -142,7 +142,7 @@ pub fn sound_messages()
     // goes over lines. Packets can carry it, unless it goes nowhere
     ensures offer_out { (n : Net) (m : HostMessage) → CanGoFrom (imp_at n.imps m.flow.source.imp) m → offer_refusal n m ≡ None → IsSound n → IsSound (offer_out n m) }
 
-    // a host takes what waits for it, where that is not refused: an answer, a message, for which its source is told, or nothing
+    // a host takes what waits for it, where that is not refused: an answer, a message, for which its source is notified, or nothing
     ensures take_in { (n : Net) (h : Host) → take_refusal n h ≡ None → IsSound n → IsSound (take_in n h) }
 
     // a frame is delivered: it is lost, or its packet goes on, is joined with others, makes its message whole, can't be delivered, or
@@ -150,7 +150,7 @@ pub fn sound_messages()
     ensures deliver { (n : Net) (l : ℕ) (d : Direction) (k : ℕ) → IsSound n → IsSound (stepped n (event.Deliver l d k)) }
 {}
 
-/// Distances are told of the IMPs that there can be alone, from the opening on and whatever happens: so a message with
+/// Distances are notified of the IMPs that there can be only, from the opening on and whatever happens: so a message with
 /// addresses, which every message of a host has, can be carried where it goes.
 pub fn routed()
     ensures opening { (hosts : List Host) (sites : List (Option ℕ)) (ends : List Ends) → length sites ≤ most_imps + 1 → IsRouted (start.opening_subnet hosts sites ends) }
@@ -336,7 +336,7 @@ pub fn worked_offers()
     ensures kept_above { offer_refusal (pair (Some (begun_up_to 65535)) (Some (keeping_up_to 65535)) [] []) our_message ≡ None }
 {}
 
-/// What is alive or remembered at a third IMP. Three IMPs stand in a row.
+/// What is alive or remembered at a third IMP. Three IMPs are in a row.
 pub fn worked_third_imps()
     // IMP 2 forgets what came from IMP 1: a message of IMP 3's host to a host there is not in the way, nor is its data
     ensures forget_others { step_refusal (row (Some first_in_row) (Some middle_in_row) (Some expecting_at_3) [] (passing_frame ∷ [])) (event.Forget 2 1) ≡ None }

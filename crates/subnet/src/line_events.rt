@@ -14,7 +14,7 @@ use leader1822::{CarrierFault, Direction, ImpNumber};
 use std::alloc::AllocError;
 
 impl Parts {
-    /// An IMP sends again what is not acknowledged.
+    /// Sends again what an IMP has sent and is not acknowledged.
     pub(crate) fn resend(&mut self, imp: ImpNumber) -> Result<(), CarrierFault>
         requires { AreLive self.old.imps }
         ensures step { Steps (event.Resend imp) self.old self.new result }
@@ -27,7 +27,7 @@ impl Parts {
         self.at_imp(imp.number(), ImpCall::Resend)
     }
 
-    /// An IMP tells its neighbours its distances.
+    /// Sends an IMP's distances to its neighbours.
     pub(crate) fn route(&mut self, imp: ImpNumber) -> Result<(), CarrierFault>
         requires { AreLive self.old.imps }
         ensures step { Steps (event.Route imp) self.old self.new result }
@@ -40,7 +40,7 @@ impl Parts {
         self.at_imp(imp.number(), ImpCall::Route)
     }
 
-    /// An IMP's end of a line goes down.
+    /// Takes an IMP's end of a line down.
     pub(crate) fn end_down(&mut self, imp: ImpNumber, line: u32) -> Result<(), CarrierFault>
         requires { AreLive self.old.imps }
         ensures step { Steps (event.EndDown imp line) self.old self.new result }
@@ -56,7 +56,7 @@ impl Parts {
         self.at_imp(number, ImpCall::EndDown(port))
     }
 
-    /// An IMP's end of a line comes up.
+    /// Brings an IMP's end of a line up.
     pub(crate) fn end_up(&mut self, imp: ImpNumber, line: u32) -> Result<(), CarrierFault>
         requires { AreLive self.old.imps }
         ensures step { Steps (event.EndUp imp line) self.old self.new result }
@@ -72,7 +72,7 @@ impl Parts {
         self.at_imp(number, ImpCall::EndUp(port))
     }
 
-    /// The line and the place of the frame that an event names, if that is there.
+    /// Returns the line and the place of the frame that an event names, if that is there.
     fn place_of(&self, line: u32, direction: Direction, frame: u32) -> Option<(usize, usize)>
         ensures frame { events.frame_refusal self.now line direction frame ≡ (if is_some result then None else Some fault.NoSuch) }
         ensures same { IfSome result (λ at. (at.0 ≡ line) × (at.1 ≡ frame)) }
@@ -88,7 +88,7 @@ impl Parts {
         }
     }
 
-    /// The frame at a place of a directed line is lost.
+    /// Loses the frame at a place of a directed line.
     pub(crate) fn drop_frame(
         &mut self,
         line: u32,
@@ -107,7 +107,7 @@ impl Parts {
         Ok(())
     }
 
-    /// The frame at a place of a directed line comes in at the far end, and stays on the line.
+    /// Delivers the frame at a place of a directed line at the far end, and keeps it on the line.
     pub(crate) fn deliver(
         &mut self,
         line: u32,
@@ -128,7 +128,7 @@ impl Parts {
         Ok(())
     }
 
-    /// The frame at a place of a directed line arrives at the far end, if the IMP there is up.
+    /// Delivers the frame at a place of a directed line at the far end, if the IMP there is up.
     ///
     /// Errors: memory runs out, and nothing else.
     #[tactic(auto, using(crate::proofs::Calls::Delivering::not_brought, crate::proofs::Calls::Delivering::none_brought))]

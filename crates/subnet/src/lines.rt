@@ -32,7 +32,7 @@ impl Model for PortLines {
 }
 
 impl PortLines {
-    /// The line at this port.
+    /// Returns the line at this port.
     fn line(&self, port: u8) -> Option<usize>
         ensures { result ≡ slice_get self.now port }
     {
@@ -52,7 +52,7 @@ pub struct EndPorts {
     pub b: u8,
 }
 
-/// All lines, in their order. What their ends determine stands beside them: the lines at each IMP's ports, and the
+/// All lines, in their order. What their ends determine is beside them: the lines at each IMP's ports, and the
 /// ports of each line. So a frame's line and port are read, and not looked for.
 #[derive(Drop)]
 pub(crate) struct Lines {
@@ -74,7 +74,7 @@ impl Model for Lines {
 }
 
 impl Lines {
-    /// Lines without frames, with these ends.
+    /// Returns lines without frames, with these ends.
     #[tactic(auto, using(crate::proofs::Calls::Joining::opened_joined))]
     pub(crate) fn new(alloc: Global, ends: &[Ends]) -> Result<Lines, AllocError>
         requires { length ends.now < 256 }
@@ -90,21 +90,21 @@ impl Lines {
         })
     }
 
-    /// How many there are.
+    /// Returns how many there are.
     pub(crate) fn len(&self) -> usize
         ensures { result ≡ length self.now }
     {
         self.wires.len()
     }
 
-    /// All of them, in order.
+    /// Returns all of them, in order.
     pub(crate) fn all(&self) -> &[Wire]
         ensures { result.now ≡ self.now }
     {
         &self.wires
     }
 
-    /// The port that is the far end of a directed line, at the IMP there.
+    /// Returns the port that is the far end of a directed line, at the IMP there.
     #[tactic(auto, using(crate::proofs::Calls::Joining::port_read))]
     pub(crate) fn far_port(&self, line: usize, direction: Direction) -> u8
         requires { line < length self.now }
@@ -117,7 +117,7 @@ impl Lines {
         }
     }
 
-    /// Takes out the oldest frame of a directed line. An empty frame stands in its place.
+    /// Takes out the oldest frame of a directed line. An empty frame is in its place.
     pub(crate) fn take_first(&mut self, line: usize, direction: Direction) -> Frame
         requires line { line < length self.old }
         requires some { 0 < length (frames_on direction (wire_at self.old line)) }
@@ -128,7 +128,7 @@ impl Lines {
         wire.take_first(direction)
     }
 
-    /// The frame at a place of a directed line is lost.
+    /// Loses the frame at a place of a directed line.
     #[inline(always)]
     pub(crate) fn lose(&mut self, line: usize, direction: Direction, place: usize)
         requires line { line < length self.old }
@@ -139,7 +139,7 @@ impl Lines {
         wire.lose(direction, place);
     }
 
-    /// An IMP puts one frame after another on the lines at its ports. The list comes back empty.
+    /// Puts one frame of an IMP after another on the lines at its ports. The list comes back empty.
     ///
     /// Errors: memory runs out, and nothing else.
     #[tactic(auto, using(crate::proofs::Calls::Putting::none_left))]
@@ -161,7 +161,7 @@ impl Lines {
         Ok(queue.into_vec())
     }
 
-    /// An IMP puts a frame on the line at one of its ports.
+    /// Puts a frame of an IMP on the line at one of its ports.
     #[inline(always)]
     pub(crate) fn put_one(&mut self, imp: u8, outgoing: Outgoing) -> Result<(), AllocError>
         ensures ok { OnOk result (self.new ≡ put_one self.old imp outgoing) }
@@ -177,7 +177,7 @@ impl Lines {
         }
     }
 
-    /// The line at a port of an IMP.
+    /// Returns the line at a port of an IMP.
     #[tactic(auto, using(crate::proofs::Calls::Joining::line_read))]
     fn line_at(&self, imp: u8, port: u8) -> Option<usize>
         ensures line { result ≡ line_from 0 self.now imp port }
@@ -187,7 +187,7 @@ impl Lines {
     }
 }
 
-/// Lines without frames, with these ends.
+/// Returns lines without frames, with these ends.
 fn empty_wires(alloc: Global, ends: &[Ends]) -> Result<Vec<Wire>, AllocError>
     ensures lines { IfOk result (λ lines. lines.items ≡ map start.empty_wire ends.now) }
     ensures count { IfOk result (λ lines. length lines.items ≡ length ends.now) }
@@ -199,7 +199,7 @@ fn empty_wires(alloc: Global, ends: &[Ends]) -> Result<Vec<Wire>, AllocError>
     Ok(lines)
 }
 
-/// The lines at the ports of the IMPs of all numbers.
+/// Returns the lines at the ports of the IMPs of all numbers.
 #[tactic(auto, using(crate::proofs::Calls::Joining::read_pushed))]
 fn all_port_lines(alloc: Global, wires: &[Wire]) -> Result<Vec<PortLines>, AllocError>
     requires { length wires.now < 256 }
@@ -213,7 +213,7 @@ fn all_port_lines(alloc: Global, wires: &[Wire]) -> Result<Vec<PortLines>, Alloc
     Ok(lines)
 }
 
-/// The lines at the ports of an IMP.
+/// Returns the lines at the ports of an IMP.
 fn port_lines(alloc: Global, wires: &[Wire], imp: u8) -> Result<PortLines, AllocError>
     requires { length wires.now < 256 }
     ensures { IfOk result (λ lines. lines ≡ lines_from 0 wires.now imp) }
@@ -227,7 +227,7 @@ fn port_lines(alloc: Global, wires: &[Wire], imp: u8) -> Result<PortLines, Alloc
     Ok(PortLines { lines })
 }
 
-/// The ports that are the ends of each line.
+/// Returns the ports that are the ends of each line.
 fn end_ports(alloc: Global, wires: &[Wire]) -> Result<Vec<EndPorts>, AllocError>
     requires { length wires.now < 256 }
     ensures { IfOk result (λ ports. ports.items ≡ ports_from 0 wires.now wires.now) }
@@ -239,7 +239,7 @@ fn end_ports(alloc: Global, wires: &[Wire]) -> Result<Vec<EndPorts>, AllocError>
     Ok(ports)
 }
 
-/// The ports that are the ends of a line, the one of this place.
+/// Returns the ports that are the ends of a line, the one of this place.
 fn ports_at(wires: &[Wire], line: usize, wire: &Wire) -> EndPorts
     requires { length wires.now < 256 }
     ensures { result ≡ ports_at wires.now line wire.now }
@@ -251,7 +251,7 @@ fn ports_at(wires: &[Wire], line: usize, wire: &Wire) -> EndPorts
     }
 }
 
-/// The port of an IMP that is its end of a line: its lines are its ports, in their order.
+/// Returns the port of an IMP that is its end of a line: its lines are its ports, in their order.
 pub(crate) fn port_of(lines: &[Wire], imp: u8, line: usize) -> u8
     requires { length lines.now < 256 }
     ensures { result ≡ port_of lines.now imp line }

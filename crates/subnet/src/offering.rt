@@ -20,7 +20,7 @@ use leader1822::{CarrierFault, Crossing, Flow, HostMessage, Number};
 use link_table::numbers::{next, oldest};
 
 impl Parts {
-    /// A message goes out: its source's IMP takes it. No message was begun with a number above `highest`.
+    /// Lets a message go out: its source's IMP takes it. No message was begun with a number above `highest`.
     pub(crate) fn offer_out(
         &mut self,
         message: HostMessage,
@@ -51,7 +51,7 @@ impl Parts {
         Ok(())
     }
 
-    /// Whether an offer would begin a number of this flow while the number that lies too far behind the last
+    /// Returns whether an offer would begin a number of this flow while the number that lies too far behind the last
     /// one is alive, or while the destination's IMP keeps the number that would be begun.
     fn is_in_the_way(&self, flow: &Flow, highest: Number) -> bool
         requires sound { IsSound self.now }
@@ -66,7 +66,7 @@ impl Parts {
         }
     }
 
-    /// Whether the number that lies too far behind the last one of this source's IMP is alive.
+    /// Returns whether the number that lies too far behind the last one of this source's IMP is alive.
     fn is_behind(&self, imp: &Imp, flow: &Flow, highest: Number) -> bool
         requires here { imp_at self.now.imps flow.now.source.imp ≡ Some imp.now }
         requires sound { IsSound self.now }
@@ -79,7 +79,8 @@ impl Parts {
         }
     }
 
-    /// Whether a number of a flow whose source's IMP is up is alive. One above `highest` isn't, and is not looked for.
+    /// Returns whether a number of a flow whose source's IMP is up is alive. One above `highest` isn't, and is not
+    /// looked for.
     #[tactic(auto, using(crate::proofs::Calls::Highest::none_above))]
     fn is_alive_up_to(&self, flow: &Flow, number: Number, highest: Number) -> bool
         requires up { imp_is_up (imp_at self.now.imps flow.now.source.imp) ≡ true }
@@ -93,7 +94,7 @@ impl Parts {
         self.is_alive(flow, number)
     }
 
-    /// The number that an offer of this flow would begin; 0 where its source's IMP is down.
+    /// Returns the number that an offer of this flow would begin; 0 where its source's IMP is down.
     pub(crate) fn next_number(&self, flow: &Flow) -> Number
         ensures { result ≡ next_at (imp_at self.now.imps flow.now.source.imp) flow.now }
     {
@@ -104,14 +105,14 @@ impl Parts {
         }
     }
 
-    /// Whether the destination's IMP keeps the number that this source's IMP would begin.
+    /// Returns whether the destination's IMP keeps the number that this source's IMP would begin.
     fn is_next_kept(&self, imp: &Imp, flow: &Flow) -> bool
         ensures { result ≡ is_kept self.now flow.now (next_number (queries.last imp.now flow.now)) }
     {
         self.is_kept(flow, number_after(imp, flow))
     }
 
-    /// Whether the destination's IMP is up and keeps this number as the flow's last one.
+    /// Returns whether the destination's IMP is up and keeps this number as the flow's last one.
     fn is_kept(&self, flow: &Flow, number: Number) -> bool
         ensures { result ≡ is_kept self.now flow.now number }
     {
@@ -123,7 +124,7 @@ impl Parts {
     }
 }
 
-/// The number after the last one that a source's IMP began of a flow: 0 where it began none.
+/// Returns the number after the last one that a source's IMP began of a flow: 0 where it began none.
 fn number_after(imp: &Imp, flow: &Flow) -> Number
     ensures { result ≡ next_number (queries.last imp.now flow.now) }
 {

@@ -14,7 +14,7 @@ use leader1822::{HostAddr, Hosts, ImpNumber};
 use std::alloc::{AllocError, Global};
 
 impl Parts {
-    /// A subnet at its start: its hosts, how many hosts the IMP of each number has, if there is one, and the
+    /// Returns a subnet at its start: its hosts, how many hosts the IMP of each number has, if there is one, and the
     /// ends of its lines. All IMPs, ends of lines and hosts are up.
     ///
     /// Errors: memory runs out, and nothing else.
@@ -45,7 +45,7 @@ impl Parts {
     }
 }
 
-/// The IMPs of these sites, with the ports that the lines give them.
+/// Returns the IMPs of these sites, with the ports that the lines give them.
 #[tactic(auto, using(crate::proofs::Calls::Opens::site_fits, crate::proofs::Calls::Opens::all_ports))]
 fn opened_imps(
     alloc: Global,
@@ -67,7 +67,7 @@ fn opened_imps(
     Ok(imps)
 }
 
-/// The IMP of a site, if there is one.
+/// Returns the IMP of a site, if there is one.
 fn opened(alloc: Global, number: u8, site: Option<u8>, ports: u8) -> Result<Option<Imp>, AllocError>
     requires { IfSome site (λ count. (1 ≤ number) × (number ≤ most_imps) × (count ≤ 4)) }
     ensures { IfOk result (λ imp. imp ≡ start.opened_imp number site ports) }

@@ -52,14 +52,14 @@ impl Model for Parts {
 impl Parts {
     // ---- looking
 
-    /// Whether this is a host of the network.
+    /// Returns whether this is a host of the network.
     pub(crate) fn is_there(&self, host: &HostAddr) -> bool
         ensures { result ≡ is_host self.now.hosts host.now }
     {
         self.hosts.contains(host)
     }
 
-    /// Whether there is an IMP of this number.
+    /// Returns whether there is an IMP of this number.
     pub(crate) fn is_imp(&self, imp: u8) -> bool
         ensures there { result ≡ is_imp self.now imp }
         ensures numbered { result ≡ true → (1 ≤ imp) × (imp ≤ most_imps) }
@@ -68,7 +68,7 @@ impl Parts {
         at < self.sites.len() && self.sites[at].is_some()
     }
 
-    /// The IMP of this number, if it is up.
+    /// Returns the IMP of this number, if it is up.
     pub(crate) fn imp(&self, imp: u8) -> Option<&Imp>
         ensures { option_copied result ≡ imp_at self.now.imps imp }
     {
@@ -80,14 +80,14 @@ impl Parts {
         }
     }
 
-    /// Whether the IMP of this number is up.
+    /// Returns whether the IMP of this number is up.
     pub(crate) fn is_up(&self, imp: u8) -> bool
         ensures { result ≡ imp_is_up (imp_at self.now.imps imp) }
     {
         self.imp(imp).is_some()
     }
 
-    /// Whether a line has an end at an IMP that is there.
+    /// Returns whether a line has an end at an IMP that is there.
     pub(crate) fn has_end(&self, imp: u8, line: usize) -> bool
         ensures end { result ≡ has_end self.now imp line }
         ensures line { result ≡ true → line < length self.now.lines }
@@ -95,14 +95,14 @@ impl Parts {
         self.is_imp(imp) && line < self.lines.len() && self.lines.all()[line].ends_at(imp)
     }
 
-    /// The port of an IMP that is its end of a line.
+    /// Returns the port of an IMP that is its end of a line.
     pub(crate) fn port(&self, imp: u8, line: usize) -> u8
         ensures { result ≡ port_of self.now.lines imp line }
     {
         port_of(self.lines.all(), imp, line)
     }
 
-    /// Whether a directed line has a frame at this place.
+    /// Returns whether a directed line has a frame at this place.
     pub(crate) fn has_frame(&self, line: usize, direction: Direction, place: usize) -> bool
         ensures frame { events.frame_refusal self.now line direction place ≡ (if result then None else Some fault.NoSuch) }
         ensures line { result ≡ true → line < length self.now.lines }
@@ -111,7 +111,7 @@ impl Parts {
         line < self.lines.len() && place < self.lines.all()[line].live(direction)
     }
 
-    /// The IMP that the frames of a directed line go to.
+    /// Returns the IMP that the frames of a directed line go to.
     pub(crate) fn far_end(&self, line: usize, direction: Direction) -> u8
         requires { line < length self.now.lines }
         ensures { result ≡ far_end direction (wire_at self.now.lines line) }
@@ -120,7 +120,7 @@ impl Parts {
         wire.far_end(direction)
     }
 
-    /// The port of that IMP that is its end of the line.
+    /// Returns the port of that IMP that is its end of the line.
     pub(crate) fn far_port(&self, line: usize, direction: Direction) -> u8
         requires { line < length self.now.lines }
         ensures { result ≡ port_of self.now.lines (far_end direction (wire_at self.now.lines line)) line }
@@ -128,7 +128,7 @@ impl Parts {
         self.lines.far_port(line, direction)
     }
 
-    /// A copy of the frame at a place of a directed line, if there is one.
+    /// Returns a copy of the frame at a place of a directed line, if there is one.
     ///
     /// Errors: memory runs out, and nothing else.
     pub(crate) fn copied_frame(
@@ -145,7 +145,7 @@ impl Parts {
         wire.copy(direction, place)
     }
 
-    /// Takes out the oldest frame of a directed line. An empty frame stands in its place.
+    /// Takes out the oldest frame of a directed line. An empty frame is in its place.
     pub(crate) fn take_first(&mut self, line: usize, direction: Direction) -> Frame
         requires line { line < length self.old.lines }
         requires some { 0 < length (frames_on direction (wire_at self.old.lines line)) }
@@ -155,7 +155,7 @@ impl Parts {
         self.lines.take_first(line, direction)
     }
 
-    /// The frame at a place of a directed line is lost.
+    /// Loses the frame at a place of a directed line.
     #[inline(always)]
     pub(crate) fn lose(&mut self, line: usize, direction: Direction, place: usize)
         requires line { line < length self.old.lines }
@@ -183,8 +183,8 @@ impl Parts {
         Ok(())
     }
 
-    /// A frame comes in at a port of the IMP of this number, and the IMP's frames go on lines. It is the call `ImpCall::Arrive`,
-    /// without that value in between.
+    /// Delivers a frame at a port of the IMP of this number, and puts the IMP's frames on lines. It is the call
+    /// `ImpCall::Arrive`, without that value in between.
     ///
     /// Errors: `IsDown` where it is down or not there, and then those of the call.
     pub(crate) fn arrive(&mut self, imp: u8, port: u8, frame: Frame) -> Result<(), CarrierFault>
@@ -250,7 +250,7 @@ impl Parts {
     }
 }
 
-/// Whether memory ran out.
+/// Returns whether memory ran out.
 pub(crate) fn runs_out(outcome: &Result<(), CarrierFault>) -> bool
     ensures { result ≡ runs_out outcome.now }
 {

@@ -16,7 +16,7 @@ use leader1822::Direction;
 use std::alloc::AllocError;
 
 impl Parts {
-    /// Each IMP that is up tells its distances and sends again. Then the frames of each line are delivered and
+    /// Lets each IMP that is up send its distances and send again. Then the frames of each line are delivered and
     /// dropped, one direction after the other.
     ///
     /// Errors: memory runs out, and nothing else.
@@ -33,21 +33,21 @@ impl Parts {
         self.turn_all(lines)
     }
 
-    /// How many places there are for IMPs.
+    /// Returns how many places there are for IMPs.
     pub(crate) fn imp_places(&self) -> u8
         ensures { result ≡ length self.now.imps }
     {
         self.imps.len() as u8
     }
 
-    /// How many lines there are.
+    /// Returns how many lines there are.
     pub(crate) fn line_count(&self) -> u32
         ensures { result ≡ length self.now.lines }
     {
         self.lines.len() as u32
     }
 
-    /// Each IMP that is up tells its distances and sends again.
+    /// Lets each IMP that is up send its distances and send again.
     #[tactic(auto, using(crate::proofs::Calls::Carries::range_more, crate::proofs::Calls::RoundMemory::refreshed_earlier))]
     fn refresh_all(&mut self, places: u8) -> Result<(), AllocError>
         requires { AreLive self.old.imps }
@@ -63,7 +63,7 @@ impl Parts {
         Ok(())
     }
 
-    /// An IMP tells its distances and sends again, if it is up.
+    /// Lets an IMP send its distances and send again, if it is up.
     #[tactic(auto, using(crate::proofs::Calls::Resting::not_refreshed))]
     fn refresh(&mut self, imp: u8) -> Result<(), AllocError>
         requires { AreLive self.old.imps }
@@ -78,7 +78,7 @@ impl Parts {
         self.tell_and_resend(imp)
     }
 
-    /// The same, by the calls of the IMP.
+    /// Does the same, by the calls of the IMP.
     #[tactic(auto, using(crate::proofs::Calls::RoundMemory::telling_wants, crate::proofs::Calls::RoundMemory::sending_wants))]
     fn tell_and_resend(&mut self, imp: u8) -> Result<(), AllocError>
         requires { AreLive self.old.imps }
@@ -91,7 +91,7 @@ impl Parts {
         self.send_again(imp)
     }
 
-    /// The frames of each of so many lines are delivered and dropped, one direction after the other.
+    /// Delivers and drops the frames of the first lines, one direction after the other.
     #[tactic(auto, using(crate::proofs::Calls::Carries::range_more))]
     fn turn_all(&mut self, lines: usize) -> Result<(), AllocError>
         requires { AreLive self.old.imps }
@@ -108,7 +108,7 @@ impl Parts {
         Ok(())
     }
 
-    /// The frames of a directed line that are live now are delivered and dropped.
+    /// Delivers and drops the frames of a directed line that are live now.
     fn turn(&mut self, line: usize, direction: Direction) -> Result<(), AllocError>
         requires { AreLive self.old.imps }
         ensures ok { OnOk result (self.new ≡ events.turn_of line direction self.old) }
@@ -121,7 +121,7 @@ impl Parts {
         self.carry(live, line, direction)
     }
 
-    /// How many frames are live on a directed line.
+    /// Returns how many frames are live on a directed line.
     fn live(&self, line: usize, direction: Direction) -> usize
         ensures { result ≡ length (frames_on direction (wire_at self.now.lines line)) }
     {
@@ -132,7 +132,7 @@ impl Parts {
         }
     }
 
-    /// So many frames of a directed line, the oldest first, are each delivered once and dropped.
+    /// Delivers once and drops each of the oldest frames of a directed line, the oldest first.
     #[tactic(auto, using(crate::proofs::Calls::Carries::carried_more, crate::proofs::Calls::RoundMemory::carried_earlier))]
     fn carry(&mut self, count: usize, line: usize, direction: Direction) -> Result<(), AllocError>
         requires { AreLive self.old.imps }
@@ -148,7 +148,7 @@ impl Parts {
         Ok(())
     }
 
-    /// The oldest frame of a directed line, if there is one, is delivered and dropped.
+    /// Delivers and drops the oldest frame of a directed line, if there is one.
     #[tactic(auto, using(crate::proofs::Calls::Carries::none_carried, crate::proofs::Calls::RoundMemory::delivering_wants))]
     fn carry_first(&mut self, line: usize, direction: Direction) -> Result<(), AllocError>
         requires { AreLive self.old.imps }
@@ -165,7 +165,7 @@ impl Parts {
         Ok(())
     }
 
-    /// The oldest frame of a directed line arrives at the far end.
+    /// Delivers the oldest frame of a directed line at the far end.
     ///
     /// Errors: memory runs out, and nothing else.
     #[tactic(auto, using(crate::proofs::Calls::Taken::handed_quietly))]
@@ -187,8 +187,8 @@ impl Parts {
         self.hand_on(line, direction)
     }
 
-    /// The oldest frame of a directed line arrives at the far end, if it brings a packet that was given before and only its
-    /// acknowledgement is sent, which goes on the line there. The call answers whether it arrived; else nothing changes.
+    /// Delivers the oldest frame of a directed line at the far end, if it brings a packet that was given before and
+    /// only its acknowledgement is sent. The call answers whether it arrived; else nothing changes.
     ///
     /// Errors: memory runs out, and nothing else.
     #[tactic(auto, using(crate::proofs::Calls::Taken::taken_again, crate::proofs::Calls::Taken::again_wants))]
@@ -215,8 +215,8 @@ impl Parts {
         }
     }
 
-    /// The oldest frame of a directed line arrives at the far end, if nothing is to be sent for it. It stays on its line, and is not
-    /// taken off it. The call answers whether it arrived; else nothing changes.
+    /// Delivers the oldest frame of a directed line in place at the far end, if nothing is to be sent for it. It stays
+    /// on its line, and is not taken off it. The call answers whether it arrived; else nothing changes.
     #[tactic(auto, using(crate::proofs::Calls::Taken::taken_quietly, crate::proofs::Calls::Delivering::none_brought))]
     fn takes_first(&mut self, line: usize, direction: Direction) -> bool
         requires live { AreLive self.old.imps }
@@ -234,8 +234,8 @@ impl Parts {
         }
     }
 
-    /// The oldest frame of a directed line arrives at the far end. It isn't copied: an empty frame stands in its place until that is
-    /// dropped.
+    /// Delivers the oldest frame of a directed line at the far end. It isn't copied: an empty frame is in its place
+    /// until that is dropped.
     ///
     /// Errors: memory runs out, and nothing else.
     #[tactic(auto, using(crate::proofs::Calls::Taken::taken_lives, crate::proofs::Calls::Taken::taken_keeps))]
@@ -254,7 +254,8 @@ impl Parts {
         self.attempt_arrival(imp, port, frame)
     }
 
-    /// A frame comes in at a port of the IMP of this number, if it is up and has that port, and the IMP's frames go on lines.
+    /// Delivers a frame at a port of the IMP of this number, if it is up and has that port, and puts the IMP's frames
+    /// on lines.
     ///
     /// Errors: memory runs out, and nothing else.
     #[tactic(auto, using(crate::proofs::Calls::Attempting::arrive_ignores, crate::proofs::Calls::Attempting::attempted, crate::proofs::Calls::Attempting::attempt_lives, crate::proofs::Calls::Attempting::attempt_grows))]
@@ -272,7 +273,7 @@ impl Parts {
         Ok(())
     }
 
-    /// The oldest frame of a directed line, if there is one, is lost.
+    /// Loses the oldest frame of a directed line, if there is one.
     #[tactic(auto, using(crate::proofs::Calls::Carries::lost_none))]
     fn lose_first(&mut self, line: usize, direction: Direction)
         ensures lost { self.new ≡ events.drop_frame self.old line direction 0 }

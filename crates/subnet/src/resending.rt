@@ -20,8 +20,8 @@ use imp_node::{Imp, Outgoing, Port};
 use std::alloc::AllocError;
 
 impl Parts {
-    /// The IMP of this number sends again, if it is up. Where no packet waits in it, the call would do nothing else, and its frames
-    /// go on the lines one by one.
+    /// Lets the IMP of this number send again, if it is up. Where no packet waits in it, the call would do nothing
+    /// else, and its frames go on the lines one by one.
     ///
     /// Errors: memory runs out, and nothing else.
     #[tactic(auto, using(crate::proofs::Calls::Attempting::resend_ignores, crate::proofs::Calls::Resending::resent_alone, crate::proofs::Calls::Telling::told_lives, crate::proofs::Calls::Resending::resent_grows))]
@@ -38,7 +38,7 @@ impl Parts {
         self.put_resent(imp)
     }
 
-    /// Whether the IMP of this number is up and would send again and do nothing else.
+    /// Returns whether the IMP of this number is up and would send again and do nothing else.
     fn only_resends(&self, imp: u8) -> bool
         ensures sends { result ≡ true → OnlyResends (imp_at self.now.imps imp) }
         ensures there { result ≡ true → imp < length self.now.imps }
@@ -47,7 +47,7 @@ impl Parts {
         at < self.imps.len() && only_resends(&self.imps[at])
     }
 
-    /// The frames that an IMP sends again go on the lines at its ports, if it is up.
+    /// Puts the frames that an IMP sends again on the lines at its ports, if it is up.
     ///
     /// Errors: memory runs out, and nothing else.
     fn put_resent(&mut self, imp: u8) -> Result<(), AllocError>
@@ -61,7 +61,7 @@ impl Parts {
     }
 }
 
-/// Whether the IMP of a place is up and would send again and do nothing else.
+/// Returns whether the IMP of a place is up and would send again and do nothing else.
 #[tactic(auto, using(crate::proofs::Calls::Resending::resends_alone))]
 fn only_resends(place: &Option<Imp>) -> bool
     ensures { result ≡ true → OnlyResends place.now }
@@ -72,7 +72,7 @@ fn only_resends(place: &Option<Imp>) -> bool
     }
 }
 
-/// The frames that the IMP of a place sends again go on its lines, if one is up there.
+/// Puts the frames that the IMP of a place sends again on its lines, if one is up there.
 fn resend_at(lines: &mut Lines, number: u8, place: &Option<Imp>) -> Result<(), AllocError>
     ensures ok { OnOk result (lines.new ≡ put_all lines.old number (resent place.now)) }
     ensures count { length lines.new ≡ length lines.old }
@@ -84,7 +84,7 @@ fn resend_at(lines: &mut Lines, number: u8, place: &Option<Imp>) -> Result<(), A
     }
 }
 
-/// The frames that an IMP sends again go on the lines at its live ports.
+/// Puts the frames that an IMP sends again on the lines at its live ports.
 #[tactic(auto, using(crate::proofs::Calls::Resending::port_next, crate::proofs::Calls::Resending::some_resent))]
 fn resend_all(lines: &mut Lines, number: u8, imp: &Imp) -> Result<(), AllocError>
     ensures ok { OnOk result (lines.new ≡ put_all lines.old number (resent_from 0 imp.now.ports)) }
@@ -97,7 +97,7 @@ fn resend_all(lines: &mut Lines, number: u8, imp: &Imp) -> Result<(), AllocError
     Ok(())
 }
 
-/// The frames of the busy channels of a port go on the line there, if the port is live.
+/// Puts the frames of the busy channels of a port on the line there, if the port is live.
 #[tactic(auto, using(crate::proofs::Calls::Resending::channel_next, crate::proofs::Calls::Resending::none_busy, crate::proofs::Calls::Resending::some_busy))]
 fn resend_port(lines: &mut Lines, number: u8, at: u8, port: &Port) -> Result<(), AllocError>
     ensures ok { OnOk result (lines.new ≡ put_all lines.old number (resent_by at port.now)) }
@@ -116,7 +116,7 @@ fn resend_port(lines: &mut Lines, number: u8, at: u8, port: &Port) -> Result<(),
     Ok(())
 }
 
-/// The frame of a channel goes on the line at a port, if the channel is busy.
+/// Puts the frame of a channel on the line at a port, if the channel is busy.
 #[tactic(auto, using(crate::proofs::Calls::Resending::one_again, crate::proofs::Calls::Resending::one_some, crate::proofs::Calls::Resending::none_again, crate::proofs::Calls::Resending::busy_some))]
 fn resend_channel(
     lines: &mut Lines,

@@ -29,7 +29,7 @@ pub enum Sought {
 }
 
 impl Sought {
-    /// Whether an IMP holds what is sought.
+    /// Returns whether an IMP holds what is sought.
     fn is_in(&self, imp: &Imp) -> bool
         ensures { result ≡ imp_has self.now imp.now }
     {
@@ -40,7 +40,7 @@ impl Sought {
         }
     }
 
-    /// Whether the IMP of a place is up and holds what is sought.
+    /// Returns whether the IMP of a place is up and holds what is sought.
     fn is_at(&self, place: &Option<Imp>) -> bool
         ensures { result ≡ says (imp_has self.now) place.now }
     {
@@ -50,14 +50,14 @@ impl Sought {
         }
     }
 
-    /// Whether one of these IMPs holds what is sought.
+    /// Returns whether one of these IMPs holds what is sought.
     fn is_among(&self, imps: &[Option<Imp>]) -> bool
         ensures { result ≡ list_any (says (imp_has self.now)) imps.now }
     {
         imps.iter().any(|place| self.is_at(place))
     }
 
-    /// Whether this packet is sought. Numbers are compared first, since most differ.
+    /// Returns whether this packet is sought. Numbers are compared first, since most differ.
     #[tactic(auto, using(crate::proofs::Calls::Carrying::number_first))]
     fn is_packet(&self, packet: &Packet) -> bool
         ensures { result ≡ packet_is self.now packet.now }
@@ -75,7 +75,7 @@ impl Sought {
         }
     }
 
-    /// Whether a frame carries what is sought.
+    /// Returns whether a frame carries what is sought.
     fn is_carried(&self, frame: &Frame) -> bool
         ensures { result ≡ frame_has self.now frame.now }
     {
@@ -85,7 +85,7 @@ impl Sought {
         }
     }
 
-    /// Whether one of these frames carries what is sought. On most lines there is none.
+    /// Returns whether one of these frames carries what is sought. On most lines there is none.
     #[tactic(auto, using(crate::proofs::Calls::Carrying::none_under_way))]
     fn is_under_way(&self, frames: &VecDeque<Frame>) -> bool
         ensures { result ≡ list_any (frame_has self.now) frames.now.items }
@@ -96,7 +96,7 @@ impl Sought {
         frames.iter().any(|frame| self.is_carried(frame))
     }
 
-    /// Whether a live frame of a line carries what is sought.
+    /// Returns whether a live frame of a line carries what is sought.
     #[tactic(auto, using(crate::proofs::Calls::Carrying::carries_is))]
     fn is_on(&self, wire: &Wire) -> bool
         ensures { result ≡ carries (packet_is self.now) wire.now }
@@ -105,7 +105,7 @@ impl Sought {
             || self.is_under_way(wire.frames(Direction::Back))
     }
 
-    /// Whether a live frame of one of these lines carries what is sought.
+    /// Returns whether a live frame of one of these lines carries what is sought.
     fn is_on_lines(&self, lines: &[Wire]) -> bool
         ensures { result ≡ list_any (carries (packet_is self.now)) lines.now }
     {
@@ -113,7 +113,7 @@ impl Sought {
     }
 }
 
-/// Whether packets of this kind travel to the destination: pieces of messages, and questions.
+/// Returns whether packets of this kind travel to the destination: pieces of messages, and questions.
 fn is_request(kind: PacketKind) -> bool
     ensures { result ≡ is_request kind }
 {
@@ -121,14 +121,14 @@ fn is_request(kind: PacketKind) -> bool
 }
 
 impl Parts {
-    /// Whether an IMP or a live frame holds what is sought.
+    /// Returns whether an IMP or a live frame holds what is sought.
     pub(crate) fn finds(&self, sought: &Sought) -> bool
         ensures { result ≡ found sought.now self.now }
     {
         sought.is_among(&self.imps) || sought.is_on_lines(self.lines.all())
     }
 
-    /// Whether a packet or message of this flow and number is alive.
+    /// Returns whether a packet or message of this flow and number is alive.
     pub(crate) fn is_alive(&self, flow: &Flow, number: Number) -> bool
         ensures { result ≡ is_alive self.now flow.now number }
     {

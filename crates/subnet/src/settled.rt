@@ -15,8 +15,8 @@ use imp_node::Imp;
 use leader1822::{Direction, HostAddr};
 
 impl Parts {
-    /// Whether no frame is on a line, no IMP stores a packet, and what each IMP would tell its neighbours they heard last. A
-    /// quiet round then changes nothing.
+    /// Returns whether no frame is on a line, no IMP stores a packet, and what each IMP would tell its neighbours they
+    /// heard last. A quiet round then changes nothing.
     #[tactic(auto, using(crate::proofs::Calls::Settled::round_rests))]
     pub(crate) fn is_settled(&self) -> bool
         ensures { result ≡ true → events.quiet_round self.now ≡ self.now }
@@ -24,7 +24,7 @@ impl Parts {
         all_silent(self.lines.all()) && all_store_nothing(&self.imps) && self.all_have_heard()
     }
 
-    /// Whether a taking of any host of the network is refused, or gives nothing and changes nothing.
+    /// Returns whether a taking of any host of the network is refused, or gives nothing and changes nothing.
     pub(crate) fn all_take_nothing(&self) -> bool
         ensures { result ≡ true → (i : ℕ) → i < length self.now.hosts → TakesNoneAt self.now i }
     {
@@ -37,7 +37,7 @@ impl Parts {
         true
     }
 
-    /// Whether this is so of the host at this place.
+    /// Returns whether this is so of the host at this place.
     fn takes_nothing_at(&self, at: usize) -> bool
         requires { at < length self.now.hosts }
         ensures { result ≡ true → TakesNoneAt self.now at }
@@ -45,7 +45,7 @@ impl Parts {
         self.takes_nothing(&self.hosts.all()[at])
     }
 
-    /// Whether this host is down, or its IMP is, or nothing waits for it and no packet waits in its IMP.
+    /// Returns whether this host is down, or its IMP is, or nothing waits for it and no packet waits in its IMP.
     #[tactic(auto, using(crate::proofs::Calls::Restful::away_takes, crate::proofs::Calls::Restful::empty_takes))]
     fn takes_nothing(&self, host: &HostAddr) -> bool
         ensures { result ≡ true → TakesNone self.now host.now }
@@ -53,7 +53,7 @@ impl Parts {
         self.is_away(host) || self.has_nothing_for(host)
     }
 
-    /// Whether a host of an IMP is down, or the IMP is.
+    /// Returns whether a host of an IMP is down, or the IMP is.
     fn is_away(&self, host: &HostAddr) -> bool
         ensures { result ≡ is_away (imp_at self.now.imps host.now.imp) host.now.host }
     {
@@ -63,7 +63,7 @@ impl Parts {
         }
     }
 
-    /// Whether the IMPs at both ends of each line have heard last what they would be told there.
+    /// Returns whether the IMPs at both ends of each line have heard last what they would hear there.
     fn all_have_heard(&self) -> bool
         ensures { result ≡ true → (l : ℕ) (d : Direction) → l < length self.now.lines → IsHeardOn self.now l d }
     {
@@ -76,7 +76,7 @@ impl Parts {
         true
     }
 
-    /// Whether the IMPs at both ends of a line have heard last what they would be told there.
+    /// Returns whether the IMPs at both ends of a line have heard last what they would hear there.
     #[tactic(auto, using(crate::proofs::Calls::Settled::both_heard))]
     fn have_both_heard(&self, line: usize) -> bool
         requires { line < length self.now.lines }
@@ -85,7 +85,8 @@ impl Parts {
         self.has_heard(line, Direction::Forward) && self.has_heard(line, Direction::Back)
     }
 
-    /// Whether the IMP that the frames of a directed line go to has heard last what the IMP that they come from would tell it.
+    /// Returns whether the IMP that the frames of a directed line go to has heard last what the IMP that they come from
+    /// would tell it.
     #[tactic(auto, using(crate::proofs::Calls::Settled::heard_at))]
     fn has_heard(&self, line: usize, direction: Direction) -> bool
         requires { line < length self.now.lines }
@@ -104,7 +105,7 @@ impl Parts {
     }
 }
 
-/// The other direction of a line.
+/// Returns the other direction of a line.
 fn other_way(direction: Direction) -> Direction
     ensures { result ≡ settled.other_way direction }
 {
@@ -114,28 +115,28 @@ fn other_way(direction: Direction) -> Direction
     }
 }
 
-/// Whether no frame is on any of these lines.
+/// Returns whether no frame is on any of these lines.
 fn all_silent(lines: &[Wire]) -> bool
     ensures { result ≡ list_all is_silent lines.now }
 {
     lines.iter().all(|wire| is_silent(wire))
 }
 
-/// Whether no frame is on a line.
+/// Returns whether no frame is on a line.
 fn is_silent(wire: &Wire) -> bool
     ensures { result ≡ is_silent wire.now }
 {
     wire.live(Direction::Forward) == 0 && wire.live(Direction::Back) == 0
 }
 
-/// Whether none of these IMPs stores a packet.
+/// Returns whether none of these IMPs stores a packet.
 fn all_store_nothing(imps: &[Option<Imp>]) -> bool
     ensures { result ≡ list_all stores_nothing imps.now }
 {
     imps.iter().all(|imp| stores_nothing(imp))
 }
 
-/// Whether an IMP is down, or stores no packet.
+/// Returns whether an IMP is down, or stores no packet.
 fn stores_nothing(imp: &Option<Imp>) -> bool
     ensures { result ≡ stores_nothing imp.now }
 {

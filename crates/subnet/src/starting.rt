@@ -18,7 +18,7 @@ use leader1822::{CarrierFault, ImpNumber};
 use std::alloc::{AllocError, Global};
 
 impl Parts {
-    /// An IMP starts, empty and with all its hosts down.
+    /// Starts an IMP, empty and with all its hosts down.
     #[tactic(auto, using(crate::proofs::Calls::Starts::started_lives))]
     pub(crate) fn imp_up(&mut self, imp: ImpNumber) -> Result<(), CarrierFault>
         requires { AreLive self.old.imps }
@@ -43,7 +43,7 @@ impl Parts {
         Ok(())
     }
 
-    /// Whether another IMP keeps the last number of a flow from this one.
+    /// Returns whether another IMP keeps the last number of a flow from this one.
     fn is_remembered(&self, imp: ImpNumber) -> bool
         requires { AreLive self.now.imps }
         ensures { result ≡ is_remembered self.now imp }
@@ -51,7 +51,7 @@ impl Parts {
         is_kept_beside(&self.imps, imp)
     }
 
-    /// Whether a message to a host at this IMP is outstanding at another IMP.
+    /// Returns whether a message to a host at this IMP is outstanding at another IMP.
     fn is_awaited(&self, imp: ImpNumber) -> bool
         requires { AreLive self.now.imps }
         ensures { result ≡ is_awaited self.now imp }
@@ -59,7 +59,7 @@ impl Parts {
         is_awaited_beside(&self.imps, imp)
     }
 
-    /// An IMP of the network as it starts.
+    /// Returns an IMP of the network as it starts.
     #[tactic(auto, using(crate::proofs::Calls::Starts::all_ports, crate::proofs::Calls::Starts::few_sites))]
     fn started(&self, imp: ImpNumber) -> Result<Imp, AllocError>
         requires { is_imp self.now imp ≡ true }
@@ -70,7 +70,7 @@ impl Parts {
         start(self.alloc, imp, hosts, ports)
     }
 
-    /// How many hosts an IMP has; none if it isn't there.
+    /// Returns how many hosts an IMP has; none if it isn't there.
     #[tactic(auto, using(crate::proofs::Calls::Starts::few_hosts))]
     fn host_count(&self, imp: u8) -> u8
         ensures count { result ≡ hosts_at (site_at self.now imp) }
@@ -95,7 +95,7 @@ impl Parts {
     }
 }
 
-/// An IMP with so many hosts, all of which are down, and so many ports.
+/// Returns an IMP with this many hosts, all of which are down, and this many ports.
 fn start(alloc: Global, imp: ImpNumber, hosts: u8, ports: u8) -> Result<Imp, AllocError>
     requires { hosts ≤ 4 }
     ensures { IfOk result (λ s. s ≡ events.started_imp imp hosts ports) }
@@ -109,7 +109,7 @@ fn start(alloc: Global, imp: ImpNumber, hosts: u8, ports: u8) -> Result<Imp, All
     Ok(started)
 }
 
-/// Whether the IMP of a place is up and keeps a last number of a flow from this IMP.
+/// Returns whether the IMP of a place is up and keeps a last number of a flow from this IMP.
 fn keeps(place: &Option<Imp>, imp: ImpNumber) -> bool
     ensures { result ≡ says (λ s. queries.keeps s imp) place.now }
 {
@@ -119,7 +119,7 @@ fn keeps(place: &Option<Imp>, imp: ImpNumber) -> bool
     }
 }
 
-/// Whether the IMP of this place is another one that is up and keeps a last number of a flow from this IMP.
+/// Returns whether the IMP of this place is another one that is up and keeps a last number of a flow from this IMP.
 #[tactic(auto, using(crate::proofs::Calls::Starts::beside_same, crate::proofs::Calls::Starts::beside_other))]
 fn is_kept_at(at: usize, place: &Option<Imp>, imp: ImpNumber) -> bool
     requires { IsLive at place.now }
@@ -131,7 +131,7 @@ fn is_kept_at(at: usize, place: &Option<Imp>, imp: ImpNumber) -> bool
     keeps(place, imp)
 }
 
-/// Whether an IMP at another place keeps a last number of a flow from this IMP.
+/// Returns whether an IMP at another place keeps a last number of a flow from this IMP.
 fn is_kept_beside(imps: &[Option<Imp>], imp: ImpNumber) -> bool
     requires { AreLive imps.now }
     ensures { result ≡ list_any (says (λ s. not (number s == imp) && queries.keeps s imp)) imps.now }
@@ -144,7 +144,7 @@ fn is_kept_beside(imps: &[Option<Imp>], imp: ImpNumber) -> bool
     false
 }
 
-/// Whether the IMP of a place is up and has a message to a host at this IMP outstanding.
+/// Returns whether the IMP of a place is up and has a message to a host at this IMP outstanding.
 fn awaits(place: &Option<Imp>, imp: ImpNumber) -> bool
     ensures { result ≡ says (λ s. queries.awaits s imp) place.now }
 {
@@ -154,8 +154,7 @@ fn awaits(place: &Option<Imp>, imp: ImpNumber) -> bool
     }
 }
 
-/// Whether the IMP of this place is another one that is up and has a message to a host at this IMP
-/// outstanding.
+/// Returns whether the IMP of this place is another one that is up and has a message to a host at this IMP outstanding.
 #[tactic(auto, using(crate::proofs::Calls::Starts::awaited_same, crate::proofs::Calls::Starts::awaited_other))]
 fn is_awaited_at(at: usize, place: &Option<Imp>, imp: ImpNumber) -> bool
     requires { IsLive at place.now }
@@ -167,7 +166,7 @@ fn is_awaited_at(at: usize, place: &Option<Imp>, imp: ImpNumber) -> bool
     awaits(place, imp)
 }
 
-/// Whether an IMP at another place has a message to a host at this IMP outstanding.
+/// Returns whether an IMP at another place has a message to a host at this IMP outstanding.
 fn is_awaited_beside(imps: &[Option<Imp>], imp: ImpNumber) -> bool
     requires { AreLive imps.now }
     ensures { result ≡ list_any (says (λ s. not (number s == imp) && queries.awaits s imp)) imps.now }

@@ -18,7 +18,7 @@ use std::alloc::{AllocError, Global};
 const MOST_HOSTS: u8 = 4;
 
 impl Parts {
-    /// A host stops: what waits for it is cleared, and the sources of these messages are told Dead.
+    /// Stops a host: what waits for it is cleared, and the sources of these messages gets Dead.
     pub(crate) fn host_down(&mut self, host: HostAddr) -> Result<(), CarrierFault>
         requires { AreLive self.old.imps }
         ensures step { Steps (event.HostDown host) self.old self.new result }
@@ -35,7 +35,7 @@ impl Parts {
         Ok(())
     }
 
-    /// A host starts, unless a message of it is outstanding.
+    /// Starts a host, unless a message of it is outstanding.
     pub(crate) fn host_up(&mut self, host: HostAddr) -> Result<(), CarrierFault>
         requires { AreLive self.old.imps }
         ensures step { Steps (event.HostUp host) self.old self.new result }
@@ -52,7 +52,7 @@ impl Parts {
         Ok(())
     }
 
-    /// An IMP stops, and its hosts with it. What it held is gone; frames on its lines stay.
+    /// Stops an IMP, and its hosts with it. What it held is gone; frames on its lines stay.
     #[tactic(auto, using(crate::proofs::Calls::Stopping::stopped_lives))]
     pub(crate) fn imp_down(&mut self, imp: ImpNumber) -> Result<(), CarrierFault>
         requires { AreLive self.old.imps }
@@ -88,7 +88,7 @@ impl Parts {
         self.log.append(&mut downs)
     }
 
-    /// The crossings of an IMP's hosts that go down with it, the oldest first.
+    /// Returns the crossings of an IMP's hosts that go down with it, the oldest first.
     fn downs(&self, imp: ImpNumber) -> Result<Vec<Crossing>, AllocError>
         ensures downs { IfOk result (λ downs. downs.items ≡ reverse (downs_at imp (imp_at self.now.imps imp))) }
         ensures memory { OnErr result (grows_at (imp_at self.now.imps imp) has_host_up ≡ true) }
@@ -110,7 +110,7 @@ impl Parts {
     }
 }
 
-/// The crossings of an IMP's hosts that are up, as they go down, the oldest first.
+/// Returns the crossings of an IMP's hosts that are up, as they go down, the oldest first.
 #[tactic(auto, using(crate::proofs::Calls::Stopping::in_order_is))]
 fn downs_of(alloc: Global, imp: ImpNumber, up: &Imp) -> Result<Vec<Crossing>, AllocError>
     ensures downs { IfOk result (λ downs. downs.items ≡ reverse (downs_from imp 0 up.now.hosts)) }
@@ -123,7 +123,7 @@ fn downs_of(alloc: Global, imp: ImpNumber, up: &Imp) -> Result<Vec<Crossing>, Al
     Ok(downs)
 }
 
-/// Puts the crossing of one host behind the others, if that host is up.
+/// Puts the crossing of one host after the others, if that host is up.
 fn push_down(
     downs: &mut Vec<Crossing>,
     imp: ImpNumber,
@@ -141,7 +141,7 @@ fn push_down(
     Ok(())
 }
 
-/// A host of an IMP.
+/// Returns a host of an IMP.
 fn host_of(imp: ImpNumber, host: u8) -> HostAddr
     requires { host < 4 }
     ensures { result ≡ record { imp = imp; host = host } }

@@ -24,7 +24,7 @@ use std::marker::Model;
 ///
 /// Hosts offer messages to their IMPs, which cut them into packets and pass those on over lines; each packet
 /// may be lost, repeated and overtaken. Running out of memory stops the subnet: nothing more is done, and its log
-/// stands.
+/// is.
 ///
 /// Beside its parts it remembers whether it rests: a quiet round then changes nothing, and is not made. And it remembers the
 /// highest number that a message was begun with: an offer needn't look whether a higher one is alive.
@@ -52,9 +52,10 @@ impl Model for Subnet {
 }
 
 impl Subnet {
-    /// The subnet of these IMPs and lines at its opening: all IMPs, ends of lines and hosts are up. `sites` says by
-    /// number how many hosts an IMP has, 0 to 4, where there is one: there is none of the number 0, and none above
-    /// [`leader1822::MOST_IMPS`]. `hosts` are the hosts of all IMPs, one after another. There are fewer than 256 lines.
+    /// Returns the subnet of these IMPs and lines at its opening: all IMPs, ends of lines and hosts are up. `sites`
+    /// says by number how many hosts an IMP has, 0 to 4, where there is one: there is none of the number 0, and none
+    /// above [`leader1822::MOST_IMPS`]. `hosts` are the hosts of all IMPs, one after another. There are fewer than 256
+    /// lines.
     ///
     /// Errors: memory runs out, and nothing else.
     pub fn new(
@@ -78,8 +79,8 @@ impl Subnet {
         })
     }
 
-    /// Whether a packet or message of this flow and number is alive: a packet in a store, a channel, a slot or a
-    /// live frame, or a whole message that waits for its host. An answer that waits for its host does not count.
+    /// Returns whether a packet or message of this flow and number is alive: a packet in a store, a channel, a slot or
+    /// a live frame, or a whole message that waits for its host. An answer that waits for its host does not count.
     ///
     /// It takes no memory. After memory has run out, nothing is known of what is alive.
     pub fn alive(&self, flow: &Flow, number: Number) -> bool
@@ -88,7 +89,7 @@ impl Subnet {
         self.parts.is_alive(flow, number)
     }
 
-    /// Whether running out of memory has stopped it. Its log is a run, and until then it is whole.
+    /// Returns whether running out of memory has stopped it. Its log is a run, and until then it is whole.
     fn has_stopped(&self) -> bool
         ensures same { result ≡ self.now.stopped }
         ensures working { IsWorking self.now }
@@ -96,7 +97,7 @@ impl Subnet {
         self.stopped
     }
 
-    /// A message goes from its source to the subnet.
+    /// Offers a message to the subnet.
     fn offer(&mut self, message: HostMessage) -> Result<(), CarrierFault>
         ensures { SubnetOffer self.old message result self.new }
     {
@@ -112,7 +113,7 @@ impl Subnet {
         outcome
     }
 
-    /// A host takes what came for it.
+    /// Gives a host what came for it.
     fn take(&mut self, host: HostAddr) -> Result<Option<Inbound>, CarrierFault>
         ensures { SubnetTake self.old host result self.new }
     {
@@ -125,7 +126,7 @@ impl Subnet {
         self.take_out(host)
     }
 
-    /// Whether a taking of this host gives nothing and changes nothing.
+    /// Returns whether a taking of this host gives nothing and changes nothing.
     #[tactic(auto, using(crate::proofs::Calls::Working::nothing_given))]
     fn gives_nothing(&self, host: &HostAddr) -> bool
         ensures { result ≡ true → SubnetTake self.now host.now (Ok None) self.now }
@@ -133,8 +134,9 @@ impl Subnet {
         !self.stopped && self.parts.has_nothing_for(host)
     }
 
-    /// The same as [`Subnet::take`], without a look at whether anything waits. That one calls it at two places, so that the
-    /// compiler leaves it a function of its own: where nothing waits, no room is made for what it wants on the stack.
+    /// Does the same as [`Subnet::take`], without a look at whether anything waits. That one calls it at two places, so
+    /// that the compiler leaves it a function of its own: where nothing waits, no room is made for what it wants on the
+    /// stack.
     #[inline(never)]
     fn take_out(&mut self, host: HostAddr) -> Result<Option<Inbound>, CarrierFault>
         ensures { SubnetTake self.old host result self.new }
@@ -148,7 +150,7 @@ impl Subnet {
         outcome
     }
 
-    /// Something happens in the subnet.
+    /// Lets an event happen in the subnet.
     fn happen(&mut self, event: NetEvent) -> Result<(), CarrierFault>
         ensures { SubnetStep self.old event result self.new }
     {
@@ -161,7 +163,7 @@ impl Subnet {
         outcome
     }
 
-    /// Whether it is remembered that a quiet round changes nothing, and no host would get anything.
+    /// Returns whether it is remembered that a quiet round changes nothing, and no host would get anything.
     fn is_at_rest(&self) -> bool
         ensures running { result ≡ true → self.now.stopped ≡ false }
         ensures unchanged { result ≡ true → Rests SubnetRound SubnetTake self.now }
@@ -175,7 +177,7 @@ impl Subnet {
         self.parts.all_take_nothing()
     }
 
-    /// A round in which what is in transit moves on. A subnet that rests is left as it is.
+    /// Lets one round pass, in which what is in transit moves on. A subnet that rests is left as it is.
     #[tactic(auto, using(crate::proofs::Calls::Working::round_done, crate::proofs::Calls::Working::rested_round))]
     fn round(&mut self) -> Result<(), CarrierFault>
         ensures { SubnetRound self.old result self.new }
@@ -211,8 +213,8 @@ impl Carrier for Subnet {
 
     ghost rounds = { SubnetRound };
 
-    /// The message is cut into packets, which go out to the IMP of its destination; where no route leads
-    /// there, Dead waits for the source at once.
+    /// Cuts the message into packets, which go out to the IMP of its destination; without a route there, queues Dead
+    /// for the source at once.
     ///
     /// Errors: `NoSuch` where the source isn't a host of the network. `StillAlive` where a number would be begun, and
     /// either the number that lies [`link_table::numbers::WINDOW`] before the flow's last one is alive or the
@@ -223,14 +225,14 @@ impl Carrier for Subnet {
         self.offer(message)
     }
 
-    /// The host gets the oldest answer that waits for it, else the oldest message, else `None`. With a message,
-    /// RFNM goes to its source.
+    /// Gives the host the oldest answer that waits for it, else the oldest message, else `None`. With a message, RFNM
+    /// goes to its source.
     ///
     /// Errors: `NoSuch` where it isn't a host of the network, `IsDown` where it or its IMP is down, `NoRoom`
     /// where the RFNM has no place.
     #[tactic(auto, using(crate::proofs::Calls::Working::take_shown))]
     fn take_in(&mut self, host: HostAddr) -> Result<Option<Inbound>, CarrierFault> {
-        // for the proof alone: its clause `working` says that the log is a run, and the network whole until it stops
+        // for the proof only: its clause `working` says that the log is a run, and the network whole until it stops
         let _ = self.has_stopped();
         self.take(host)
     }
@@ -239,12 +241,12 @@ impl Carrier for Subnet {
     /// with its refusals in their order.
     #[tactic(auto, using(crate::proofs::Calls::Working::step_shown))]
     fn step(&mut self, event: NetEvent) -> Result<(), CarrierFault> {
-        // for the proof alone, as in `take_in`
+        // for the proof only, as in `take_in`
         let _ = self.has_stopped();
         self.happen(event)
     }
 
-    /// Each IMP that is up tells its distances and sends again; then each live frame is delivered and dropped.
+    /// Lets each IMP that is up send its distances and send again; then delivers and drops each live frame.
     #[tactic(auto, using(crate::proofs::Calls::Working::round_shown))]
     fn quiet_round(&mut self) -> Result<(), CarrierFault> {
         self.round()
@@ -266,7 +268,7 @@ impl Carrier for Subnet {
 }
 
 impl Parts {
-    /// A quiet round, which may run out of memory.
+    /// Passes a quiet round, which may run out of memory.
     fn fails_in_round(&mut self) -> bool
         requires { AreLive self.old.imps }
         ensures round { result ≡ false → self.new ≡ events.quiet_round self.old }
@@ -276,14 +278,14 @@ impl Parts {
         self.quiet_round().is_err()
     }
 
-    /// All crossings so far, the oldest first.
+    /// Returns all crossings so far, the oldest first.
     fn log(&self) -> &[Crossing]
         ensures { result.now ≡ reverse self.now.log }
     {
         &self.log
     }
 
-    /// The hosts of the network.
+    /// Returns the hosts of the network.
     fn hosts(&self) -> &[HostAddr]
         ensures { result.now ≡ self.now.hosts }
     {
@@ -291,30 +293,31 @@ impl Parts {
     }
 }
 
-/// Whether a subnet that rested before a call, or didn't, rests after it: a call that is refused changes nothing.
+/// Returns whether a subnet that rested before a call, or didn't, rests after it: a call that is refused changes
+/// nothing.
 fn still_rests(rested: bool, outcome: &Result<(), CarrierFault>) -> bool
     ensures { result ≡ (rested && is_refused outcome.now) }
 {
     rested && outcome.is_err() && !runs_out(outcome)
 }
 
-/// The same for a taking.
+/// Does the same for a taking.
 fn still_rests_taken(rested: bool, outcome: &Result<Option<Inbound>, CarrierFault>) -> bool
     ensures { result ≡ (rested && is_refused outcome.now) }
 {
     rested && outcome.is_err() && !has_run_out(outcome)
 }
 
-/// Whether memory ran out.
+/// Returns whether memory ran out.
 fn has_run_out(outcome: &Result<Option<Inbound>, CarrierFault>) -> bool
     ensures { result ≡ runs_out outcome.now }
 {
     matches!(outcome, Err(CarrierFault::OutOfMemory))
 }
 
-/// What the type of a message promises.
+/// Proves what the type of a message promises.
 ///
-/// It is there for the proof alone, and does nothing: it looks at the addresses, at the text and at the link, and the
+/// It is there for the proof only, and does nothing: it looks at the addresses, at the text and at the link, and the
 /// prover then knows their ranges.
 fn known(message: &HostMessage)
     ensures { IsHostMessage message.now }
@@ -327,7 +330,7 @@ fn known(message: &HostMessage)
     is_octet(message.flow.link.0);
 }
 
-/// A link is an octet. It is there for the proof alone.
+/// Proves that a link is an octet. It is there for the proof only.
 fn is_octet(link: u8)
     ensures { link < 256 }
 {}

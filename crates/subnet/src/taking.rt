@@ -16,7 +16,7 @@ use leader1822::{CarrierFault, Crossing, HostAddr, Inbound};
 use std::alloc::AllocError;
 
 impl Parts {
-    /// A host takes the oldest of what waits for it. What it gets is put on the log.
+    /// Gives a host the oldest of what waits for it. What it gets is put on the log.
     pub(crate) fn take_in(&mut self, host: HostAddr) -> Result<Option<Inbound>, CarrierFault>
         requires { AreLive self.old.imps }
         ensures call { CallEnds (events.take_refusal self.old host) (take_grows self.old host) (λ given. (given ≡ events.taken_by_host self.old host) × (self.new ≡ events.take_in self.old host)) self.old self.new result }
@@ -33,7 +33,8 @@ impl Parts {
         Ok(given)
     }
 
-    /// Whether this is a host of the network, and a taking of it is not refused, gives nothing and changes nothing.
+    /// Returns whether this is a host of the network, and a taking of it is not refused, gives nothing and changes
+    /// nothing.
     #[tactic(auto, using(crate::proofs::Calls::Resting::nothing_taken))]
     pub(crate) fn has_nothing_for(&self, host: &HostAddr) -> bool
         ensures accepted { result ≡ true → events.take_refusal self.now host.now ≡ None }
@@ -43,7 +44,7 @@ impl Parts {
         self.is_there(host) && self.imp_has_nothing_for(host)
     }
 
-    /// Whether a host's IMP is up and says that the host would take nothing, and that nothing would change.
+    /// Returns whether a host's IMP is up and says that the host would take nothing, and that nothing would change.
     #[tactic(auto, using(crate::proofs::Calls::Resting::rests_at))]
     fn imp_has_nothing_for(&self, host: &HostAddr) -> bool
         ensures accepted { result ≡ true → at_up (imp_at self.now.imps host.now.imp) (λ s. taking.to_host_refusal s host.now.host) ≡ None }
@@ -56,7 +57,7 @@ impl Parts {
         }
     }
 
-    /// A host of an IMP takes what waits for it, and the IMP's frames go on lines.
+    /// Gives a host of an IMP what waits for it, and puts the IMP's frames on lines.
     ///
     /// Errors: `IsDown` where the IMP is down, and then those of the IMP's call.
     fn take_from(&mut self, imp: u8, host: u8) -> Result<Option<Inbound>, CarrierFault>
@@ -85,7 +86,7 @@ impl Parts {
     }
 }
 
-/// What a host gets, as a crossing.
+/// Returns what a host gets, as a crossing.
 fn crossing_of(inbound: &Inbound) -> Result<Crossing, AllocError>
     ensures { IfOk result (λ crossing. crossing ≡ crossing_of inbound.now) }
 {
@@ -95,7 +96,7 @@ fn crossing_of(inbound: &Inbound) -> Result<Crossing, AllocError>
     }
 }
 
-/// A host takes what waits for it at the IMP of a place, if one is up there.
+/// Gives a host what waits for it at the IMP of a place, if one is up there.
 #[tactic(auto, using(crate::proofs::Calls::Ending::ends_of_turned))]
 fn take_at(
     place: &mut Option<Imp>,
@@ -111,7 +112,7 @@ fn take_at(
     }
 }
 
-/// A host takes what waits for it at the IMP of this number, if it is up.
+/// Gives a host what waits for it at the IMP of this number, if it is up.
 fn take_at_imp(
     imps: &mut [Option<Imp>],
     imp: u8,

@@ -18,8 +18,8 @@ use imp_node::{Imp, Outgoing};
 use std::alloc::AllocError;
 
 impl Parts {
-    /// The IMP of this number tells its distances, if it is up. Where no packet waits in it, the call would do nothing else, and its
-    /// frames go on the lines one by one.
+    /// Lets the IMP of this number send its distances, if it is up. Where no packet waits in it, the call would do
+    /// nothing else, and its frames go on the lines one by one.
     ///
     /// Errors: memory runs out, and nothing else.
     #[tactic(auto, using(crate::proofs::Calls::Attempting::route_ignores, crate::proofs::Calls::Telling::told_alone, crate::proofs::Calls::Telling::told_lives, crate::proofs::Calls::Telling::told_grows))]
@@ -36,7 +36,7 @@ impl Parts {
         self.put_told(imp)
     }
 
-    /// Whether the IMP of this number is up and would tell its distances and do nothing else.
+    /// Returns whether the IMP of this number is up and would tell its distances and do nothing else.
     fn only_tells(&self, imp: u8) -> bool
         ensures tells { result ≡ true → OnlyTells (imp_at self.now.imps imp) }
         ensures there { result ≡ true → imp < length self.now.imps }
@@ -45,7 +45,7 @@ impl Parts {
         at < self.imps.len() && only_tells(&self.imps[at])
     }
 
-    /// The frames that tell the distances of an IMP go on the lines at its ports, if it is up.
+    /// Puts the frames with the distances of an IMP on the lines at its ports, if it is up.
     ///
     /// Errors: memory runs out, and nothing else.
     fn put_told(&mut self, imp: u8) -> Result<(), AllocError>
@@ -59,7 +59,7 @@ impl Parts {
     }
 }
 
-/// Whether the IMP of a place is up and would tell its distances and do nothing else.
+/// Returns whether the IMP of a place is up and would tell its distances and do nothing else.
 fn only_tells(place: &Option<Imp>) -> bool
     ensures { result ≡ true → OnlyTells place.now }
 {
@@ -69,7 +69,7 @@ fn only_tells(place: &Option<Imp>) -> bool
     }
 }
 
-/// The frames that tell the distances of the IMP of a place go on its lines, if one is up there.
+/// Puts the frames with the distances of the IMP of a place on its lines, if one is up there.
 fn tell_at(lines: &mut Lines, number: u8, place: &Option<Imp>) -> Result<(), AllocError>
     ensures ok { OnOk result (lines.new ≡ put_all lines.old number (told place.now)) }
     ensures count { length lines.new ≡ length lines.old }
@@ -81,7 +81,7 @@ fn tell_at(lines: &mut Lines, number: u8, place: &Option<Imp>) -> Result<(), All
     }
 }
 
-/// The frames that tell an IMP's distances go on the lines at its live ports.
+/// Puts the frames with an IMP's distances on the lines at its live ports.
 #[tactic(auto, using(crate::proofs::Calls::Telling::told_next, crate::proofs::Calls::Telling::some_told))]
 fn tell_all(lines: &mut Lines, number: u8, imp: &Imp) -> Result<(), AllocError>
     ensures ok { OnOk result (lines.new ≡ put_all lines.old number (told_from (vector_of imp.now.routes) 0 imp.now.ports)) }
@@ -94,7 +94,7 @@ fn tell_all(lines: &mut Lines, number: u8, imp: &Imp) -> Result<(), AllocError>
     Ok(())
 }
 
-/// The frame that tells an IMP's distances at one of its ports goes on the line there, if the port is live.
+/// Puts the frame with an IMP's distances at one of its ports on the line there, if the port is live.
 #[tactic(auto, using(crate::proofs::Calls::Telling::one_told, crate::proofs::Calls::Telling::one_some, crate::proofs::Calls::Telling::none_told))]
 fn tell_one(lines: &mut Lines, number: u8, port: u8, imp: &Imp) -> Result<(), AllocError>
     ensures ok { OnOk result (lines.new ≡ put_all lines.old number (told_by (vector_of imp.now.routes) port (port_at imp.now.ports port))) }

@@ -43,7 +43,7 @@ impl Model for Wire {
 }
 
 impl Wire {
-    /// A line without frames.
+    /// Returns a line without frames.
     pub(crate) fn new(alloc: Global, ends: Ends) -> Wire
         ensures { result ≡ start.empty_wire ends }
     {
@@ -54,21 +54,21 @@ impl Wire {
         }
     }
 
-    /// The numbers of the two IMPs that it joins.
+    /// Returns the numbers of the two IMPs that it joins.
     pub fn ends(&self) -> Ends
         ensures { result ≡ record { a = self.now.a; b = self.now.b } }
     {
         self.ends
     }
 
-    /// Whether it has an end at this IMP.
+    /// Returns whether it has an end at this IMP.
     pub fn ends_at(&self, imp: u8) -> bool
         ensures { result ≡ ends_at imp self.now }
     {
         self.ends.a == imp || self.ends.b == imp
     }
 
-    /// The IMP that its frames of one direction go to.
+    /// Returns the IMP that its frames of one direction go to.
     pub fn far_end(&self, direction: Direction) -> u8
         ensures { result ≡ far_end direction self.now }
     {
@@ -78,7 +78,7 @@ impl Wire {
         }
     }
 
-    /// The frames that are live one way, the oldest first.
+    /// Returns the frames that are live one way, the oldest first.
     pub fn frames(&self, direction: Direction) -> &VecDeque<Frame>
         ensures { result.now.items ≡ frames_on direction self.now }
     {
@@ -88,7 +88,7 @@ impl Wire {
         }
     }
 
-    /// How many frames are live one way.
+    /// Returns how many frames are live one way.
     pub fn live(&self, direction: Direction) -> usize
         ensures { result ≡ length (frames_on direction self.now) }
     {
@@ -98,7 +98,7 @@ impl Wire {
         }
     }
 
-    /// A copy of the frame at a place of those that go one way; `None` where there is none.
+    /// Returns a copy of the frame at a place of those that go one way; `None` where there is none.
     ///
     /// Errors: memory runs out, and nothing else.
     pub(crate) fn copy(
@@ -115,7 +115,7 @@ impl Wire {
         }
     }
 
-    /// Takes out the oldest frame that goes one way. An empty frame stands in its place.
+    /// Takes out the oldest frame that goes one way. An empty frame is in its place.
     pub(crate) fn take_first(&mut self, direction: Direction) -> Frame
         requires { 0 < length (frames_on direction self.old) }
         ensures frame { slice_get (frames_on direction self.old) 0 ≡ Some result }
@@ -127,7 +127,7 @@ impl Wire {
         }
     }
 
-    /// The frame at a place of those that go one way is lost.
+    /// Loses the frame at a place of those that go one way.
     #[inline(always)]
     pub(crate) fn lose(&mut self, direction: Direction, place: usize)
         requires { place < length (frames_on direction self.old) }
@@ -139,8 +139,7 @@ impl Wire {
         }
     }
 
-    /// An IMP puts a frame on the line, behind the others that go the same way. On a full line the frame is
-    /// lost.
+    /// Puts a frame of an IMP on the line, after the others that go the same way. On a full line the frame is lost.
     ///
     /// Errors: memory runs out, and nothing else.
     #[inline(always)]
@@ -157,14 +156,14 @@ impl Wire {
     }
 }
 
-/// The frame at a place.
+/// Returns the frame at a place.
 fn frame_at(frames: &VecDeque<Frame>, place: usize) -> Option<&Frame>
     ensures { option_copied result ≡ slice_get frames.now.items place }
 {
     frames.get(place)
 }
 
-/// A copy of the frame at a place.
+/// Returns a copy of the frame at a place.
 #[tactic(auto, using(crate::proofs::Calls::Delivering::copy_wanted))]
 fn copied(frames: &VecDeque<Frame>, place: usize) -> Result<Option<Frame>, AllocError>
     ensures ok { IfOk result (λ frame. frame ≡ slice_get frames.now.items place) }
@@ -205,8 +204,8 @@ fn lose(frames: &mut VecDeque<Frame>, place: usize)
     }
 }
 
-/// An empty queue begins at the start of its memory again. So the frames of one round lie where those of the last one lay, and the
-/// processor still has that memory at hand.
+/// Makes an empty queue begin at the start of its memory again. So the frames of one round lie where those of the last
+/// one lay, and the processor still has that memory at hand.
 fn rewind(frames: &mut VecDeque<Frame>)
     requires { frames.old.items ≡ [] }
     ensures { frames.new.items ≡ [] }
@@ -216,7 +215,7 @@ fn rewind(frames: &mut VecDeque<Frame>)
     *frames = VecDeque::from_vec(empty.into_vec());
 }
 
-/// Puts a frame behind the others, if there is a place for it.
+/// Puts a frame after the others, if there is a place for it.
 #[inline(always)]
 fn follow(frames: &mut VecDeque<Frame>, frame: Frame) -> Result<(), AllocError>
     ensures { OnOk result (frames.new.items ≡ followed_by frames.old.items frame) }

@@ -43,7 +43,7 @@ fn flow_of(way: Way) -> Flow {
 /// Something done to an IMP, or looked up in it.
 #[derive(Clone, Copy)]
 pub(crate) enum Act {
-    /// A host hands over a message of this flow, with so many bits of the octets beside it.
+    /// A host hands over a message of this flow, with this many bits of the octets beside it.
     Offer(Way, usize),
     /// The frame of the octets beside it comes in at this port.
     Hear(u8),
@@ -51,7 +51,7 @@ pub(crate) enum Act {
     Take(u8),
     /// Frames are sent again.
     Resend,
-    /// Distances are told.
+    /// Distances are sent.
     Route,
     /// The end of the line at this port goes down.
     EndDown(u8),
@@ -77,7 +77,7 @@ pub(crate) enum Act {
     Takes(u8),
     /// The acknowledgement of the frame of the octets beside it, which was taken at this port before.
     Answers(u8),
-    /// Whether what IMP 2, with so many ports, tells as it opens was heard last at this port.
+    /// Whether what IMP 2, with this many ports, tells as it opens was heard last at this port.
     HasHeard(u8, u8),
     /// All queries are made about a flow and its message 0.
     Look(Way),
@@ -87,7 +87,7 @@ pub(crate) enum Act {
 /// goes out, its port before its octets.
 #[derive(Clone, Copy)]
 pub(crate) enum Want {
-    /// So many frames go out.
+    /// This many frames go out.
     Sent(usize),
     /// It is refused.
     Refused(CarrierFault),
@@ -95,7 +95,7 @@ pub(crate) enum Want {
     Nothing,
     /// The host gets this answer.
     Answered(Answer, Way),
-    /// The host gets a message of so many bits, and so many frames go out.
+    /// The host gets a message of this many bits, and this many frames go out.
     Given(Way, usize, usize),
     /// The host is up, or it isn't.
     Up(bool),
@@ -108,7 +108,7 @@ pub(crate) enum Want {
 /// What came of it.
 #[derive(Clone, Copy, PartialEq)]
 pub(crate) enum Outcome {
-    /// So many frames go out.
+    /// This many frames go out.
     Sent(usize),
     /// It is refused.
     Refused(CarrierFault),
@@ -116,7 +116,7 @@ pub(crate) enum Outcome {
     Nothing,
     /// The host gets this answer.
     Answered(Answer, Flow),
-    /// The host gets a message of so many bits, and so many frames go out.
+    /// The host gets a message of this many bits, and this many frames go out.
     Given(Flow, usize, usize),
     /// The host is up, or it isn't.
     Up(bool),
@@ -162,7 +162,7 @@ fn wanted(want: Want) -> Outcome {
 /// An act, the octets that go in, what comes of it, and the octets that come out.
 pub(crate) type Row<'a> = (Act, &'a [u8], Want, &'a [u8]);
 
-/// Puts frames behind the octets that are there, each with its port. It answers how many they are.
+/// Puts frames after the octets that are there, each with its port. It answers how many they are.
 fn spell(alloc: Global, frames: &[Outgoing], out: &mut Vec<u8>) -> Result<usize, CarrierFault> {
     for Outgoing { port, frame } in frames {
         let Ok(octets) = frame.write(alloc) else {
@@ -190,7 +190,7 @@ fn sent(
     }
 }
 
-/// A message of this flow: so many bits of these octets.
+/// A message of this flow: this many bits of these octets.
 fn message(
     alloc: Global,
     flow: Flow,
@@ -271,13 +271,13 @@ fn answered(
     sent(alloc, Ok(frames), out)
 }
 
-/// Whether what IMP 2, with so many ports, tells as it opens was heard last at a port.
+/// Whether what IMP 2, with this many ports, tells as it opens was heard last at a port.
 fn heard(alloc: Global, imp: &Imp, port: u8, ports: u8) -> Result<Outcome, CarrierFault> {
     let other = opened(alloc, 2, ports)?;
     Ok(Outcome::Is(imp.has_heard(port, &other, 0)))
 }
 
-/// What a host got, with so many frames: a message's text is put behind the octets.
+/// What a host got, with this many frames: a message's text is put after the octets.
 fn got(given: Option<Inbound>, frames: usize, out: &mut Vec<u8>) -> Result<Outcome, CarrierFault> {
     match given {
         None => Ok(Outcome::Nothing),
@@ -343,7 +343,7 @@ fn forget(
     sent(alloc, imp.forget(other), out)
 }
 
-/// What comes of an act with these octets. The octets that come out are put behind those that are there.
+/// What comes of an act with these octets. The octets that come out are put after those that are there.
 fn outcome_of(
     alloc: Global,
     imp: &mut Imp,
@@ -421,7 +421,7 @@ fn number(imp: u8) -> ImpNumber
     ImpNumber::new(imp).unwrap()
 }
 
-/// IMP `own` with two hosts and so many ports.
+/// IMP `own` with two hosts and this many ports.
 fn opened(alloc: Global, own: u8, ports: u8) -> Result<Imp, CarrierFault>
     requires low { 1 ≤ own }
     requires high { own ≤ 63 }
@@ -433,7 +433,7 @@ fn opened(alloc: Global, own: u8, ports: u8) -> Result<Imp, CarrierFault>
     Ok(imp)
 }
 
-/// The place of the first row that something else comes of, at IMP `own` with so many ports.
+/// The place of the first row that something else comes of, at IMP `own` with this many ports.
 pub(crate) fn other_at(
     alloc: Global,
     own: u8,

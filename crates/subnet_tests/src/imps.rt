@@ -62,7 +62,7 @@ fn a_message_without_a_route_is_dead_at_once(rt: HostRuntime) {
     assert_eq!(rt; other_at(rt.alloc(), 1, 1, &UNROUTED), Ok(None));
 }
 
-/// The octets of a text of 8063 bits, 126 times each of 0 to 7, the last bit a zero, and these octets behind them.
+/// The octets of a text of 8063 bits, 126 times each of 0 to 7, the last bit a zero, and these octets after them.
 pub(crate) fn long_text(alloc: Global, behind: &[u8]) -> Result<Vec<u8>, AllocError> {
     let mut octets = Vec::new(alloc);
     for place in 0..8u8 {
@@ -453,7 +453,7 @@ fn a_message_that_never_came_is_told_as_not_taken(rt: HostRuntime) {
     assert_eq!(rt; other_at(rt.alloc(), 1, 1, &ASKED), Ok(None));
 }
 
-/// The source goes down while its message is outstanding: it is asked for all the same, and the source is told nothing.
+/// The source goes down while its message is outstanding: it is asked for all the same, and the source gets no notice.
 const ASKED_DOWN: [Row<'static>; 7] = [
     (Act::Hear(0), &FROM_2, Want::Sent(0), &[]),
     (

@@ -50,7 +50,7 @@ const AGAIN: [Row; 5] = [
     (Act::IsAlive(Who::Far, 0), Want::Alive(true)),
 ];
 
-/// How many of so many messages go as these rows have to, from the first on.
+/// How many of this many messages go as these rows have to, from the first on.
 fn repeated(alloc: Global, subnet: &mut Subnet, rows: &[Row], count: usize) -> usize {
     for place in 0..count {
         if fitting(alloc, subnet, rows) != rows.len() {

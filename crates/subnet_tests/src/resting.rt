@@ -45,7 +45,7 @@ const TAKEN: [Row<'static>; 29] = [
     (Act::Resend, &[], Want::Sent(1), &EIGHT_BITS_OUT),
     (Act::Takes(0), &ACK_0, Want::Is(true), &[]),
     (Act::Resend, &[], Want::Sent(0), &[]),
-    // all its distances are told anew
+    // all its Distances are sent anew
     (Act::Hear(0), &FROM_3, Want::Sent(0), &[]),
     (Act::HasHeard(0, 1), &[], Want::Is(false), &[]),
     (Act::Takes(0), &FROM_3, Want::Is(true), &[]),

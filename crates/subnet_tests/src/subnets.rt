@@ -1,8 +1,8 @@
 //! Worked examples of a subnet, by its calls.
 //!
-//! Each test is a table of acts, each with what has to come of it. Three IMPs stand in a row: line 0 joins IMPs 1
+//! Each test is a table of acts, each with what has to come of it. Three IMPs are in a row: line 0 joins IMPs 1
 //! and 2, and line 1 IMPs 2 and 3. IMP 1 has hosts 0 and 1, and the others have host 0. Some rows have IMPs 1 and
-//! 2 alone, each with host 0.
+//! 2 only, each with host 0.
 
 use bit_messages::Bits;
 use leader1822::{
@@ -51,13 +51,13 @@ fn flow_to(who: Who, link: u8) -> Flow {
 /// link is told.
 #[derive(Clone, Copy)]
 pub(crate) enum Act {
-    /// A message on this link is offered, with so many bits of octets that are all this one.
+    /// A message on this link is offered, with this many bits of octets that are all this one.
     Offer(Who, u8, usize, u8),
     /// This host takes what waits for it.
     Take(Who),
     /// This happens.
     Step(Event),
-    /// So many quiet rounds.
+    /// This many quiet rounds.
     Rounds(u8),
     /// Whether something of the flow's message with this number is alive.
     IsAlive(Who, Number),
@@ -117,7 +117,7 @@ pub(crate) enum Event {
     Forget(At),
 }
 
-/// An event as a carrier is told of it.
+/// An event as a carrier is notified of it.
 fn event_of(event: Event) -> NetEvent {
     match event {
         Event::Deliver(direction, frame) => NetEvent::Deliver {
@@ -169,7 +169,7 @@ pub(crate) enum Want {
     Nothing,
     /// The host gets this answer.
     Answered(Answer, Who),
-    /// The host gets a message on this link of so many bits, the first eight of which are this octet.
+    /// The host gets a message on this link of this many bits, the first eight of which are this octet.
     Given(Who, u8, usize, u8),
     /// Something is alive, or nothing is.
     Alive(bool),
@@ -188,7 +188,7 @@ pub(crate) enum Outcome {
     Nothing,
     /// The host gets this answer.
     Answered(Answer, Flow),
-    /// The host gets a message of so many bits, and this is its first octet, or 0 without one.
+    /// The host gets a message of this many bits, and this is its first octet, or 0 without one.
     Given(Flow, usize, u8),
     /// Something is alive, or nothing is.
     Alive(bool),
@@ -217,7 +217,7 @@ fn done(reply: Result<(), CarrierFault>) -> Outcome {
     }
 }
 
-/// What comes of an offer: so many bits of octets that are all this one.
+/// What comes of an offer: this many bits of octets that are all this one.
 fn offer(alloc: Global, subnet: &mut Subnet, flow: Flow, bits: usize, octet: u8) -> Outcome {
     let Ok(bits) = Bits::from_octets(alloc, &[octet; 127], bits) else {
         return Outcome::Refused(CarrierFault::OutOfMemory);
@@ -245,7 +245,7 @@ fn taken(reply: Result<Option<Inbound>, CarrierFault>) -> Outcome {
     }
 }
 
-/// What comes of so many quiet rounds.
+/// What comes of this many quiet rounds.
 fn rounds(subnet: &mut Subnet, count: u8) -> Result<(), CarrierFault> {
     for _ in 0..count {
         subnet.quiet_round()?;
@@ -375,7 +375,7 @@ fn a_subnet_has_the_hosts_of_its_imps(rt: HostRuntime) {
     assert_eq!(rt; has_hosts(rt.alloc()), Ok(true));
 }
 
-/// How many lines the row of three has, and how IMP 2 is told of before it stops and after, and IMPs 0, 4 and 255, which aren't there.
+/// How many lines the row of three has, and how IMP 2 is notified of before it stops and after, and IMPs 0, 4 and 255, which aren't there.
 fn counted(alloc: Global) -> Result<(u32, [Option<u8>; 5]), AllocError> {
     let mut subnet = row(alloc)?;
     let up = numbered(&subnet, 2);
@@ -480,7 +480,7 @@ const SEVENTEENTH: [Row; 3] = [
     (Act::Offer(Who::Beside, 16, 0, 0), Want::Done),
 ];
 
-/// How many of sixteen messages are accepted, and how many rows go as they have to behind them.
+/// How many of sixteen messages are accepted, and how many rows go as they have to after them.
 fn filled(alloc: Global) -> Result<[usize; 2], AllocError> {
     let mut subnet = row(alloc)?;
     let accepted = fitting(alloc, &mut subnet, &SIXTEEN);
@@ -601,7 +601,7 @@ fn a_lost_rfnm_comes_by_asking(rt: HostRuntime) {
     assert_eq!(rt; played_by_two(rt.alloc(), &RFNM_LOST, log), Ok((11, true)));
 }
 
-/// A question while the message waits for its host: nothing is told, and it is answered when it is taken.
+/// A question while the message waits for its host: nobody is notified, and it is answered when it is taken.
 const STILL_WAITS: [Row; 12] = [
     (Act::Rounds(2), Want::Done),
     (Act::Offer(Who::Near, 5, 8, 0xFF), Want::Done),

@@ -21,7 +21,7 @@ use Rattle.subnet_trace.specs.declared.place.Stage.TheVariants as stage
 
 -- ---- when an event does something
 
--- the numbers from `i` on, of so many in all
+-- the numbers from `i` on, of this many in all
 abbrev pub numbers_from : ℕ → ℕ → List ℕ
 numbers_from i count = range_with_len i (count - i)
 
@@ -75,7 +75,7 @@ delivering round l d n = if is_heard n l d then calling round (net.Deliver l d 0
 abbrev pub dropping : ℕ → ℕ → Direction → Net → Course Net
 dropping round l d n = calling round (net.Drop l d 0) n
 
--- so many frames of a directed line, the oldest first, if they are live
+-- this many frames of a directed line, the oldest first, if they are live
 abbrev pub carrying : ℕ → ℕ → Direction → ℕ → Net → Course Net
 carrying round l d zero n = no_course n
 carrying round l d (suc frames) n =
@@ -109,7 +109,7 @@ round_from_imp round i n = then_course (all_refreshing round (numbers_from i (le
 abbrev pub round_of : ℕ → Net → Course Net
 round_of round n = round_from_imp round 0 n
 
--- the elementary events of a calm of so many rounds
+-- the elementary events of a calm of this many rounds
 abbrev pub calm_of : Net → ℕ → List Element
 calm_of n rounds = (rounds_from round_of 1 rounds n).elements
 
@@ -123,7 +123,7 @@ abbrev pub imp_left : ℕ → ℕ → Bool → Net → Course Net
 imp_left round i false n = round_from_imp round i n
 imp_left round i true n = then_course (sending round i n) (round_from_imp round (i + 1))
 
--- what is left of a line's turn: the frame that was delivered is dropped, where one was, and then so many frames are carried
+-- what is left of a line's turn: the frame that was delivered is dropped, where one was, and then this many frames are carried
 abbrev pub turn_left : ℕ → ℕ → Direction → ℕ → Bool → Net → Course Net
 turn_left round l d frames false n = carrying round l d frames n
 turn_left round l d frames true n = then_course (dropping round l d n) (carrying round l d frames)
@@ -144,6 +144,6 @@ round_left round stage.Over n = no_course n
 abbrev pub calm_left : Net → Place → List Element
 calm_left n p = rest_of_calm round_of p.round p.rounds (round_left p.round p.stage n)
 
--- where a calm of so many rounds begins
+-- where a calm of this many rounds begins
 abbrev pub beginning : ℕ → Place
 beginning rounds = record { round = 0; rounds = rounds; stage = stage.Over }

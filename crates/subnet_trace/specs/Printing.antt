@@ -13,7 +13,7 @@ use Rattle.trace.specs.Texts.{member}
 
 -- ---- lists
 
--- what follows an item of a list: its end, or what stands between two items, and the next one
+-- what follows an item of a list: its end, or what is between two items, and the next one
 abbrev pub following : List ℕ → List ℕ → List (List ℕ) → List ℕ
 following between end [] = end
 following between end (x ∷ xs) = between ++ (x ++ following between end xs)
@@ -30,7 +30,7 @@ mark first other (suc place) = other
 
 -- ---- distances
 
--- the distance to an IMP, behind so many others; nothing where there is no way
+-- the distance to an IMP, after this many others; nothing where there is no way
 abbrev pub distance_behind : ℕ → ℕ → ℕ → List ℕ
 distance_behind place imp d = if nat_lt d infinite then mark (codes "{") (codes ",") place ++ member (decimal imp) (decimal d) else []
 
@@ -46,7 +46,7 @@ known_text word number e = words (word e.1 ∷ flow_text e.0 ∷ decimal (number
 
 -- ---- parts
 
--- a line of an IMP behind another part; nothing for another line
+-- a line of an IMP after another part; nothing for another line
 abbrev pub line_behind : ℕ → ℕ → Wire → List ℕ
 line_behind i l w = if ends_at i w then codes "," ++ member (part_name (Line l)) (line_text w) else []
 

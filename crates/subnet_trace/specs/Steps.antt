@@ -50,7 +50,7 @@ abbrev pub call_of : Net → ℕ → Bool → Option (RawEvent × Stage)
 call_of n i false = if is_working n i then Some (event.Net (net.Route i), stage.Refreshing i true) else None
 call_of n i true = if can_resend n i then Some (event.Net (net.Resend i), stage.Refreshing (i + 1) false) else None
 
--- the oldest frame of a directed line is delivered or dropped; so many frames are left after it
+-- the oldest frame of a directed line is delivered or dropped; this many frames are left after it
 abbrev pub frame_moved : Net → ℕ → Direction → ℕ → RawEvent × Stage
 frame_moved n l d frames = if is_heard n l d then (event.Net (net.Deliver l d 0), stage.Carrying l d frames true) else (event.Net (net.Drop l d 0), stage.Carrying l d frames false)
 

@@ -107,7 +107,7 @@ channel_text channel = words (bit_text channel.bit ∷ held_words channel.packet
 abbrev pub port_object : Port → List ℕ
 port_object p = object (member (codes "up") (bool_text p.up) ∷ member (codes "sending") (strings (map channel_text p.line.sending)) ∷ member (codes "expected") (quoted (bits_text p.line.expected)) ∷ [])
 
--- what a neighbour told last
+-- what a neighbour announced last
 abbrev pub heard_text : Option (List ℕ) → List ℕ
 heard_text None = codes "null"
 heard_text (Some distances) = distances_text distances

@@ -80,7 +80,7 @@ sending_at_2 = (pump [] (imp 2 (Some from_1 ∷ []) (answer_packet kind.Rfnm our
 abbrev pub full_at_2 : State
 full_at_2 = record (pump [] (imp 2 (Some from_1 ∷ []) (packets_to 1 32))).state { hosts = serving_ours.hosts }
 
--- IMP 1 is up alone, holds a packet, and its line leads back to it
+-- IMP 1 is up only, holds a packet, and its line leads back to it
 abbrev pub looping : Net
 looping = record (pair (Some sending_ours) None [] []) { lines = record { a = 1; b = 1; forward = []; back = [] } ∷ [] }
 

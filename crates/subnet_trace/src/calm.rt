@@ -24,7 +24,7 @@ use trace::Element;
 /// How often a host takes in one round at most.
 const TAKINGS: u8 = 16;
 
-/// The next elementary event of a calm, and the place after it; `None` where the calm is over.
+/// Returns the next elementary event of a calm, and the place after it; `None` where the calm is over.
 ///
 /// Where nothing comes from the beginning of a round to its end the calm is over: nothing changes, so nothing comes in
 /// any later round either.
@@ -51,7 +51,7 @@ pub(crate) fn next_in_calm(subnet: &Subnet, place: Place) -> Option<(Element, Pl
     }
 }
 
-/// An event in the round of a place, and the place after it.
+/// Returns an event in the round of a place, and the place after it.
 fn in_round(place: Place, event: RawEvent, stage: Stage) -> (Element, Place)
     ensures { result ≡ (record { round = place.round; event = event }, record place { stage = stage }) }
 {
@@ -62,7 +62,7 @@ fn in_round(place: Place, event: RawEvent, stage: Stage) -> (Element, Place)
     (element, Place { stage, ..place })
 }
 
-/// The next event of a round, and the stage after it; `None` where the round is over.
+/// Returns the next event of a round, and the stage after it; `None` where the round is over.
 fn next_in_round(subnet: &Subnet, stage: Stage) -> Option<(RawEvent, Stage)>
     ensures { IsNext subnet.now.net (λ round. round_left round stage subnet.now.net) result }
 {
@@ -81,7 +81,7 @@ fn next_in_round(subnet: &Subnet, stage: Stage) -> Option<(RawEvent, Stage)>
 
 // ---- IMPs
 
-/// The next event from an IMP on, which has told its distances, or has not.
+/// Returns the next event from an IMP on, which has told its distances, or has not.
 fn from_imp(subnet: &Subnet, imp: u8, mut told: bool) -> Option<(RawEvent, Stage)>
     ensures { IsNext subnet.now.net (λ round. imp_left round imp told subnet.now.net) result }
 {
@@ -94,7 +94,8 @@ fn from_imp(subnet: &Subnet, imp: u8, mut told: bool) -> Option<(RawEvent, Stage
     from_line(subnet, 0)
 }
 
-/// What an IMP does, if it is up: it tells its distances, or, where it has told them, sends again if it holds a packet.
+/// Returns what an IMP does, if it is up: it tells its distances, or, where it has told them, sends again if it holds a
+/// packet.
 fn call_of(subnet: &Subnet, number: u8, told: bool) -> Option<(RawEvent, Stage)>
     ensures { result ≡ steps.call_of subnet.now.net number told }
 {
@@ -116,7 +117,7 @@ fn call_of(subnet: &Subnet, number: u8, told: bool) -> Option<(RawEvent, Stage)>
     Some((RawEvent::Net(NetEvent::Resend(imp)), next))
 }
 
-/// The IMP of this number, if the network has it and it is up.
+/// Returns the IMP of this number, if the network has it and it is up.
 fn working(subnet: &Subnet, number: u8) -> Option<ImpNumber>
     ensures { result ≡ (if is_working subnet.now.net number then Some number else None) }
 {
@@ -127,7 +128,7 @@ fn working(subnet: &Subnet, number: u8) -> Option<ImpNumber>
     }
 }
 
-/// Whether the IMP of this number is up and holds a packet.
+/// Returns whether the IMP of this number is up and holds a packet.
 fn holds_packet(subnet: &Subnet, number: u8) -> bool
     ensures { result ≡ says queries.holds_packet (imp_at subnet.now.net.imps number) }
 {
@@ -139,7 +140,7 @@ fn holds_packet(subnet: &Subnet, number: u8) -> bool
 
 // ---- lines
 
-/// The next event from a line on.
+/// Returns the next event from a line on.
 fn from_line(subnet: &Subnet, line: usize) -> Option<(RawEvent, Stage)>
     ensures { IsNext subnet.now.net (λ round. round_from_line round line subnet.now.net) result }
 {
@@ -155,7 +156,7 @@ fn from_line(subnet: &Subnet, line: usize) -> Option<(RawEvent, Stage)>
     from_host(subnet, 0, TAKINGS)
 }
 
-/// The next event in the turn of a directed line, of which so many frames are left, or after it.
+/// Returns the next event in the turn of a directed line, of which this many frames are left, or after it.
 fn from_frame(
     subnet: &Subnet,
     line: u32,
@@ -174,7 +175,7 @@ fn from_frame(
     after_turn(subnet, line, direction)
 }
 
-/// The next event after the turn of a directed line.
+/// Returns the next event after the turn of a directed line.
 fn after_turn(subnet: &Subnet, line: u32, direction: Direction) -> Option<(RawEvent, Stage)>
     ensures { IsNext subnet.now.net (λ round. elements.after_turn round line direction subnet.now.net) result }
 {
@@ -184,7 +185,7 @@ fn after_turn(subnet: &Subnet, line: u32, direction: Direction) -> Option<(RawEv
     from_line(subnet, line as usize + 1)
 }
 
-/// The first event in a line's other turn: after the turn forward comes the turn back, and after that none.
+/// Returns the first event in a line's other turn: after the turn forward comes the turn back, and after that none.
 fn begin_other_turn(subnet: &Subnet, line: u32, direction: Direction) -> Option<(RawEvent, Stage)>
     ensures { result ≡ steps.other_turn_begun subnet.now.net line direction }
 {
@@ -194,7 +195,7 @@ fn begin_other_turn(subnet: &Subnet, line: u32, direction: Direction) -> Option<
     }
 }
 
-/// The first event in the turn of a directed line; `None` where no frame of it is live.
+/// Returns the first event in the turn of a directed line; `None` where no frame of it is live.
 fn begin_turn(subnet: &Subnet, line: u32, direction: Direction) -> Option<(RawEvent, Stage)>
     ensures { result ≡ steps.turn_begun subnet.now.net line direction }
 {
@@ -206,8 +207,8 @@ fn begin_turn(subnet: &Subnet, line: u32, direction: Direction) -> Option<(RawEv
     }
 }
 
-/// The oldest frame of a directed line is delivered, if the IMP at the far end is up, and else dropped. So many frames
-/// are left after it.
+/// Delivers the oldest frame of a directed line, if the IMP at the far end is up, and else drops it. This many frames are
+/// left after it.
 fn move_frame(subnet: &Subnet, line: u32, direction: Direction, frames: usize) -> (RawEvent, Stage)
     requires { line < length subnet.now.net.lines }
     ensures { result ≡ steps.frame_moved subnet.now.net line direction frames }
@@ -229,7 +230,7 @@ fn move_frame(subnet: &Subnet, line: u32, direction: Direction, frames: usize) -
     (RawEvent::Net(event), next)
 }
 
-/// The oldest frame of a directed line is dropped. So many frames are left after it.
+/// Drops the oldest frame of a directed line. This many frames are left after it.
 fn drop_frame(line: u32, direction: Direction, frames: usize) -> (RawEvent, Stage)
     ensures { result ≡ (event.Net (net.Drop line direction 0), stages.Carrying line direction frames false) }
 {
@@ -247,7 +248,7 @@ fn drop_frame(line: u32, direction: Direction, frames: usize) -> (RawEvent, Stag
     (RawEvent::Net(event), next)
 }
 
-/// Whether the IMP at the far end of a directed line is up.
+/// Returns whether the IMP at the far end of a directed line is up.
 fn is_heard(subnet: &Subnet, line: u32, direction: Direction) -> bool
     requires { line < length subnet.now.net.lines }
     ensures { result ≡ elements.is_heard subnet.now.net line direction }
@@ -256,7 +257,7 @@ fn is_heard(subnet: &Subnet, line: u32, direction: Direction) -> bool
     subnet.imp(wire.far_end(direction)).is_some()
 }
 
-/// How many frames of a directed line are live; none where there is no such line.
+/// Returns how many frames of a directed line are live; none where there is no such line.
 fn live(subnet: &Subnet, line: u32, direction: Direction) -> usize
     ensures frames { result ≡ live_frames subnet.now.net line direction }
     ensures line { 0 < result → line < length subnet.now.net.lines }
@@ -272,7 +273,7 @@ fn live(subnet: &Subnet, line: u32, direction: Direction) -> usize
 
 // ---- hosts
 
-/// The next taking of a host that gives something, from this host on, which may take so many times.
+/// Returns the next taking of a host that gives something, from this host on, which may take this many times.
 fn from_host(subnet: &Subnet, host: usize, mut times: u8) -> Option<(RawEvent, Stage)>
     ensures { IsNext subnet.now.net (λ round. takings_from from_subnet round (drop host subnet.now.net.hosts) times subnet.now.net) result }
 {

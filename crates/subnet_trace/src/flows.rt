@@ -22,11 +22,11 @@ pub(crate) trait Known {
     /// The number that it is about.
     ghost number: { Self → ℕ };
 
-    /// Its word.
+    /// Returns its word.
     fn word(&self) -> &'static str
         ensures { result.now ≡ word self.now };
 
-    /// The number that it is about.
+    /// Returns the number that it is about.
     fn number(&self) -> Number
         ensures { result ≡ number self.now };
 }

@@ -17,7 +17,7 @@ use replay::{Output, WriteFailed, print_text};
 use routing::Vector;
 use trace::answer_word;
 
-/// The word of a truth value.
+/// Returns the word of a truth value.
 fn word_of(up: bool) -> &'static str
     ensures { result.now ≡ bool_text up }
 {
@@ -129,7 +129,7 @@ impl Listed for Slots<'_> {
     }
 }
 
-/// Prints the beginning of an IMP: its hosts, its ends of lines, and what its neighbours told.
+/// Prints the beginning of an IMP: its hosts, its ends of lines, and what its neighbours announced.
 fn print_ends<W: Output>(imp: &Imp, writer: &mut W) -> Result<(), WriteFailed>
     requires { W.failed writer.old ≡ false }
     ensures written { OnOk result (Appends (W.contents writer.old) (W.contents writer.new) (codes "{\"hosts\":" ++ (array (map host_object imp.now.hosts) ++ (codes ",\"ports\":" ++ (array (map port_object imp.now.ports) ++ (codes ",\"routes\":" ++ array (map heard_text imp.now.routes.heard))))))) }

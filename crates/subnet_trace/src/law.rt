@@ -15,7 +15,7 @@ ghost use Rattle.subnet_trace.specs.Parts.{Part, SamePart, is_named, is_part, of
 ghost use Rattle.subnet_trace.specs.Told.{IsOneNetwork, IsPlaced, IsReached, IsTold, SameTexts};
 ghost use Rattle.trace.specs.Elements.{events_of};
 
-/// An event of a script is its elementary events one after another: each of them alone, as a line of a script, leaves what the
+/// An event of a script is its elementary events one after another: each of them only, as a line of a script, leaves what the
 /// event leaves and prints what it prints. So a calm is a list of calls of the subnet.
 pub fn elementary()
     // of subnets that have no IMP where their network has none

@@ -1,7 +1,7 @@
 //! Traces of subnets: what happens inside IMPs and on lines, event by event.
 //!
 //! The *parts* of a subnet are its IMPs and its lines. Each has a JSON text, which tells all that is in it: an IMP's hosts
-//! with what waits for them, its ports with their channels, what its neighbours told, the packets that it stores, the
+//! with what waits for them, its ports with their channels, what its neighbours announced, the packets that it stores, the
 //! messages in reassembly and what it knows of flows; and the frames that are live on a line. An elementary event can
 //! change only the parts that `parts_of` names, and [`print_parts`] prints these.
 //!

@@ -26,7 +26,7 @@ pub(crate) trait Listed {
     /// Their texts.
     ghost texts: { Self → List (List ℕ) };
 
-    /// How many there are.
+    /// Returns how many there are.
     fn count(&self) -> usize
         ensures { result ≡ length (texts self.now) };
 
@@ -66,14 +66,14 @@ impl<T: Item> Listed for &VecDeque<T> {
     }
 }
 
-/// One mark at place 0, and another at any other place.
+/// Returns one mark at place 0, and another at any other place.
 pub(crate) fn mark<'a>(first: &'a str, other: &'a str, place: usize) -> &'a str
     ensures { result.now ≡ mark first.now other.now place }
 {
     if place == 0 { first } else { other }
 }
 
-/// Prints the items of a list that isn't empty, with its beginning, what stands between two items, and its end.
+/// Prints the items of a list that isn't empty, with its beginning, what is between two items, and its end.
 fn print_joined<L: Listed, W: Output>(
     list: &L,
     begin: &str,

@@ -13,7 +13,7 @@ use packetiser::{Packet, PacketKind};
 use replay::{Output, WriteFailed, print_bits};
 use routing::{INFINITE, Vector};
 
-/// The word of a kind of packet.
+/// Returns the word of a kind of packet.
 fn word_of(kind: PacketKind) -> &'static str
     ensures { result.now ≡ kind_word kind }
 {
@@ -26,28 +26,28 @@ fn word_of(kind: PacketKind) -> &'static str
     }
 }
 
-/// The word that tells whether a packet has the last piece of its message.
+/// Returns the word that tells whether a packet has the last piece of its message.
 fn last_word(last: bool) -> &'static str
     ensures { result.now ≡ last_word last }
 {
     if last { "last" } else { "more" }
 }
 
-/// A bit as a digit.
+/// Returns a bit as a digit.
 pub(crate) fn digit(bit: bool) -> &'static str
     ensures { result.now ≡ bit_text bit }
 {
     if bit { "1" } else { "0" }
 }
 
-/// A bit as the octet of a digit.
+/// Returns a bit as the octet of a digit.
 fn digit_octet(bit: bool) -> u8
     ensures { result ∷ [] ≡ bit_text bit }
 {
     if bit { b'1' } else { b'0' }
 }
 
-/// Eight bits as digits.
+/// Returns eight bits as digits.
 pub(crate) fn digits(bits: &[bool; ACKS]) -> [u8; ACKS]
     ensures { result ≡ bits_text bits.now }
 {
@@ -64,7 +64,7 @@ pub(crate) fn digits(bits: &[bool; ACKS]) -> [u8; ACKS]
     ]
 }
 
-/// Prints a packet behind these words.
+/// Prints a packet after these words.
 pub(crate) fn print_packet<W: Output>(
     words: &str,
     packet: &Packet,
@@ -91,7 +91,7 @@ impl Item for Packet {
     }
 }
 
-/// Prints the distance to an IMP behind so many others, and nothing where there is no way. Returns the place behind it.
+/// Prints the distance to an IMP behind this many others, and nothing where there is no way. Returns the place behind it.
 fn print_distance<W: Output>(
     place: usize,
     imp: usize,
@@ -133,7 +133,7 @@ pub(crate) fn print_vector<W: Output>(vector: &Vector, writer: &mut W) -> Result
     print_distances(vector.distances(), writer)
 }
 
-/// Prints what a frame has behind its acknowledgement bits: the end of their string, its other members, and its end.
+/// Prints what a frame has after its acknowledgement bits: the end of their string, its other members, and its end.
 fn print_content<W: Output>(content: &Content, writer: &mut W) -> Result<(), WriteFailed>
     requires { W.failed writer.old ≡ false }
     ensures written { OnOk result (Appends (W.contents writer.old) (W.contents writer.new) (codes "\"" ++ further (codes "}") (content_members content.now))) }

@@ -29,7 +29,7 @@ enum Scope {
     Nothing,
 }
 
-/// Which parts the arrival of a frame can change: those of the IMP at the far end of its line.
+/// Returns which parts the arrival of a frame can change: those of the IMP at the far end of its line.
 fn scope_of_delivery(subnet: &Subnet, line: u32, direction: Direction) -> Scope
     ensures { parts_in subnet.now.net result ≡ far_end_of subnet.now.net line direction }
 {
@@ -41,7 +41,7 @@ fn scope_of_delivery(subnet: &Subnet, line: u32, direction: Direction) -> Scope
     Scope::ImpAndLines(lines[place].far_end(direction))
 }
 
-/// Which parts an event inside the network can change.
+/// Returns which parts an event inside the network can change.
 fn scope_of_net(subnet: &Subnet, event: &NetEvent) -> Scope
     ensures { parts_in subnet.now.net result ≡ parts_of subnet.now.net (raw.Net event.now) }
 {
@@ -64,7 +64,7 @@ fn scope_of_net(subnet: &Subnet, event: &NetEvent) -> Scope
     }
 }
 
-/// Which parts an event can change.
+/// Returns which parts an event can change.
 fn scope_of(subnet: &Subnet, event: &RawEvent) -> Scope
     ensures { parts_in subnet.now.net result ≡ parts_of subnet.now.net event.now }
 {
@@ -110,7 +110,7 @@ fn print_named_line<W: Output>(
     writer.write_all(b"}")
 }
 
-/// Prints a line of an IMP behind another part. It prints nothing for a line that doesn't end there.
+/// Prints a line of an IMP after another part. It prints nothing for a line that doesn't end there.
 fn print_line_of<W: Output>(
     imp: u8,
     number: usize,

@@ -17,8 +17,8 @@ use trace::{Element, Inspect};
 
 /// A subnet whose inside can be traced: the subnet itself, and nothing else.
 ///
-/// It is a type of its own since [`trace::Inspect`] and `Subnet` stand in other crates than this one, and a crate may
-/// implement a trait of another crate for its own types alone.
+/// It is a type of its own since [`trace::Inspect`] and `Subnet` are in other crates than this one, and a crate may
+/// implement a trait of another crate for its own types only.
 #[derive(Drop)]
 pub struct TracedSubnet {
     subnet: Subnet,
@@ -37,7 +37,7 @@ impl Model for TracedSubnet {
 }
 
 impl TracedSubnet {
-    /// This subnet.
+    /// Returns this subnet.
     pub fn new(subnet: Subnet) -> TracedSubnet
         ensures { result ≡ subnet }
     {
@@ -107,7 +107,7 @@ impl Inspect for TracedSubnet {
         next_in_calm(&self.subnet, place)
     }
 
-    /// What crossed in the event does not matter: an event alone tells which parts it can change.
+    /// What crossed in the event does not matter: an event only tells which parts it can change.
     fn print_parts<W: Output>(
         &self,
         event: &RawEvent,

@@ -22,12 +22,12 @@ pub fn worked_packets()
     ensures piece { packet_text piece ≡ codes "data 0/1 1/2 5 7 3 last 16 8000" }
     ensures rfnm { packet_text rfnm ≡ codes "rfnm 0/1 1/2 5 7 0 last 0 -" }
 
-    // a free channel has the bit of its next packet alone
+    // a free channel has the bit of its next packet only
     ensures free { channel_text (record { bit = true; packet = None }) ≡ codes "1" }
     ensures busy { channel_text (record { bit = false; packet = Some rfnm }) ≡ codes "0 rfnm 0/1 1/2 5 7 0 last 0 -" }
     ensures slot { slot_text slot ≡ codes "[\"data 0/1 1/2 5 7 1 more 16 8000\",\"data 0/1 1/2 5 7 3 last 16 8000\"]" }
 
-    // acknowledgement bits stand in the order of their channels
+    // acknowledgement bits are in the order of their channels
     ensures acks { frame_text (record { acks = true ∷ replicate 7 false; content = content.Nothing }) ≡ codes "{\"acks\":\"10000000\"}" }
     ensures packet { frame_text (record { acks = replicate 8 false; content = content.Packet (record { channel = 3; bit = true; packet = rfnm }) }) ≡ codes "{\"acks\":\"00000000\",\"channel\":3,\"bit\":1,\"packet\":\"rfnm 0/1 1/2 5 7 0 last 0 -\"}" }
 
@@ -75,7 +75,7 @@ pub fn worked_untold()
     ensures own { imp_text (Some (opening_node 1 0 1)) ≡ imp_text (Some (opening_node 2 0 1)) }
     ensures spent { imp_text (Some (opening_node 1 0 1)) ≡ imp_text (Some (record (opening_node 1 0 1) { spent = true })) }
 
-    // a network without IMPs and lines has no parts, however many places for IMPs there are, and whatever stands there
+    // a network without IMPs and lines has no parts, however many places for IMPs there are, and whatever is there
     ensures nowhere { (imps : List (Option State)) (p : Part) → is_part (nowhere imps) p ≡ false }
 {}
 

@@ -45,7 +45,7 @@ lines_heard rest octets = fold hear ([], rest) octets
 
 -- ---- what that means
 
--- whether a line's end stands anywhere in these octets
+-- whether a line's end is anywhere in these octets
 abbrev pub has_end : List ℕ → Bool
 has_end [] = false
 has_end (x ∷ []) = false

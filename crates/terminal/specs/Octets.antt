@@ -1,7 +1,7 @@
 -- The whole octets of a list of bits.
 use Rattle.std.specs.Prelude.{ℕ, ◌*◌, ◌/◌, Bool, List, length, take, drop}
 
--- how many bits of so many make whole octets
+-- how many bits of this many make whole octets
 abbrev pub in_octets : ℕ → ℕ
 in_octets count = 8 * (count / 8)
 

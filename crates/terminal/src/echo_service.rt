@@ -31,7 +31,7 @@ impl Model for EchoService {
 }
 
 impl EchoService {
-    /// The service on two open connections, and its first grant: 4 messages and 4096 bits.
+    /// Starts the service on two open connections, and returns it with its first grant: 4 messages and 4096 bits.
     ///
     /// Errors: `AllocError` when there is no memory for the request.
     pub fn start(
@@ -51,28 +51,28 @@ impl EchoService {
         Ok((service, requests))
     }
 
-    /// The socket on which it receives.
+    /// Returns the socket on which it receives.
     pub fn receive(&self) -> ReceiveSocket
         ensures { result ≡ self.now.receive }
     {
         self.receive
     }
 
-    /// The socket on which it sends.
+    /// Returns the socket on which it sends.
     pub fn send(&self) -> SendSocket
         ensures { result ≡ self.now.send }
     {
         self.send
     }
 
-    /// Whether running out of memory has made it useless.
+    /// Returns whether running out of memory has made it useless.
     pub fn is_spent(&self) -> bool
         ensures { result ≡ self.now.spent }
     {
         self.spent
     }
 
-    /// Bits arrived: they are granted again, and go back.
+    /// Takes bits that arrived: they are granted again, and go back.
     fn arrived(&self, bits: &Bits) -> Result<Vec<Request>, AllocError>
         ensures { IfOk result (λ requests. requests.items ≡ machines.echo_heard self.now bits.now) }
     {

@@ -13,7 +13,7 @@ const FIRST_MESSAGES: u16 = 4;
 /// The bits that are granted at first.
 const FIRST_BITS: u32 = 4096;
 
-/// The first grant on a receive socket.
+/// Returns the first grant on a receive socket.
 pub(crate) fn first_requests(alloc: Global, receive: u32) -> Result<Vec<Request>, AllocError>
     ensures { IfOk result (λ requests. requests.items ≡ ends.first_requests receive) }
 {
@@ -26,7 +26,7 @@ pub(crate) fn first_requests(alloc: Global, receive: u32) -> Result<Vec<Request>
     Ok(requests)
 }
 
-/// One message and so many bits as arrived, again.
+/// Returns one message and this many bits as arrived, again.
 pub(crate) fn granted_again(receive: u32, bits: &Bits) -> Request
     ensures { result ≡ ends.granted_again receive bits.now }
 {
@@ -37,7 +37,7 @@ pub(crate) fn granted_again(receive: u32, bits: &Bits) -> Request
     }
 }
 
-/// The bits of a notice that tells of bits on this socket.
+/// Returns the bits of a notice that tells of bits on this socket.
 pub(crate) fn arrived_on(receive: u32, notice: &Notice) -> Option<&Bits>
     ensures { MatchOption result (ends.arrived_on receive notice.now ≡ None) (λ bits. ends.arrived_on receive notice.now ≡ Some bits.now) }
 {
@@ -47,7 +47,7 @@ pub(crate) fn arrived_on(receive: u32, notice: &Notice) -> Option<&Bits>
     }
 }
 
-/// The socket of a connection that a notice tells the end of.
+/// Returns the socket of a connection that a notice tells the end of.
 fn socket_ended(notice: &Notice) -> Option<u32>
     ensures { (receive send : ℕ) → MatchOption result (ends.closed_by receive send notice.now ≡ []) (λ socket. ends.closed_by receive send notice.now ≡ ends.closing receive send socket) }
 {
@@ -57,7 +57,7 @@ fn socket_ended(notice: &Notice) -> Option<u32>
     }
 }
 
-/// What a notice makes a program close: where one of its two connections has ended, the other.
+/// Returns what a notice makes a program close: where one of its two connections has ended, the other.
 pub(crate) fn closed_by(
     alloc: Global,
     receive: u32,

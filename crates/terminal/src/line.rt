@@ -12,7 +12,7 @@ use std::mem;
 /// The octet that a line's end begins with.
 pub const CARRIAGE_RETURN: u8 = 13;
 
-/// The octet that ends a line, behind a carriage return.
+/// The octet that ends a line, after a carriage return.
 pub const LINE_FEED: u8 = 10;
 
 /// A whole line that came in, without its end: octets of any value.
@@ -30,7 +30,7 @@ impl Model for Line {
 }
 
 impl Line {
-    /// The octets of the line, without its end.
+    /// Returns the octets of the line, without its end.
     pub fn as_octets(&self) -> &[u8]
         ensures { result.now ≡ self.now }
     {
@@ -38,21 +38,21 @@ impl Line {
     }
 }
 
-/// Whether an octet may stand in a line that is typed.
+/// Returns whether an octet may be in a line that is typed.
 fn is_printable(octet: u8) -> bool
     ensures { result ≡ lines.is_printable octet }
 {
     matches!(octet, 32..=126)
 }
 
-/// Whether all octets of a text may be typed.
+/// Returns whether all octets of a text may be typed.
 fn is_text(text: &[u8]) -> bool
     ensures { result ≡ list_all lines.is_printable text.now }
 {
     text.iter().all(|octet| is_printable(*octet))
 }
 
-/// The octets of a line: its text, and its end.
+/// Returns the octets of a line: its text, and its end.
 fn spelled(alloc: Global, text: &[u8]) -> Result<Vec<u8>, AllocError>
     ensures { IfOk result (λ octets. octets.items ≡ lines.spelled text.now) }
 {
@@ -63,7 +63,7 @@ fn spelled(alloc: Global, text: &[u8]) -> Result<Vec<u8>, AllocError>
     Ok(octets)
 }
 
-/// The octets of a line with this text: the text, 13 and 10.
+/// Returns the octets of a line with this text: the text, 13 and 10.
 ///
 /// Errors: `NotPrintable` where an octet of the text isn't from 32 to 126, then `OutOfMemory`.
 pub fn typed(alloc: Global, text: &[u8]) -> Result<Vec<u8>, TerminalFault>
@@ -75,14 +75,14 @@ pub fn typed(alloc: Global, text: &[u8]) -> Result<Vec<u8>, TerminalFault>
     Ok(spelled(alloc, text)?)
 }
 
-/// Whether this octet ends a line, where these came since the last end.
+/// Returns whether this octet ends a line, where these came since the last end.
 fn ends_line(rest: &[u8], octet: u8) -> bool
     ensures { result ≡ lines.ends_line rest.now octet }
 {
     octet == LINE_FEED && rest.last().copied().unwrap_or(0) == CARRIAGE_RETURN
 }
 
-/// One more octet comes: it ends a line, or is kept.
+/// Takes one more octet: it ends a line, or is kept.
 fn hear_octet(
     alloc: Global,
     told: &mut Vec<Line>,
@@ -101,7 +101,7 @@ fn hear_octet(
     Ok(())
 }
 
-/// These octets come. Gives the lines that have ended, and keeps what came since.
+/// Takes these octets. Gives the lines that have ended, and keeps what came since.
 pub(crate) fn hear(
     alloc: Global,
     rest: &mut Vec<u8>,

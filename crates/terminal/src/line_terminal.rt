@@ -49,7 +49,7 @@ pub struct Told {
 }
 
 impl LineTerminal {
-    /// The terminal on two open connections, and its first grant: 4 messages and 4096 bits.
+    /// Starts the terminal on two open connections, and returns it with its first grant: 4 messages and 4096 bits.
     ///
     /// Errors: `AllocError` when there is no memory for the request.
     pub fn start(
@@ -71,28 +71,28 @@ impl LineTerminal {
         Ok((terminal, requests))
     }
 
-    /// The socket on which it receives.
+    /// Returns the socket on which it receives.
     pub fn receive(&self) -> ReceiveSocket
         ensures { result ≡ self.now.receive }
     {
         self.receive
     }
 
-    /// The socket on which lines are to be sent.
+    /// Returns the socket on which lines are to be sent.
     pub fn send(&self) -> SendSocket
         ensures { result ≡ self.now.send }
     {
         self.send
     }
 
-    /// Whether running out of memory has made it useless.
+    /// Returns whether running out of memory has made it useless.
     pub fn is_spent(&self) -> bool
         ensures { result ≡ self.now.spent }
     {
         self.spent
     }
 
-    /// The octets of a line with this text: the text, 13 and 10. It changes nothing.
+    /// Returns the octets of a line with this text: the text, 13 and 10. It changes nothing.
     ///
     /// Errors: `NotPrintable` where an octet of the text isn't from 32 to 126, then `OutOfMemory`.
     pub fn line(&self, text: &[u8]) -> Result<Vec<u8>, TerminalFault>
@@ -101,7 +101,7 @@ impl LineTerminal {
         typed(self.alloc, text)
     }
 
-    /// These bits came: with those that were kept they are octets, and the octets are lines.
+    /// Takes these bits: with those that were kept they are octets, and the octets are lines.
     #[tactic(auto, using(crate::proofs::OctetLemmas::heard_nothing), unfolding(crate::specs::Machines::terminal_heard))]
     fn join(&mut self, bits: &Bits) -> Result<Vec<Line>, AllocError>
         ensures lines { IfOk result (λ told. machines.terminal_heard self.old bits.now ≡ (self.new, told.items)) }
@@ -127,7 +127,7 @@ impl LineTerminal {
         ended(done, &mut self.spent)
     }
 
-    /// Bits arrived on its socket: they are granted again, and lines may have ended.
+    /// Takes bits that arrived on its socket: they are granted again, and lines may have ended.
     fn hear(&mut self, bits: &Bits) -> Result<Told, AllocError>
         ensures { IfOk result (λ told. (machines.terminal_heard self.old bits.now ≡ (self.new, told.lines.items)) × (told.requests.items ≡ ends.granted_again self.old.receive bits.now ∷ [])) }
     {
@@ -137,7 +137,7 @@ impl LineTerminal {
         Ok(Told { requests, lines })
     }
 
-    /// A notice that brings no bits.
+    /// Takes a notice that brings no bits.
     fn pass(&self, notice: &Notice) -> Result<Told, AllocError>
         ensures told { IfOk result (λ told. (told.lines.items ≡ []) × (told.requests.items ≡ ends.closed_by self.now.receive self.now.send notice.now)) }
         ensures memory { OnErr result (0 < length (ends.closed_by self.now.receive self.now.send notice.now)) }

@@ -7,7 +7,7 @@ ghost use Rattle.terminal.specs.Octets.{whole, part};
 use bit_messages::{BitFault, Bits};
 use std::alloc::{AllocError, Global};
 
-/// Puts bits behind those that were kept. Gives what is whole octets now, and keeps the rest.
+/// Puts bits after those that were kept. Gives what is whole octets now, and keeps the rest.
 fn join_bits(alloc: Global, kept: &mut Bits, bits: &Bits) -> Result<Bits, BitFault>
     ensures octets { IfOk result (λ octets. octets ≡ whole (kept.old ++ bits.now)) }
     ensures kept { OnOk result (kept.new ≡ part (kept.old ++ bits.now)) }
@@ -21,7 +21,7 @@ fn join_bits(alloc: Global, kept: &mut Bits, bits: &Bits) -> Result<Bits, BitFau
     Ok(octets)
 }
 
-/// Puts bits behind those that were kept. Gives what is whole octets now, and keeps the rest. It fails only
+/// Puts bits after those that were kept. Gives what is whole octets now, and keeps the rest. It fails only
 /// when memory runs out, and then nothing is kept.
 #[tactic(auto, using(crate::proofs::OctetLemmas::part_few))]
 pub(crate) fn join(alloc: Global, kept: &mut Bits, bits: &Bits) -> Result<Bits, AllocError>

@@ -28,7 +28,7 @@ pub fn worked_lines()
     // an empty line is a line
     ensures empty_line { lines_heard [] (13 ∷ 10 ∷ 13 ∷ 10 ∷ []) ≡ ([] ∷ [] ∷ [], []) }
 
-    // neither a 10 alone, nor a 13 alone, nor the two in the other order end a line
+    // neither a 10 only, nor a 13 only, nor the two in the other order end a line
     ensures no_end { lines_heard [] (72 ∷ 10 ∷ 13 ∷ 73 ∷ 10 ∷ 13 ∷ []) ≡ ([], 72 ∷ 10 ∷ 13 ∷ 73 ∷ 10 ∷ 13 ∷ []) }
 
     // a 13 before the end is the line's own

@@ -1,4 +1,4 @@
--- Small documents, for the worked rows. A table's members stand in the order of their keys.
+-- Small documents, for the worked rows. A table's members are in the order of their keys.
 use Rattle.std.specs.Prelude.{ℕ, List, [], ◌∷◌, codes, pos, true}
 use Rattle.toml.specs.Data.{Data, Items, no_items, item, no_members, member, integer, array, table, string, boolean}
 use Rattle.topology.specs.declared.network.ImpHosts.{ImpHosts}

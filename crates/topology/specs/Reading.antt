@@ -4,7 +4,7 @@ use Rattle.std.specs.declared.alloc.Global.{Global}
 use Rattle.topology.specs.declared.network.TopologyFault.{TopologyFault}
 use Rattle.topology.specs.declared.network.TopologyFault.TheVariants as fault
 
--- what a document describes is given, or it is told that the document describes nothing
+-- what a document describes is given, or it is informed that the document describes nothing
 abbrev pub Described : {X : Type 0} → Option X → Result X TopologyFault → Type 0
 Described {X} described (Ok x) = described ≡ Some x
 Described {X} described (Err fault.BadTopology) = described ≡ None

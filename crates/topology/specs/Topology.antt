@@ -187,7 +187,7 @@ abbrev pub raw_of : Option Data → Option Bool
 raw_of None = Some false
 raw_of (Some d) = as_bool d
 
--- no number stands twice, and none passes the greatest: the IMPs by rising number are as many as the document's
+-- no number occurs twice, and none passes the greatest: the IMPs by rising number are as many as the document's
 abbrev pub all_placed : List ImpHosts → Bool
 all_placed imps = length (by_number imps) == length imps
 
@@ -252,7 +252,7 @@ site_of imps number = option_map (λ (i : ImpHosts). i.hosts) (imp_of_number imp
 abbrev pub sites_of : TopologyFields → List (Option ℕ)
 sites_of t = map (site_of t.imps) (range_with_len 0 (most_imps + 1))
 
--- so many hosts of the IMP with this number, from host 0 on
+-- this many hosts of the IMP with this number, from host 0 on
 abbrev pub hosts_at : ℕ → Option ℕ → List Host
 hosts_at number None = []
 hosts_at number (Some count) = map (λ k. record { imp = number; host = k }) (range_with_len 0 count)

@@ -42,7 +42,7 @@ pub fn worked_documents()
     ensures other_key { topology_of (table (member (codes "imp") (array two_imps) (member (codes "name") (string []) no_members))) ≡ None }
     ensures no_imp { (topology_of (document no_items no_items) ≡ None) × (topology_of (table (member (codes "raw") (boolean true) no_members)) ≡ None) }
 
-    // numbers of IMPs: 0, 64, 257, one that is negative, and one that stands twice; five hosts
+    // numbers of IMPs: 0, 64, 257, one that is negative, and one that occurs twice; five hosts
     ensures numbers { (topology_of (document (one_imp 0 1) no_items) ≡ None) × (topology_of (document (one_imp 64 1) no_items) ≡ None) × (topology_of (document (one_imp 257 1) no_items) ≡ None) }
     ensures negative { imp_of (table (member (codes "hosts") (integer (pos 1)) (member (codes "id") (integer (negsuc 0)) no_members))) ≡ None }
     ensures twice { topology_of (document (item (imp_table 1 1) (item (imp_table 1 2) no_items)) no_items) ≡ None }

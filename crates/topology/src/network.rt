@@ -101,7 +101,7 @@ impl<T: Drop> From<AllocFailed<T>> for TopologyFault {
 }
 
 impl Topology {
-    /// The topology that this TOML document describes.
+    /// Returns the topology that this TOML document describes.
     ///
     /// Errors: `BadTopology` where the text is no TOML 1.1 document or describes no topology. `OutOfMemory` may
     /// come for any text that isn't blank, since its values are put in memory.
@@ -115,7 +115,7 @@ impl Topology {
         }
     }
 
-    /// The topology that a document's value describes.
+    /// Returns the topology that a document's value describes.
     ///
     /// Errors: `BadTopology`; `OutOfMemory`, only for a document that lists an IMP.
     fn from_document(alloc: Global, document: &Value) -> Result<Topology, TopologyFault>
@@ -142,28 +142,28 @@ impl Topology {
         }
     }
 
-    /// What carries the messages.
+    /// Returns what carries the messages.
     pub fn carrier(&self) -> CarrierKind
         ensures { result ≡ self.now.carrier }
     {
         self.carrier
     }
 
-    /// Whether the script sends and takes messages itself, without host programs.
+    /// Returns whether the script sends and takes messages itself, without host programs.
     pub fn is_raw(&self) -> bool
         ensures { result ≡ self.now.raw }
     {
         self.raw
     }
 
-    /// The IMPs with their hosts, by rising number.
+    /// Returns the IMPs with their hosts, by rising number.
     pub fn imps(&self) -> &[ImpHosts]
         ensures { result.now ≡ self.now.imps }
     {
         &self.imps
     }
 
-    /// All hosts, by IMP and then by number.
+    /// Returns all hosts, by IMP and then by number.
     ///
     /// Errors: `AllocError`, only where there is a host.
     pub fn hosts(&self, alloc: Global) -> Result<Vec<HostAddr>, AllocError>
@@ -193,7 +193,8 @@ impl Topology {
         Ok(sites)
     }
 
-    /// The lines, in the order of the document: at most half as many as [`MOST_IMPS`] have ends for, 157. They are numbered from 0.
+    /// Returns the lines, in the order of the document: at most half as many as [`MOST_IMPS`] have ends for, 157. They
+    /// are numbered from 0.
     pub fn lines(&self) -> &[LineEnds]
         ensures all { result.now ≡ self.now.lines }
         ensures few { length result.now ≤ most_network_lines }
@@ -202,7 +203,7 @@ impl Topology {
     }
 }
 
-/// Why a text is not a document, as a fault of a topology: only running out of memory is told as such.
+/// Returns why a text is not a document, as a fault of a topology: only running out of memory is told as such.
 fn fault_of(error: &toml::de::Error) -> TopologyFault
     ensures memory { (result ≡ TopologyFault.OutOfMemory) ↔ IsMemory error.now }
 {
@@ -213,7 +214,7 @@ fn fault_of(error: &toml::de::Error) -> TopologyFault
     }
 }
 
-/// How many members a table has. Any other value has 0.
+/// Returns how many members a table has. Any other value has 0.
 fn size(value: &Value) -> usize
     ensures { result ≡ size (view value.now) }
 {
@@ -223,14 +224,14 @@ fn size(value: &Value) -> usize
     }
 }
 
-/// Whether a table has a member with this key.
+/// Returns whether a table has a member with this key.
 fn has(value: &Value, key: &str) -> bool
     ensures { result ≡ has key.now (view value.now) }
 {
     value.get(key).is_some()
 }
 
-/// How many of the four keys of a topology a document has.
+/// Returns how many of the four keys of a topology a document has.
 fn known_members(document: &Value) -> usize
     ensures { result ≡ known_members (view document.now) }
 {
@@ -240,8 +241,7 @@ fn known_members(document: &Value) -> usize
         + usize::from(has(document, "line"))
 }
 
-/// The carrier that a document names. It is a subnet where the document names none. `None` for any other
-/// name.
+/// Returns the carrier that a document names. It is a subnet where the document names none. `None` for any other name.
 fn carrier_of(document: &Value) -> Option<CarrierKind>
     ensures { result ≡ carrier_of (get (codes "carrier") (view document.now)) }
 {
@@ -258,7 +258,7 @@ fn carrier_of(document: &Value) -> Option<CarrierKind>
     }
 }
 
-/// The value of `raw`: whether the network has no host programs. It is false without the key, and `None` for a
+/// Returns the value of `raw`: whether the network has no host programs. It is false without the key, and `None` for a
 /// value that is not a boolean.
 fn raw_of(document: &Value) -> Option<bool>
     ensures { result ≡ raw_of (get (codes "raw") (view document.now)) }
@@ -269,7 +269,7 @@ fn raw_of(document: &Value) -> Option<bool>
     }
 }
 
-/// The number from 0 to 255 that a table has at a key. `None` for anything else.
+/// Returns the number from 0 to 255 that a table has at a key. `None` for anything else.
 fn number_at(table: &Value, key: &str) -> Option<u8>
     ensures { result ≡ number_at key.now (view table.now) }
 {
@@ -278,7 +278,7 @@ fn number_at(table: &Value, key: &str) -> Option<u8>
     u8::try_from(number).ok()
 }
 
-/// The IMP that a table with the keys `id` and `hosts` describes.
+/// Returns the IMP that a table with the keys `id` and `hosts` describes.
 fn imp_of(value: &Value) -> Option<ImpHosts>
     ensures { result ≡ imp_of (view value.now) }
 {
@@ -291,7 +291,7 @@ fn imp_of(value: &Value) -> Option<ImpHosts>
     })
 }
 
-/// The line that a table with the keys `a` and `b` describes.
+/// Returns the line that a table with the keys `a` and `b` describes.
 fn line_of(value: &Value) -> Option<LineEnds>
     ensures { result ≡ line_of (view value.now) }
 {
@@ -304,7 +304,7 @@ fn line_of(value: &Value) -> Option<LineEnds>
     })
 }
 
-/// The IMPs of a document, in its order.
+/// Returns the IMPs of a document, in its order.
 fn imps_of(alloc: Global, document: &Value) -> Result<Vec<ImpHosts>, TopologyFault>
     ensures described { DescribedIn (imps_of (get (codes "imp") (view document.now))) result }
     ensures memory { result ≡ Err TopologyFault.OutOfMemory → has (codes "imp") (view document.now) ≡ true }
@@ -318,7 +318,7 @@ fn imps_of(alloc: Global, document: &Value) -> Result<Vec<ImpHosts>, TopologyFau
     }
 }
 
-/// The IMPs that these values describe.
+/// Returns the IMPs that these values describe.
 fn each_imp(alloc: Global, values: &[Value]) -> Result<Vec<ImpHosts>, TopologyFault>
     ensures { DescribedIn (each_of imp_of (items_view values.now)) result }
 {
@@ -332,7 +332,7 @@ fn each_imp(alloc: Global, values: &[Value]) -> Result<Vec<ImpHosts>, TopologyFa
     Ok(imps)
 }
 
-/// The lines of a document, in its order. There are none where it has no key for them.
+/// Returns the lines of a document, in its order. There are none where it has no key for them.
 fn lines_of(alloc: Global, document: &Value) -> Result<Vec<LineEnds>, TopologyFault>
     ensures { DescribedIn (lines_of (get (codes "line") (view document.now))) result }
 {
@@ -345,7 +345,7 @@ fn lines_of(alloc: Global, document: &Value) -> Result<Vec<LineEnds>, TopologyFa
     }
 }
 
-/// The lines that these values describe.
+/// Returns the lines that these values describe.
 fn each_line(alloc: Global, values: &[Value]) -> Result<Vec<LineEnds>, TopologyFault>
     ensures { DescribedIn (each_of line_of (items_view values.now)) result }
 {
@@ -359,56 +359,56 @@ fn each_line(alloc: Global, values: &[Value]) -> Result<Vec<LineEnds>, TopologyF
     Ok(lines)
 }
 
-/// Whether these are 1 to [`MOST_IMPS`] IMPs, with such numbers and at most 4 hosts each.
+/// Returns whether these are 1 to [`MOST_IMPS`] IMPs, with such numbers and at most 4 hosts each.
 fn are_imps(imps: &[ImpHosts]) -> bool
     ensures { result ≡ are_imps imps.now }
 {
     1 <= imps.len() && imps.len() <= MOST_IMPS && all_imps(imps)
 }
 
-/// Whether each of these IMPs is numbered 1 to [`MOST_IMPS`] and has at most 4 hosts.
+/// Returns whether each of these IMPs is numbered 1 to [`MOST_IMPS`] and has at most 4 hosts.
 fn all_imps(imps: &[ImpHosts]) -> bool
     ensures { result ≡ list_all is_imp imps.now }
 {
     imps.iter().all(is_imp)
 }
 
-/// Whether an IMP is numbered 1 to [`MOST_IMPS`] and has at most 4 hosts.
+/// Returns whether an IMP is numbered 1 to [`MOST_IMPS`] and has at most 4 hosts.
 fn is_imp(imp: &ImpHosts) -> bool
     ensures { result ≡ is_imp imp.now }
 {
     1 <= imp.imp && usize::from(imp.imp) <= MOST_IMPS && imp.hosts <= MOST_HOSTS
 }
 
-/// Whether there is an IMP with this number.
+/// Returns whether there is an IMP with this number.
 fn is_there(imps: &[ImpHosts], number: u8) -> bool
     ensures { result ≡ is_there imps.now number }
 {
     imps.iter().any(|other| other.imp == number)
 }
 
-/// Whether lines join IMPs that are there, no two the same, and no IMP has more than five.
+/// Returns whether lines join IMPs that are there, no two the same, and no IMP has more than five.
 fn are_lines(imps: &[ImpHosts], lines: &[LineEnds]) -> bool
     ensures { result ≡ are_lines imps.now lines.now }
 {
     join_imps(imps, lines) && are_apart(lines) && has_ports(imps, lines)
 }
 
-/// Whether each of these lines joins two IMPs that are there.
+/// Returns whether each of these lines joins two IMPs that are there.
 fn join_imps(imps: &[ImpHosts], lines: &[LineEnds]) -> bool
     ensures { result ≡ list_all (is_line imps.now) lines.now }
 {
     lines.iter().all(|line| is_line(imps, line))
 }
 
-/// Whether a line joins two IMPs that are there.
+/// Returns whether a line joins two IMPs that are there.
 fn is_line(imps: &[ImpHosts], line: &LineEnds) -> bool
     ensures { result ≡ is_line imps.now line.now }
 {
     line.a != line.b && is_there(imps, line.a) && is_there(imps, line.b)
 }
 
-/// Whether no two of these lines join the same IMPs.
+/// Returns whether no two of these lines join the same IMPs.
 fn are_apart(lines: &[LineEnds]) -> bool
     ensures { result ≡ are_apart lines.now }
 {
@@ -418,7 +418,7 @@ fn are_apart(lines: &[LineEnds]) -> bool
     }
 }
 
-/// Whether one of these lines joins the same IMPs as this one.
+/// Returns whether one of these lines joins the same IMPs as this one.
 fn is_joined(lines: &[LineEnds], line: &LineEnds) -> bool
     ensures { result ≡ list_any (joins_same line.now) lines.now }
 {
@@ -426,7 +426,7 @@ fn is_joined(lines: &[LineEnds], line: &LineEnds) -> bool
         || (other.a == line.b && other.b == line.a))
 }
 
-/// Whether no IMP has more than five lines.
+/// Returns whether no IMP has more than five lines.
 fn has_ports(imps: &[ImpHosts], lines: &[LineEnds]) -> bool
     ensures { result ≡ has_ports imps.now lines.now }
 {
@@ -434,7 +434,7 @@ fn has_ports(imps: &[ImpHosts], lines: &[LineEnds]) -> bool
         .all(|imp| line_count(lines, imp.imp) <= MOST_LINES)
 }
 
-/// How many of these lines end at an IMP.
+/// Returns how many of these lines end at an IMP.
 fn line_count(lines: &[LineEnds], number: u8) -> usize
     ensures { result ≡ line_count lines.now number }
 {
@@ -444,7 +444,7 @@ fn line_count(lines: &[LineEnds], number: u8) -> usize
         .count()
 }
 
-/// The IMPs by rising number.
+/// Returns the IMPs by rising number.
 fn by_number(alloc: Global, imps: &[ImpHosts]) -> Result<Vec<ImpHosts>, AllocError>
     ensures { IfOk result (λ sorted. sorted.items ≡ by_number imps.now) }
 {
@@ -465,21 +465,21 @@ fn push_found(imps: &mut Vec<ImpHosts>, found: Option<ImpHosts>) -> Result<(), A
     Ok(())
 }
 
-/// The IMP with this number.
+/// Returns the IMP with this number.
 fn imp_of_number(imps: &[ImpHosts], number: u8) -> Option<ImpHosts>
     ensures { result ≡ imp_of_number imps.now number }
 {
     imps.iter().copied().find(|imp| imp.imp == number)
 }
 
-/// How many hosts the IMP with this number has, where there is one.
+/// Returns how many hosts the IMP with this number has, where there is one.
 fn site_of(imps: &[ImpHosts], number: u8) -> Option<u8>
     ensures { result ≡ site_of imps.now number }
 {
     imp_of_number(imps, number).map(|imp| imp.hosts)
 }
 
-/// Whether there is an IMP with this number that has a host with this number.
+/// Returns whether there is an IMP with this number that has a host with this number.
 fn has_host(imps: &[ImpHosts], number: u8, host: u8) -> bool
     ensures { result ≡ has_host imps.now number host }
 {

@@ -37,7 +37,7 @@ pub record Giving (S : Type 0) : Type 0 where
 abbrev pub taking : {S : Type 0} → Giving S → ℕ → Host → S → Course S
 taking giving round h s = one_event round (event.Take h) (giving.after s h)
 
--- in a round of a calm a host takes while it is given something, so many times at most
+-- in a round of a calm a host takes while it is given something, this many times at most
 abbrev pub takings : {S : Type 0} → Giving S → ℕ → Host → ℕ → S → Course S
 takings giving round h zero s = no_course s
 takings giving round h (suc times) s = if giving.is_given s h then then_course (taking giving round h s) (takings giving round h times) else no_course s
@@ -47,14 +47,14 @@ abbrev pub all_takings : {S : Type 0} → Giving S → ℕ → List Host → S �
 all_takings giving round [] s = no_course s
 all_takings giving round (h ∷ hosts) s = then_course (takings giving round h 16 s) (all_takings giving round hosts)
 
--- what is left of the takings of a round, where the first of these hosts takes so many times at most, and the others 16 times
+-- what is left of the takings of a round, where the first of these hosts takes this many times at most, and the others 16 times
 abbrev pub takings_from : {S : Type 0} → Giving S → ℕ → List Host → ℕ → S → Course S
 takings_from giving round [] times s = no_course s
 takings_from giving round (h ∷ hosts) times s = then_course (takings giving round h times s) (all_takings giving round hosts)
 
 -- ---- rounds
 
--- so many rounds, from this one on, where a round is this course
+-- this many rounds, from this one on, where a round is this course
 abbrev pub rounds_from : {S : Type 0} → (ℕ → S → Course S) → ℕ → ℕ → S → Course S
 rounds_from whole round zero s = no_course s
 rounds_from whole round (suc times) s = then_course (whole round s) (rounds_from whole (suc round) times)
@@ -93,7 +93,7 @@ from_boxes = record { is_given = is_given; after = λ b h. inbound_taken b h (ne
 abbrev pub round_of : ℕ → Boxes → Course Boxes
 round_of round b = all_takings from_boxes round b.hosts b
 
--- the elementary events of a calm of so many rounds
+-- the elementary events of a calm of this many rounds
 abbrev pub calm_of : Boxes → ℕ → List Element
 calm_of b rounds = (rounds_from round_of 1 rounds b).elements
 

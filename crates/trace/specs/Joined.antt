@@ -11,12 +11,12 @@ abbrev pub comma_before : ℕ → List ℕ
 comma_before zero = []
 comma_before (suc place) = codes ","
 
--- items, each with a comma before it, where so many stand before them
+-- items, each with a comma before it, where this many are before them
 abbrev pub joined_from : ℕ → List (List ℕ) → List ℕ
 joined_from place [] = []
 joined_from place (x ∷ xs) = comma_before place ++ (x ++ joined_from (suc place) xs)
 
--- a refusal behind so many items, where there is one
+-- a refusal after this many items, where there is one
 abbrev pub refused_text : ℕ → Result (Unit {0}) CarrierFault → List ℕ
 refused_text place (Ok done) = []
 refused_text place (Err f) = comma_before place ++ quoted (codes "refused " ++ fault_name f)

@@ -6,7 +6,7 @@ use Rattle.leader1822.specs.Boxes.{Boxes, Queues, WaitingAnswer, for_host}
 use Rattle.leader1822.specs.Host.{Host, is_host}
 use Rattle.script.specs.Spelling.{IsFlow, IsHost, IsMessage}
 
--- the queues are of hosts of the network alone, each holds something, and what it holds is valid
+-- the queues are of hosts of the network only, each holds something, and what it holds is valid
 pub record AreQueues {A : Type 0} (IsValid : A → Type 0) (hosts : List Host) (queues : Queues A) : Type 0 where
   pub of_hosts : (h : Host) → is_host hosts h ≡ false → for_host queues h ≡ []
   pub filled : (h : Host) → map.get queues h ≢ Some []

@@ -44,7 +44,7 @@ member name value = quoted name ++ (codes ":" ++ value)
 
 -- ---- parts
 
--- an answer that waits; NotTaken has a word of its own, though hosts are told Incomplete for it
+-- an answer that waits; NotTaken has a word of its own, though hosts gets Incomplete for it
 abbrev pub answer_word : Answer → List ℕ
 answer_word answer.Rfnm = codes "rfnm"
 answer_word answer.Incomplete = codes "incomplete"

@@ -9,7 +9,7 @@ use Rattle.trace.specs.declared.element.Element.{Element}
 use Rattle.trace.specs.Elements.{elements_in}
 use Rattle.trace.specs.Texts.{trace_line}
 
--- what a carrier tells of its inside: the elementary events of a calm of so many rounds, and the object of the parts that an
+-- what a carrier tells of its inside: the elementary events of a calm of this many rounds, and the object of the parts that an
 -- event can change in which this crossed
 pub record Inside (C : Type 0) : Type 0 where
   pub calm : C → ℕ → List Element
@@ -39,7 +39,7 @@ Traces calls inside old events new lines = InTurn (TellsEvent calls inside) old 
 abbrev pub StopsElement : {C : Type 0} → Calls C → Happening C Element (List ℕ)
 StopsElement calls old x new lines = StopsIn calls old x.event new [] × (lines ≡ [])
 
--- the carrier processed an elementary event; how much of its line was written the writer alone knows
+-- the carrier processed an elementary event; how much of its line was written only the writer knows
 abbrev pub MayTell : {C : Type 0} → Calls C → Happening C Element (List ℕ)
 MayTell calls old x new lines = MayDo calls old x.event new [] × (lines ≡ [])
 

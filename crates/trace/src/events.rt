@@ -24,7 +24,7 @@ use std::alloc::AllocError;
 /// Errors:
 /// - `OutOfMemory`: memory ran out at one elementary event. The lines of those before it were written, and none of its own.
 /// - `CannotWrite`: a write failed. The carrier had already processed the elementary event whose line it was. Nothing more was
-///   asked of the writer, which alone knows how much of its last lines it wrote.
+///   asked of the writer, which is the only one to know how much of its last lines it wrote.
 pub fn trace_events<C: Inspect, W: Output>(
     carrier: &mut C,
     events: &[RawEvent],
@@ -110,7 +110,7 @@ fn trace_element<C: Inspect, W: Output>(
     Ok(print_line(carrier, number, round, event, crossings, outcome, writer)?)
 }
 
-/// Whether running out of memory has stopped the carrier.
+/// Returns whether running out of memory has stopped the carrier.
 fn has_halted(outcome: Result<(), CarrierFault>) -> bool
     ensures halts { OnTrue result (Halts outcome) }
     ensures goes_on { OnFalse result (GoesOn outcome) }

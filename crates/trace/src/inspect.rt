@@ -19,7 +19,7 @@ pub trait Inspect: Carrier {
     /// A place in a calm, between two of its elementary events.
     type Place: Copy;
 
-    /// The elementary events of a calm of so many rounds.
+    /// The elementary events of a calm of this many rounds.
     ghost calm: { Self → ℕ → List Element };
 
     /// Those that are left of a calm at a place.
@@ -28,11 +28,11 @@ pub trait Inspect: Carrier {
     /// The JSON object of the parts that an event can change in which this crossed.
     ghost parts: { Self → RawEvent → List Crossing → List ℕ };
 
-    /// The place at which a calm begins.
+    /// Returns the place at which a calm begins.
     fn begin_calm(&self, rounds: u32) -> Self::Place
         ensures { left self.now result ≡ calm self.now rounds };
 
-    /// The next elementary event of a calm, and the place after it; `None` where the calm is over.
+    /// Returns the next elementary event of a calm, and the place after it; `None` where the calm is over.
     fn next_in_calm(&self, place: Self::Place) -> Option<(Element, Self::Place)>
         ensures { GoesOnWith (record { seen = Self.seen; offers = Self.offers; takes = Self.takes; steps = Self.steps; rounds = Self.rounds }) left self.now place result };
 

@@ -13,7 +13,7 @@ ghost use Rattle.trace.specs.Kept.{IsTold};
 ghost use Rattle.trace.specs.Parts.{Part, IsPart, SamePart, is_named, parts_of};
 ghost use Rattle.trace.specs.Texts.{part_text};
 
-/// An event of a script is its elementary events one after another: each of them alone, as a line of a script,
+/// An event of a script is its elementary events one after another: each of them only, as a line of a script,
 /// leaves what the event leaves and prints what it prints. So a calm is a list of takings.
 pub fn elementary()
     ensures course { (old new : Boxes) (e : RawEvent) (shown : List Shown) → Happens plain old e new shown → Replays plain old (events_of (elements_of old e)) new shown }

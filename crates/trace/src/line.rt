@@ -48,7 +48,7 @@ fn print_crossed<W: Output>(crossing: &Crossing, writer: &mut W) -> Result<(), W
     write!(writer, "\"{crossing}\"")
 }
 
-/// Prints a refusal behind so many strings. It prints nothing for an event that was not refused.
+/// Prints a refusal after this many strings. It prints nothing for an event that was not refused.
 fn print_refused<W: Output>(
     place: usize,
     outcome: Result<(), CarrierFault>,

@@ -12,7 +12,7 @@ use leader1822::{Carrier, Crossing, HostAddr, NetEvent, PlainBoxes};
 use replay::{Output, WriteFailed};
 use script::RawEvent;
 
-/// Whether a host stops or starts.
+/// Returns whether a host stops or starts.
 fn moves_host(event: &RawEvent) -> bool
     ensures { result ≡ moves_host event.now }
 {
@@ -22,7 +22,7 @@ fn moves_host(event: &RawEvent) -> bool
     )
 }
 
-/// Whether a message that came in is from this host.
+/// Returns whether a message that came in is from this host.
 fn is_source(host: &HostAddr, crossings: &[Crossing]) -> bool
     ensures { result ≡ is_source host.now crossings.now }
 {
@@ -36,7 +36,7 @@ fn is_source(host: &HostAddr, crossings: &[Crossing]) -> bool
     false
 }
 
-/// Whether other messages or answers may wait for this host after an event that let these cross.
+/// Returns whether other messages or answers may wait for this host after an event that let these cross.
 fn reaches(event: &RawEvent, crossings: &[Crossing], host: &HostAddr) -> bool
     ensures { result ≡ reaches event.now crossings.now host.now }
 {

@@ -17,7 +17,7 @@ use script::RawEvent;
 /// How often a host takes in one round at most.
 const TAKINGS: u8 = 16;
 
-/// Whether a host of the network is up, and something waits for it.
+/// Returns whether a host of the network is up, and something waits for it.
 #[tactic(auto, using(crate::proofs::Turns::given_is))]
 fn is_given(boxes: &PlainBoxes, host: &HostAddr) -> bool
     requires { is_host boxes.now.hosts host.now ≡ true }
@@ -26,7 +26,8 @@ fn is_given(boxes: &PlainBoxes, host: &HostAddr) -> bool
     !boxes.down().contains(host) && (boxes.answer_count(host) > 0 || boxes.message_count(host) > 0)
 }
 
-/// The next taking of a round that gives something, and whose turn it is after it; `None` where the round is over.
+/// Returns the next taking of a round that gives something, and whose turn it is after it; `None` where the round is
+/// over.
 fn next_taking(boxes: &PlainBoxes, turn: Turn) -> Option<(Element, Turn)>
     ensures { IsNext boxes.now turn result }
 {

@@ -24,7 +24,7 @@ fn print_string<W: Output>(message: &HostMessage, writer: &mut W) -> Result<(), 
     writer.write_all(b"\"")
 }
 
-/// The word of an answer that waits. `NotTaken` has one of its own, though hosts are told `Incomplete` for it.
+/// Returns the word of an answer that waits. `NotTaken` has one of its own, though hosts gets `Incomplete` for it.
 pub fn answer_word(kind: Answer) -> &'static str
     ensures { result.now ≡ answer_word kind }
 {

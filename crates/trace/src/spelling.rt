@@ -10,7 +10,7 @@ use leader1822::{Direction, HostMessage, ImpNumber, NetEvent};
 use replay::{Output, WriteFailed, print_text};
 use script::RawEvent;
 
-/// The word of a direction.
+/// Returns the word of a direction.
 fn word_of(direction: Direction) -> &'static str
     ensures { result.now ≡ direction_text direction }
 {

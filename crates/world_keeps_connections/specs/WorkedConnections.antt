@@ -9,7 +9,7 @@ use Rattle.net_sim.specs.declared.life.Life.{Life}
 use Rattle.net_sim.specs.Worked.{crossings}
 use Rattle.sockets.specs.Worked.{first, second}
 
--- the user has asked, and was told the base
+-- the user has asked, and learns the base
 abbrev pub asked_kept : Kept
 asked_kept =
     book_told second (notice.Arrived 16 (socket_bits 100)) (book_told second (notice.Opened 16 first 7 2 1) (book_told first (notice.Opened 7 second 16 0 4) (all_crossed crossings opening_kept)))

@@ -20,7 +20,7 @@ use leader1822::Carrier;
 /// one, and the user's sending end the server's receiving one. What makes ends match is that both go on.
 ///
 /// Each report in such a book is so at its place (`AreReported`, which is part of `IsLawful`): a machine that reported Done began with
-/// sockets of the right parity, and its host was told of the openings that make it done.
+/// sockets of the right parity, and its host was notified of the openings that make it done.
 pub fn initial_connections<C: Carrier>()
     // the server's base is even, and so is the socket with which the user asked: no others can be done
     ensures even { (hosts : List Host) (w : WorldState C) → IsLawful C.seen hosts w → (server user : Host) (s u : ℕ) (server_receives server_sends user_receives user_sends : Life) → IsConnected w.kept.book server user s u server_receives server_sends user_receives user_sends → (is_receive_socket s ≡ true) × (is_receive_socket u ≡ true) }
@@ -45,7 +45,7 @@ pub fn worked_connections()
     ensures pairs { Match worked.joined_kept.book.crossings worked.user_receives worked.server_sends × Match worked.joined_kept.book.crossings worked.server_receives worked.user_sends }
     ensures others { (Match worked.joined_kept.book.crossings worked.user_receives worked.user_sends → ⊥) × (Match worked.joined_kept.book.crossings worked.server_receives worked.server_sends → ⊥) }
 
-    // a life on the same sockets that took its request before the server's went out doesn't match: sockets alone don't make partners
+    // a life on the same sockets that took its request before the server's went out doesn't match: sockets only don't make partners
     ensures older { Match worked.joined_kept.book.crossings worked.older worked.server_sends → ⊥ }
     ensures unjoined { JoinedBook worked.unjoined_book → ⊥ }
 

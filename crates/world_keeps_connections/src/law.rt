@@ -64,7 +64,7 @@ pub fn worked_users()
     // and of no other
     ensures others { (known_in (origin_in (crossings_of connected) first second) first second 33 16 connected ≡ []) × (known_in (origin_in (crossings_of connected) second first) second first 16 33 connected ≡ []) }
 
-    // a host that stops knows nothing, nor one that contacts its peer; the peer knows of its end until it is told
+    // a host that stops knows nothing, nor one that contacts its peer; the peer knows of its end until it is reported
     ensures stopped { known_in (origin_in (crossings_of connected) first second) first second 16 33 (Crossed (crossing.Down first) ∷ connected) ≡ [] }
     ensures contact { known_in (origin_in (crossings_of connected) first second) first second 16 33 (Asked first (request.Contact second) ∷ connected) ≡ [] }
     ensures alone { known_in (origin_in (crossings_of connected) second first) second first 33 16 (Asked first (request.Contact second) ∷ connected) ≡ record { own = 8; partner = 6 } ∷ [] }

@@ -99,7 +99,7 @@ pub record IsSteady (s : NcpState) : Type 0 where
   pub refusing : (peer : Host) → AreRefusing (pair_with peer s.peers).entries
   pub idle : (peer : Host) → is_ready (pair_with peer s.peers).phase ≡ false → (pair_with peer s.peers).entries ≡ []
 
--- ---- a life that goes on
+-- ---- a life that isn't over
 
 -- it is that of the one end which its host has on its socket. This is with its peer, and open by its two requests
 pub record HasOpenEnd (s : NcpState) (x : Life) : Type 0 where

@@ -38,7 +38,7 @@ pub fn programs()
     // ends that aren't its own refuse, and pairs that aren't through a reset have none
     ensures steady { (hosts : List Host) (moments : List Moment) → HaveAddresses hosts → mail.IsRun hosts (crossings_of moments) → IsTimeline hosts moments → (h : Host) → IsSteady (program h moments) }
 
-    // a life that goes on is that of the one end on its socket
+    // a life that isn't over is that of the one end on its socket
     ensures live { (hosts : List Host) (moments : List Moment) → HaveAddresses hosts → mail.IsRun hosts (crossings_of moments) → IsTimeline hosts moments → (x : Life) → Contains (kept_in moments).book.lives x → x.ended ≡ false → HasOpenEnd (program x.host moments) x }
 
     // what a receiving life took, with what was returned, is within what it granted
@@ -50,7 +50,7 @@ pub fn programs()
     // what each sending life sent is a prefix of what was handed over in it
     ensures handed { (hosts : List Host) (moments : List Moment) → HaveAddresses hosts → mail.IsRun hosts (crossings_of moments) → IsTimeline hosts moments → AreHanded (kept_in moments).book.lives (kept_in moments).handed }
 
-    // each life is made of messages that crossed: its two requests stand in those at its stamps, and its bits are those of its data messages
+    // each life is made of messages that crossed: its two requests are in those at its stamps, and its bits are those of its data messages
     ensures formed { (hosts : List Host) (moments : List Moment) → HaveAddresses hosts → mail.IsRun hosts (crossings_of moments) → IsTimeline hosts moments → FormedBook (crossings_of moments) (kept_in moments).book.lives }
 
     // each notice of data tells of a message of data just after it crossed, on the link of a connection of its socket; each such message that
@@ -59,7 +59,7 @@ pub fn programs()
 {}
 
 /// The same of the book of every world, whatever its carrier is made of: the two clauses of the safe book that are about one host
-/// alone, the bound of grants, the end of each life that goes on, in the program that comes of the world's moments, the messages that a
+/// only, the bound of grants, the end of each life that isn't over, in the program that comes of the world's moments, the messages that a
 /// life is made of, and those of which notices tell.
 pub fn worlds<C: Carrier>()
     ensures live { (hosts : List Host) (w : WorldState C) → (lawful : IsLawful C.seen hosts w) → (x : Life) → Contains w.kept.book.lives x → x.ended ≡ false → HasOpenEnd (program x.host lawful.whole.moments) x }
@@ -152,7 +152,7 @@ pub fn worked_formed()
 
 /// Notices of the same small book.
 pub fn worked_notices()
-    // the message has two notices of data: its sender was told where it went out, and its receiver where it came in
+    // the message has two notices of data: its sender was informed where it went out, and its receiver where it came in
     ensures both { data_told (kept_in sent_moments).book.notices ≡ arrived_told ∷ sent_told ∷ [] }
     ensures told { FormedNotices sent_log (kept_in sent_moments).book.notices }
 

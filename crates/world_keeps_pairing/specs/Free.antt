@@ -21,7 +21,7 @@ abbrev pub place_or : ℕ → Option ℕ → ℕ
 place_or none None = none
 place_or none (Some place) = place
 
--- the place where the message went out that a host took of its peer when there were so many crossings; and this number where nothing
+-- the place where the message went out that a host took of its peer when there were this many crossings; and this number where nothing
 -- had gone out
 abbrev pub origin_or : ℕ → List Crossing → Host → Host → ℕ → ℕ
 origin_or none log h peer stamp = place_or none (last_out (control_flow peer h) (before stamp log))

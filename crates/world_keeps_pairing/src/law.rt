@@ -48,7 +48,7 @@ pub fn dialogues()
     // each stays where that law has it
     ensures stays { (a b : Host) (events : List reset.Event) → (stays Receiver (steps a b events) ≡ stay.stays a b events) × (stays Sender (steps a b events) ≡ stay.stays b a events) }
 
-    // what each said and heard in its last stay is what stands in the texts of that law
+    // what each said and heard in its last stay is what is in the texts of that law
     ensures said { (a b : Host) (events : List reset.Event) → (said_words Receiver (steps a b events) ≡ onto (words_of Receiver (stay.said_in_stay a b 0 events)) []) × (said_words Sender (steps a b events) ≡ onto (words_of Sender (stay.said_in_stay b a 0 events)) []) }
     ensures heard { (a b : Host) (events : List reset.Event) → (heard_words Receiver (steps a b events) ≡ onto (words_of Sender (stay.heard_in_stay b a 0 events)) []) × (heard_words Sender (steps a b events) ≡ onto (words_of Receiver (stay.heard_in_stay a b 0 events)) []) }
 
@@ -61,7 +61,7 @@ pub fn programs()
     // their steps may be, by the law of pairing: all that each hears is in order, and no RTS names a link that another end has
     ensures steps { (hosts : List Host) (moments : List Moment) → HaveAddresses hosts → mail.IsRun hosts (crossings_of moments) → IsTimeline hosts moments → (a b : Host) → AreSteps (steps a b (law_events moments)) }
 
-    // and each program has, for each receiving socket and each sending one, the end that the law says. A partner's request is told by
+    // and each program has, for each receiving socket and each sending one, the end that the law says. A partner's request is given by
     // the place where the peer's last message before it went out
     ensures receiver { (hosts : List Host) (moments : List Moment) → HaveAddresses hosts → mail.IsRun hosts (crossings_of moments) → IsTimeline hosts moments → (a b : Host) → (s : Sockets) → is_receive_socket s.receive ≡ true → is_send_socket s.send ≡ true → HasEnd (origin_in (crossings_of moments) a b) s.receive s.send (pair_with b (program a moments).peers) (receiver s (steps a b (law_events moments))).end }
     ensures sender { (hosts : List Host) (moments : List Moment) → HaveAddresses hosts → mail.IsRun hosts (crossings_of moments) → IsTimeline hosts moments → (a b : Host) → (s : Sockets) → is_receive_socket s.receive ≡ true → is_send_socket s.send ≡ true → HasEnd (origin_in (crossings_of moments) b a) s.send s.receive (pair_with a (program b moments).peers) (sender s (steps a b (law_events moments))).end }

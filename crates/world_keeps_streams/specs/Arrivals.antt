@@ -11,7 +11,7 @@ use Rattle.net_sim.specs.Told.{kept_in, notices_by}
 use Rattle.net_sim.specs.declared.life.Life.{Life}
 use Rattle.world_keeps_lives.specs.Lives.{HasOpenEnd}
 
--- a message of data comes from the peer of a receiving life that goes on. The life's end has the message's link, and is open: neither a user here nor the
+-- a message of data comes from the peer of a receiving life that isn't over. The life's end has the message's link, and is open: neither a user here nor the
 -- partner has closed it
 pub record ComesFor (m : HostMessage) (moments : List Moment) (receiver : Life) : Type 0 where
   pub there : Contains (kept_in moments).book.lives receiver
@@ -24,7 +24,7 @@ pub record ComesFor (m : HostMessage) (moments : List Moment) (receiver : Life) 
   pub link : end.end.link ≡ Some m.flow.link.0
   pub off_control : (m.flow.link.0 == 0) ≡ false
 
--- where it is taken its user is told of all its data, which stand behind the 40 bits of its header, and of nothing else
+-- where it is taken its user is notified of all its data, which are after the 40 bits of its header, and of nothing else
 abbrev pub Arrives : HostMessage → List Moment → Life → Type 0
 Arrives m moments receiver = notices_by (Crossed (crossing.In m)) moments ≡ notice.Arrived receiver.socket (drop 40 m.text) ∷ []
 

@@ -11,7 +11,7 @@ use Rattle.net_sim.specs.declared.life.Life.{Life}
 use Rattle.world_keeps_lives.specs.Lives.{HasOpenEnd}
 use Rattle.world_keeps_streams.specs.Calls.{own_calls}
 
--- a receiving life goes on, its end has taken the partner's CLS, and none of its host's users has closed it
+-- a receiving life isn't over, its end has taken the partner's CLS, and none of its host's users has closed it
 pub record IsClosedByPartner (moments : List Moment) (receiver : Life) : Type 0 where
   pub there : Contains (kept_in moments).book.lives receiver
   pub receiving : receives receiver ≡ true

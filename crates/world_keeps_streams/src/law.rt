@@ -42,7 +42,7 @@ pub fn programs()
     ensures sender { (hosts : List Host) (moments : List Moment) → HaveAddresses hosts → mail.IsRun hosts (crossings_of moments) → IsTimeline hosts moments → (a b : Host) (link : ℕ) → (link == 0) ≡ false → IsSending (name_now numbered b (own_calls a b moments)) link (pair_with b (program a moments).peers).entries (sender_now numbered b link (own_calls a b moments)) }
 {}
 
-/// Two programs that stay together since both were through a reset, link by link and connection by connection. A connection is told by its two sockets
+/// Two programs that stay together since both were through a reset, link by link and connection by connection. A connection is given by its two sockets
 /// and how many connections of theirs are over, which both count alike.
 pub fn streams()
     // what the one has taken in a connection is a prefix of what the other has sent in it
@@ -84,7 +84,7 @@ pub fn worked_arrivals()
     ensures open { ComesFor eight_sent bits_sent took }
     ensures arrives { Arrives eight_sent bits_sent took }
 
-    // where its user has closed the end, they don't come for the life, though it goes on; and nobody is told of them
+    // where its user has closed the end, they don't come for the life, though it goes on; and nobody is notified of them
     ensures closing { ComesFor eight_sent (Asked dialogue.first (request.Close 16) ∷ bits_sent) took → ⊥ }
     ensures dropped { notices_by (Crossed (crossing.In eight_sent)) (Asked dialogue.first (request.Close 16) ∷ bits_sent) ≡ [] }
 {}
@@ -96,7 +96,7 @@ pub fn worked_closes()
     ensures quit { IsClosedByPartner quit_moments took → ⊥ }
 {}
 
-/// The calls of two programs: the first asks for a connection, and the second's socket listens. Here a connection is told by its receiving socket.
+/// The calls of two programs: the first asks for a connection, and the second's socket listens. Here a connection is given by its receiving socket.
 pub fn worked_calls()
     ensures none { (a b : Host) → own_calls a b [] ≡ [] }
 

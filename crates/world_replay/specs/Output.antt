@@ -10,7 +10,7 @@ use Rattle.replay.specs.Output.{crossing_line}
 use Rattle.replay.specs.declared.print.Detail.{Detail}
 use Rattle.world_replay.specs.Printed.{life_text, refusal_text, reported_text, told_text}
 
--- one line that a replay prints: a crossing, something that a user was told, something that a service reported, or a refusal
+-- one line that a replay prints: a crossing, something that a user was notified, something that a service reported, or a refusal
 pub data Shown : Type 0 where
   Crossed : Crossing → Shown
   Noticed : Told → Shown
@@ -36,7 +36,7 @@ crossings_of (Noticed t ∷ shown) = crossings_of shown
 crossings_of (Said r ∷ shown) = crossings_of shown
 crossings_of (Refused f ∷ shown) = crossings_of shown
 
--- what users were told
+-- the notices to users
 abbrev pub notices_of : List Shown → List Told
 notices_of [] = []
 notices_of (Crossed c ∷ shown) = notices_of shown
@@ -67,21 +67,21 @@ shown_crossings crossings = map (λ c. Crossed c) crossings
 abbrev pub shown_notices : List Told → List Shown
 shown_notices notices = map (λ t. Noticed t) notices
 
--- reports among notices, where so many notices stood in the book before these: each report stands behind the notice that it is
--- about, which is the last of those that it counts, and behind the earlier reports about it
+-- reports among notices, where this many notices was in the book before these: each report is after the notice that it is
+-- about, which is the last of those that it counts, and after the earlier reports about it
 abbrev pub told_in_turn : ℕ → List Told → List Reported → List Shown
 told_in_turn before notices [] = shown_notices notices
 told_in_turn before notices (r ∷ reports) =
     shown_notices (take (r.notices - before) notices) ++ Said r ∷ told_in_turn (max before r.notices) (drop (r.notices - before) notices) reports
 
--- how many crossings stood in the book before something that isn't a crossing. A report follows its notice, and needs none
+-- how many crossings was in the book before something that isn't a crossing. A report follows its notice, and needs none
 abbrev pub place_of : Shown → ℕ
 place_of (Crossed c) = 0
 place_of (Noticed t) = t.place
 place_of (Said r) = 0
 place_of (Refused f) = 0
 
--- news among crossings, where so many crossings stood in the book before these: each notice stands behind the crossings that
+-- news among crossings, where this many crossings was in the book before these: each notice is after the crossings that
 -- were before it
 abbrev pub shown_in_turn : ℕ → List Crossing → List Shown → List Shown
 shown_in_turn before crossings [] = shown_crossings crossings

@@ -1,4 +1,4 @@
--- How refusals of a world, what a user is told, what services report and the lives of connections are printed.
+-- How refusals of a world, the notices to a user, what services report and the lives of connections are printed.
 use Rattle.std.specs.Prelude.{ℕ, ◌%◌, ◌==◌, Bool, true, false, List, [], ◌∷◌, ◌++◌, length, map, codes, if◌then◌else◌}
 use Rattle.std.specs.Fmt.{decimal}
 use Rattle.host_services.specs.declared.report.Report.{Report}
@@ -42,7 +42,7 @@ problem_name problem.NoLink = codes "NoLink"
 problem_name problem.OverGrant = codes "OverGrant"
 problem_name problem.OutOfMemory = codes "OutOfMemory"
 
--- a refusal is its name alone, whoever refused
+-- a refusal is its name only, whoever refused
 abbrev pub refusal_name : WorldFault → List ℕ
 refusal_name (Carrier f) = fault_name f
 refusal_name (Program f) = problem_name f
@@ -50,7 +50,7 @@ refusal_name (Program f) = problem_name f
 abbrev pub refusal_text : WorldFault → List ℕ
 refusal_text f = words (codes "refused" ∷ refusal_name f ∷ [])
 
--- ---- what a user is told
+-- ---- the notices to a user
 
 -- a word for what it is, the host, and what it is about; of bits only their number is printed
 abbrev pub notice_text : Host → Notice → List ℕ
@@ -88,7 +88,7 @@ outcome_text who h (outcome.Failed f) = words (codes "failed" ∷ who ∷ host_t
 abbrev pub shown_octet : ℕ → ℕ
 shown_octet octet = if is_printable octet then octet else 63
 
--- the text of a line is printed whole, behind the terminal's host and a space
+-- the text of a line is printed whole, after the terminal's host and a space
 abbrev pub report_text : Host → Report → List ℕ
 report_text h (report.Server o) = outcome_text (codes "server") h o
 report_text h (report.User o) = outcome_text (codes "user") h o

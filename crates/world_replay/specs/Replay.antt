@@ -13,8 +13,8 @@ abbrev pub EventGives : {C : Type 0} → Calls C → WorldState C → WorldEvent
 EventGives calls old (event.Happen e) r new = StepGives calls old e r new
 EventGives calls old (event.Calm rounds) r new = CalmGives calls rounds old r new
 
--- one event happens, refused or not, and shows what its world's book gained, each notice behind the crossings that were before
--- it and each report behind its notice, and then its refusal. Of a single event these are its crossings and then its notices with
+-- one event happens, refused or not, and shows what its world's book gained, each notice after the crossings that were before
+-- it and each report after its notice, and then its refusal. Of a single event these are its crossings and then its notices with
 -- their reports, and of a calm those of each of its events in turn, without the refusals
 pub record Happens {C : Type 0} (calls : Calls C) (old : WorldState C) (e : WorldEvent) (new : WorldState C) (shown : List Shown) : Type 0 where
   pub outcome : Result (Unit {0}) WorldFault
@@ -43,7 +43,7 @@ BeginsWith (event.Happen e) first = first ≡ event.Happen e
 BeginsWith (event.Calm rounds) first = (fewer : ℕ) × (first ≡ event.Calm fewer) × (fewer ≤ rounds)
 
 -- the world processed this event, or the first rounds of a calm, and may have answered anything; how much was written of what it showed the writer
--- alone knows
+-- only knows
 pub record MayDo {C : Type 0} (calls : Calls C) (old : WorldState C) (e : WorldEvent) (new : WorldState C) (shown : List Shown) : Type 0 where
   pub processed : WorldEvent
   pub begins : BeginsWith e processed

@@ -17,11 +17,11 @@ went = crossing.Out (message first second 0)
 abbrev pub came : Crossing
 came = crossing.In (message first second 0)
 
--- the second host is told something where there were so many crossings
+-- the second host gets a notice where there were this many crossings
 abbrev pub told_at : ℕ → Told
 told_at place = record { host = second; place = place; notice = notice.Ready first }
 
--- a line comes to its terminal, where so many notices stood in the book
+-- a line comes to its terminal, where this many notices was in the book
 abbrev pub said_at : ℕ → Reported
 said_at notices = record { host = second; notices = notices; report = report.Line (codes "A") }
 
@@ -35,6 +35,6 @@ counting = record {
   rounds = λ old r new. (r ≡ Ok tt) × (new ≡ suc old);
 }
 
--- the world over it, after so many calls
+-- the world over it, after this many calls
 abbrev pub after : ℕ → WorldState ℕ
 after calls = opening_world counting calls

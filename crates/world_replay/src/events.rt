@@ -30,7 +30,7 @@ use world_script::WorldEvent;
 /// - `OutOfMemory`: memory ran out at one event. The lines of the events before it were written, and no line of its
 ///   own. If it was a calm, what happened before memory ran out was written too.
 /// - `CannotWrite`: a write failed. The event whose line it was had already happened, or of a calm all rounds up to the one whose line
-///   it was. Nothing more was asked of the writer, which alone knows how much of its last lines it wrote.
+///   it was. Nothing more was asked of the writer, which is the only one to know how much of its last lines it wrote.
 pub fn replay_events<C: Carrier, W: Output>(
     world: &mut World<C>,
     events: Vec<WorldEvent>,
@@ -56,7 +56,7 @@ pub fn replay_events<C: Carrier, W: Output>(
     ensures cannot_write { result ≡ Err ReplayFault.CannotWrite → (lines : List Shown) × EndsIn (shown (record { seen = C.seen; offers = C.offers; takes = C.takes; steps = C.steps; rounds = C.rounds })) (MayDo (shown (record { seen = C.seen; offers = C.offers; takes = C.takes; steps = C.steps; rounds = C.rounds }))) world.old events.items world.new lines }
 {
     let outcome = replay_in_turn(world, events, detail, writer);
-    // for the proof alone: by `World::book` the world is lawful, from which the promise about messages follows
+    // for the proof only: by `World::book` the world is lawful, from which the promise about messages follows
     let _book = world.book();
     outcome
 }
@@ -99,7 +99,7 @@ fn replay_event<C: Carrier, W: Output>(
     }
 }
 
-/// Lets so many rounds pass, and prints after each what it showed. Where the world rests, the rounds that are left would change nothing and
+/// Lets this many rounds pass, and prints after each what it showed. Where the world rests, the rounds that are left would change nothing and
 /// show nothing, and are not made.
 fn replay_calm<C: Carrier, W: Output>(
     world: &mut World<C>,
@@ -125,7 +125,8 @@ fn replay_calm<C: Carrier, W: Output>(
     Ok(())
 }
 
-/// Whether more rounds of a calm are known to change nothing: nothing has crossed since the book had so many crossings, and the world rests.
+/// Returns whether more rounds of a calm are known to change nothing: nothing has crossed since the book had this many
+/// crossings, and the world rests.
 fn has_calmed<C: Carrier>(world: &World<C>, before: usize) -> bool
     ensures { result ≡ true → (times : ℕ) → CalmGives (shown (record { seen = C.seen; offers = C.offers; takes = C.takes; steps = C.steps; rounds = C.rounds })) times world.now (Ok tt) world.now }
 {

@@ -2,7 +2,7 @@
 //!
 //! [`replay_events`] lets each event happen in a world. It writes one line for each crossing of the interface between a
 //! host and its IMP, one for each thing that the user of a host is told, one for each thing that a service of a host
-//! reports, and one for each refusal. A notice stands after the crossings that were before it, and a report after its
+//! reports, and one for each refusal. A notice is after the crossings that were before it, and a report after its
 //! notice. [`print_lives`] writes the lives of connections, one line each.
 //!
 //! A caller may rely on three things. Each event goes as the world says that its calls may go. What is written is what the

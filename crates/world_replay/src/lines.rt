@@ -42,7 +42,7 @@ impl fmt::Display for OutcomeLine<'_> {
     }
 }
 
-/// The word for why an initial connection failed.
+/// Returns the word for why an initial connection failed.
 fn reason_name(failure: &Failure) -> &'static str
     ensures { result.now ≡ reason_name failure.now }
 {

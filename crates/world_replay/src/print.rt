@@ -18,7 +18,7 @@ use net_sim::{Book, Life, Report, Reported, Told, WorldFault};
 use replay::{Detail, Line, Output, ReplayFault, WriteFailed, carrier_refusal, print_crossing_in};
 use sockets::NcpFault;
 
-/// Prints what stands in a book after so many crossings, notices and reports. Lines are put together in this buffer, of which
+/// Prints what is in a book after this many crossings, notices and reports. Lines are put together in this buffer, of which
 /// nothing is kept.
 ///
 /// Errors: `WriteFailed`.
@@ -82,7 +82,7 @@ impl Crossings<'_> {
     }
 }
 
-/// Prints notices and reports, each report after its notice, and the crossings that were before them. So many
+/// Prints notices and reports, each report after its notice, and the crossings that were before them. This many
 /// notices were before all of them.
 fn print_told<W: Output>(
     line: &mut Line,
@@ -129,7 +129,7 @@ fn print_notices<W: Output>(
     Ok(())
 }
 
-/// Prints the line of something that a user was told.
+/// Prints the line of something that a user was notified.
 fn print_told_line<W: Output>(
     line: &mut Line,
     told: &Told,
@@ -187,7 +187,7 @@ fn print_line<W: Output>(host: &HostAddr, octets: &[u8], writer: &mut W) -> Resu
     writer.write_all(b"\n")
 }
 
-/// The octet that is printed for one of a line.
+/// Returns the octet that is printed for one of a line.
 fn shown_octet(octet: u8) -> u8
     ensures { result ≡ shown_octet octet }
 {
@@ -238,7 +238,7 @@ pub(crate) fn print_refusal<W: Output>(
     Ok(writeln!(writer, "refused {name}")?)
 }
 
-/// The name of a refusal. `None` where running out of memory has stopped the world.
+/// Returns the name of a refusal. `None` where running out of memory has stopped the world.
 fn name_of(fault: WorldFault) -> Option<&'static str>
     ensures name { IfSome result (λ name. name.now ≡ refusal_name fault) }
     ensures goes_on { IsSome result ↔ (stops (Err fault) ≡ false) }
@@ -249,7 +249,7 @@ fn name_of(fault: WorldFault) -> Option<&'static str>
     }
 }
 
-/// The name of a refusal by a host's program. `None` if memory ran out.
+/// Returns the name of a refusal by a host's program. `None` if memory ran out.
 fn program_refusal(fault: NcpFault) -> Option<&'static str>
     ensures name { IfSome result (λ name. name.now ≡ problem_name fault) }
     ensures goes_on { IsSome result ↔ (stops (Err (WorldFault.Program fault)) ≡ false) }

@@ -1,4 +1,4 @@
-//! The line for something that the user of a host was told, with its end, put together in a buffer that is kept.
+//! The line for A notice to the user of a host, with its end, put together in a buffer that is kept.
 
 ghost use Rattle.std.specs.Prelude.{◌≡◌, ◌+◌, ◌≤◌, ◌++◌, ◌∷◌, [], codes, length};
 ghost use Rattle.std.specs.Fmt.{decimal};
@@ -98,7 +98,7 @@ fn put_peer_octet(line: &mut Line, word: &[u8], host: HostAddr, peer: HostAddr, 
     put_head(line, word, host);
 }
 
-/// Puts the line for something that the user of a host was told: a word for what it is, the host, and what it is about. Of bits their
+/// Puts the line for A notice to the user of a host: a word for what it is, the host, and what it is about. Of bits their
 /// number is told.
 fn put_notice(line: &mut Line, host: HostAddr, notice: &Notice)
     ensures { line.new ≡ ended_line (notice_text host notice.now) }
@@ -133,7 +133,7 @@ fn put_notice(line: &mut Line, host: HostAddr, notice: &Notice)
     }
 }
 
-/// Puts the line for what stands in a book of what a user was told.
+/// Puts the line for what is in a book of the notices to a user.
 pub(crate) fn put_told(line: &mut Line, told: &Told)
     ensures { line.new ≡ ended_line (told_text told.now) }
 {

@@ -28,7 +28,7 @@ pub fn worked_lines()
     ensures echoed { notice_text first (notice.Echoed second 255) ≡ codes "echoed 0/1 0/2 255" }
     ensures error { notice_text first (notice.RemoteError second 4 (replicate 10 0)) ≡ codes "error 0/1 0/2 4" }
 
-    // about a connection: the host's own socket stands behind the host, and the stamps aren't printed
+    // about a connection: the host's own socket is after the host, and the stamps aren't printed
     ensures opened { notice_text first (notice.Opened 16 second 33 7 8) ≡ codes "opened 0/1 16 0/2 33" }
     ensures ended { notice_text first (notice.Ended 16 second 33) ≡ codes "ended 0/1 16 0/2 33" }
     ensures interrupt { notice_text first (notice.Interrupt 16) ≡ codes "interrupt 0/1 16" }
@@ -38,7 +38,7 @@ pub fn worked_lines()
     ensures arrived { notice_text first (notice.Arrived 16 (eight ++ four)) ≡ codes "arrived 0/1 16 12" }
     ensures returned { notice_text first (notice.Returned 16 1 4) ≡ codes "returned 0/1 16 1 4" }
 
-    // a refusal by its name alone, whoever refused
+    // a refusal by its name only, whoever refused
     ensures carrier { refusal_text (Carrier fault.NoSuch) ≡ codes "refused NoSuch" }
     ensures program { refusal_text (Program problem.NoSuchSocket) ≡ codes "refused NoSuchSocket" }
 {}
@@ -65,7 +65,7 @@ pub fn worked_reports()
     // which request the own host refused, and why, isn't printed
     ensures local { report_text first (report.User (outcome.Failed (failure.Local problem.InUse))) ≡ codes "failed user 0/1 local" }
 
-    // a line stands whole behind the host and a space, also if it is empty. What is no printing character of ASCII is a
+    // a line is whole after the host and a space, also if it is empty. What is no printing character of ASCII is a
     // question mark
     ensures line { report_text first (report.Line (codes "HELLO WORLD")) ≡ codes "line 0/1 HELLO WORLD" }
     ensures empty { report_text first (report.Line []) ≡ codes "line 0/1 " }
@@ -74,27 +74,27 @@ pub fn worked_reports()
 
 /// Crossings, notices and reports in one list.
 pub fn worked_news()
-    // each notice stands behind the crossing that it comes of, and before the next one
+    // each notice is after the crossing that it comes of, and before the next one
     ensures between { shown_in_turn 0 (went ∷ came ∷ []) (told_in_turn 0 (told_at 1 ∷ told_at 2 ∷ []) []) ≡ Crossed went ∷ Noticed (told_at 1) ∷ Crossed came ∷ Noticed (told_at 2) ∷ [] }
 
-    // several of one crossing stand in their order, and a crossing that nobody is told of stands alone
+    // several of one crossing are in their order, and a crossing that nobody is notified of is the only one
     ensures several { shown_in_turn 0 (went ∷ came ∷ []) (told_in_turn 0 (told_at 2 ∷ told_at 2 ∷ []) []) ≡ Crossed went ∷ Crossed came ∷ Noticed (told_at 2) ∷ Noticed (told_at 2) ∷ [] }
     ensures untold { shown_in_turn 0 (went ∷ came ∷ []) (told_in_turn 0 [] []) ≡ Crossed went ∷ Crossed came ∷ [] }
 
     // places count the crossings of before
     ensures later { shown_in_turn 5 (went ∷ came ∷ []) (told_in_turn 9 (told_at 6 ∷ []) []) ≡ Crossed went ∷ Noticed (told_at 6) ∷ Crossed came ∷ [] }
 
-    // what a user is told where nothing crossed
+    // the notices to a user where nothing crossed
     ensures uncrossed { shown_in_turn 5 [] (told_in_turn 9 (told_at 5 ∷ []) []) ≡ Noticed (told_at 5) ∷ [] }
 
-    // reports stand behind the notice that they are about, in their order, and before the next crossing
+    // reports are after the notice that they are about, in their order, and before the next crossing
     ensures reported { shown_in_turn 0 (went ∷ came ∷ []) (told_in_turn 3 (told_at 1 ∷ told_at 2 ∷ []) (said_at 4 ∷ said_at 4 ∷ [])) ≡ Crossed went ∷ Noticed (told_at 1) ∷ Said (said_at 4) ∷ Said (said_at 4) ∷ Crossed came ∷ Noticed (told_at 2) ∷ [] }
     ensures behind { shown_in_turn 0 (went ∷ []) (told_in_turn 3 (told_at 1 ∷ told_at 1 ∷ []) (said_at 5 ∷ [])) ≡ Crossed went ∷ Noticed (told_at 1) ∷ Noticed (told_at 1) ∷ Said (said_at 5) ∷ [] }
 
     // a service that fails as it begins
     ensures begun { shown_in_turn 5 [] (told_in_turn 3 [] (said_at 3 ∷ [])) ≡ Said (said_at 3) ∷ [] }
 
-    // what users were told and what services reported, among the other lines
+    // the notices to users and what services reported, among the other lines
     ensures notices { notices_of (Crossed went ∷ Noticed (told_at 1) ∷ Said (said_at 4) ∷ Refused (Carrier fault.NoSuch) ∷ Noticed (told_at 2) ∷ []) ≡ told_at 1 ∷ told_at 2 ∷ [] }
     ensures reports { reports_of (Said (said_at 5) ∷ Crossed went ∷ Noticed (told_at 1) ∷ Said (said_at 4) ∷ []) ≡ said_at 5 ∷ said_at 4 ∷ [] }
 {}

@@ -53,7 +53,7 @@ AreTwo a b p = (p.0 ≤ a) × (p.1 ≤ b)
 abbrev pub AreThree : ℕ → ℕ → ℕ → ℕ × ℕ × ℕ → Type 0
 AreThree a b c p = (p.0 ≤ a) × (p.1 ≤ b) × (p.2 ≤ c)
 
--- what stands behind a request's host
+-- what is after a request's host
 abbrev pub arguments : Request → List ℕ
 arguments (request.Contact peer) = host_text peer
 arguments (request.Echo peer octet) = host_text peer ++ 32 ∷ decimal octet

@@ -12,7 +12,7 @@ use Rattle.terminal.specs.Lines.{is_printable}
 use Rattle.world_script.specs.declared.event.WorldEvent.{WorldEvent}
 use Rattle.world_script.specs.declared.event.WorldEvent.TheVariants as world
 
--- what the user of a host asks for; the host stands behind the first word
+-- what the user of a host asks for; the host is after the first word
 abbrev pub request_spelling : Host → Request → List ℕ
 request_spelling h (request.Contact peer) = codes "contact " ++ (host_text h ++ (codes " " ++ host_text peer))
 request_spelling h (request.Echo peer octet) = codes "echo " ++ (host_text h ++ (codes " " ++ (host_text peer ++ (codes " " ++ decimal octet))))
@@ -25,7 +25,7 @@ request_spelling h (request.AskBack socket messages bits) = codes "askback " ++ 
 request_spelling h (request.Interrupt socket) = codes "interrupt " ++ (host_text h ++ (codes " " ++ decimal socket))
 request_spelling h (request.Close socket) = codes "close " ++ (host_text h ++ (codes " " ++ decimal socket))
 
--- an event's line; a quiet round by itself has none. What is typed stands as it is behind its host's space, so a line
+-- an event's line; a quiet round by itself has none. What is typed is as it is after its host's space, so a line
 -- without text ends in that space
 abbrev pub world_spelling : WorldEvent → List ℕ
 world_spelling (world.Happen (event.Net e)) = net_spelling e

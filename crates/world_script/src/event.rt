@@ -5,7 +5,7 @@
 pub enum WorldEvent {
     /// This happens in the world.
     Happen(net_sim::Event),
-    /// So many rounds pass. In each the network has a quiet round, and then each host that is up takes what came
+    /// This many rounds pass. In each the network has a quiet round, and then each host that is up takes what came
     /// for it and offers what it has to send.
     Calm(u32),
 }

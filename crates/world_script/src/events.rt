@@ -20,8 +20,8 @@ use script::reading::{
 use script::{LineFault, MAX_INPUT};
 use std::alloc::{AllocError, Global};
 
-/// The events of a world's script, in order. Empty lines and lines that begin with `#` are ignored, but
-/// they are counted.
+/// Returns the events of a world's script, in order. Empty lines and lines that begin with `#` are ignored, but they
+/// are counted.
 ///
 /// Errors: `BadLine` with the number of the first line, counted from 1, that is not an event. `OutOfMemory` only
 /// at a line that needs memory, an event or a `send` whose octets are hexadecimal, with no bad line before it.
@@ -46,7 +46,7 @@ pub fn read_world_script(alloc: Global, text: &[u8]) -> Result<Vec<WorldEvent>, 
     Ok(events)
 }
 
-/// The event that a line asks for. `None` if the line is not a valid event.
+/// Returns the event that a line asks for. `None` if the line is not a valid event.
 ///
 /// Errors: `AllocError`, only for octets to send and for a line that is typed.
 fn read_event(alloc: Global, line: &[u8]) -> Result<Option<WorldEvent>, AllocError>
@@ -84,7 +84,7 @@ fn read_ask(alloc: Global, verb: Verb, words: &[u8]) -> Result<Option<WorldEvent
     Ok(Some(WorldEvent::Happen(Event::Ask(host, request))))
 }
 
-/// The event of a line that is no user's request and types nothing, from its first word and what follows it.
+/// Returns the event of a line that is no user's request and types nothing, from its first word and what follows it.
 fn read_plain(word: &[u8], rest: &[u8]) -> Option<WorldEvent>
     requires word { Lacks 32 word.now }
     requires not_asked { (v : VerbName) → IsVerb v → word.now ≢ verb_text v }

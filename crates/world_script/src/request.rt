@@ -11,7 +11,7 @@ use script::reading::{cut, plain_number, read_bits, read_host, read_number};
 use sockets::Request;
 use std::alloc::{AllocError, Global};
 
-/// The request that a verb and its arguments ask for.
+/// Returns the request that a verb and its arguments ask for.
 ///
 /// Errors: `AllocError`, only for the octets to send.
 pub(crate) fn read_request(
@@ -36,7 +36,7 @@ pub(crate) fn read_request(
     })
 }
 
-/// `PEER`
+/// Reads `PEER`
 fn read_contact(words: &[u8]) -> Option<Request>
     ensures { ReadsRequest verb_at.Contact words.now result }
 {
@@ -44,7 +44,7 @@ fn read_contact(words: &[u8]) -> Option<Request>
     Some(Request::Contact { peer })
 }
 
-/// `PEER OCTET`
+/// Reads `PEER OCTET`
 fn read_echo(words: &[u8]) -> Option<Request>
     ensures { ReadsRequest verb_at.Echo words.now result }
 {
@@ -57,7 +57,7 @@ fn read_echo(words: &[u8]) -> Option<Request>
     })
 }
 
-/// `SOCKET SIZE`
+/// Reads `SOCKET SIZE`
 fn read_listen(words: &[u8]) -> Option<Request>
     ensures { ReadsRequest verb_at.Listen words.now result }
 {
@@ -68,7 +68,7 @@ fn read_listen(words: &[u8]) -> Option<Request>
     })
 }
 
-/// `PEER OWN FOREIGN SIZE`
+/// Reads `PEER OWN FOREIGN SIZE`
 fn read_open_send(words: &[u8]) -> Option<Request>
     ensures { ReadsRequest verb_at.OpenSend words.now result }
 {
@@ -83,7 +83,7 @@ fn read_open_send(words: &[u8]) -> Option<Request>
     })
 }
 
-/// `PEER OWN FOREIGN`
+/// Reads `PEER OWN FOREIGN`
 fn read_open_receive(words: &[u8]) -> Option<Request>
     ensures { ReadsRequest verb_at.OpenReceive words.now result }
 {
@@ -93,7 +93,7 @@ fn read_open_receive(words: &[u8]) -> Option<Request>
     Some(Request::OpenReceive { peer, own, foreign })
 }
 
-/// `SOCKET BITS OCTETS`
+/// Reads `SOCKET BITS OCTETS`
 ///
 /// Errors: `AllocError`, only where all words but the last are good and the last one is hexadecimal.
 fn read_send(alloc: Global, words: &[u8]) -> Result<Option<Request>, AllocError>
@@ -112,7 +112,7 @@ fn read_send(alloc: Global, words: &[u8]) -> Result<Option<Request>, AllocError>
     Ok(Some(Request::Send { socket, bits }))
 }
 
-/// `SOCKET MESSAGES BITS`
+/// Reads `SOCKET MESSAGES BITS`
 fn read_grant(words: &[u8]) -> Option<Request>
     ensures { ReadsRequest verb_at.Grant words.now result }
 {
@@ -124,7 +124,7 @@ fn read_grant(words: &[u8]) -> Option<Request>
     })
 }
 
-/// `SOCKET MESSAGES BITS`, in 128ths
+/// Reads `SOCKET MESSAGES BITS`, in 128ths
 fn read_ask_back(words: &[u8]) -> Option<Request>
     ensures { ReadsRequest verb_at.AskBack words.now result }
 {
@@ -136,7 +136,7 @@ fn read_ask_back(words: &[u8]) -> Option<Request>
     })
 }
 
-/// `SOCKET`
+/// Reads `SOCKET`
 fn read_interrupt(words: &[u8]) -> Option<Request>
     ensures { ReadsRequest verb_at.Interrupt words.now result }
 {
@@ -144,7 +144,7 @@ fn read_interrupt(words: &[u8]) -> Option<Request>
     Some(Request::Interrupt { socket })
 }
 
-/// `SOCKET`
+/// Reads `SOCKET`
 fn read_close(words: &[u8]) -> Option<Request>
     ensures { ReadsRequest verb_at.Close words.now result }
 {
@@ -152,7 +152,7 @@ fn read_close(words: &[u8]) -> Option<Request>
     Some(Request::Close { socket })
 }
 
-/// The number of 32 bits that stands before the first space, and what stands behind that.
+/// Returns the number of 32 bits that is before the first space, and what is after that.
 fn cut_number(words: &[u8]) -> Option<(u32, &[u8])>
     ensures { MatchOption result ((n : ℕ) (rest : List ℕ) → n < 2 ^ 32 → words.now ≢ decimal n ++ 32 ∷ rest) (λ parts. (words.now ≡ decimal parts.0 ++ 32 ∷ parts.1.now) × (parts.0 < 2 ^ 32)) }
 {
@@ -160,7 +160,7 @@ fn cut_number(words: &[u8]) -> Option<(u32, &[u8])>
     Some((plain_number(number)?, rest))
 }
 
-/// Two numbers, each up to its limit.
+/// Returns two numbers, each up to its limit.
 pub(crate) fn read_two(words: &[u8], first: u32, second: u32) -> Option<(u32, u32)>
     ensures { ReadsAs two_text (AreTwo first second) words.now result }
 {
@@ -168,7 +168,7 @@ pub(crate) fn read_two(words: &[u8], first: u32, second: u32) -> Option<(u32, u3
     Some((read_number(one, first)?, read_number(two, second)?))
 }
 
-/// Three numbers, each up to its limit.
+/// Returns three numbers, each up to its limit.
 fn read_three(words: &[u8], first: u32, second: u32, third: u32) -> Option<(u32, u32, u32)>
     ensures { ReadsAs three_text (AreThree first second third) words.now result }
 {

@@ -11,7 +11,7 @@ use script::reading::{cut, read_host};
 use std::alloc::{AllocError, Global};
 use terminal::TerminalFault;
 
-/// `HOST LISTEN BASE`: a server of initial connections begins.
+/// Reads `HOST LISTEN BASE`: a server of initial connections begins.
 pub(crate) fn read_server(words: &[u8]) -> Option<WorldEvent>
     ensures { ReadsAs world_spelling IsWorldEvent (codes "server " ++ words.now) result }
 {
@@ -21,7 +21,7 @@ pub(crate) fn read_server(words: &[u8]) -> Option<WorldEvent>
     Some(WorldEvent::Happen(Event::Server { host, listen, base }))
 }
 
-/// `HOST PEER LISTEN OWN`: a user of an initial connection begins.
+/// Reads `HOST PEER LISTEN OWN`: a user of an initial connection begins.
 pub(crate) fn read_user(words: &[u8]) -> Option<WorldEvent>
     ensures { ReadsAs world_spelling IsWorldEvent (codes "user " ++ words.now) result }
 {
@@ -38,8 +38,8 @@ pub(crate) fn read_user(words: &[u8]) -> Option<WorldEvent>
     }))
 }
 
-/// `HOST TEXT`: a line is typed at a host's terminal. Its text is all that stands behind the host's space, and may be
-/// empty.
+/// Reads `HOST TEXT`: a line is typed at a host's terminal. Its text is all that is after the host's space, and
+/// may be empty.
 ///
 /// Errors: `AllocError`, only for a text that may be typed.
 pub(crate) fn read_typed(alloc: Global, words: &[u8]) -> Result<Option<WorldEvent>, AllocError>

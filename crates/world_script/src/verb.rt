@@ -21,7 +21,7 @@ pub(crate) enum Verb {
     Close,
 }
 
-/// The verb that a word spells.
+/// Returns the verb that a word spells.
 pub(crate) fn read_verb(word: &[u8]) -> Option<Verb>
     ensures { ReadsAs verb_text IsVerb word.now result }
 {

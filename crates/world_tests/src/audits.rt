@@ -24,7 +24,7 @@ struct Row {
     granted: u128,
     /// The receiving life's own stamp.
     own: usize,
-    /// How many times the receiving life stands there.
+    /// How many times the receiving life is there.
     times: usize,
     /// How many lists of handed bits there are.
     lists: usize,
@@ -62,7 +62,7 @@ const ROWS: [Row; 6] = [
         at: Some(Finding::Lives(1, 0)),
         ..AS_IT_IS
     },
-    // the receiving life stands there twice
+    // the receiving life is there twice
     Row {
         times: 2,
         lists: 3,
@@ -138,7 +138,7 @@ fn receiver(alloc: Global, row: Row) -> Option<Life> {
     })
 }
 
-/// The lives of a row: one that sends, and one that receives so many times.
+/// The lives of a row: one that sends, and one that receives this many times.
 fn lives(alloc: Global, row: Row) -> Option<Vec<Life>> {
     let mut lives = Vec::new(alloc);
     lives.push(sender(alloc)?).ok()?;
@@ -148,7 +148,7 @@ fn lives(alloc: Global, row: Row) -> Option<Vec<Life>> {
     Some(lives)
 }
 
-/// So many lists, the first of which has what was handed over, and the others nothing.
+/// This many lists, the first of which has what was handed over, and the others nothing.
 fn lists(alloc: Global, count: usize) -> Option<Vec<BitLog>> {
     let mut lists = Vec::new(alloc);
     for place in 0..count {
@@ -197,7 +197,7 @@ fn message(alloc: Global) -> Option<HostMessage> {
     })
 }
 
-/// What an audit says where a message goes out and is taken so many times, and there are no lives; and where it shows.
+/// What an audit says where a message goes out and is taken this many times, and there are no lives; and where it shows.
 fn taken_often(alloc: Global, times: usize) -> Option<(Audit, Option<Finding>)> {
     let mut log = Vec::new(alloc);
     if times > 0 {

@@ -43,7 +43,7 @@ const CALLS: &str =
 const SERVICES: &str =
     "type 0/1 A\nserver 0/2 8 100\nuser 0/1 0/2 7 16\nserver 0/3 7 100\nserver 0/2 7 100\ncontact 0/1 0/2\noffer 0/1\ntake 0/2\noffer 0/2\ntake 0/1\ntake 0/1\ntake 0/2\nuser 0/1 0/2 7 18\noffer 0/1\ntake 0/2\noffer 0/2\ntake 0/1\ntake 0/1\noffer 0/1\ntake 0/2\ntake 0/2\noffer 0/2\ntake 0/1\ntake 0/1\noffer 0/1\ntake 0/2\ntake 0/2\noffer 0/2\ntake 0/1\ntake 0/1\noffer 0/1\ntake 0/2\ntake 0/2\noffer 0/2\ntake 0/1\ntake 0/1\ntake 0/2\ntype 0/1 A ~\noffer 0/1\ntake 0/2\noffer 0/2\noffer 0/2\ntake 0/1\ntake 0/1\ntake 0/1\noffer 0/1\ntake 0/2\ntake 0/2\ntake 0/2\ntake 0/1\nhostdown 0/1\ntype 0/1 A\n";
 
-/// The events of a script, without its calms, and a quiet round behind them. `None` where the script is bad or memory runs
+/// The events of a script, without its calms, and a quiet round after them. `None` where the script is bad or memory runs
 /// out.
 fn events(alloc: Global, script: &str) -> Option<Vec<Event>> {
     if script.len() > MAX_INPUT {
@@ -79,7 +79,7 @@ enum Way {
     Steps,
     /// All in one run.
     Run,
-    /// In one run, and then so many rounds of a calm.
+    /// In one run, and then this many rounds of a calm.
     Calm(u32),
 }
 
@@ -102,7 +102,7 @@ fn take_steps(world: &mut World<PlainBoxes>, events: Vec<Event>) -> Option<Refus
     Some([by_carrier, by_program])
 }
 
-/// What comes of events: what was refused; how many crossings, notices, contacts and lives stand in the book, and how many
+/// What comes of events: what was refused; how many crossings, notices, contacts and lives are in the book, and how many
 /// bits were handed over in the first life; and the first contact.
 type Outcome = (Refused, [usize; 5], Option<Called>);
 

@@ -6,7 +6,7 @@ use sockets::NcpFault;
 use std::alloc::Global;
 use std::process::Abort;
 
-/// Whether a fault is told by this text.
+/// Whether a fault is given by this text.
 fn is_told(alloc: Global, fault: WorldFault, text: &str) -> bool {
     match format!(in alloc; "{}", fault) {
         Ok(told) => told.as_str() == text,

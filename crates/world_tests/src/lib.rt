@@ -5,7 +5,7 @@
 //! and lines are read; and what comes of it is compared with what was written down before. Lines that are refused, and
 //! what a replay prints, are stored inputs, in `cases/`.
 //!
-//! The tests stand in a crate of their own, since a crate with tests is proved twice, with them and without
+//! The tests are in a crate of their own, since a crate with tests is proved twice, with them and without
 //! them. A test compares one plain value, which is cheap to prove.
 #![tactic(auto)]
 

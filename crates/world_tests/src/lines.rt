@@ -124,7 +124,7 @@ fn only(alloc: Global, script: &str) -> Option<Said> {
 /// A line, the name of its request, its peer, and its numbers.
 type Row = (&'static str, &'static str, Option<(u8, u8)>, [u32; 3]);
 
-/// Lines of the user of host 1/2. The numbers of a line differ, so that none can stand for another.
+/// Lines of the user of host 1/2. The numbers of a line differ, so that none can be for another.
 const REQUESTS: [Row; 17] = [
     ("contact 1/2 3/63", "Contact", Some((3, 63)), [0, 0, 0]),
     ("contact 1/2 1/2", "Contact", Some((1, 2)), [0, 0, 0]),

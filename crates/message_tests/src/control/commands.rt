@@ -93,7 +93,7 @@ fn commands(rt: &impl Abort) -> [Command; 17] {
     ]
 }
 
-/// How many shorter fronts of a command's octets, from the empty one on, are read as too short.
+/// How many shorter prefixes of a command's octets, from the empty one on, are read as too short.
 fn short_fronts(spelling: &[u8]) -> usize {
     for length in 0..spelling.len() {
         let (front, _) = spelling.split_at(length);

@@ -74,7 +74,7 @@ fn shares_are_rounded_down(rt: HostRuntime) {
     }
 }
 
-/// What is left of a grant of these messages and bits when a message with so many bits of data has gone.
+/// What is left of a grant of these messages and bits when a message with this many bits of data has gone.
 fn left(messages: u16, bits: u32, gone: u32) -> Option<(u16, u32)> {
     let mut allocation = of(messages, bits);
     if allocation.messages == 0 {
@@ -87,7 +87,7 @@ fn left(messages: u16, bits: u32, gone: u32) -> Option<(u16, u32)> {
     Some((allocation.messages, allocation.bits))
 }
 
-/// How many bits of data so many bytes of this size are, if their header is written as these octets.
+/// How many bits of data this many bytes of this size are, if their header is written as these octets.
 fn spelled(alloc: Global, size: u8, count: u16, octets: &[u8]) -> Result<Option<u32>, BitFault> {
     let header = DataHeader { size, count };
     let is_spelled = header.write(alloc)?.as_octets() == octets;

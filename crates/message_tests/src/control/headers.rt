@@ -4,7 +4,7 @@ use bit_messages::{BitFault, Bits};
 use ncp_control::DataHeader;
 use std::alloc::Global;
 
-/// The header that so many bits of these octets begin with.
+/// The header that this many bits of these octets begin with.
 fn read(alloc: Global, octets: &[u8], count: usize) -> Result<Option<DataHeader>, BitFault> {
     let text = Bits::from_octets(alloc, octets, count)?;
     Ok(DataHeader::read(&text))

@@ -17,7 +17,7 @@ use Rattle.net_sim.specs.declared.auditing.said.Part.TheVariants as part
 
 -- ---- searches
 
--- what a search finds that looks at so many entries: how many hold together, where one more doesn't; nothing where all hold
+-- what a search finds that looks at this many entries: how many hold together, where one more doesn't; nothing where all hold
 abbrev pub Found : (ℕ → Bool) → ℕ → Option ℕ → Type 0
 Found hold count None = hold count ≡ true
 Found hold count (Some place) = (place < count) × (hold place ≡ true) × (hold (place + 1) ≡ false)
@@ -118,7 +118,7 @@ differ false b = b
 abbrev pub is_one_way : List Crossing → Option ℕ → Life → Life → Bool
 is_one_way log asked x y = are_mates x y && differ (is_place y.own_stamp (asked_at log x)) (is_place x.own_stamp asked)
 
--- whether two lives can't both stand in one book, where the request of the second one's partner went out at this place
+-- whether two lives can't both be in one book, where the request of the second one's partner went out at this place
 abbrev pub are_at_odds : List Crossing → Option ℕ → Life → Life → Bool
 are_at_odds log asked x y = same_own x y || same_asked log asked x y || is_one_way log asked x y
 
@@ -192,7 +192,7 @@ streams_hold log lives handed = list_all (is_fed log lives) lives && are_handed 
 
 -- ---- grants
 
--- whether so many messages and bits, with what was returned, are no more than what a receiving life granted
+-- whether this many messages and bits, with what was returned, are no more than what a receiving life granted
 abbrev pub is_granted : Life → ℕ → ℕ → Bool
 is_granted x count size = nat_le (count + x.returned.messages) x.granted.messages && nat_le (size + x.returned.bits) x.granted.bits
 

@@ -3,7 +3,7 @@ use Rattle.std.specs.Prelude.{ℕ, ◌*◌, ◌≤◌, List}
 use Rattle.std.specs.List.{All}
 use Rattle.net_sim.specs.Book.{Life}
 
--- the counts of a life after so many changes of lives: each change adds at most 4294967295 to a count
+-- the counts of a life after this many changes of lives: each change adds at most 4294967295 to a count
 pub record IsWithin (changes : ℕ) (x : Life) : Type 0 where
   pub messages : x.messages ≤ 4294967295 * changes
   pub granted_messages : x.granted.messages ≤ 4294967295 * changes

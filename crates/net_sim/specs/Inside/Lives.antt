@@ -33,7 +33,7 @@ lives_state_told h n l = record { lives = lives_told h n l.lives; handed = hande
 abbrev pub asked : Host → Request → LivesState → LivesState
 asked h r l = record { lives = lives_asked h r l.lives; handed = handed_asked h r l.lives l.handed }
 
--- in the order in which they stand
+-- in the order in which they are
 abbrev pub all_crossed : List Crossing → LivesState → LivesState
 all_crossed [] l = l
 all_crossed (c ∷ cs) l = all_crossed cs (crossed c l)
@@ -55,7 +55,7 @@ abbrev pub ran_by : Option Host → List Request → LivesState → LivesState
 ran_by None requests l = l
 ran_by (Some h) requests l = all_asked h requests l
 
--- what crossed, what a user asked for, what users were told, and what the services of a host asked for then
+-- what crossed, what a user asked for, the notices to users, and what the services of a host asked for then
 abbrev pub followed : List Crossing → Option (Host × Request) → List Told → Option Host → List Request → LivesState → LivesState
 followed cs a ts h rs l = ran_by h rs (all_told ts (asked_by a (all_crossed cs l)))
 
@@ -72,6 +72,6 @@ written cs a calls ts h rs reports k = record {
   handed = (followed cs a ts h rs (of_kept k)).handed;
 }
 
--- what a host was told when there were so many crossings
+-- the notices to a host when there were this many crossings
 abbrev pub told_at : Host → ℕ → Notice → Told
 told_at h place n = record { host = h; place = place; notice = n }

@@ -31,13 +31,13 @@ pub enum Finding {
     List(usize),
 }
 
-/// Where it shows what [`crate::audit`] says of a log, its lives and what was handed over in each of them. `None` where the book
-/// is kept.
+/// Returns where it shows what [`crate::audit`] says of a log, its lives and what was handed over in each of them.
+/// `None` where the book is kept.
 ///
 /// - Malformed: the first life that has no list, or the first list that has no life; else the first life with a stamp that
 ///   names no request.
 /// - Messages: the first crossing with which they are broken, an RFNM or a taking.
-/// - Partners: two lives that can't both stand in one book, the second of which is the first that is at odds with an earlier
+/// - Partners: two lives that can't both be in one book, the second of which is the first that is at odds with an earlier
 ///   one. They have a request in common, or only one has the other for its partner.
 /// - Streams: the first life that took something else than its sender sent, or sent something else than was handed over; of a
 ///   receiving one with the life that it matches, where there is one.
@@ -59,7 +59,7 @@ pub fn locate(said: Audit, log: &[Crossing], lives: &[Life], handed: &[BitLog]) 
     }
 }
 
-/// Where it shows that a book is malformed.
+/// Returns where it shows that a book is malformed.
 fn malformed(log: &[Crossing], lives: &[Life], handed: &[BitLog]) -> Option<Finding>
     ensures { MatchOption result (IsWellFormed (reverse log.now) lives.now handed.now) (λ found. ShowsMalformed found (reverse log.now) lives.now handed.now) }
 {
@@ -73,7 +73,7 @@ fn malformed(log: &[Crossing], lives: &[Life], handed: &[BitLog]) -> Option<Find
     Some(Finding::Life(place))
 }
 
-/// Where it shows that messages are broken.
+/// Returns where it shows that messages are broken.
 fn broken_messages(log: &[Crossing]) -> Option<Finding>
     ensures { MatchOption result (SafeMessages (reverse log.now)) (λ found. ShowsCrossing found (reverse log.now)) }
 {
@@ -81,7 +81,7 @@ fn broken_messages(log: &[Crossing]) -> Option<Finding>
     Some(Finding::Crossing(place))
 }
 
-/// Where it shows that partners are broken.
+/// Returns where it shows that partners are broken.
 fn broken_partners(log: &[Crossing], lives: &[Life]) -> Option<Finding>
     requires { AreStamped (reverse log.now) lives.now }
     ensures { MatchOption result (SafePartners (reverse log.now) lives.now) (λ found. ShowsTwo found (reverse log.now) lives.now) }
@@ -90,7 +90,7 @@ fn broken_partners(log: &[Crossing], lives: &[Life]) -> Option<Finding>
     Some(Finding::Lives(first, second))
 }
 
-/// Where it shows that streams are broken.
+/// Returns where it shows that streams are broken.
 fn broken_streams(log: &[Crossing], lives: &[Life], handed: &[BitLog]) -> Option<Finding>
     requires { length lives.now ≡ length handed.now }
     ensures { MatchOption result (AreFed (reverse log.now) lives.now lives.now handed.now) (λ found. ShowsLife (first_fed (reverse log.now) lives.now handed.now) found (reverse log.now) lives.now) }
@@ -99,7 +99,7 @@ fn broken_streams(log: &[Crossing], lives: &[Life], handed: &[BitLog]) -> Option
     Some(with_match(log, lives, place))
 }
 
-/// Where it shows that grants are broken.
+/// Returns where it shows that grants are broken.
 fn broken_grants(log: &[Crossing], lives: &[Life]) -> Option<Finding>
     ensures { MatchOption result (HaveGranted (reverse log.now) lives.now lives.now) (λ found. ShowsLife (first_granted (reverse log.now) lives.now) found (reverse log.now) lives.now) }
 {
@@ -107,7 +107,7 @@ fn broken_grants(log: &[Crossing], lives: &[Life]) -> Option<Finding>
     Some(with_match(log, lives, place))
 }
 
-/// A life, with the first one that it matches where it receives and there is one.
+/// Returns a life, with the first one that it matches where it receives and there is one.
 fn with_match(log: &[Crossing], lives: &[Life], place: usize) -> Finding
     requires { place < length lives.now }
     ensures { WithMatch result place (reverse log.now) lives.now }

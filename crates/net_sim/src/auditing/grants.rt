@@ -9,14 +9,14 @@ use super::requests::{asked_at, is_match, receives};
 use crate::life::Life;
 use leader1822::Crossing;
 
-/// Whether so much, with what was returned, is no more than what was granted.
+/// Returns whether this much, with what was returned, is no more than what was granted.
 fn is_within(used: u128, returned: u128, granted: u128) -> bool
     ensures { result ≡ nat_le (used + returned) granted }
 {
     returned <= granted && used <= granted - returned
 }
 
-/// Whether so many messages and bits, with what was returned, are no more than what a receiving life granted.
+/// Returns whether this many messages and bits, with what was returned, are no more than what a receiving life granted.
 fn is_granted(x: &Life, messages: u128, bits: usize) -> bool
     ensures { result ≡ tests.is_granted x.now messages bits }
 {
@@ -24,14 +24,14 @@ fn is_granted(x: &Life, messages: u128, bits: usize) -> bool
         && is_within(bits as u128, x.returned.bits, x.granted.bits)
 }
 
-/// Whether what the second life sent is granted, where it matches the first.
+/// Returns whether what the second life sent is granted, where it matches the first.
 fn may_send(log: &[Crossing], asked: Option<usize>, x: &Life, y: &Life) -> bool
     ensures { result ≡ tests.may_send (reverse log.now) asked x.now y.now }
 {
     !is_match(log, asked, x, y) || is_granted(x, y.messages, y.bits.len())
 }
 
-/// Whether what was sent to a life is granted.
+/// Returns whether what was sent to a life is granted.
 fn all_may_send(log: &[Crossing], lives: &[Life], x: &Life) -> bool
     ensures { result ≡ list_all (tests.may_send (reverse log.now) (tests.asked_at (reverse log.now) x.now) x.now) lives.now }
 {
@@ -44,14 +44,14 @@ fn all_may_send(log: &[Crossing], lives: &[Life], x: &Life) -> bool
     true
 }
 
-/// Whether what a receiving life took is granted, and what was sent to it.
+/// Returns whether what a receiving life took is granted, and what was sent to it.
 fn has_granted(log: &[Crossing], lives: &[Life], x: &Life) -> bool
     ensures { result ≡ tests.has_granted (reverse log.now) lives.now x.now }
 {
     !receives(x) || (is_granted(x, x.messages, x.bits.len()) && all_may_send(log, lives, x))
 }
 
-/// The place of the first receiving life that granted less than it took, or than was sent to it.
+/// Returns the place of the first receiving life that granted less than it took, or than was sent to it.
 pub(super) fn excess_at(log: &[Crossing], lives: &[Life]) -> Option<usize>
     ensures { Found (λ n. list_all (tests.has_granted (reverse log.now) lives.now) (take n lives.now)) (length lives.now) result }
 {
@@ -63,7 +63,7 @@ pub(super) fn excess_at(log: &[Crossing], lives: &[Life]) -> Option<usize>
     None
 }
 
-/// Whether what was taken and sent was granted.
+/// Returns whether what was taken and sent was granted.
 pub(super) fn grants_hold(log: &[Crossing], lives: &[Life]) -> bool
     ensures { result ≡ tests.grants_hold (reverse log.now) lives.now }
 {

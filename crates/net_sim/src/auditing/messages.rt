@@ -7,14 +7,14 @@ ghost use Rattle.net_sim.specs.Inside.Audit.{Found, same_bits, crossing_holds};
 use bit_messages::Bits;
 use leader1822::{Answer, Crossing, Flow, HostMessage};
 
-/// Whether these are the same bits.
+/// Returns whether these are the same bits.
 fn same_bits(a: &Bits, b: &Bits) -> bool
     ensures { result ≡ tests.same_bits a.now b.now }
 {
     a.len() == b.len() && a.as_octets() == b.as_octets()
 }
 
-/// Whether the flow's last message out has this text and wasn't taken yet.
+/// Returns whether the flow's last message out has this text and wasn't taken yet.
 fn is_fresh(message: &HostMessage, log: &[Crossing]) -> bool
     ensures { result ≡ tests.is_fresh message.now (reverse log.now) }
 {
@@ -32,7 +32,7 @@ fn is_fresh(message: &HostMessage, log: &[Crossing]) -> bool
     false
 }
 
-/// Whether a message was taken on the flow since its last message out.
+/// Returns whether a message was taken on the flow since its last message out.
 fn was_taken(flow: Flow, log: &[Crossing]) -> bool
     ensures { result ≡ tests.was_taken flow (reverse log.now) }
 {
@@ -48,7 +48,7 @@ fn was_taken(flow: Flow, log: &[Crossing]) -> bool
     false
 }
 
-/// Whether a crossing finds what it has to, in the log below it.
+/// Returns whether a crossing finds what it has to, in the log below it.
 fn crossing_holds(crossing: &Crossing, log: &[Crossing]) -> bool
     ensures { result ≡ tests.crossing_holds crossing.now (reverse log.now) }
 {
@@ -62,7 +62,7 @@ fn crossing_holds(crossing: &Crossing, log: &[Crossing]) -> bool
     }
 }
 
-/// The place of the first crossing that doesn't find what it has to.
+/// Returns the place of the first crossing that doesn't find what it has to.
 pub(super) fn break_at(log: &[Crossing]) -> Option<usize>
     ensures { Found (λ n. tests.messages_hold (reverse (take n log.now))) (length log.now) result }
 {
@@ -74,7 +74,7 @@ pub(super) fn break_at(log: &[Crossing]) -> Option<usize>
     None
 }
 
-/// Whether each message was taken once.
+/// Returns whether each message was taken once.
 pub(super) fn messages_hold(log: &[Crossing]) -> bool
     ensures { result ≡ tests.messages_hold (reverse log.now) }
 {

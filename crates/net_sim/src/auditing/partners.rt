@@ -9,7 +9,7 @@ use super::requests::{are_at_odds, asked_at};
 use crate::life::Life;
 use leader1822::Crossing;
 
-/// The place of the first life before a place that is at odds with the one there.
+/// Returns the place of the first life before a place that is at odds with the one there.
 fn odds_with(log: &[Crossing], lives: &[Life], second: usize, y: &Life) -> Option<usize>
     requires { second ≤ length lives.now }
     ensures { Found (λ n. list_all (λ x. tests.may_both (reverse log.now) x y.now) (take n lives.now)) second result }
@@ -23,7 +23,8 @@ fn odds_with(log: &[Crossing], lives: &[Life], second: usize, y: &Life) -> Optio
     None
 }
 
-/// The places of the first two lives that are at odds: the second of them is the first that is at odds with an earlier one.
+/// Returns the places of the first two lives that are at odds: the second of them is the first that is at odds with an
+/// earlier one.
 pub(super) fn odds_at(log: &[Crossing], lives: &[Life]) -> Option<(usize, usize)>
     ensures { FoundTwo (reverse log.now) lives.now result }
 {
@@ -35,7 +36,7 @@ pub(super) fn odds_at(log: &[Crossing], lives: &[Life]) -> Option<(usize, usize)
     None
 }
 
-/// Whether no end has a wrong partner.
+/// Returns whether no end has a wrong partner.
 pub(super) fn partners_hold(log: &[Crossing], lives: &[Life]) -> bool
     ensures { result ≡ tests.partners_hold (reverse log.now) lives.now }
 {

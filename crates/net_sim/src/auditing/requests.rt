@@ -9,7 +9,7 @@ ghost use Rattle.net_sim.specs.Safe as safe;
 use crate::life::Life;
 use leader1822::{Crossing, Flow, HostAddr, Link};
 
-/// The flow of requests from one host to another.
+/// Returns the flow of requests from one host to another.
 pub(super) fn control_flow(source: HostAddr, destination: HostAddr) -> Flow
     ensures { result ≡ safe.control_flow source destination }
 {
@@ -20,7 +20,7 @@ pub(super) fn control_flow(source: HostAddr, destination: HostAddr) -> Flow
     }
 }
 
-/// Where the last message of a flow went out.
+/// Returns where the last message of a flow went out.
 fn last_out(flow: Flow, log: &[Crossing]) -> Option<usize>
     ensures { result ≡ safe.last_out flow (reverse log.now) }
 {
@@ -35,7 +35,7 @@ fn last_out(flow: Flow, log: &[Crossing]) -> Option<usize>
     None
 }
 
-/// Where the request of a life's partner went out.
+/// Returns where the request of a life's partner went out.
 pub(super) fn asked_at(log: &[Crossing], life: &Life) -> Option<usize>
     ensures { result ≡ tests.asked_at (reverse log.now) life.now }
 {
@@ -46,7 +46,7 @@ pub(super) fn asked_at(log: &[Crossing], life: &Life) -> Option<usize>
     last_out(flow, log)
 }
 
-/// Whether this is the place.
+/// Returns whether this is the place.
 fn is_place(place: usize, found: Option<usize>) -> bool
     ensures { result ≡ tests.is_place place found }
 {
@@ -56,7 +56,7 @@ fn is_place(place: usize, found: Option<usize>) -> bool
     }
 }
 
-/// Whether the two are one place.
+/// Returns whether the two are one place.
 fn same_place(place: Option<usize>, other: Option<usize>) -> bool
     ensures { result ≡ tests.same_place place other }
 {
@@ -66,50 +66,50 @@ fn same_place(place: Option<usize>, other: Option<usize>) -> bool
     }
 }
 
-/// Whether the request of a life's partner, which went out at this place, is another's own.
+/// Returns whether the request of a life's partner, which went out at this place, is another's own.
 fn is_asked(asked: Option<usize>, x: &Life, y: &Life) -> bool
     ensures { result ≡ tests.is_asked asked x.now y.now }
 {
     x.foreign == y.socket && x.socket == y.foreign && is_place(y.own_stamp, asked)
 }
 
-/// Whether two lives have the same own request.
+/// Returns whether two lives have the same own request.
 fn same_own(x: &Life, y: &Life) -> bool
     ensures { result ≡ tests.same_own x.now y.now }
 {
     x.own_stamp == y.own_stamp && x.socket == y.socket && x.foreign == y.foreign
 }
 
-/// Whether two lives have the same hosts and sockets.
+/// Returns whether two lives have the same hosts and sockets.
 fn same_ends(x: &Life, y: &Life) -> bool
     ensures { result ≡ tests.same_ends x.now y.now }
 {
     x.socket == y.socket && x.foreign == y.foreign && x.host == y.host && x.peer == y.peer
 }
 
-/// Whether two lives have the same partner's request, where that of the second went out at this place.
+/// Returns whether two lives have the same partner's request, where that of the second went out at this place.
 fn same_asked(log: &[Crossing], asked: Option<usize>, x: &Life, y: &Life) -> bool
     ensures { result ≡ tests.same_asked (reverse log.now) asked x.now y.now }
 {
     same_ends(x, y) && same_place(asked_at(log, x), asked)
 }
 
-/// Whether each of two lives has the other's host and socket for its peer.
+/// Returns whether each of two lives has the other's host and socket for its peer.
 fn are_mates(x: &Life, y: &Life) -> bool
     ensures { result ≡ tests.are_mates x.now y.now }
 {
     x.foreign == y.socket && x.socket == y.foreign && x.peer == y.host && y.peer == x.host
 }
 
-/// Whether only one of two is true.
+/// Returns whether only one of two is true.
 fn differ(one: bool, other: bool) -> bool
     ensures { result ≡ tests.differ one other }
 {
     if one { !other } else { other }
 }
 
-/// Whether only one of two lives has the other's own request for its partner's, where the request of the second one's partner went
-/// out at this place.
+/// Returns whether only one of two lives has the other's own request for its partner's, where the request of the second
+/// one's partner went out at this place.
 fn is_one_way(log: &[Crossing], asked: Option<usize>, x: &Life, y: &Life) -> bool
     ensures { result ≡ tests.is_one_way (reverse log.now) asked x.now y.now }
 {
@@ -120,29 +120,31 @@ fn is_one_way(log: &[Crossing], asked: Option<usize>, x: &Life, y: &Life) -> boo
         )
 }
 
-/// Whether two lives can't both stand in one book: they have a request in common, or only one of them has the other for its partner.
-/// The request of the second one's partner went out at this place.
+/// Returns whether two lives can't both be in one book: they have a request in common, or only one of them has the
+/// other for its partner. The request of the second one's partner went out at this place.
 pub(super) fn are_at_odds(log: &[Crossing], asked: Option<usize>, x: &Life, y: &Life) -> bool
     ensures { result ≡ tests.are_at_odds (reverse log.now) asked x.now y.now }
 {
     same_own(x, y) || same_asked(log, asked, x, y) || is_one_way(log, asked, x, y)
 }
 
-/// Whether two lives are each other's partners, where the request of the first one's partner is the other's own.
+/// Returns whether two lives are each other's partners, where the request of the first one's partner is the other's
+/// own.
 fn is_partner(log: &[Crossing], x: &Life, y: &Life) -> bool
     ensures { result ≡ tests.is_partner (reverse log.now) x.now y.now }
 {
     x.peer == y.host && y.peer == x.host && is_asked(asked_at(log, y), y, x)
 }
 
-/// Whether a receiving life and a sending one match, where the request of the first one's partner went out at this place.
+/// Returns whether a receiving life and a sending one match, where the request of the first one's partner went out at
+/// this place.
 pub(super) fn is_match(log: &[Crossing], asked: Option<usize>, x: &Life, y: &Life) -> bool
     ensures { result ≡ tests.is_match (reverse log.now) asked x.now y.now }
 {
     receives(x) && sends(y) && is_asked(asked, x, y) && is_partner(log, x, y)
 }
 
-/// The place of the first life that a receiving one matches.
+/// Returns the place of the first life that a receiving one matches.
 pub(super) fn match_at(log: &[Crossing], lives: &[Life], x: &Life) -> Option<usize>
     ensures { Found (λ n. list_all (tests.is_unmatched (reverse log.now) x.now) (take n lives.now)) (length lives.now) result }
 {
@@ -155,14 +157,14 @@ pub(super) fn match_at(log: &[Crossing], lives: &[Life], x: &Life) -> Option<usi
     None
 }
 
-/// Whether a life receives.
+/// Returns whether a life receives.
 pub(super) fn receives(life: &Life) -> bool
     ensures { result ≡ safe.receives life.now }
 {
     life.socket % 2 == 0
 }
 
-/// Whether a life sends.
+/// Returns whether a life sends.
 pub(super) fn sends(life: &Life) -> bool
     ensures { result ≡ safe.sends life.now }
 {

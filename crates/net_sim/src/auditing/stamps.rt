@@ -10,7 +10,7 @@ use crate::bit_log::BitLog;
 use crate::life::Life;
 use leader1822::{Crossing, Flow};
 
-/// Whether this is a message of this flow that went out.
+/// Returns whether this is a message of this flow that went out.
 fn is_out(crossing: &Crossing, flow: Flow) -> bool
     ensures { result ≡ tests.is_out flow (Some crossing.now) }
 {
@@ -20,7 +20,7 @@ fn is_out(crossing: &Crossing, flow: Flow) -> bool
     }
 }
 
-/// Whether this is a message of this flow that came in.
+/// Returns whether this is a message of this flow that came in.
 fn is_in(crossing: &Crossing, flow: Flow) -> bool
     ensures { result ≡ tests.is_in flow (Some crossing.now) }
 {
@@ -30,7 +30,7 @@ fn is_in(crossing: &Crossing, flow: Flow) -> bool
     }
 }
 
-/// Whether a message of this flow went out at a place.
+/// Returns whether a message of this flow went out at a place.
 fn went_out(log: &[Crossing], place: usize, flow: Flow) -> bool
     ensures { result ≡ tests.is_out flow (tests.crossed_at place (reverse log.now)) }
 {
@@ -40,7 +40,7 @@ fn went_out(log: &[Crossing], place: usize, flow: Flow) -> bool
     is_out(&log[place], flow)
 }
 
-/// Whether a message of this flow came in at a place.
+/// Returns whether a message of this flow came in at a place.
 fn came_in(log: &[Crossing], place: usize, flow: Flow) -> bool
     ensures { result ≡ tests.is_in flow (tests.crossed_at place (reverse log.now)) }
 {
@@ -50,7 +50,7 @@ fn came_in(log: &[Crossing], place: usize, flow: Flow) -> bool
     is_in(&log[place], flow)
 }
 
-/// Whether the stamps of a life name requests.
+/// Returns whether the stamps of a life name requests.
 fn is_stamped(log: &[Crossing], x: &Life) -> bool
     ensures { result ≡ tests.is_stamped (reverse log.now) x.now }
 {
@@ -59,7 +59,7 @@ fn is_stamped(log: &[Crossing], x: &Life) -> bool
         && asked_at(log, x).is_some()
 }
 
-/// The place of the first life with a stamp that names no request.
+/// Returns the place of the first life with a stamp that names no request.
 pub(super) fn unstamped_at(log: &[Crossing], lives: &[Life]) -> Option<usize>
     ensures { Found (λ n. list_all (tests.is_stamped (reverse log.now)) (take n lives.now)) (length lives.now) result }
 {
@@ -71,14 +71,14 @@ pub(super) fn unstamped_at(log: &[Crossing], lives: &[Life]) -> Option<usize>
     None
 }
 
-/// Whether the stamps of each life name requests.
+/// Returns whether the stamps of each life name requests.
 fn are_stamped(log: &[Crossing], lives: &[Life]) -> bool
     ensures { result ≡ list_all (tests.is_stamped (reverse log.now)) lives.now }
 {
     unstamped_at(log, lives).is_none()
 }
 
-/// Whether there is one list of bits for each life, and the stamps of each life name requests.
+/// Returns whether there is one list of bits for each life, and the stamps of each life name requests.
 pub(super) fn are_well_formed(log: &[Crossing], lives: &[Life], handed: &[BitLog]) -> bool
     ensures { result ≡ tests.is_well_formed (reverse log.now) lives.now handed.now }
 {

@@ -10,7 +10,7 @@ use crate::bit_log::BitLog;
 use crate::life::Life;
 use leader1822::Crossing;
 
-/// Whether there are two bits, and they are alike.
+/// Returns whether there are two bits, and they are alike.
 fn same_found(bit: Option<bool>, other: Option<bool>) -> bool
     ensures { result ≡ tests.same_found bit other }
 {
@@ -20,7 +20,7 @@ fn same_found(bit: Option<bool>, other: Option<bool>) -> bool
     }
 }
 
-/// Whether the first list is a prefix of the second.
+/// Returns whether the first list is a prefix of the second.
 fn is_front(bits: &BitLog, other: &BitLog) -> bool
     ensures { result ≡ tests.is_front bits.now other.now }
 {
@@ -32,14 +32,14 @@ fn is_front(bits: &BitLog, other: &BitLog) -> bool
     true
 }
 
-/// Whether the second life matches the first, and sent what that one took.
+/// Returns whether the second life matches the first, and sent what that one took.
 fn is_source(log: &[Crossing], asked: Option<usize>, x: &Life, y: &Life) -> bool
     ensures { result ≡ tests.is_source (reverse log.now) asked x.now y.now }
 {
     is_match(log, asked, x, y) && is_front(&x.bits, &y.bits)
 }
 
-/// Whether a life matches this one, and sent what this one took.
+/// Returns whether a life matches this one, and sent what this one took.
 fn has_source(log: &[Crossing], lives: &[Life], x: &Life) -> bool
     ensures { result ≡ list_any (tests.is_source (reverse log.now) (tests.asked_at (reverse log.now) x.now) x.now) lives.now }
 {
@@ -52,28 +52,29 @@ fn has_source(log: &[Crossing], lives: &[Life], x: &Life) -> bool
     false
 }
 
-/// Whether a life took nothing, or what the one that it matches sent.
+/// Returns whether a life took nothing, or what the one that it matches sent.
 fn is_fed(log: &[Crossing], lives: &[Life], x: &Life) -> bool
     ensures { result ≡ tests.is_fed (reverse log.now) lives.now x.now }
 {
     !receives(x) || x.bits.len() == 0 || has_source(log, lives, x)
 }
 
-/// Whether what a life sent was handed over.
+/// Returns whether what a life sent was handed over.
 fn is_handed(x: &Life, handed: &BitLog) -> bool
     ensures { result ≡ tests.is_handed x.now handed.now }
 {
     !sends(x) || is_front(&x.bits, handed)
 }
 
-/// Whether what a life sent was handed over at its place, where anything was.
+/// Returns whether what a life sent was handed over at its place, where anything was.
 fn is_handed_at(x: &Life, handed: &[BitLog], place: usize) -> bool
     ensures { result ≡ tests.handed_at x.now (slice_get handed.now place) }
 {
     place < handed.len() && is_handed(x, &handed[place])
 }
 
-/// The place of the first life that took something else than was sent, or sent something else than was handed over in it.
+/// Returns the place of the first life that took something else than was sent, or sent something else than was handed
+/// over in it.
 pub(super) fn unfed_at(log: &[Crossing], lives: &[Life], handed: &[BitLog]) -> Option<usize>
     ensures { Found (tests.some_fed (reverse log.now) lives.now handed.now) (length lives.now) result }
 {
@@ -85,7 +86,7 @@ pub(super) fn unfed_at(log: &[Crossing], lives: &[Life], handed: &[BitLog]) -> O
     None
 }
 
-/// Whether what was taken was sent, and what was sent was handed over.
+/// Returns whether what was taken was sent, and what was sent was handed over.
 pub(super) fn streams_hold(log: &[Crossing], lives: &[Life], handed: &[BitLog]) -> bool
     ensures { result ≡ tests.streams_hold (reverse log.now) lives.now handed.now }
 {
