@@ -55,14 +55,15 @@ not_closing name link c (Grants socket messages bits e) o i = i
 not_closing name link c (AsksBack socket messages bits e) o i = i
 not_closing name link c (Gives socket bits e) o i = i
 
+closes_at : (peer : Host) (link c : ℕ) (m : calls.Moment) (ms : List calls.Moment) (v : Bool) → is_other m.call ≡ v → (if v then are_others ms else false) ≡ true → (are_others ms ≡ true → HasClosed numbered peer link c ms → ⊥) → HasClosed numbered peer link c (m ∷ ms) → ⊥
+closes_at peer link c m ms true e f rest (inl i) = not_closing (name_now numbered peer ms) link c m.call e i
+closes_at peer link c m ms true e f rest (inr i) = rest f i
+closes_at peer link c m ms false e f rest i = absurd (let no : false ≡ true = f in cc)
+
 none_closes : (peer : Host) (link c : ℕ) (ms : List calls.Moment) → are_others ms ≡ true → HasClosed numbered peer link c ms → ⊥
 unfolding are_others
 none_closes peer link c [] o h = h
-none_closes peer link c (m ∷ ms) o h = by (is_other m.call) refl o h where
-  by : (v : Bool) → is_other m.call ≡ v → (if v then are_others ms else false) ≡ true → HasClosed numbered peer link c (m ∷ ms) → ⊥
-  by true e f (inl i) = not_closing (name_now numbered peer ms) link c m.call e i
-  by true e f (inr i) = none_closes peer link c ms f i
-  by false e f i = absurd (let no : false ≡ true = f in cc)
+none_closes peer link c (m ∷ ms) o h = closes_at peer link c m ms (is_other m.call) refl o (λ (f : are_others ms ≡ true) (i : HasClosed numbered peer link c ms). none_closes peer link c ms f i) h
 
 first_closed : List Entry → Bool
 first_closed [] = true
