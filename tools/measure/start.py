@@ -1,7 +1,7 @@
 """What ./arpasim takes beyond the program itself, when nothing has changed: ./measure start [ROUNDS]
 
-The processor time of `./arpasim < examples/first-message`, with the processes that it starts, less that of the program that it runs. The least
-and the median of the rounds are told, since other work on the machine makes each of them longer.
+The processor time of `./arpasim < examples/first-message`, with the processes that it starts, less that of the program that it runs, in turn
+with it. Prints the least and the median of the rounds, since other work on the machine makes each of them longer.
 """
 
 import os
@@ -28,9 +28,10 @@ def main():
     if not program:
         sys.exit("measure start: there is no program of these sources")
     taken([f"{ROOT}/arpasim"], given)
-    both = [(taken([f"{ROOT}/arpasim"], given), taken([program], given)) for _ in range(rounds)]
-    front, alone = zip(*both)
-    print(f"./arpasim beyond its program: {min(front) - min(alone):.1f} ms at least, {statistics.median(front) - statistics.median(alone):.1f} ms by the medians, at a load of {os.getloadavg()[0]:.0f}")
+    fronts, programs = zip(*((taken([f"{ROOT}/arpasim"], given), taken([program], given)) for _ in range(rounds)))
+    least, median = (of(fronts) - of(programs) for of in (min, statistics.median))
+    load = os.getloadavg()[0]
+    print(f"./arpasim beyond its program: {least:.1f} ms at least, {median:.1f} ms by the medians of {rounds} rounds, at a load of {load:.0f}")
 
 
 if __name__ == "__main__":
