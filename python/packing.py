@@ -31,7 +31,7 @@ def metadata() -> str:
 
 def sources() -> list[Path]:
     """The files of the package."""
-    return sorted(it for it in (HERE / "dorydate").rglob("*") if it.suffix in (".py", ".typed"))
+    return sorted(it for it in (HERE / "dorydate").rglob("*") if it.suffix in (".py", ".typed", ".lua"))
 
 
 def recorded(name: str, octets: bytes) -> str:
@@ -47,7 +47,7 @@ def build_wheel(wheel_directory: str, config_settings: Any = None, metadata_dire
     files = {str(it.relative_to(HERE)): it.read_bytes() for it in sources()}
     files[f"{info}/METADATA"] = metadata().encode()
     files[f"{info}/WHEEL"] = f"Wheel-Version: 1.0\nGenerator: packing\nRoot-Is-Purelib: true\nTag: {TAG}\n".encode()
-    files[f"{info}/entry_points.txt"] = b"[console_scripts]\ndorydate-explore = dorydate.explore.command:main\n"
+    files[f"{info}/entry_points.txt"] = b"[console_scripts]\ndorydate-explore = dorydate.explore.command:main\ndorydate-export = dorydate.export.command:run\n"
     record = "".join(recorded(*it) for it in files.items()) + f"{info}/RECORD,,\n"
     name = f"{stem}-{TAG}.whl"
     with zipfile.ZipFile(Path(wheel_directory) / name, "w", zipfile.ZIP_DEFLATED) as wheel:

@@ -1,0 +1,1 @@
+"""Replays in the formats of other tools: ./export (docs/export.md)."""
