@@ -2,9 +2,9 @@
 
 import sys
 
-from decode import raw_text_in_words, text_in_words
+from dorydate.model.decode import raw_text_in_words, text_in_words
 from inside import Inside, TooLong
-from script_rules import read_line
+from dorydate.model.script import read_line
 from waits import at_rest
 
 

@@ -4,7 +4,7 @@
 `sites` has names of IMPs.
 """
 
-from decode import count
+from dorydate.model.decode import count
 
 ANSWERS = {
     "rfnm": "RFNM, {} took the message",

@@ -3,9 +3,9 @@
 It reads the state of the independent model, which a refused event left as it was.
 """
 
-from alive import clearing, everything, listed, room_clearing, where
-from crossings import ANSWERS
-from imp_rules import QUEUE, STORE, body, in_order, spell_flow, spell_host
+from dorydate.model.alive import clearing, everything, listed, room_clearing, where
+from dorydate.model.crossings import ANSWERS
+from dorydate.model.imp import QUEUE, STORE, body, in_order, spell_flow, spell_host
 
 TOLD = 3  # so many packets that stand in the way are told of
 

@@ -6,12 +6,12 @@ uses this compares what the model prints with what the program printed: `Inside.
 
 from dataclasses import dataclass
 
-from alive import everything, frame_in_words, listed, of_imp, packet_in_words
-from crossings import ANSWERS
-from imp_rules import ASK, BRINGS, DATA, INFINITE, NUMBERS, WINDOW, body, octets, spell_flow, spell_host, target
+from dorydate.model.alive import everything, frame_in_words, listed, of_imp, packet_in_words
+from dorydate.model.crossings import ANSWERS
+from dorydate.model.imp import ASK, BRINGS, DATA, INFINITE, NUMBERS, WINDOW, body, octets, spell_flow, spell_host, target
 from in_the_way import InTheWay, hops
-from script_rules import opened
-from subnet_rules import Subnet
+from dorydate.model.script import opened
+from dorydate.model.subnet import Subnet
 
 MOST_ROUNDS = 20_000  # so many rounds of calm are followed at most: the model is slow
 STAYS = "The frame stays on the line until it is dropped."

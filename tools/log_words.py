@@ -10,10 +10,10 @@ import difflib
 import re
 from collections.abc import Callable
 
-from audit_rules import last_out, match, own_request, partner_request
-from imp_rules import octets as octets_of
-from imp_rules import spell_flow, spell_host
-from log_rules import BadLog, Book, read_log
+from dorydate.model.audit import last_out, match, own_request, partner_request
+from dorydate.model.imp import octets as octets_of
+from dorydate.model.imp import spell_flow, spell_host
+from dorydate.model.log import BadLog, Book, read_log
 from refused import shown, wrong_with_text, wrong_with_word
 
 FORMS = {

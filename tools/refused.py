@@ -7,8 +7,8 @@ looked for here, by the forms of docs/program.md.
 import difflib
 import re
 
-from decode import count
-from imp_rules import MOST_IMPS
+from dorydate.model.decode import count
+from dorydate.model.imp import MOST_IMPS
 
 try:
     import tomllib

@@ -7,11 +7,11 @@ up again is read off each refusal and cleared (`in_the_way`). `check stops` runs
 import pickle
 from collections import Counter
 
-from imp_rules import spell_flow, spell_host
+from dorydate.model.imp import spell_flow, spell_host
 from in_the_way import InTheWay
-from script_rules import opened, read_line
-from service_rules import Echo, Server, Terminal
-from world_rules import OFFERS, TAKES
+from dorydate.model.script import opened, read_line
+from dorydate.model.services import Echo, Server, Terminal
+from dorydate.model.world import OFFERS, TAKES
 
 MOST_TRIES = 200  # so often something is tried that is refused, with something cleared after each refusal
 ARRIVES = 3  # rounds in which what can still arrive does

@@ -7,7 +7,7 @@ The program has accepted the topology already, so nothing is judged here. A comm
 import re
 from dataclasses import dataclass, field
 
-from model import network_of
+from dorydate.model.topology import network_of
 
 try:
     import tomllib

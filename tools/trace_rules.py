@@ -2,7 +2,7 @@
 """Traces of raw networks, independently implemented: tools/trace_rules.py < FILE prints the trace of an input.
 
 It was written from docs/trace.md, in another language and another form than the definitions: mailboxes and subnets are those
-of tools/box_rules.py and tools/subnet_rules.py, and a trace is told from what they are after each event. The parts of a subnet
+of python/dorydate/model/boxes.py and python/dorydate/model/subnet.py, and a trace is told from what they are after each event. The parts of a subnet
 are in tools/trace_subnet.py. `check trace` uses it.
 """
 
@@ -10,10 +10,10 @@ import json
 import sys
 
 import trace_subnet
-from box_rules import TAKES, Boxes
-from imp_rules import spell_flow, spell_host
-from model import network_of
-from script_rules import opened, read_line, spelled_text
+from dorydate.model.boxes import TAKES, Boxes
+from dorydate.model.imp import spell_flow, spell_host
+from dorydate.model.topology import network_of
+from dorydate.model.script import opened, read_line, spelled_text
 from trace_subnet import subnet_of
 
 

@@ -5,9 +5,9 @@ It was written from docs/trace.md over the independent model of the subnet. `tra
 
 from functools import cache
 
-from imp_rules import ASK, CHANNELS, DATA, DEAD, INFINITE, MOST_IMPS, NEVER, RFNM, in_order, spell_flow
-from script_rules import read_bits, read_flow, spelled_text
-from subnet_rules import Subnet
+from dorydate.model.imp import ASK, CHANNELS, DATA, DEAD, INFINITE, MOST_IMPS, NEVER, RFNM, in_order, spell_flow
+from dorydate.model.script import read_bits, read_flow, spelled_text
+from dorydate.model.subnet import Subnet
 
 KINDS = {DATA: "data", RFNM: "rfnm", DEAD: "dead", ASK: "ask", NEVER: "never"}
 OF_WORDS = {word: kind for kind, word in KINDS.items()}

@@ -9,9 +9,9 @@ import copy
 from collections.abc import Iterator
 from typing import Any
 
-from alive import listed
-from host_rules import CLOSED, READY
-from imp_rules import in_order, spell_flow, spell_host
+from dorydate.model.alive import listed
+from dorydate.model.host import CLOSED, READY
+from dorydate.model.imp import in_order, spell_flow, spell_host
 from in_the_way import InTheWay
 
 LOOKED = 4  # rounds after which a network that printed nothing is said to be at rest

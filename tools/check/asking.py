@@ -1,7 +1,7 @@
 """Logs of networks whose IMPs ask, checked against the mailboxes, only in the model (half a minute for 1,000): ./check asking [RUNS]
 
-Runs random scripts with questions (tools/ask_chance.py), only in the independent model. Of each log it is looked at whether it is
-a run of the mailboxes, and that no message is taken, before or after, whose source was told "not taken" (tools/mailbox_rules.py).
+Runs random scripts with questions (python/dorydate/model/chance/questions.py), only in the independent model. Of each log it is looked at whether it is
+a run of the mailboxes, and that no message is taken, before or after, whose source was told "not taken" (python/dorydate/model/mailboxes.py).
 So this script doesn't try the program: `check model` does. It tries the rules of questions themselves.
 
 First the mailboxes are tried, on logs written by hand that are runs, and on logs that are wrong in one place. At last the rules are
@@ -13,12 +13,12 @@ the exact contracts alone are not among them.
 import sys
 from collections import Counter
 
-import imp_rules
-from ask_chance import Counting, Questions
-from imp_rules import DEAD, NEVER, RFNM, TELLS, Imp
-from mailbox_rules import first_break, never_taken
-from subnet_rules import Subnet
-from without_rules import AskedUnnoted, BeginsKept, Impatient, of_imps
+from dorydate.model import imp as imp_rules
+from dorydate.model.chance.questions import Counting, Questions
+from dorydate.model.imp import DEAD, NEVER, RFNM, TELLS, Imp
+from dorydate.model.mailboxes import first_break, never_taken
+from dorydate.model.subnet import Subnet
+from dorydate.model.without import AskedUnnoted, BeginsKept, Impatient, of_imps
 
 RUNS = 1000
 MOST_TRIED = 4000  # this many scripts are run to find that a rule is lacking
@@ -73,7 +73,7 @@ TOLD = [
     ([OUT, told("nottaken"), DOWN, UP, TAKEN], False),
 ]
 
-# ---- rules that are left out or broken, beside those of tools/without_rules.py
+# ---- rules that are left out or broken, beside those of python/dorydate/model/without.py
 
 
 class TakenIsNever(Imp):

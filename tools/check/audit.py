@@ -1,6 +1,6 @@
 """The program's --audit and --log against a second reading of logs and of the promise (a minute for 500 books): ./check audit [COUNT]
 
-Tries what the program says of logs and prints as logs, against an independent reader and judge in Python (tools/log_rules.py).
+Tries what the program says of logs and prints as logs, against an independent reader and judge in Python (python/dorydate/model/log.py).
 
 - Logs that were written by hand (tools/log_rows.py), each with its verdict or the number of its bad line, and those of docs/audit.md.
   Readings of these rules that are wrong in one place have to be told from the right one by these.
@@ -8,7 +8,7 @@ Tries what the program says of logs and prints as logs, against an independent r
   one more.
 - What `--log` prints of each example and each stored input is the log that the model makes of it, and `--audit` says `kept`.
 - The books that break where a rule is lacking, in the folder `without`: the part that each file names is told.
-- Books made by chance (tools/book_chance.py): COUNT of worlds that the model runs, every other one broken on purpose in one place,
+- Books made by chance (python/dorydate/model/chance/books.py): COUNT of worlds that the model runs, every other one broken on purpose in one place,
   and as many small ones of few hosts and sockets. Of each tenth world the program's own log is compared too.
 
 It takes the proved program, or where ./build has not made that the one that was built without proofs.
@@ -23,18 +23,18 @@ from collections import Counter
 from concurrent.futures import ProcessPoolExecutor, ThreadPoolExecutor
 
 import log_rows
-from audit_rules import PARTS
-from book_chance import WAYS, of_world, small
+from dorydate.model.audit import PARTS
+from dorydate.model.chance.books import WAYS, of_world, small
 from cases import cases_below
-from log_rules import book_of, ended, ends_audit, ends_log, read_log, says, spelled_log
-from model import network_of
+from dorydate.model.log import book_of, ended, ends_audit, ends_log, read_log, says, spelled_log
+from dorydate.model.topology import network_of, spelled_input
 from parts import ROOT, any_program, loaded
 
 COUNT = 10_000
 LOGGED = 10  # of so many worlds one is logged by the program too
 CORES = os.cpu_count() or 1
 
-# readings of the rules that are wrong in one place: what is read otherwise, as the text of tools/log_rules.py and what takes its place
+# readings of the rules that are wrong in one place: what is read otherwise, as the text of python/dorydate/model/log.py and what takes its place
 WRONG_READINGS = [
     ("lines may stand behind the end", "if lines[number:] or rest:", "if False:"),
     ("the end needs no line feed", '*lines, rest = octets.decode("latin-1").split("\\n")', 'lines, rest = octets.decode("latin-1").splitlines(), ""'),
@@ -85,7 +85,7 @@ def compared(what, octets, owed):
 
 def unnoticed():
     """The wrong readings that judge each log by hand as it should be judged."""
-    with open(f"{ROOT}/tools/log_rules.py", encoding="utf-8") as file:
+    with open(f"{ROOT}/python/dorydate/model/log.py", encoding="utf-8") as file:
         source = file.read()
     for name, text, other in WRONG_READINGS:
         if source.count(text) != 1:
@@ -241,7 +241,7 @@ def tried(seed):
 def log_of_world(seed, network, script):
     """What is wrong with the program's log of a script, None where nothing is."""
     owed = 0, spelled_log(book_of(network, script.world)).decode("latin-1"), ""
-    found = run(SPELLED(network, script.lines), "--log")
+    found = run(spelled_input(network, script.lines), "--log")
     return f"the log of world {seed}: {different_line(found[1], owed[1])}" if found != owed else None
 
 
@@ -263,9 +263,9 @@ def listed(seen, start=""):
 
 
 def main():
-    global PROGRAM, SPELLED  # the processes that try books have them from here
+    global PROGRAM  # the processes that try books have it from here
     count = int(sys.argv[1]) if len(sys.argv) > 1 else COUNT
-    PROGRAM, SPELLED = any_program(), loaded("tools/check/model.py").spelled_input
+    PROGRAM = any_program()
     if PROGRAM is None:
         print("check audit: there is no program of these sources")
         return 1

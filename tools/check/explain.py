@@ -35,11 +35,13 @@ from parts import ROOT, loaded
 model, subnets = loaded("tools/check/model.py"), loaded("tools/check/subnet.py")
 
 import refused  # noqa: E402
-from decode import text_in_words  # noqa: E402
-from imp_rules import Imp  # noqa: E402
+from dorydate.model.decode import text_in_words  # noqa: E402
+from dorydate.model.chance.worlds import some_script as some_script_of_world  # noqa: E402
+from dorydate.model.imp import Imp, spell_flow  # noqa: E402
 from inside import Inside  # noqa: E402
-from script_rules import read_line  # noqa: E402
-from subnet_rules import Subnet  # noqa: E402
+from dorydate.model.script import BadLine, network_is_good, opened, read_line  # noqa: E402
+from dorydate.model.subnet import Subnet  # noqa: E402
+from dorydate.model.topology import spelled  # noqa: E402
 
 # a script line, and words of the cause that is meant
 BAD_LINES = [
@@ -330,15 +332,15 @@ def check_ties(program, seeds):
         network = model.some_network(chance)
         lines = [it for it in model.some_script(chance, network) if " 8064 " not in it][:60]
         try:
-            asked = [model.read_line(it) for it in lines]
-        except model.BadLine:
+            asked = [read_line(it) for it in lines]
+        except BadLine:
             continue
-        if not model.network_is_good(network):
+        if not network_is_good(network):
             continue
-        given = explain.Input("\n".join([model.spelled(network), "%", *lines]).encode("latin-1"))
+        given = explain.Input("\n".join([spelled(network), "%", *lines]).encode("latin-1"))
         status, said, told = explain.replay(given, program)
         same((status, said), (0, ""), f"input {seed}")
-        boxes, past, told = model.opened(network), explain.Past(explain.hosts_of(given)), iter(told)
+        boxes, past, told = opened(network), explain.Past(explain.hosts_of(given)), iter(told)
         for event in filter(None, asked):
             boxes.printed.clear()
             boxes.happen(*event)
@@ -350,7 +352,7 @@ def check_ties(program, seeds):
             if network[0] != "plain":
                 continue
             waiting = {flow for flow, sent in past.sent.items() if sent.waits}
-            same(waiting, {tuple(model.spell_flow(flow).split(" ")) for flow, _ in boxes.messages}, f"input {seed}: what waits after line {number}")
+            same(waiting, {tuple(spell_flow(flow).split(" ")) for flow, _ in boxes.messages}, f"input {seed}: what waits after line {number}")
     print(f"check explain: {events} events, each tied to what it printed")
 
 
@@ -403,7 +405,7 @@ def check_inside(program, seeds):
                 found[told.printed[-1]] += 1
                 same(bool(told.sentences), True, f"network {seed}: a sentence for {lines[-1]}, {told.printed}")
                 cleared += clears(goes, event, told)
-        given = explain.Input("\n".join([model.spelled(("subnet", True, chance.imps, chance.ends)), "%", *lines]).encode())
+        given = explain.Input("\n".join([spelled(("subnet", True, chance.imps, chance.ends)), "%", *lines]).encode())
         same([printed for _, _, printed in explain.replay(given, program)[2]], outputs, f"network {seed}")
     wanted = {"refused " + it for it in ("NoSuch", "IsDown", "IsUp", "StillAlive", "Blocked", "NotOutstanding")}
     same(wanted - {*found}, set(), "refusals that come about")
@@ -473,7 +475,7 @@ def line_of(event):
     words = [kind]
     for part in parts:
         if isinstance(part, tuple):
-            words.append(model.spell_flow(part) if len(part) == 3 else f"{part[0]}/{part[1]}")
+            words.append(spell_flow(part) if len(part) == 3 else f"{part[0]}/{part[1]}")
         elif kind == "out":
             digits = f"{int(part.ljust(-(-len(part) // 8) * 8, '0'), 2):0{2 * -(-len(part) // 8)}X}" if part else "-"
             words.append(f"{len(part)} {digits}")
@@ -496,7 +498,7 @@ def check_full_store(program):
     same(told[-1].printed, ["refused NoRoom"], "a question where there is no room for it")
     same("IMP 1 holds 32 packets in its store and channels, 32 at most, and the question is one." in told[-1].sentences, True, told[-1].sentences)
     clears(goes, read_line(script[-1]), told[-1])
-    given = explain.Input("\n".join([model.spelled(network), "%", *script]).encode())
+    given = explain.Input("\n".join([spelled(network), "%", *script]).encode())
     same([printed for _, _, printed in explain.replay(given, program)[2]], [it.printed for it in told], "a full store")
 
 
@@ -519,15 +521,15 @@ def check_causes(program, seeds):
         chance = random.Random(seed)
         network = model.some_network(chance)
         network = network[0], True, *network[2:]
-        is_refused = refused.wrong_with_topology(explain.Input(f"{model.spelled(network)}\n%\n".encode())) is not None
-        same(is_refused, not model.network_is_good(network), f"the topology {network}")
+        is_refused = refused.wrong_with_topology(explain.Input(f"{spelled(network)}\n%\n".encode())) is not None
+        same(is_refused, not network_is_good(network), f"the topology {network}")
         bad += is_refused
         for line in model.some_script(chance, network)[:20]:
             line = model.changed(chance, line) if line and line[0] != "#" else line
             try:
-                model.read_line(line)
+                read_line(line)
                 is_bad = False
-            except model.BadLine:
+            except BadLine:
                 is_bad = True
             octets = line.encode("latin-1")
             why = explain.is_event(octets) and refused.wrong_with_line(octets)
@@ -593,13 +595,13 @@ def check_worlds(seeds):
     lines, bad, outputs = 0, 0, Counter()
     for seed in range(seeds):
         chance = random.Random(seed)
-        _, script = model.some_script_of_world(seed)
+        _, script = some_script_of_world(seed)
         for line in script.lines[:60]:
             line = model.changed(chance, line) if chance.random() < 0.5 else line
             try:
-                model.read_line(line, raw=False)
+                read_line(line, raw=False)
                 is_bad = False
-            except model.BadLine:
+            except BadLine:
                 is_bad = True
             octets = line.encode("latin-1")
             why = explain.is_event(octets) and refused.wrong_with_line(octets, raw=False)

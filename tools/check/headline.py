@@ -3,7 +3,7 @@
 Shows what each rule of docs/headline.md is there for: ./check headline [FILE]
 
 Each file of `without` has a network and a script, and says in its first two lines which rule is lacking and what breaks.
-It runs in the model that lacks this rule (tools/without_rules.py), where the audit of the book has to find that part of the
+It runs in the model that lacks this rule (python/dorydate/model/without.py), where the audit of the book has to find that part of the
 promise broken; in the model with all its rules, where nothing may break; and once more without each of its lines, where
 nothing may break either: so no line could be left out, but for one that a file may name as standing there for the reader. With a
 FILE it prints both outputs, without the rule and with it.
@@ -21,11 +21,11 @@ import os
 import random
 import sys
 
-import imp_rules
-from model import network_of
+from dorydate.model import imp as imp_rules
+from dorydate.model.topology import network_of
 from parts import ROOT
-from without_rules import LACKING, broken, opened_without, read_line
-from world_chance import Script, some_world
+from dorydate.model.without import LACKING, broken, opened_without, read_line
+from dorydate.model.chance.worlds import Script, some_world
 
 HARMLESS = [
     "an RRP before that RFNM is remembered",

@@ -3,7 +3,7 @@
 Compares hosts' programs with an independent model of their rules, on random calls.
 
 The proofs say that `Ncp` does what its definitions say. Whether the definitions say what docs/hosts.md says is for readers
-to judge; this script tries it as well. tools/host_rules.py was written from those rules, in another language and another
+to judge; this script tries it as well. python/dorydate/model/host.py was written from those rules, in another language and another
 form, with messages and commands spelled from the formats. Both run every call, and what it answers, what it tells and what
 goes out next have to be the same. The same calls are made each time. In half of the runs one to three hosts exchange what
 they send, over boxes that may lose it; in the others one host gets what a peer of any kind may send. Besides, every command
@@ -22,8 +22,8 @@ from collections import Counter
 
 
 from drivers import run_cases, write_case
-from host_rules import GONE, READY, Host, Refused, bits_of, control_message, header, number, spell_bits
-from imp_rules import spell_flow, spell_host
+from dorydate.model.host import GONE, READY, Host, Refused, bits_of, control_message, header, number, spell_bits
+from dorydate.model.imp import spell_flow, spell_host
 
 RUNS = 250
 CALLS = 400

@@ -3,7 +3,7 @@
 Compares one IMP with an independent model of its rules, on random calls.
 
 The proofs say that `Imp` does what its definitions say. Whether the definitions say what docs/imp.md says is for readers
-to judge; this script tries it as well. `Imp` in tools/imp_rules.py was written from those rules, in another language and
+to judge; this script tries it as well. `Imp` in python/dorydate/model/imp.py was written from those rules, in another language and
 another form, with packets and frames spelled from the formats. Both run every call, and answers, frames and what the
 queries tell have to be the same. The same calls are made each time.
 
@@ -17,7 +17,7 @@ from collections import Counter
 
 
 from drivers import run_cases, write_case
-from imp_rules import ASK, CHANNELS, DATA, DEAD, INFINITE, MOST_IMPS, NEVER, NUMBERS, PIECE, REQUESTS, RFNM, WINDOW, Imp, Refused, body, octets, spell_flow, spell_frame
+from dorydate.model.imp import ASK, CHANNELS, DATA, DEAD, INFINITE, MOST_IMPS, NEVER, NUMBERS, PIECE, REQUESTS, RFNM, WINDOW, Imp, Refused, body, octets, spell_flow, spell_frame
 
 RUNS = 1000
 CALLS = 100

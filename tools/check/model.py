@@ -3,14 +3,14 @@
 Compares the program with an independent model of its rules, on random inputs.
 
 The proofs say that the program does what the definitions say. Whether the definitions say what docs/program.md and
-docs/mailboxes.md say is for readers to judge; this script tries it as well. tools/script_rules.py, and what it uses,
+docs/mailboxes.md say is for readers to judge; this script tries it as well. python/dorydate/model/script.py, and what it uses,
 was written from those rules, in another language and another form. Both run every input, and status, output and standard
 error have to be the same. The same inputs are made each time. TOML itself is not tried: documents are written in its
 plainest spelling.
 
 Networks with host programs are tried as far as the program runs them, which it is asked first: their scripts are made event by
-event, by looking at what the model has come to (tools/world_chance.py), and it is counted what they came to. So are scripts of raw
-networks in which IMPs ask what became of their messages (tools/ask_chance.py). Of these the log is compared too, since two answers
+event, by looking at what the model has come to (python/dorydate/model/chance/worlds.py), and it is counted what they came to. So are scripts of raw
+networks in which IMPs ask what became of their messages (python/dorydate/model/chance/questions.py). Of these the log is compared too, since two answers
 are printed alike. `./check model asking RUNS` tries this many of these alone.
 
 It takes the proved program, or where ./build has not made that the one that was built without proofs. With `--try`, and perhaps the folder of another clone of the repository, it
@@ -27,13 +27,13 @@ from collections import Counter
 from concurrent.futures import ThreadPoolExecutor
 
 
-from ask_chance import Counting, Questions
-from imp_rules import spell_flow  # noqa: F401 (for tools/check/explain.py)
-from log_rules import ends_log
+from dorydate.model.chance.questions import Counting, Questions
+from dorydate.model.log import ends_log
+from dorydate.model.topology import spelled_input
 from parts import ROOT, any_program
-from script_rules import BadLine, expected, network_is_good, opened, read_line  # noqa: F401
-from world_chance import reached
-from world_chance import some_script as some_script_of_world
+from dorydate.model.script import expected
+from dorydate.model.chance.worlds import reached
+from dorydate.model.chance.worlds import some_script as some_script_of_world
 
 INPUTS = 3000
 WORLDS = 1500
@@ -79,17 +79,6 @@ def some_network(chance):
         case 12 | 13 if lines:
             lines[-1] += (chance.choice([*lines[-1], 0]),)
     return carrier, raw, imps, lines
-
-
-def spelled(network):
-    """The document of a network."""
-    carrier, raw, imps, lines = network
-    text = [f'carrier = "{carrier}"', f"raw = {str(raw).lower()}"]
-    text += [] if imps else ["imp = []"]
-    text += [f"[[imp]]\nid = {number}\nhosts = {hosts}" for number, hosts in imps]
-    for line in lines:
-        text += ["[[line]]", *(f"{key} = {number}" for key, number in zip("abc", line))]
-    return "\n".join(text)
 
 
 def some_text(chance):
@@ -193,10 +182,6 @@ def some_questions(seed, seen):
 
 
 # ---- the program
-
-
-def spelled_input(network, lines):
-    return "\n".join([spelled(network), "%", *lines, ""]).encode("latin-1")
 
 
 class Kept:

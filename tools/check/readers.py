@@ -8,7 +8,7 @@ Tries every reader on each prefix of worked octets, and with each octet changed 
   topology each prefix is also tried with the marker after it.
 
 What has to come of each was written down beforehand: of the rows by hand here, of all that comes of them by an independent reading of
-the formats in Python (tools/format_rules.py, tools/input_rules.py), which has to read the rows as they say. Each fault of a
+the formats in Python (python/dorydate/model/formats.py, python/dorydate/model/inputs.py), which has to read the rows as they say. Each fault of a
 reader has to be met.
 
 It takes the proved program, or where ./build has not made that the one that was built without proofs: ./check readers
@@ -20,11 +20,11 @@ import tempfile
 from collections import Counter
 from concurrent.futures import ThreadPoolExecutor
 
-import format_rules
+from dorydate.model import formats as format_rules
 from drivers import run_cases, write_case
-from format_rules import bits_in_digits, told
-from host_rules import bits_of
-from input_rules import ends
+from dorydate.model.formats import bits_in_digits, told
+from dorydate.model.host import bits_of
+from dorydate.model.inputs import ends
 from parts import ROOT, any_program
 
 CHANGES = b"\x00\x7f\xff"

@@ -3,7 +3,7 @@
 Compares the machines of the initial connection, the terminal and the echo service with an independent model of their rules.
 
 The proofs say that these machines do what their definitions say. Whether the definitions say what docs/initial-connection.md says
-is for readers to judge; this script tries it as well. tools/service_rules.py was written from those rules and RFC 165, in another
+is for readers to judge; this script tries it as well. python/dorydate/model/services.py was written from those rules and RFC 165, in another
 language and another form. Both are told random notices, most of them about the machine's own sockets, and what they ask
 for and come to has to be the same.
 
@@ -17,9 +17,9 @@ from collections import Counter
 
 
 from drivers import run_cases, write_case
-from host_rules import bits_of, spell_bits
-from imp_rules import spell_host
-from service_rules import MOST_SOCKET, Echo, Server, Terminal, User
+from dorydate.model.host import bits_of, spell_bits
+from dorydate.model.imp import spell_host
+from dorydate.model.services import MOST_SOCKET, Echo, Server, Terminal, User
 
 RUNS = 400
 NOTICES = 30

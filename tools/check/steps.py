@@ -20,7 +20,7 @@ from concurrent.futures import ThreadPoolExecutor
 from itertools import count
 
 from drivers import crates_below
-from input_rules import network_in
+from dorydate.model.inputs import network_in
 from parts import ROOT
 from unproved import build, keep, kept_for_sources
 

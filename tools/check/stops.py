@@ -6,7 +6,7 @@ with a new contact, on the same sockets. `./check stops 10` stops after every te
 
 tools/stopping.py makes the scripts by the independent model, and the program runs them. It has to print what the model prints,
 refusals included. In the book the hosts have stopped that should; after the new contact both services are done and the typed line comes
-back; and the audit in Python (tools/audit_rules.py) finds the promise kept. What was sent and taken is read off the printed messages,
+back; and the audit in Python (python/dorydate/model/audit.py) finds the promise kept. What was sent and taken is read off the printed messages,
 and what was handed over, which isn't printed there, is the model's. So spelled as a log, this book has to be what the program prints
 with `--log`, and its own `--audit` has to say `kept`. Of books that are spoiled in one place both audits have to name the part.
 
@@ -21,14 +21,14 @@ from collections import Counter
 from concurrent.futures import ProcessPoolExecutor
 from dataclasses import replace
 
-from audit_rules import audit, match
-from log_rules import Book, ends_audit, spelled_log
-from model import network_of
+from dorydate.model.audit import audit, match
+from dorydate.model.log import Book, ends_audit, spelled_log
+from dorydate.model.topology import network_of
 from parts import ROOT, any_program
-from script_rules import read_bits, read_flow, with_texts
-from service_rules import read_host
+from dorydate.model.script import read_bits, read_flow, with_texts
+from dorydate.model.services import read_host
 from stopping import Dialogue, Stop, Stuck
-from world_rules import Life
+from dorydate.model.world import Life
 
 EXAMPLE = f"{ROOT}/examples/from-a-terminal-to-a-server"
 NAMES = {"imp": "an IMP", "host": "a host", "end": "an end of the line"}

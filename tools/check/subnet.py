@@ -3,7 +3,7 @@
 Compares a whole subnet with an independent model of its rules, on random events.
 
 The proofs say that `Subnet` does what its definitions say. Whether the definitions say what docs/subnet.md says is for
-readers to judge; this script tries it as well. tools/subnet_rules.py was written from those rules, in another language and
+readers to judge; this script tries it as well. python/dorydate/model/subnet.py was written from those rules, in another language and
 another form. Both run every event, and what crosses and what is refused has to be the same. The same events are made each
 time. What happens is mostly about what is there: frames that are live, messages that are outstanding, slots that are held.
 
@@ -20,8 +20,8 @@ from collections import Counter
 
 
 from drivers import run_cases, write_case
-from imp_rules import MOST_IMPS, NUMBERS, WINDOW, spell_flow, spell_host
-from subnet_rules import Subnet
+from dorydate.model.imp import MOST_IMPS, NUMBERS, WINDOW, spell_flow, spell_host
+from dorydate.model.subnet import Subnet
 
 RUNS = 1000
 EVENTS = 100

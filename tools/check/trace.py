@@ -27,10 +27,10 @@ from itertools import count
 
 import trace_rules
 import trace_subnet
-from ask_chance import Questions
-from model import network_of
+from dorydate.model.chance.questions import Questions
+from dorydate.model.topology import network_of, spelled as spelled_network
 from parts import ROOT, loaded
-from script_rules import BadLine, network_is_good, opened, read_line
+from dorydate.model.script import BadLine, network_is_good, opened, read_line
 from trace_rules import OfBoxes, Traced, all_parts, made_of, spelled, text, traced
 
 RUNS = 300
@@ -192,7 +192,7 @@ def by_chance(kind):
     for seed in count():
         network, lines = kind(seed)
         if network_is_good(network) and is_script(lines):
-            yield network, loaded_once("model").spelled(network), lines
+            yield network, spelled_network(network), lines
 
 
 class Made:

@@ -23,11 +23,11 @@ import sys
 import tempfile
 
 import refused
-import script_rules
+from dorydate.model import script as script_rules
 import topology
 from dorydate import sentences
 from parts import ROOT, any_program
-from subnet_rules import Subnet
+from dorydate.model.subnet import Subnet
 from trace_subnet import every_name, part
 
 MOST_ROUNDS = 400  # of calm in an example that the model follows

@@ -2,10 +2,10 @@
 
 Runs hosts with their programs over random networks, only in the model, and audits their books: ./check worlds [RUNS]
 
-The model is the independent model of the rules (tools/world_rules.py). Of each book it is computed whether it keeps its promise,
-from the crossings, the lives and the bits that were handed over (tools/audit_rules.py): at the end of each run, and after each
+The model is the independent model of the rules (python/dorydate/model/world.py). Of each book it is computed whether it keeps its promise,
+from the crossings, the lives and the bits that were handed over (python/dorydate/model/audit.py): at the end of each run, and after each
 event of some; in these it is looked at too whether what had an effect on a host went out after that host's last clean point for
-its sender (tools/clean_rules.py). So this script doesn't try the program. It tries the promise itself, and with it two facts that are stronger: no
+its sender (python/dorydate/model/clean.py). So this script doesn't try the program. It tries the promise itself, and with it two facts that are stronger: no
 program is ever told of an error, and two lives that continue and have each other's hosts and sockets are one connection.
 
 First the audit itself is tried, on books that are right and books that are wrong in one place; and readings of the promise that
@@ -18,12 +18,12 @@ from collections import Counter
 from dataclasses import replace
 
 
-from audit_rules import CONTROL, audit, match, partners_are_kept
-from clean_rules import unclean
+from dorydate.model.audit import CONTROL, audit, match, partners_are_kept
+from dorydate.model.clean import unclean
 from parts import ROOT
-from script_rules import opened, read_line
-from world_rules import Life, World
-from world_chance import reached, some_script
+from dorydate.model.script import opened, read_line
+from dorydate.model.world import Life, World
+from dorydate.model.chance.worlds import reached, some_script
 
 RUNS = 3000
 CLOSELY = 10  # of this many runs one is audited after each event
@@ -110,7 +110,7 @@ def wrong_partners():
     yield log, [Life(first, 16, second, 33, own=1, partner=1), Life(third, 33, first, 16, own=0, partner=2)]
 
 
-# readings of the promise that are wrong in one place: what is read otherwise, as the text of tools/audit_rules.py and what takes
+# readings of the promise that are wrong in one place: what is read otherwise, as the text of python/dorydate/model/audit.py and what takes
 # its place
 WRONG_READINGS = [
     ("a taking may have another text than what went out", " or since[flow][0] != text", ""),
@@ -145,7 +145,7 @@ WRONG_READINGS = [
 
 def unnoticed():
     """The wrong readings of the promise that judge each book by hand as it should be judged."""
-    with open(f"{ROOT}/tools/audit_rules.py", encoding="utf-8") as file:
+    with open(f"{ROOT}/python/dorydate/model/audit.py", encoding="utf-8") as file:
         source = file.read()
     books = [*wrong_books()]
     for name, text, other in WRONG_READINGS:

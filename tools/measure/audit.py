@@ -20,11 +20,11 @@ import statistics
 import sys
 import tempfile
 
-from audit_rules import CONTROL
-from log_rules import Book, spelled_log
+from dorydate.model.audit import CONTROL
+from dorydate.model.log import Book, spelled_log
 from measuring import most_memory, processor_time, written
 from parts import proved_program
-from world_rules import Life
+from dorydate.model.world import Life
 
 SIZES = (1_000, 100), (10_000, 1_000)
 A, B = (0, 1), (0, 2)

@@ -29,10 +29,10 @@ import subprocess
 import sys
 import tempfile
 
-from imp_rules import MOST_IMPS
+from dorydate.model.imp import MOST_IMPS
 from measuring import best_of_all, instructions, most_memory, processor_time, written
 from parts import proved_program
-from subnet_rules import Subnet
+from dorydate.model.subnet import Subnet
 
 HOPS = 14
 RING = [(number, number % 16 + 1) for number in range(1, 17)]

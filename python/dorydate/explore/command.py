@@ -20,7 +20,6 @@ from dorydate.explore.named import SEARCHES
 from dorydate.explore.pattern import BadPattern, Pattern, read
 from dorydate.explore.search import MATCHES, NotKept, Progress, Search
 from dorydate.explore.shrink import Script as Found
-from dorydate.model import NoModel
 from dorydate.network import BadNetwork, Network
 from dorydate.program import NoProgram, Program, found
 from dorydate.script import BadLine, Calm, Script
@@ -172,7 +171,7 @@ def main(options: Sequence[str] | None = None) -> int:
     except NotKept as why:
         print(f"explore: {why}", file=sys.stderr)
         return WRONG
-    except (OSError, Wrong, BadPattern, BadNetwork, BadLine, CannotRun, NoProgram, NoModel) as why:
+    except (OSError, Wrong, BadPattern, BadNetwork, BadLine, CannotRun, NoProgram) as why:
         print(f"explore: {why}", file=sys.stderr)
         return WRONG
 

@@ -12,10 +12,10 @@ import time
 from collections.abc import Sequence
 from typing import Any
 
-from dorydate import model
 from dorydate.explore.kinds import Maker, Pools, chosen, pools
 from dorydate.explore.shrink import Script as Events
 from dorydate.explore.shrink import Shrinker
+from dorydate.model.without import LACKING, broken, opened_without, read_line
 from dorydate.network import Network
 from dorydate.script import Event, Script
 
@@ -32,7 +32,7 @@ LENGTH = 16  # events of a schedule: the model is slow
 
 
 def rules() -> list[str]:
-    return [it for it in model.part("without_rules").LACKING if it]
+    return [it for it in LACKING if it]
 
 
 def print_rules() -> int:
@@ -45,18 +45,17 @@ class Lacking:
 
     def __init__(self, rule: str, network: Network) -> None:
         self.rule, self.network = rule, network
-        self.rules = model.part("without_rules")
         self.read: dict[Event, Any] = {}
         self.as_model = network.carrier, network.raw, [(it.number, it.hosts) for it in network.imps], [(it.a, it.b) for it in network.lines]
 
     def breaks(self, script: Sequence[Event], rule: str | None = None) -> str | None:
         """The first part of the promise that breaks; with all rules where `rule` is empty."""
-        place = self.rules.opened_without(self.rule if rule is None else None, self.as_model)
+        place = opened_without(self.rule if rule is None else None, self.as_model)
         for event in script:
             if event not in self.read:
-                self.read[event] = self.rules.read_line(str(event), self.network.raw)
+                self.read[event] = read_line(str(event), self.network.raw)
             place.happen(*self.read[event])
-        found: str | None = self.rules.broken(place)
+        found: str | None = broken(place)
         return found
 
 

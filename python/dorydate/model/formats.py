@@ -6,10 +6,10 @@ which tools/calls prints what was read and how that is written again, or the fau
 Octets are `bytes`, and bits a text of the digits 0 and 1.
 """
 
-from host_rules import ALL, CLS, ECO, ERP, ERR, GVB, HEADER, INR, INS, LENGTHS, LINKS, QUOTED, RET, RTS, STR
-from host_rules import header, read_numbers, split
-from imp_rules import ASK, DATA, DEAD, INFINITE, MOST_IMPS, NEVER, PIECE, RFNM, VERSION, body, octets, spell_host
-from script_rules import MOST_TEXT
+from dorydate.model.host import ALL, CLS, ECO, ERP, ERR, GVB, INR, INS, LENGTHS, LINKS, QUOTED, RET, RTS, STR
+from dorydate.model.host import header, read_numbers, split
+from dorydate.model.imp import ASK, DATA, DEAD, INFINITE, MOST_IMPS, NEVER, PIECE, RFNM, VERSION, body, octets, spell_host
+from dorydate.model.script import MOST_TEXT
 
 NOP, ANSWERS = 4, {5: "rfnm", 7: "dead", 9: "incomplete"}
 KINDS = {DATA: "data", RFNM: "rfnm", DEAD: "dead", ASK: "ask", NEVER: "never"}

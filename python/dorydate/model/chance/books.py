@@ -5,10 +5,10 @@ or broken on purpose in one place; and small ones of few hosts and sockets, in w
 import random
 from dataclasses import replace
 
-from audit_rules import CONTROL, partner_request
-from log_rules import Book, book_of, verdict
-from world_chance import some_script
-from world_rules import Life
+from dorydate.model.audit import CONTROL, partner_request
+from dorydate.model.log import Book, book_of, verdict
+from dorydate.model.chance.worlds import some_script
+from dorydate.model.world import Life
 
 SOCKETS = 2**32
 STAMPS = 2**64

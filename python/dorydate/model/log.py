@@ -2,18 +2,18 @@
 
 They were written from docs/program.md and docs/audit.md, in another language and another form than the definitions. A log is read
 into a book: its crossings, its lives, and a list of bits for each life that was handed over to be sent. What a book keeps or
-breaks says `audit_rules`; here it is said too at which lines it shows. `check audit` and `check stops` compare the program with this.
+breaks says `audit`; here it is said too at which lines it shows. `check audit` and `check stops` compare the program with this.
 """
 
 import re
 from dataclasses import replace
 from typing import NamedTuple
 
-from audit_rules import audit, is_granted, is_well_formed, match, messages_are_kept, partners_are_kept
-from crossings import spell_crossing
-from imp_rules import spell_flow
-from script_rules import FLOW, HOST, MOST_TEXT, BadLine, opened, read_bits, read_flow, read_line, read_number, spelled_text
-from world_rules import Life
+from dorydate.model.audit import audit, is_granted, is_well_formed, match, messages_are_kept, partners_are_kept
+from dorydate.model.crossings import spell_crossing
+from dorydate.model.imp import spell_flow
+from dorydate.model.script import FLOW, HOST, MOST_TEXT, BadLine, opened, read_bits, read_flow, read_line, read_number, spelled_text
+from dorydate.model.world import Life
 
 MOST_OCTETS = 33_554_432
 NUMBER = r"(0|[1-9][0-9]{0,38})"  # none of 128 bits has more digits

@@ -5,7 +5,7 @@ definitions: what a host keeps is changed in place, and messages and commands ar
 `check hosts` compares the code with it.
 """
 
-from imp_rules import Refused, address, octets, spell_host
+from dorydate.model.imp import Refused, address, octets, spell_host
 
 NOP, RTS, STR, CLS, ALL, GVB, RET, INR, INS, ECO, ERP, ERR, RST, RRP = range(14)
 LENGTHS = {NOP: 1, RTS: 10, STR: 10, CLS: 9, ALL: 8, GVB: 4, RET: 8, INR: 2, INS: 2, ECO: 2, ERP: 2, ERR: 12, RST: 1, RRP: 1}

@@ -4,8 +4,8 @@ It was written from docs/subnet.md over the independent model of one IMP, in ano
 definitions. `check model` compares the program with it. Each event prints what crosses, or why it is refused.
 """
 
-from crossings import Crossed
-from imp_rules import REQUESTS, Imp, Refused
+from dorydate.model.crossings import Crossed
+from dorydate.model.imp import REQUESTS, Imp, Refused
 
 PLACES = 256  # frames that are live on a line, each way
 TAKES = 16  # takings of a host in a round of `calm`

@@ -8,9 +8,9 @@ wrong things.
 import random
 from collections import Counter
 
-from host_rules import spell_bits
-from imp_rules import spell_flow, spell_host
-from script_rules import opened
+from dorydate.model.host import spell_bits
+from dorydate.model.imp import spell_flow, spell_host
+from dorydate.model.script import opened
 
 RECEIVERS = [16, 18, 20, 4294967292]
 SENDERS = [33, 35, 1, 4294967295]

@@ -1,16 +1,16 @@
 """Hosts that run their programs over a carrier, and the book of their connections: an independent implementation of the rules.
 
-It uses the independent models of a carrier (`box_rules`, `subnet_rules`), of one host's program (`host_rules`) and of what
-runs on a host (`service_rules`), and was written from the rules that docs/world.md and docs/program.md retell, in another
+It uses the independent models of a carrier (`boxes`, `subnet`), of one host's program (`host`) and of what
+runs on a host (`services`), and was written from the rules that docs/world.md and docs/program.md retell, in another
 language and another form than the definitions. `check model` compares the program with it. Each event prints what crosses,
 what users are told, what their programs report, or why the event is refused.
 """
 
 from dataclasses import dataclass, field
 
-from host_rules import Host, bits_of
-from imp_rules import Refused, spell_host
-from service_rules import Server, Terminal, User, program_after, read_bits, read_host
+from dorydate.model.host import Host, bits_of
+from dorydate.model.imp import Refused, spell_host
+from dorydate.model.services import Server, Terminal, User, program_after, read_bits, read_host
 
 TAKES, OFFERS = 16, 32  # so often a host takes and offers in a round of `calm` at most
 PRINTED = {"opened": 3, "sent": 2, "arrived": 2, "error": 2}  # this many words of a notice are printed, of others all

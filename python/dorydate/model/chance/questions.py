@@ -8,10 +8,10 @@ before the question, between question and answer, or after both.
 import random
 from collections import Counter
 
-from imp_rules import Imp
-from script_rules import opened
-from subnet_rules import Subnet
-from world_chance import spell_event
+from dorydate.model.imp import Imp
+from dorydate.model.script import opened
+from dorydate.model.subnet import Subnet
+from dorydate.model.chance.worlds import spell_event
 
 TEXTS = ["1" * 8, "", "10" * 520, "01" * 1500]
 

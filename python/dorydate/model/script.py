@@ -6,11 +6,11 @@ They were written from docs/program.md. `check model` and `check explain` use th
 import re
 from collections import Counter
 
-from box_rules import Boxes
-from imp_rules import MOST_IMPS
-from imp_rules import octets as octets_of
-from subnet_rules import Subnet
-from world_rules import World
+from dorydate.model.boxes import Boxes
+from dorydate.model.imp import MOST_IMPS
+from dorydate.model.imp import octets as octets_of
+from dorydate.model.subnet import Subnet
+from dorydate.model.world import World
 
 HOST = r"([0-3])/([1-9]|[1-5][0-9]|6[0-3])"
 OCTET = r"(0|[1-9][0-9]?|1[0-9][0-9]|2[0-4][0-9]|25[0-5])"

@@ -1,7 +1,7 @@
 """One IMP of the subnet: an independent implementation of its rules.
 
 It was written from docs/imp.md, in another language and another form than the definitions, with packets and frames spelled
-from the formats. `check imp` compares the code with it, and `subnet_rules` joins several of it.
+from the formats. `check imp` compares the code with it, and `subnet` joins several of it.
 """
 
 CHANNELS, SLOTS, STORE, QUEUE = 8, 8, 32, 16

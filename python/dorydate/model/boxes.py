@@ -4,8 +4,8 @@ They were written from docs/mailboxes.md, in another language and another form t
 the program with them.
 """
 
-from crossings import Crossed
-from imp_rules import Refused
+from dorydate.model.crossings import Crossed
+from dorydate.model.imp import Refused
 
 TAKES = 16  # so often a host takes in a round of `calm` at most
 

@@ -6,7 +6,7 @@ inputs of `check readers` begin with: prefixes of it, and octets of it changed t
 
 import re
 
-from script_rules import expected
+from dorydate.model.script import expected
 
 BLANK = re.compile(rb"[ \t]*(#[^\x00-\x08\x0a-\x1f\x7f]*)?")
 TABLE = re.compile(rb"\[\[(imp|line)\]\]")

@@ -1,5 +1,5 @@
-#!/usr/bin/env python3
-"""Runs an input by the independent model of the rules alone, without the program: tools/model.py [--book] [--check] [--texts] < FILE
+"""Runs an input by the independent model of the rules alone, without the program: tools/model [--book] [--check] [--texts] < FILE
+
 With --log it prints the log, and with --audit it judges one.
 
 With --cases FOLDER it runs each file of a folder, with the options of NAME.args, and compares what it prints with
@@ -10,24 +10,9 @@ import glob
 import os
 import sys
 
-from log_rules import ends_audit, ends_log
-from script_rules import expected, network_is_good
-
-
-def network_of(text):
-    """The network that a document of the plain spelling describes: its carrier, whether it is raw, its IMPs and its lines."""
-    document = {"carrier": "subnet", "raw": "false", "imp": [], "line": []}
-    table = document
-    for line in filter(None, (line.split("#")[0].strip() for line in text.splitlines())):
-        if line in ("[[imp]]", "[[line]]"):
-            table = {}
-            document[line.strip("[]")].append(table)
-        else:
-            key, value = line.split(" = ")
-            table[key] = value.strip('"')
-    imps = [(int(imp["id"]), int(imp["hosts"])) for imp in document["imp"]]
-    lines = [(int(line["a"]), int(line["b"])) for line in document["line"]]
-    return document["carrier"], document["raw"] == "true", imps, lines
+from dorydate.model.log import ends_audit, ends_log
+from dorydate.model.script import expected, network_is_good
+from dorydate.model.topology import network_of
 
 
 def ends(octets, options):

@@ -5,7 +5,7 @@
 
 from dataclasses import dataclass
 
-from imp_rules import ASK, CHANNELS, DATA, DEAD, NEVER, REQUESTS, RFNM, spell_flow, spell_host, target
+from dorydate.model.imp import ASK, CHANNELS, DATA, DEAD, NEVER, REQUESTS, RFNM, spell_flow, spell_host, target
 
 NAMES = {RFNM: "RFNM", DEAD: "Dead", NEVER: "Never"}
 

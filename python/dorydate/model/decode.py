@@ -5,9 +5,9 @@ other link. `raw_text_in_words` is for raw networks, where a script sends what i
 the independent model of a host's program, so that one place alone knows their forms.
 """
 
-from host_rules import ALL, CLS, CONTROL_TEXT, ECO, ERP, ERR, GVB, HEADER, INR, INS, LENGTHS, LINKS, NOP, RET, RRP, RST, RTS, STR
-from host_rules import bits_of, read_numbers, split
-from imp_rules import octets as octets_of
+from dorydate.model.host import ALL, CLS, CONTROL_TEXT, ECO, ERP, ERR, GVB, HEADER, INR, INS, LENGTHS, LINKS, NOP, RET, RRP, RST, RTS, STR
+from dorydate.model.host import bits_of, read_numbers, split
+from dorydate.model.imp import octets as octets_of
 
 NAMES = {
     NOP: "NOP", RTS: "RTS", STR: "STR", CLS: "CLS", ALL: "ALL", GVB: "GVB", RET: "RET",

@@ -4,7 +4,7 @@ It was written from the promise as docs/world.md tells it, in another language a
 no phases, only what was asked for, what crossed and what was answered.
 """
 
-from host_rules import RRP, RST, split
+from dorydate.model.host import RRP, RST, split
 
 
 def signal_of(link, text):

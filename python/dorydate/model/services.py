@@ -5,7 +5,7 @@ form than the definitions. Each is told the notices of its host's program and gi
 after them.
 """
 
-from host_rules import octets
+from dorydate.model.host import octets
 
 MOST_SOCKET = 4294967295
 FIRST_MESSAGES, FIRST_BITS = 4, 4096

@@ -1,19 +1,19 @@
 """The model without one of its rules each: what the rules of docs/headline.md are there for.
 
 `LACKING` has for each rule a way to open a network that keeps all rules but this one. What breaks then is seen by the audit
-of the book (`audit_rules`). Plain mailboxes have two events more here, `hold` and `free`: the mailboxes promise nothing about
+of the book (`audit`). Plain mailboxes have two events more here, `hold` and `free`: the mailboxes promise nothing about
 the order of messages on different links, so a message may be taken long after others that went out later.
 """
 
 import re
 
-import script_rules
-from audit_rules import audit, messages_are_kept
-from box_rules import Boxes
-from host_rules import ALL, GONE, GVB, HEARD, READY, RET, RRP, WANT, End, Host, Pair
-from imp_rules import NEVER, Imp, Refused
-from subnet_rules import Subnet
-from world_rules import World
+from dorydate.model import script as script_rules
+from dorydate.model.audit import audit, messages_are_kept
+from dorydate.model.boxes import Boxes
+from dorydate.model.host import ALL, GONE, GVB, HEARD, READY, RET, RRP, WANT, End, Host, Pair
+from dorydate.model.imp import NEVER, Imp, Refused
+from dorydate.model.subnet import Subnet
+from dorydate.model.world import World
 
 # ---- mailboxes in which a message may be overtaken
 

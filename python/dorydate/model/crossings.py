@@ -1,9 +1,9 @@
 """What crosses the interface between hosts and their network: kept, spelled and printed.
 
-Both readings of a carrier, `box_rules` and `subnet_rules`, use this.
+Both readings of a carrier, `boxes` and `subnet`, use this.
 """
 
-from imp_rules import Refused, spell_flow, spell_host
+from dorydate.model.imp import Refused, spell_flow, spell_host
 
 ANSWERS = {"rfnm": "RFNM", "dead": "Dead", "incomplete": "Incomplete", "nottaken": "NotTaken"}
 PRINTED = {"nottaken": "incomplete"}  # an answer that is printed as another one
