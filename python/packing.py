@@ -31,7 +31,7 @@ def metadata() -> str:
 
 def sources() -> list[Path]:
     """The files of the package."""
-    return sorted(it for it in (HERE / "dorydate").rglob("*") if it.suffix in (".py", ".typed", ".lua"))
+    return sorted(it for it in (HERE / "dorydate").rglob("*") if it.suffix in (".py", ".typed", ".lua", ".mjs"))
 
 
 def recorded(name: str, octets: bytes) -> str:

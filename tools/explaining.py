@@ -28,10 +28,12 @@ from itertools import chain, islice
 import beside
 import charts
 import log_words
-import refused
 import topology
-from dorydate.sentences import IN_A_HOST, IN_A_SUBNET, crossing, report, silence
-from refused import INSIDE, MOST_OCTETS, shown  # noqa: F401
+from dorydate.explain import faults
+from dorydate.explain.faults import INSIDE
+from dorydate.explain.given import Input, is_event, shown
+from dorydate.program import MOST_OCTETS
+from dorydate.sentences import IN_A_HOST, IN_A_SUBNET, crossing, silence
 
 ROOT = os.path.dirname(os.path.dirname(os.path.realpath(__file__)))
 
@@ -44,33 +46,7 @@ class CannotTell(Exception):
     """Why there is nothing to tell."""
 
 
-# ---- the input, and what the program answers to it
-
-
-class Input:
-    """The lines of an input, as octets, and where its script begins."""
-
-    def __init__(self, octets):
-        self.octets = octets
-        self.lines = octets.split(b"\n")
-        self.marker = self.lines.index(b"%") if b"%" in self.lines else None
-        # each line of the script with its number in the file
-        self.script = list(enumerate(self.lines, 1))[self.marker + 1 :] if self.marker is not None else []
-        if self.script and self.script[-1][1] == b"":
-            self.script.pop()
-
-    def cut_after(self, number):
-        """The input without what follows the line of this number."""
-        return b"\n".join(self.lines[:number])
-
-    def topology(self):
-        """What stands before the marker."""
-        return b"\n".join(self.lines[: self.marker])
-
-
-def is_event(line):
-    """Whether a script line asks for an event: empty lines and comments do not."""
-    return line != b"" and not line.startswith(b"#")
+# ---- what the program answers to an input
 
 
 def kept_program():
@@ -290,7 +266,7 @@ def is_raw(given):
 
 def diagnose(given, said):
     """What is probably wrong with an input at which the program ended with these words."""
-    return refused.diagnose(given, said, is_raw(given))
+    return faults.diagnose(given, said, is_raw(given))
 
 
 def telling(given, told, book=()):
@@ -307,7 +283,7 @@ def telling(given, told, book=()):
     yield "At the end the program prints: end"
     for line in book:
         yield f"With --book it prints before that: {line}"
-        yield f"{margin}{report(line.split(' '))}"
+        yield f"{margin}{crossing(line.split(' '))}"
 
 
 def telling_event(past, event, said):

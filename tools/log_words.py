@@ -14,7 +14,8 @@ from dorydate.model.audit import last_out, match, own_request, partner_request
 from dorydate.model.imp import octets as octets_of
 from dorydate.model.imp import spell_flow, spell_host
 from dorydate.model.log import BadLog, Book, read_log
-from refused import shown, wrong_with_text, wrong_with_word
+from dorydate.explain.faults import wrong_with_text, wrong_with_word
+from dorydate.explain.given import shown
 
 FORMS = {
     "out": "S D N BITS OCTETS",

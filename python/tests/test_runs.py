@@ -65,8 +65,8 @@ class Replays(unittest.TestCase):
 
     def test_sentences(self) -> None:
         net = raw()
-        self.assertEqual(net.steps[0].meanings, ["2 rounds pass, in which no host takes anything."])
-        self.assertIn("hands its IMP a message of 8 bits for host 0/2, on link 5", net.out("UCLA", "SRI", 5, b"A").steps[0].meanings[0])
+        self.assertEqual(net.steps[0].meanings, ["2 rounds pass, and no host takes anything."])
+        self.assertIn("hands its IMP a message for host 0/2 on link 5: 8 bits", net.out("UCLA", "SRI", 5, b"A").steps[0].meanings[0])
         self.assertEqual(net.out("UCLA", "SRI", 5).steps[0].meanings, ["A message of this flow is outstanding, or an answer about one waits for its source."])
 
     def test_back_and_branch(self) -> None:

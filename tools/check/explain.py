@@ -34,7 +34,7 @@ from parts import ROOT, loaded
 
 model, subnets = loaded("tools/check/model.py"), loaded("tools/check/subnet.py")
 
-import refused  # noqa: E402
+from dorydate.explain import faults, topologies  # noqa: E402
 from dorydate.model.decode import text_in_words  # noqa: E402
 from dorydate.model.chance.worlds import some_script as some_script_of_world  # noqa: E402
 from dorydate.model.imp import Imp, spell_flow  # noqa: E402
@@ -50,7 +50,7 @@ BAD_LINES = [
     (b"Take 0/1", "Is `take` meant?"),
     (b"%", "A second one is not an event"),
     (b"take 0/1\r", "carriage return"),
-    (b"take\t0/1", "not a printable ASCII"),
+    (b"take\t0/1", "not printable ASCII"),
     (b"take  0/1", "single spaces"),
     (b"take 0/1 ", "single spaces"),
     (b" ", "single spaces"),
@@ -69,7 +69,7 @@ BAD_LINES = [
     (b"giveup 0/1 0/2 4294967301", "out of range: the link is 0 to 255"),
     (b"out 0/1 0/2 5 8064 " + b"FF" * 1008, "out of range: the number of bits is 0 to 8063"),
     (b"out 0/1 0/2 5 0 00", "A text of no bits is written `0 -`"),
-    (b"out 0/1 0/2 5 8 -", "`-` stands for no octets, but 8 bits are asked for"),
+    (b"out 0/1 0/2 5 8 -", "`-` is for no octets, but 8 bits are asked for"),
     (b"out 0/1 0/2 5 8 ff", "lower-case letters are not accepted"),
     (b"out 0/1 0/2 5 8 FFF", "8 bits fill 1 octet, which are 2 hexadecimal digits. This line has 3"),
     (b"out 0/1 0/2 5 24 4142", "24 bits fill 3 octets, which are 6 hexadecimal digits. This line has 4"),
@@ -89,23 +89,23 @@ BAD_LINES = [
     (b"calm 01", "without a sign and without leading zeros"),
     (b"calm 4294967296", "out of range: the number of rounds is 0 to 4294967295"),
     (b"offer 0/1", "`offer` is an event of networks with host programs"),
-    (b"calm 2 # settle", "A comment stands on a line of its own, with `#` as its first character: put `# settle` on the line before."),
-    (b"take 0/1 #x", "A comment stands on a line of its own"),
+    (b"calm 2 # settle", "A comment has a line of its own, with `#` as its first character: put `# settle` on the line before."),
+    (b"take 0/1 #x", "A comment has a line of its own"),
     (b'out 0/1 0/2 5 24 "ABC"', '"ABC" is `24 414243`'),
     (b'out 0/1 0/2 5 "A B"', '"A B" is `24 412042`'),
     (b'out 0/1 0/2 5 0 ""', '"" is `0 -`'),
     (b"out 0/1 0/2 5 8 0xfF", "hexadecimal digits without `0x`: `FF`"),
-    (b"out 1/0 2/0 5 0 -", "is `0/1` meant?"),
-    (b"take 63/0", "is `0/63` meant?"),
-    (b"out 0/1 0/2 5 7 FF", "7 bits leave 1 bit of the last octet unused, which has to be zero"),
-    (b"out 0/1 0/2 5 1 FF", "1 bit leaves 7 bits of the last octet unused, which have to be zero"),
+    (b"out 1/0 2/0 5 0 -", "the IMP's number is 1 to 63. Is `0/1` meant?"),
+    (b"take 63/0", "Is `0/63` meant?"),
+    (b"out 0/1 0/2 5 7 FF", "A text of 7 bits has 1 bit of its last octet unused: zero is needed there."),
+    (b"out 0/1 0/2 5 1 FF", "A text of 1 bit has 7 bits of its last octet unused: zero is needed there."),
 ]
 
 # what a terminal's user may get wrong
 BAD_LINES_OF_WORLDS = [
-    (b"type 0/1", "An empty line is typed by `type 0/1 `, with a space at the end"),
+    (b"type 0/1", "An empty line is typed by `type 0/1 `, with one space after the host"),
     (b'send 0/1 33 24 "ABC"', '"ABC" is `24 414243`'),
-    (b"contact 0/1 0/2 # first", "A comment stands on a line of its own"),
+    (b"contact 0/1 0/2 # first", "A comment has a line of its own"),
 ]
 
 # an example, the line of a refused event in it, and words of the cause that is meant
@@ -147,15 +147,15 @@ INSIDES = [
     ("arpanet-of-december-1969", 43, "No route leads from IMP 4 to IMP 1"),
     ("a-question-overtakes-its-message", 16, "IMP 1 asks IMP 2 what became of message 0 of flow 0/1 0/2 9. IMP 1 sends the question about message 0"),
     ("a-question-overtakes-its-message", 17, "IMP 2 has not seen message 0 as a whole, and notes it as never come: from now on its packets are old here. IMP 2 sends the Never for message 0"),
-    ("a-question-overtakes-its-message", 20, "was not taken (this answer is printed as `incomplete` too): the destination's IMP had never seen it whole, and now never will take it."),
+    ("a-question-overtakes-its-message", 20, "Host 0/1 gets NotTaken, which is printed as `incomplete` too: the IMP of host 0/2 had never seen its message on link 9 whole, and now never will take it."),
     ("an-rfnm-is-lost-and-asked-for", 23, "Nothing of message 0 of flow 0/1 0/2 9 is left in the network, and IMP 1 gives it up."),
-    ("an-rfnm-is-lost-and-asked-for", 24, "Host 0/1 is told that its message to host 0/2 was given up, taken or not."),
-    ("an-rfnm-is-lost-and-asked-for", 33, "Host 0/1 is told that host 0/2 took its message (RFNM"),
+    ("an-rfnm-is-lost-and-asked-for", 24, "Host 0/1 gets Incomplete: its message to host 0/2 on link 9 was given up, taken or not."),
+    ("an-rfnm-is-lost-and-asked-for", 33, "Host 0/1 gets RFNM (ready for next message): host 0/2 took its message"),
     ("a-question-about-a-message-that-waits", 18, "Message 0 waits there for host 0/2. No answer goes back."),
     ("a-question-after-a-restart", 26, "Still alive: the question about message 0 of flow 0/1 0/2 9, in channel 0 of line 0 at IMP 1"),
     ("a-question-after-a-restart", 33, "Message 0 of flow 0/1 0/2 9 is outstanding. The next event to clear it: `giveup 0/1 0/2 9`."),
     ("a-question-after-a-restart", 43, "IMP 2 sends the Never for message 1"),
-    ("a-question-after-a-restart", 44, "had never seen it whole, and now never will take it"),
+    ("a-question-after-a-restart", 44, "had never seen its message on link 9 whole, and now never will take it"),
 ]
 
 # scripts over two IMPs with a host each, whose last event delivers a packet with the channel's other bit, and what has become of it
@@ -251,8 +251,8 @@ BAD_TOPOLOGIES = [
     (b'carrier = "plain"\nraw = true\nimp = []\n%\n', "1 to 63 IMPs"),
     (b'carrier = "Plain"\nraw = true\n[[imp]]\nid = 1\nhosts = 1\n%\n', "There are two carriers"),
     (GOOD + b"".join(b"[[imp]]\nid = %d\nhosts = 1\n[[line]]\na = 1\nb = %d\n" % (it, it) for it in range(2, 8)) + b"%\n", "more than five lines"),
-    (b"#" * 1_048_600, "At most 1048576 are read"),
-    (b'carrier = "plain"\n[[imp]]\nid = 1\nhosts = 1\nraw = true\n%\n', "Line 5 of the file:\n  raw = true\n`raw` stands behind `[[imp]]`, so it is a key of that table. Put it before the first `[[`."),
+    (b"#" * 1_048_600, "at most 1048576 octets are read"),
+    (b'carrier = "plain"\n[[imp]]\nid = 1\nhosts = 1\nraw = true\n%\n', "Line 5 of the file:\n  raw = true\n`raw` comes after `[[imp]]`, so it is a key of that table. Put it before the first `[[`."),
     (b"out 0/1 0/2 5 8 FF\nin 0/1 0/2 5 8 FF\nend\n", "This is a log and not an input. `./explain --audit < FILE`"),
     (b"down 0/1\nend\n", "This is a log and not an input."),
 ]
@@ -271,7 +271,7 @@ BAD_LOG_LINES = [
     (1, b"in 0/1 0/2 256 0 -", "out of range: the link is 0 to 255"),
     (1, b"in 0/1 0/2 5 8064 " + b"FF" * 1008, "the number of bits is 0 to 8063"),
     (1, b"down 0/64", "the IMP's number is 1 to 63. The form is `down H`."),
-    (1, b"up\t0/1", "not a printable ASCII"),
+    (1, b"up\t0/1", "not printable ASCII"),
     (10, b"life 0/1 16 0/2 33 0 4 receive 1 16 1 100 0 0 OPEN 4849", "`OPEN` is none of open, ended. Is `open` meant?"),
     (10, b"life 0/1 16 0/2 33 0 4 receive 1 016 1 100 0 0 open 4849", "`016` can't be read as a number"),
     (10, b"life 0/1 16 0/2 33 0 4 send 1 16 1 100 0 0 open 4849", "Socket 16 is even and receives"),
@@ -515,13 +515,13 @@ def check_causes(program, seeds):
         same((status, said), (1, "arpasim: bad topology\n"), octets[-80:])
         same(words in explain.diagnose(given, said), True, f"{octets[-80:]}: {explain.diagnose(given, said)}")
     for line, words in BAD_LINES_OF_WORLDS:
-        same(words in (refused.wrong_with_line(line, raw=False) or ""), True, f"{line}: {refused.wrong_with_line(line, raw=False)}")
+        same(words in (faults.wrong_with_line(line, raw=False) or ""), True, f"{line}: {faults.wrong_with_line(line, raw=False)}")
     bad = 0
     for seed in range(seeds):
         chance = random.Random(seed)
         network = model.some_network(chance)
         network = network[0], True, *network[2:]
-        is_refused = refused.wrong_with_topology(explain.Input(f"{spelled(network)}\n%\n".encode())) is not None
+        is_refused = topologies.wrong_with_topology(explain.Input(f"{spelled(network)}\n%\n".encode())) is not None
         same(is_refused, not network_is_good(network), f"the topology {network}")
         bad += is_refused
         for line in model.some_script(chance, network)[:20]:
@@ -532,7 +532,7 @@ def check_causes(program, seeds):
             except BadLine:
                 is_bad = True
             octets = line.encode("latin-1")
-            why = explain.is_event(octets) and refused.wrong_with_line(octets)
+            why = explain.is_event(octets) and faults.wrong_with_line(octets)
             same(bool(why), is_bad, f"the line {line!r}: {why}")
             bad += is_bad
     print(f"check explain: a cause named for {len(BAD_LINES) + len(BAD_TOPOLOGIES)} inputs written by hand and for {bad} made by chance")
@@ -604,7 +604,7 @@ def check_worlds(seeds):
             except BadLine:
                 is_bad = True
             octets = line.encode("latin-1")
-            why = explain.is_event(octets) and refused.wrong_with_line(octets, raw=False)
+            why = explain.is_event(octets) and faults.wrong_with_line(octets, raw=False)
             same(bool(why), is_bad, f"the line {line!r} of a network with host programs: {why}")
             lines, bad = lines + 1, bad + is_bad
         for words in (output.split(" ") for output in script.world.printed + script.world.end_of_book()):

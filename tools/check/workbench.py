@@ -5,7 +5,7 @@ With Node (Debian's package `nodejs`), over the native program:
 - what each event leaves inside is what the independent model in Python has then, part for part;
 - packets that are thrown away are told as repeats or as lost, as rows written by hand say;
 - what waits is told at every stop, each message has its lane, each sentence is whole, and faults, texts and addresses are as by hand;
-- lines that are made by chance have a fault here exactly where the reader in Python finds one, and sentences that both say are the same;
+- lines that are made by chance have a fault here exactly where the reader in Python finds one;
 - planted faults in all of these are found.
 
 TypeScript (`node-typescript`) checks the types where it is there. With --browser the page of `./build --wasm` is opened in Chromium and
@@ -22,10 +22,9 @@ import subprocess
 import sys
 import tempfile
 
-import refused
 from dorydate.model import script as script_rules
 import topology
-from dorydate import sentences
+from dorydate.explain import faults
 from parts import ROOT, any_program
 from dorydate.model.subnet import Subnet
 from trace_subnet import every_name, part
@@ -89,13 +88,8 @@ def lines_by_chance(count: int) -> list[tuple[str, bool, bool]]:
         changes = [line, line[:at] + chance.choice("0123456789/+-ABf ") + line[at:], line[:at] + line[at + 1 :], line[:at], chance.choice(known)[0]]
         line = chance.choice(changes)
         if line and not line.startswith("#"):
-            found.append((line, raw, refused.wrong_with_line(line.encode(), raw) is not None))
+            found.append((line, raw, faults.wrong_with_line(line.encode(), raw) is not None))
     return found
-
-
-def said_by_both() -> dict[str, object]:
-    """Sentences of `explain` that the page says, too."""
-    return {"refusals": sentences.IN_A_HOST, "errors": ["", *sentences.ERRORS.values()], "reasons": sentences.REASONS}
 
 
 def check_types() -> None:
@@ -112,7 +106,7 @@ def check_types() -> None:
 def check_modules(command: str, program: str) -> None:
     """The tests in Node, with the states of the independent model in a file."""
     with tempfile.NamedTemporaryFile("w", suffix=".json") as states:
-        json.dump({"states": model_states(), "lines": lines_by_chance(4000), "said": said_by_both()}, states)
+        json.dump({"states": model_states(), "lines": lines_by_chance(4000)}, states)
         states.flush()
         folder = f"{ROOT}/web/workbench/tests"
         tests = [f"{folder}/{it}" for it in sorted(os.listdir(folder)) if it.endswith(".test.js")]

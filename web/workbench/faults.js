@@ -1,70 +1,32 @@
 /** What is wrong with an input that the program refuses: the line, and why. By the forms of docs/program.md. */
 
+import { TABLE } from "../../python/dorydate/sentences/table.mjs";
 import { readDocument, tables, Unreadable } from "./topology.js";
-import { count } from "./words.js";
+import { filled } from "./words.js";
 
 /** @typedef {import("./runs.js").Refusal} Refusal */
 /** @typedef {import("./script.js").Input} Input */
 
 const MOST_OCTETS = 1_048_576;
-const MOST_NUMBER = 4_294_967_295;
+const FAULTS = TABLE.faults;
+const TOPOLOGIES = TABLE.topologies;
 
-/** The words behind each event. */
-const EVENTS = /** @type {{[name: string]: string[]}} */ ({
-    out: ["S", "D", "N", "BITS", "OCTETS"],
-    take: ["H"],
-    giveup: ["S", "D", "N"],
-    hostdown: ["H"],
-    hostup: ["H"],
-    deliver: ["L", "+|-", "K"],
-    drop: ["L", "+|-", "K"],
-    resend: ["I"],
-    route: ["I"],
-    enddown: ["I", "L"],
-    endup: ["I", "L"],
-    impdown: ["I"],
-    impup: ["I"],
-    forget: ["I", "J"],
-    abandon: ["S", "D", "N"],
-    ask: ["S", "D", "N"],
-    calm: ["ROUNDS"],
-});
-
-const ASKED = /** @type {{[name: string]: string[]}} */ ({
-    contact: ["H", "P"],
-    echo: ["H", "P", "OCTET"],
-    listen: ["H", "SOCKET", "SIZE"],
-    opensend: ["H", "P", "OWN", "FOREIGN", "SIZE"],
-    openrecv: ["H", "P", "OWN", "FOREIGN"],
-    send: ["H", "SOCKET", "COUNT", "OCTETS"],
-    grant: ["H", "SOCKET", "MESSAGES", "ALLOWED"],
-    askback: ["H", "SOCKET", "FRACTION", "FRACTION"],
-    interrupt: ["H", "SOCKET"],
-    close: ["H", "SOCKET"],
-    server: ["H", "SOCKET", "SOCKET"],
-    user: ["H", "P", "SOCKET", "SOCKET"],
-    type: ["H", "TEXT"],
-});
+/** The words after each event of a raw network, and of one whose hosts have programs. */
+const RAW = formsOf(TABLE.forms);
+const { out: _, ...EVENTS } = RAW;
+const OF_PROGRAMS = formsOf(TABLE["forms of programs"]);
+const WORLD = { ...EVENTS, ...OF_PROGRAMS };
 
 /** What a number is, the least and the greatest. */
-const RANGES = /** @type {{[name: string]: [string, number, number]}} */ ({
-    N: ["the link", 0, 255],
-    BITS: ["the number of bits", 0, 8063],
-    I: ["the IMP's number", 1, 63],
-    J: ["the IMP's number", 1, 63],
-    L: ["the line's number", 0, MOST_NUMBER],
-    K: ["the frame's place", 0, MOST_NUMBER],
-    ROUNDS: ["the number of rounds", 0, MOST_NUMBER],
-    SOCKET: ["the socket", 0, MOST_NUMBER],
-    OWN: ["the own socket", 0, MOST_NUMBER],
-    FOREIGN: ["the foreign socket", 0, MOST_NUMBER],
-    SIZE: ["the byte size", 0, 255],
-    OCTET: ["the octet", 0, 255],
-    FRACTION: ["the fraction, in 128ths,", 0, 255],
-    COUNT: ["the number of bits", 0, MOST_NUMBER],
-    MESSAGES: ["the number of messages", 0, 65535],
-    ALLOWED: ["the number of bits", 0, MOST_NUMBER],
-});
+const RANGES = /** @type {{[name: string]: (string | number)[]}} */ (TABLE.ranges);
+
+/**
+ * @param {{[name: string]: string}} forms
+ * @returns {{[name: string]: string[]}}
+ */
+function formsOf(forms) {
+    return Object.fromEntries(Object.entries(forms).map(([name, words]) => [name, words.split(" ")]));
+}
 
 /**
  * What is wrong, and in which line of the file, from 1; 0 where it isn't known.
@@ -77,7 +39,7 @@ export function faultOf({ input, said, status }) {
     if (found) {
         const number = Number(found[1]);
         const text = input.lines[number - 1]?.text ?? "";
-        return { text: `Line ${number} of the script: ${wrongLine(text, isRaw(input)) ?? "it is not an event."}`, line: input.head.length + 1 + number };
+        return { text: `Line ${number} of the script: ${wrongLine(text, isRaw(input)) ?? "No cause was found."}`, line: input.head.length + 1 + number };
     }
     if (said.includes("bad topology")) return wrongTopology(input);
     return { text: said.trim().replace(/^arpasim: /, "The program says: ") || `The program ended with status ${status}.`, line: 0 };
@@ -96,19 +58,18 @@ function isRaw(input) {
  * @returns {string | null}
  */
 export function wrongLine(text, raw) {
-    if (text.includes("\r")) return "it has a carriage return, as files from Windows have at each line's end. Save the file with line feeds only.";
-    if (/[^ -~]/.test(text)) return "it has a character that is not printable ASCII, perhaps a tab. Only comments may have such characters.";
-    if (/^[^#]+ #/.test(text)) return "a comment stands on a line of its own, which begins with #.";
-    const words = text.split(" ");
-    const events = raw ? EVENTS : { ...EVENTS, offer: ["H"], ...ASKED };
-    if (!raw) delete events.out;
-    const isTyped = words[0] === "type" && !raw;
-    if (!isTyped && words.includes("")) return "its words have to be separated by single spaces, with no space before the first and none after the last.";
+    if (text.includes("\r")) return FAULTS["carriage return"];
+    if (/[^ -~]/.test(text)) return FAULTS["not ASCII"];
+    const isTyped = !raw && text.split(" ")[0] === "type";
+    const words = isTyped ? typedWords(text) : text.split(" ");
+    if (!isTyped && words.includes("")) return FAULTS.spaces;
+    const events = raw ? RAW : WORLD;
     const form = events[words[0]];
     if (!form) return unknownEvent(words[0], raw, Object.keys(events));
-    if (isTyped && words.length === 2) return "an empty line is typed with one space after the host.";
-    const parts = isTyped ? [words[1], words.slice(2).join(" ")] : words.slice(1);
-    if (parts.length !== form.length) return `\`${words[0]}\` needs ${count(form.length, "word")} after it: ${words[0]} ${form.join(" ")}. This line has ${parts.length}.`;
+    const mistake = knownMistake(words, text);
+    if (mistake) return mistake;
+    const parts = words.slice(1);
+    if (parts.length !== form.length) return filled(FAULTS.words, { word: words[0], needed: form.length, form: [words[0], ...form].join(" "), found: parts.length });
     for (const [place, name] of form.entries()) {
         const why = name === "OCTETS" ? wrongOctets(Number(parts[place - 1]), parts[place]) : wrongWord(name, parts[place]);
         if (why) return why;
@@ -117,16 +78,46 @@ export function wrongLine(text, raw) {
 }
 
 /**
+ * The words of a line at a terminal: its text is one of them.
+ *
+ * @param {string} text
+ */
+function typedWords(text) {
+    const [kind, host, ...rest] = text.split(" ");
+    return host === undefined ? [kind] : rest.length ? [kind, host, rest.join(" ")] : [kind, host];
+}
+
+/**
+ * What is meant where a line has a comment after it, an empty line at a terminal without its space, or octets in another spelling.
+ *
+ * @param {string[]} words
+ * @param {string} line
+ * @returns {string | null}
+ */
+function knownMistake(words, line) {
+    if (words[0] === "type") return words.length === 2 ? filled(FAULTS["empty line"], { line }) : null;
+    if (words.slice(1).some((it) => it.startsWith("#"))) return filled(FAULTS.comment, { comment: line.slice(line.indexOf(" #") + 1) });
+    if (words[0] !== "out" && words[0] !== "send") return null;
+    const quoted = /"([^"]*)"/.exec(line);
+    if (quoted) {
+        const octets = [...quoted[1]].map((letter) => letter.charCodeAt(0).toString(16).toUpperCase().padStart(2, "0")).join("");
+        return filled(FAULTS.text, { text: quoted[0], spelled: `${4 * octets.length} ${octets || "-"}` });
+    }
+    const last = words[words.length - 1];
+    return /^0[xX]/.test(last) ? filled(FAULTS["0x"], { digits: last.slice(2).toUpperCase() }) : null;
+}
+
+/**
  * @param {string} word
  * @param {boolean} raw
  * @param {string[]} events
  */
 function unknownEvent(word, raw, events) {
-    if (word === "%") return "the topology ends at the first line `%`. A second one is not an event.";
-    if (raw && (word in ASKED || word === "offer")) return `\`${word}\` is an event of networks with host programs, and this network has \`raw = true\`.`;
-    if (!raw && word === "out") return "`out` is an event of networks with `raw = true`. Here the hosts' programs decide what goes out, at `offer` and in a `calm`.";
+    if (word === "%") return FAULTS["second marker"];
+    if (raw && word in OF_PROGRAMS) return filled(FAULTS["of programs"], { word });
+    if (!raw && word === "out") return FAULTS["of raw"];
     const meant = nearest(word.toLowerCase(), events);
-    return `\`${word.slice(0, 40)}\` is not an event of this network.${meant ? ` Is \`${meant}\` meant?` : ` Its events are ${events.join(", ")}.`}`;
+    return `${filled(FAULTS.unknown, { word: word.slice(0, 40) })} ${meant ? filled(FAULTS.meant, { meant }) : filled(FAULTS.events, { events: events.join(", ") })}`;
 }
 
 /**
@@ -171,15 +162,23 @@ function wrongWord(name, word) {
     if (name === "TEXT") return null;
     if (["S", "D", "H", "P"].includes(name)) {
         const parts = word.split("/");
-        if (parts.length !== 2) return `\`${word}\` is not a host. A host is its number, a slash and the number of its IMP, as in 0/1.`;
-        const swapped = /^[1-9]\d*\/[0-3]$/.test(word) && (Number(parts[0]) > 3 || parts[1] === "0") ? ` Is \`${parts[1]}/${parts[0]}\` meant?` : "";
-        const why = wrongNumber(parts[0], "the host's number", 0, 3) ?? wrongNumber(parts[1], "the IMP's number", 1, 63);
+        if (parts.length !== 2) return filled(FAULTS["not a host"], { word });
+        const swapped = /^[1-9]\d*\/[0-3]$/.test(word) && (Number(parts[0]) > 3 || parts[1] === "0") ? ` ${filled(FAULTS.meant, { meant: `${parts[1]}/${parts[0]}` })}` : "";
+        const why = wrongNumber(parts[0], "the host's number", 0, 3) ?? wrongNumber(parts[1], ...rangeFor("I"));
         return why && why + swapped;
     }
-    if (name === "+|-") return word === "+" || word === "-" ? null : `\`${word}\` is not a direction. \`+\` is from a line's first IMP to its second, and \`-\` the other way.`;
-    const range = RANGES[name];
+    if (name === "+|-") return word === "+" || word === "-" ? null : filled(FAULTS["not a direction"], { word });
     if (name === "OCTET" && /^0x/.test(word)) return `\`${word}\`: octets are decimal numbers here, as in ${parseInt(word, 16) || 65}.`;
-    return range ? wrongNumber(word, ...range) : null;
+    return Object.hasOwn(RANGES, name) ? wrongNumber(word, ...rangeFor(name)) : null;
+}
+
+/**
+ * @param {string} name
+ * @returns {[string, number, number]}
+ */
+function rangeFor(name) {
+    const [what, least, most] = RANGES[name];
+    return [String(what), Number(least), Number(most)];
 }
 
 /**
@@ -190,8 +189,8 @@ function wrongWord(name, word) {
  * @returns {string | null}
  */
 function wrongNumber(word, what, least, most) {
-    if (!/^(?:0|[1-9]\d*)$/.test(word)) return `\`${word}\` can't be read as ${what}: numbers are decimal, without a sign and without leading zeros.`;
-    return word.length > 10 || Number(word) < least || Number(word) > most ? `\`${word}\` is out of range: ${what} is ${least} to ${most}.` : null;
+    if (!/^(?:0|[1-9]\d*)$/.test(word)) return filled(FAULTS["not a number"], { word, what });
+    return word.length > 10 || Number(word) < least || Number(word) > most ? filled(FAULTS.range, { word, what, least, most }) : null;
 }
 
 /**
@@ -202,16 +201,13 @@ function wrongNumber(word, what, least, most) {
  * @returns {string | null}
  */
 function wrongOctets(bits, octets) {
-    if ((bits === 0) !== (octets === "-")) return bits === 0 ? "a text of no bits is written `0 -`." : `\`-\` stands for no octets, but ${count(bits, "bit")} are asked for.`;
+    if ((bits === 0) !== (octets === "-")) return bits === 0 ? FAULTS["no bits"] : filled(FAULTS["no octets"], { bits });
     if (bits === 0) return null;
-    const spelled = [...octets.replace(/^"|"$/g, "")].map((letter) => letter.charCodeAt(0).toString(16).toUpperCase().padStart(2, "0")).join("");
-    if (/^"|[g-zG-Z]/.test(octets)) return `the octets are hexadecimal digits. The text ${octets} is written ${4 * spelled.length} ${spelled}.`;
-    if (!/^[0-9A-F]*$/.test(octets)) return "the octets are hexadecimal digits, 0 to 9 and A to F; lower-case letters are not accepted.";
+    if (!/^[0-9A-F]*$/.test(octets)) return FAULTS.digits;
     const digits = 2 * Math.ceil(bits / 8);
-    if (octets.length !== digits) return `${count(bits, "bit")} fill ${count(digits / 2, "octet")}, which are ${digits} hexadecimal digits. This line has ${octets.length}, for ${count(4 * octets.length, "bit")}.`;
+    if (octets.length !== digits) return filled(FAULTS.length, { bits, octets: digits / 2, digits, found: octets.length, for: 4 * octets.length });
     const unused = (8 - (bits % 8)) % 8;
-    if (unused && parseInt(octets.slice(-2), 16) % (1 << unused)) return `${count(unused, "bit")} of the last octet ${unused === 1 ? "is" : "are"} not used and have to be zero.`;
-    return null;
+    return unused && parseInt(octets.slice(-2), 16) % (1 << unused) ? filled(FAULTS.unused, { bits, unused }) : null;
 }
 
 /**
@@ -222,10 +218,10 @@ function wrongOctets(bits, octets) {
  */
 function wrongTopology(input) {
     const { text, head, marked } = input;
-    if (new TextEncoder().encode(text).length > MOST_OCTETS) return { text: `The input is too long: at most ${MOST_OCTETS} octets are read.`, line: 0 };
+    if (new TextEncoder().encode(text).length > MOST_OCTETS) return { text: filled(TOPOLOGIES.octets, { most: MOST_OCTETS }), line: 0 };
     if (!marked) {
         const line = head.findIndex((it) => it.trim() === "%");
-        return { text: `No line is exactly \`%\`, which separates the network from the script.${line >= 0 ? " Nothing else may stand on that line, not even a space." : ""}`, line: line + 1 };
+        return { text: `${TOPOLOGIES.marker}${line >= 0 ? ` ${TOPOLOGIES["marker alone"]}` : ""}`, line: line + 1 };
     }
     try {
         return wrongNetwork(readDocument(head.join("\n")));
@@ -246,18 +242,18 @@ function wrongNetwork(document) {
     const at = (/** @type {object} */ table, /** @type {string} */ key) => places.get(table)?.get(key) ?? places.get(table)?.get("") ?? 0;
     const keys = ["carrier", "raw", "imp", "line"];
     const further = Object.keys(values).find((key) => !keys.includes(key));
-    if (further) return { text: `There is no key \`${further}\` in a network. Its keys are ${keys.join(", ")}.${nearest(further, keys) ? ` Is \`${nearest(further, keys)}\` meant?` : ""}`, line: at(values, further) };
-    if (!["plain", "subnet"].includes(values.carrier ?? "subnet")) return { text: 'There are two carriers: `carrier = "plain"` or `carrier = "subnet"`.', line: at(values, "carrier") };
-    if (typeof (values.raw ?? false) !== "boolean") return { text: "`raw` is `true` or `false`, without quotation marks.", line: at(values, "raw") };
+    if (further) return { text: `${filled(TOPOLOGIES.key, { key: further })}${nearest(further, keys) ? ` ${filled(FAULTS.meant, { meant: nearest(further, keys) })}` : ""}`, line: at(values, further) };
+    if (!["plain", "subnet"].includes(values.carrier ?? "subnet")) return { text: TOPOLOGIES.carrier, line: at(values, "carrier") };
+    if (typeof (values.raw ?? false) !== "boolean") return { text: TOPOLOGIES.raw, line: at(values, "raw") };
     const imps = tables(values.imp);
-    if (imps.length < 1 || imps.length > 63) return { text: "A network has 1 to 63 IMPs, each a table `[[imp]]`.", line: 0 };
+    if (imps.length < 1 || imps.length > 63) return { text: TOPOLOGIES.imps, line: 0 };
     for (const imp of imps) {
         const why = wrongTable("imp", imp, { id: [1, 63], hosts: [0, 4] });
         if (why) return { text: why.text, line: at(imp, why.key) };
     }
     const numbers = imps.map((imp) => imp.id);
     const double = imps.find((imp, place) => numbers.indexOf(imp.id) < place);
-    if (double) return { text: `Two IMPs have the \`id\` ${double.id}.`, line: at(double, "id") };
+    if (double) return { text: filled(TOPOLOGIES["two imps"], { number: double.id }), line: at(double, "id") };
     return wrongLines(tables(values.line), numbers, at);
 }
 
@@ -275,13 +271,13 @@ function wrongLines(lines, numbers, at) {
         const why = wrongTable("line", line, { a: [1, 63], b: [1, 63] });
         if (why) return { text: why.text, line: at(line, why.key) };
         const { a, b } = line;
-        if (a === b || !numbers.includes(a) || !numbers.includes(b)) return { text: `The line from ${a} to ${b} does not join two different IMPs of the network.`, line: at(line, "") };
+        if (a === b || !numbers.includes(a) || !numbers.includes(b)) return { text: filled(TOPOLOGIES.joins, { a, b }), line: at(line, "") };
         const pair = `${Math.min(a, b)} ${Math.max(a, b)}`;
-        if (joined.has(pair)) return { text: `Two lines join the IMPs ${a} and ${b}.`, line: at(line, "") };
+        if (joined.has(pair)) return { text: filled(TOPOLOGIES["two lines"], { a: Math.min(a, b), b: Math.max(a, b) }), line: at(line, "") };
         joined.add(pair);
         for (const imp of [a, b]) {
             counts.set(imp, (counts.get(imp) ?? 0) + 1);
-            if ((counts.get(imp) ?? 0) > 5) return { text: `IMP ${imp} has more than five lines.`, line: at(line, "") };
+            if ((counts.get(imp) ?? 0) > 5) return { text: filled(TOPOLOGIES["five lines"], { number: imp }), line: at(line, "") };
         }
     }
     return { text: "The network is refused. docs/program.md has the form of networks.", line: 0 };
@@ -296,8 +292,8 @@ function wrongLines(lines, numbers, at) {
 function wrongTable(name, table, ranges) {
     const keys = Object.keys(ranges);
     const wrong = Object.keys(table).find((key) => !keys.includes(key));
-    if (wrong === "raw" || wrong === "carrier") return { text: `\`${wrong}\` stands before the first \`[[imp]]\`: behind it, it belongs to the table.`, key: wrong };
-    if (wrong || Object.keys(table).length !== keys.length) return { text: `A table \`[[${name}]]\` has exactly the keys ${keys.join(" and ")}; here it has ${Object.keys(table).join(", ") || "none"}.`, key: wrong ?? "" };
-    for (const [key, [least, most]] of Object.entries(ranges)) if (!Number.isInteger(table[key]) || table[key] < least || table[key] > most) return { text: `\`${key}\` of \`[[${name}]]\` is a whole number from ${least} to ${most}.`, key };
+    if (wrong === "raw" || wrong === "carrier") return { text: filled(TOPOLOGIES.displaced, { key: wrong, table: name }), key: wrong };
+    if (wrong || Object.keys(table).length !== keys.length) return { text: filled(TOPOLOGIES.keys, { table: name, keys: keys.join(" and "), found: Object.keys(table).join(", ") || "none" }), key: wrong ?? "" };
+    for (const [key, [least, most]] of Object.entries(ranges)) if (!Number.isInteger(table[key]) || table[key] < least || table[key] > most) return { text: filled(TOPOLOGIES.number, { key, table: name, least, most }), key };
     return null;
 }

@@ -1,24 +1,17 @@
 /** Why an event was refused: what stands in its way, and what clears it. */
 
+import { TABLE } from "../../python/dorydate/sentences/table.mjs";
 import { farEnd, hostName, impName, impOf, siteName, wayOf } from "./topology.js";
 import { ANSWERS, messageName } from "./waits.js";
-import { capital, count, listed } from "./words.js";
+import { capital, count, filled, listed } from "./words.js";
 
 /** @typedef {import("./state.js").State} State */
 /** @typedef {import("./state.js").Held} Held */
 
 /** What a refusal of a host's program means. */
-export const IN_A_HOST = /** @type {{[name: string]: string}} */ ({
-    NotContacted: "The two hosts aren't ready: one of them has to `contact` the other, and RST and RRP have to pass.",
-    WrongEnd: "The socket is of the wrong kind: even ones receive and odd ones send, and the two of a connection differ.",
-    InUse: "The socket listens already, or has a connection, or had a request refused that is still on its way out.",
-    NoSuchSocket: "The socket has no connection that this host opened or listened for. One that only listens has none yet.",
-    NotOpen: "The connection isn't open yet, or a CLS is on its way for it. For `type`: no user on this host has come to a terminal.",
-    BadSize: "The byte size is 0, or the bits are not a whole number of bytes of the connection's size.",
-    Closing: "The connection is being closed.",
-    NoLink: "All thirty links from this peer are in use.",
-    OverGrant: "What is granted and still open would pass 65535 messages or 4294967295 bits.",
-});
+export const IN_A_HOST = /** @type {{[name: string]: string}} */ (TABLE.programs);
+
+const REFUSED = TABLE.refused;
 
 /**
  * Why an event is refused in a state.
@@ -36,7 +29,7 @@ export function why(state, name, words) {
         case "IsDown":
             return isDown(state, words);
         case "IsUp":
-            return `${subject(state, words)} is up already.`;
+            return filled(REFUSED["up already"], { what: subject(state, words) });
         case "Blocked":
             return blocked(state, words);
         case "Unsettled":
@@ -48,7 +41,7 @@ export function why(state, name, words) {
         case "NoRoom":
             return noRoom(state, words);
     }
-    return "The event was refused and changed nothing.";
+    return REFUSED.other;
 }
 
 /**
@@ -59,8 +52,9 @@ export function why(state, name, words) {
  */
 function subject(state, words) {
     const [kind, what, line] = words;
-    if (what?.includes("/")) return capital(hostName(state.network, what));
-    return kind === "endup" || kind === "enddown" ? `The end of line ${line} at ${impName(state.network, Number(what))}` : capital(impName(state.network, Number(what)));
+    if (what?.includes("/")) return hostName(state.network, what);
+    const imp = impName(state.network, Number(what));
+    return kind === "endup" || kind === "enddown" ? filled(REFUSED.end, { line, imp }) : imp;
 }
 
 /**
@@ -70,23 +64,23 @@ function subject(state, words) {
 function noSuch(state, words) {
     const { network } = state;
     const [kind, what, way, place] = words;
-    if (network.plain && !what.includes("/")) return "Plain mailboxes have no IMPs, lines and frames, so nothing of this kind happens in them.";
+    if (network.plain && !what.includes("/")) return REFUSED.plain;
     if (kind === "deliver" || kind === "drop") {
         const line = Number(what);
-        if (line >= network.lines.length) return `The network has no line ${line}: its lines are numbered from 0 in their order.`;
+        if (line >= network.lines.length) return filled(REFUSED["no line"], { line });
         const frames = state.line(line)[way === "+" ? "+" : "-"].length;
         const [a, b] = wayOf(network, line, way);
-        return `On the line from ${siteName(network, a)} to ${siteName(network, b)} ${frames === 0 ? "no frame is" : frames === 1 ? "one frame is" : `${frames} frames are`} live, and there is none at place ${place}.`;
+        return filled(REFUSED["no frame"], { line, from: siteName(network, a), to: siteName(network, b), frames, place });
     }
     if (what.includes("/")) {
         const host = kind === "abandon" ? words[2] : what;
-        if (network.hosts.includes(host) && kind === "abandon") return `${capital(impName(network, impOf(host)))} holds no pieces of this flow.`;
-        return `The network has no host ${host}.`;
+        if (network.hosts.includes(host) && kind === "abandon") return filled(REFUSED["no pieces"], { imp: impName(network, impOf(host)), message: messageName(network, words.slice(1, 4).join(" ")) });
+        return filled(REFUSED["no host"], { host });
     }
-    if (kind === "forget" && what === way) return "An IMP notes no numbers of its own hosts' flows to forget.";
+    if (kind === "forget" && what === way) return REFUSED["own numbers"];
     const missing = (kind === "forget" ? [what, way] : [what]).find((imp) => !network.sites.some((site) => site.number === Number(imp)));
-    if (missing) return `The network has no IMP ${missing}.`;
-    return `Line ${way} does not end at ${impName(network, Number(what))}.`;
+    if (missing) return filled(REFUSED["no imp"], { number: missing });
+    return filled(REFUSED["no end"], { line: way, imp: impName(network, Number(what)) });
 }
 
 /**
@@ -95,12 +89,11 @@ function noSuch(state, words) {
  */
 function isDown(state, words) {
     const [kind, what] = words;
-    if (what.includes("/")) {
-        if (!state.network.plain && !state.imp(impOf(what))) return `${capital(impName(state.network, impOf(what)))} is down: \`impup ${impOf(what)}\` starts it.`;
-        return kind === "hostdown" ? `${subject(state, words)} is down already.` : `${subject(state, words)} is down: \`hostup ${what}\` starts it.`;
-    }
-    if (!state.imp(Number(what))) return `${capital(impName(state.network, Number(what)))} is down${kind === "impdown" ? " already" : `: \`impup ${what}\` starts it`}.`;
-    return `${subject(state, words)} is down already.`;
+    const ofHost = what.includes("/");
+    const imp = ofHost ? impOf(what) : Number(what);
+    if (!state.network.plain && !state.imp(imp) && kind !== "impdown") return filled(REFUSED.down, { what: impName(state.network, imp), event: `impup ${imp}` });
+    if (ofHost && kind !== "hostdown") return filled(REFUSED.down, { what: subject(state, words), event: `hostup ${what}` });
+    return filled(REFUSED["down already"], { what: subject(state, words) });
 }
 
 /**
@@ -119,10 +112,10 @@ function flowOf(words) {
 function blocked(state, words) {
     const flow = flowOf(words);
     if (!flow) return "Its next message has to wait for the answer to the last one on its link.";
-    const [source, , link] = flow.split(" ");
-    const rule = `Link ${link} carries one message at a time.`;
+    const [source, destination, link] = flow.split(" ");
+    const rule = filled(REFUSED["one at a time"], { link, source: hostName(state.network, source), destination: hostName(state.network, destination) });
     const answer = state.box(source)?.answers.find((it) => it.flow === flow);
-    if (answer) return `${rule} ${ANSWERS[answer.kind]} waits for ${hostName(state.network, source)} as the answer to the last one: \`take ${source}\`.`;
+    if (answer) return `${rule} ${filled(REFUSED["answer waits"], { answer: ANSWERS[answer.kind], host: hostName(state.network, source), word: source })}`;
     return `${rule} ${settling(state, flow)}`;
 }
 
@@ -140,9 +133,9 @@ function settling(state, flow) {
     }
     const number = outstandingNumber(state, flow);
     const alive = state.everything().filter((it) => it.flow === flow && it.number === number);
-    if (alive.length) return `The last one is still alive: ${places(state, alive)}.`;
+    if (alive.length) return filled(REFUSED.alive, { places: places(state, alive) });
     const canAsk = state.way(impOf(source), impOf(destination)).line >= 0;
-    return `Nothing of the last one is alive: ${canAsk ? `\`ask ${flow}\` finds out what became of it, and ` : ""}\`giveup ${flow}\` ends it.`;
+    return filled(REFUSED[canAsk ? "nothing alive, ask" : "nothing alive"], { flow });
 }
 
 /**
@@ -191,8 +184,8 @@ export function placeName(state, held) {
  */
 function unsettled(state, host) {
     const flows = state.network.plain ? [] : (state.imp(impOf(host))?.sources ?? []).filter((it) => it.state === "outstanding" && it.flow.startsWith(`${host} `));
-    const start = `${capital(hostName(state.network, host))} stopped while a message that it sent was outstanding.`;
-    return flows.length ? `${start} ${settling(state, flows[0].flow)}` : `${start} It can start once its messages are taken or given up.`;
+    const message = flows.length ? messageName(state.network, flows[0].flow) : "a message that it sent";
+    return `${filled(REFUSED.stopped, { host: hostName(state.network, host), message })} ${flows.length ? settling(state, flows[0].flow) : REFUSED.settle}`;
 }
 
 /**
@@ -203,7 +196,7 @@ function notOutstanding(state, words) {
     const flow = flowOf(words);
     const source = words[1];
     const answer = state.box(source)?.answers.find((it) => it.flow === flow);
-    if (answer) return `${ANSWERS[answer.kind]} waits for ${hostName(state.network, source)} as the answer: \`take ${source}\`.`;
+    if (answer) return filled(REFUSED.answered, { answer: ANSWERS[answer.kind], host: hostName(state.network, source), word: source });
     return `No message is outstanding on link ${words[3]}: ${messageName(state.network, flow)} has been answered or given up, or there was none.`;
 }
 
@@ -219,17 +212,18 @@ function stillAlive(state, words) {
         const imp = Number(what);
         const alive = everything.filter((it) => it.flow.split(" ").slice(0, 2).some((host) => impOf(host) === imp));
         const keeping = network.sites.filter(({ number }) => number !== imp && state.imp(number)?.kept.some((it) => impOf(it.flow.split(" ")[0]) === imp));
-        const told = [...(alive.length ? [`Packets of its earlier life are alive: ${places(state, alive)}.`] : []), ...(keeping.length ? [`${listed(keeping.map(({ number }) => capital(impName(network, number))))} still ${keeping.length > 1 ? "keep" : "keeps"} the last numbers of its flows: ${keeping.map(({ number }) => `\`forget ${number} ${imp}\``).join(", ")}.`] : [])];
-        return told.join(" ") || "A message to one of its hosts is outstanding: it has to be given up first.";
+        const found = keeping.map(({ number }) => filled(REFUSED.keeps, { imp: impName(network, number), other: impName(network, imp), number, from: imp }));
+        if (alive.length) found.unshift(filled(REFUSED["still alive"], { places: places(state, alive) }));
+        return found.join(" ") || "A message to one of its hosts is outstanding: it has to be given up first.";
     }
     if (kind === "forget") {
         const alive = everything.filter((it) => it.kind !== "rfnm" && it.kind !== "dead" && impOf(it.flow.split(" ")[0]) === Number(other) && impOf(it.flow.split(" ")[1]) === Number(what));
-        return alive.length ? `Packets of these flows are alive: ${places(state, alive)}.` : `A message from ${siteName(network, Number(other))} is outstanding: it has to be answered or given up first.`;
+        return alive.length ? filled(REFUSED["still alive"], { places: places(state, alive) }) : `A message from ${siteName(network, Number(other))} is outstanding: it has to be answered or given up first.`;
     }
     const flow = flowOf(words);
     const number = outstandingNumber(state, flow);
     const alive = everything.filter((it) => it.flow === flow && (kind !== "giveup" || it.number === number));
-    return alive.length ? `Something of it is still alive: ${places(state, alive)}. It has to arrive or to be lost first.` : "Something of an earlier message could still be mistaken for it.";
+    return alive.length ? `${filled(REFUSED["still alive"], { places: places(state, alive) })} It has to arrive or to be lost first.` : "Something of an earlier message could still be mistaken for it.";
 }
 
 /**

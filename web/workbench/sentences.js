@@ -1,11 +1,12 @@
 /** What happens at each moment, in sentences: for a reader who sees the map, by the names of sites. */
 
+import { TABLE } from "../../python/dorydate/sentences/table.mjs";
 import { cureOf, isReachable } from "./fates.js";
 import { why } from "./refusals.js";
 import { saying } from "./texts.js";
 import { farEnd, hostName, impName, impOf, siteName } from "./topology.js";
 import { ANSWERS, messageName } from "./waits.js";
-import { capital, count, joinedWords, listed } from "./words.js";
+import { capital, count, filled, joinedWords, listed } from "./words.js";
 
 /** @typedef {import("./fold.js").History} History */
 /** @typedef {import("./runs.js").Moment} Moment */
@@ -74,33 +75,19 @@ export function quietSentence(history, stop) {
 function printedSentence(it, line) {
     const [kind, ...words] = line;
     if (kind === "refused") return `Refused: ${why(it.before, words[0], it.moment.words)}`;
-    const flow = words.slice(0, 3).join(" ");
-    switch (kind) {
-        case "out":
-            return says(it, `${capital(it.host(words[0]))} hands its IMP a message for ${it.host(words[1])} on link ${words[2]}`, words);
-        case "in":
-            return says(it, `${capital(it.host(words[1]))} takes ${messageName(it.network, flow)}`, words);
-        case "answer":
-            return answered(it, words);
-        case "down":
-            return `${capital(it.host(words[0]))} stops.`;
-        case "up":
-            return `${capital(it.host(words[0]))} starts.`;
-    }
-    return notice(it.network, kind, words);
+    if (kind === "answer") return lineSentence(it.network, answerKind(it.before, words), words.slice(1));
+    return lineSentence(it.network, kind, words, kind === "out" || kind === "in" ? { text: says(it, words) } : {});
 }
 
 /**
- * A sentence about a message, with what the message says.
+ * What a message says, or how long it is.
  *
  * @param {Telling} it
- * @param {string} start
  * @param {string[]} words
  */
-function says(it, start, words) {
+function says(it, words) {
     const text = textOf(it.moment, it.before, words);
-    const told = text === null ? count(Number(words[3]), "bit") : saying(it.network.raw, Number(words[2]), Number(words[3]), text);
-    return told ? `${start}: ${told}.` : `${start}.`;
+    return (text === null ? "" : saying(it.network.raw, Number(words[2]), Number(words[3]), text)) || count(Number(words[3]), "bit");
 }
 
 /**
@@ -131,27 +118,31 @@ export function answerKind(before, words) {
     return /** @type {"rfnm" | "dead" | "incomplete"} */ (words[0]);
 }
 
+/** What each printed line has after its first word, and its sentence. */
+const LINES = /** @type {{[kind: string]: string[]}} */ (TABLE.lines);
+
+/** Which of these words name hosts. */
+const HOSTS = ["source", "destination", "host", "peer"];
+
 /**
- * @param {Telling} it
- * @param {string[]} words
+ * The sentence of a printed line; "" for a line that has none.
+ *
+ * @param {Network} network
+ * @param {string} kind its first word, or the answer that crosses
+ * @param {string[]} words what follows
+ * @param {{[name: string]: string}} [further] holes that the line doesn't fill
+ * @returns {string}
  */
-function answered(it, words) {
-    const [source, destination] = words.slice(1).map((host) => it.host(host));
-    const link = words[3];
-    const free = `Link ${link} is free again.`;
-    switch (answerKind(it.before, words)) {
-        case "rfnm":
-            return `${capital(source)} is told that ${destination} took its message on link ${link} (RFNM, ready for next message). ${free}`;
-        case "dead":
-            return `${capital(source)} is told Dead: ${destination} did not take its message on link ${link} and never will. ${free}`;
-        case "nottaken":
-            return `${capital(source)} is told that its message to ${destination} was not taken and never will be (printed as \`incomplete\`). ${free}`;
-    }
-    return `${capital(source)} is told Incomplete: its message to ${destination} was given up, taken or not. ${free}`;
+function lineSentence(network, kind, words, further = {}) {
+    if (!Object.hasOwn(LINES, kind)) return "";
+    const [names, sentence] = LINES[kind];
+    const holes = Object.fromEntries(names.split(" ").map((name, place) => [name, HOSTS.includes(name) ? hostName(network, words[place] ?? "") : words[place] ?? ""]));
+    const meaning = kind === "error" ? ERRORS[Number(holes.code)] ?? "a code of its own" : REASONS[holes.reason] ?? holes.reason ?? "";
+    return filled(sentence, { ...holes, way: Number(holes.socket) % 2 ? "sends" : "receives", meaning, text: words.slice(1).join(" "), ...further });
 }
 
 /**
- * What a user or a service is told.
+ * What a user or a service learns.
  *
  * @param {Network} network
  * @param {string} kind
@@ -159,56 +150,12 @@ function answered(it, words) {
  * @returns {string}
  */
 export function notice(network, kind, words) {
-    const host = (/** @type {number} */ place) => hostName(network, words[place] ?? "");
-    const [, b, c, d] = words;
-    switch (kind) {
-        case "ready":
-            return `${capital(host(0))} and ${host(1)} have reset: connections may be opened from here.`;
-        case "contactfailed":
-            return `${possessive(capital(host(0)))} contact with ${host(1)} has failed: its reset was lost, or ${host(1)} is down.`;
-        case "pairreset":
-            return `All connections of ${host(0)} with ${host(1)} are gone, and so is what waited to be sent on them.`;
-        case "opened":
-            return `${possessive(capital(host(0)))} socket ${b} is connected with socket ${d} of ${host(2)}.`;
-        case "ended":
-            return `${possessive(capital(host(0)))} socket ${b} is no longer connected with socket ${d} of ${host(2)}.`;
-        case "sent":
-            return `${count(Number(c), "bit")} of what was handed over on socket ${b} went out in it.`;
-        case "arrived":
-            return `${count(Number(c), "bit")} arrived on socket ${b}.`;
-        case "returned":
-            return `${capital(host(0))} has back ${count(Number(c), "message")} and ${count(Number(d), "bit")} of its grant on socket ${b}.`;
-        case "interrupt":
-            return `The other end of ${possessive(host(0))} socket ${b} interrupts.`;
-        case "echoed":
-            return `The octet ${c}, which ${host(0)} sent to ${host(1)} for an echo, is back.`;
-        case "error":
-            return `${capital(host(1))} tells ${host(0)} that something it sent was wrong: ${ERRORS[Number(c)] ?? "a code of its own"}.`;
-        case "done":
-            return `The initial connection is complete at the ${words[0]} on ${host(1)}, which receives on socket ${c} and sends on ${d}.`;
-        case "failed":
-            return `The initial connection has failed at the ${words[0]} on ${host(1)}: ${REASONS[c] ?? c}.`;
-        case "line":
-            return `A whole line has come to ${possessive(host(0))} terminal: “${words.slice(1).join(" ")}”.`;
-    }
-    return "";
+    return lineSentence(network, kind, words);
 }
 
-export const ERRORS = ["", "no command has this code", "a command was cut off", "a command or a message had wrong parts", "no connection has these sockets", "no connection has this link"];
+export const ERRORS = ["", ...Object.values(TABLE.errors)];
 
-/** @type {{[name: string]: string}} */
-export const REASONS = {
-    badsocket: "its sockets have the wrong parity, or don't exist",
-    refused: "a connection that it needs was refused, or ended before it was complete",
-    reset: "the pair of hosts was reset",
-    stranger: "its two connections came from somebody else than the user who asked",
-    local: "its own host refused what it asked for",
-};
-
-/** @param {string} name */
-function possessive(name) {
-    return /s$/i.test(name) ? `${name}'` : `${name}'s`;
-}
+export const REASONS = /** @type {{[name: string]: string}} */ (TABLE.reasons);
 
 // ---- what happens inside
 
@@ -246,14 +193,15 @@ export function frameName(network, frame) {
 }
 
 /**
- * What a moment sent, beside acknowledgements.
+ * What a moment sent, beside acknowledgements; "" for nothing.
  *
  * @param {Telling} it
- * @param {string} who
+ * @param {string} imp
+ * @param {"sends" | "sends again"} [how]
  */
-function sendings(it, who) {
-    const told = it.note.sent.filter((sent) => sent.frame.packet).map((sent) => `${frameName(it.network, sent.frame)} to ${siteName(it.network, sent.to)}`);
-    return told.length ? `${who} sends ${listed([...new Set(told)])}.` : "";
+function sendings(it, imp, how = "sends") {
+    const sent = it.note.sent.filter((sent) => sent.frame.packet).map((sent) => `${frameName(it.network, sent.frame)} to ${siteName(it.network, sent.to)}`);
+    return sent.length ? filled(INSIDE[how], { imp, frames: listed([...new Set(sent)]) }) : "";
 }
 
 /**
@@ -262,12 +210,12 @@ function sendings(it, who) {
  * @param {Telling} it
  */
 function inner(it) {
-    const { network, moment, before, after } = it;
+    const { network, moment, after } = it;
     if (network.plain || !it.history.replay.inside || moment.printed[0]?.startsWith("refused")) return "";
     const [kind, ...words] = moment.printed[0].split(" ");
     if (kind === "in" && !it.note.sent.length && impOf(words[0]) !== impOf(words[1])) {
         const way = after.way(impOf(words[1]), impOf(words[0]));
-        return way.line < 0 ? `${it.imp(impOf(words[1]))} knows no route back, so no RFNM goes out.` : "";
+        return way.line < 0 ? filled(INSIDE["no rfnm"], { imp: it.imp(impOf(words[1])), to: it.imp(impOf(words[0])) }) : "";
     }
     if (kind !== "out") return "";
     const flow = words.slice(0, 3).join(" ");
@@ -275,9 +223,9 @@ function inner(it) {
     if (after.box(words[0])?.answers.some((answer) => answer.kind === "dead" && answer.flow === flow)) return deadAtOnce(it, imp, words[1]);
     const pieces = [...(after.imp(imp)?.store ?? []), ...it.note.sent.flatMap((sent) => sent.frame.packet ?? [])].filter((packet) => packet.flow === flow && packet.kind === "data");
     const waiting = after.imp(imp)?.store.filter((packet) => packet.flow === flow).length ?? 0;
-    if (impOf(words[1]) === imp) return "Both hosts are at one IMP, so it waits there at once.";
+    if (impOf(words[1]) === imp) return filled(INSIDE["one imp"], { imp: it.imp(imp), host: it.host(words[1]) });
     const parts = pieces.length > 1 ? `It is cut into ${pieces.length} packets.` : "";
-    return joinedWords([parts, waiting ? `${waiting === 1 ? "One waits" : `${waiting} wait`} for a free channel.` : "", before.imp(imp) ? "" : ""]);
+    return joinedWords([parts, waiting ? `${waiting === 1 ? "One waits" : `${waiting} wait`} for a free channel.` : ""]);
 }
 
 /**
@@ -287,11 +235,11 @@ function inner(it) {
  */
 function deadAtOnce(it, imp, destination) {
     const far = impOf(destination);
-    const end = `Dead waits for the source at once.`;
-    if (!it.network.sites.some((site) => site.number === far)) return `The network has no IMP ${far}, so ${end}`;
-    if (far === imp) return `${capital(it.host(destination))} is down or not there, and its own IMP knows, so ${end}`;
+    if (!it.network.sites.some((site) => site.number === far)) return filled(INSIDE["no imp, dead"], { number: far });
+    if (far === imp) return filled(INSIDE["no host, dead"], { host: it.host(destination) });
     const hops = hopsBetween(it.after, imp, far);
-    return hops < 0 ? `No route leads from ${it.imp(imp)} to ${it.imp(far)}, so ${end}` : `${capital(it.imp(imp))} knows no route to ${it.imp(far)} yet: put \`calm ${hops}\` first. So ${end}`;
+    const ends = { imp: it.imp(imp), to: it.imp(far) };
+    return hops < 0 ? filled(INSIDE["no way, dead"], ends) : filled(INSIDE["no route yet, dead"], { ...ends, rounds: hops });
 }
 
 /**
@@ -325,15 +273,14 @@ export function hopsBetween(state, from, to) {
 function silent(it) {
     const { words, parts } = it.moment;
     const [kind, what, other] = words;
-    if (ASKED.includes(kind)) return `The program of ${it.host(what)} notes what its user asks: ${words.join(" ")}. What there is to say goes out when the host offers.`;
-    if (kind === "take") return `Nothing waits for ${it.host(what)}.`;
-    if (kind === "offer") return `${capital(it.host(what))} has nothing to say, or waits for an answer first.`;
-    if (kind === "calm") return other === "0" || what === "0" ? "No round passes." : `Round ${it.moment.round || 1} passes, and no host takes anything.`;
+    if (Object.hasOwn(TABLE["forms of programs"], kind) || kind === "take") return filled(SILENT[kind === "take" || kind === "offer" ? kind : "asked"], { host: it.host(what) });
+    if (kind === "calm") return other === "0" || what === "0" ? SILENT["no round"] : filled(SILENT.round, { round: it.moment.round || 1 });
     if (!parts.length && !it.network.plain) return outside(it);
     return (INNER[kind] ?? outside)(it);
 }
 
-const ASKED = ["contact", "echo", "listen", "opensend", "openrecv", "send", "grant", "askback", "interrupt", "close", "server", "user", "type"];
+const SILENT = TABLE.silent;
+const INSIDE = TABLE.inside;
 
 /**
  * What an event does, where its inside isn't known.
@@ -343,8 +290,8 @@ const ASKED = ["contact", "echo", "listen", "opensend", "openrecv", "send", "gra
 function outside(it) {
     const { words } = it.moment;
     const flow = words.slice(1, 4).join(" ");
-    if (words[0] === "giveup") return `The network gives up ${messageName(it.network, flow)}. Incomplete waits for ${it.host(words[1])}.`;
-    return `The event \`${words.join(" ")}\` crosses no host's interface.`;
+    if (words[0] === "giveup") return filled(SILENT.giveup, { message: messageName(it.network, flow), source: it.host(words[1]) });
+    return SILENT.other;
 }
 
 /** @type {{[kind: string]: (it: Telling) => string}} */
@@ -354,37 +301,52 @@ const INNER = {
     route: (it) => {
         const imp = Number(it.moment.words[1]);
         const over = it.note.sent.map((sent) => siteName(it.network, sent.to));
-        return over.length ? `${capital(it.imp(imp))} tells its distances to ${listed(over)}.` : `No end of a line is up at ${it.imp(imp)}, so it tells nobody its distances.`;
+        return over.length ? `${capital(it.imp(imp))} sends its distances to ${listed(over)}.` : filled(INSIDE["sends to nobody"], { imp: it.imp(imp) });
     },
-    resend: (it) => sendings(it, capital(it.imp(it.moment.words[1]))).replace(" sends ", " sends again ") || `Nothing at ${it.imp(it.moment.words[1])} waits to be acknowledged.`,
+    resend: (it) => sendings(it, it.imp(it.moment.words[1]), "sends again") || filled(INSIDE["nothing to send"], { imp: it.imp(it.moment.words[1]) }),
     enddown: (it) => {
         const [, imp, line] = it.moment.words;
         const held = it.before.port(Number(imp), Number(line))?.sending.flatMap((channel) => channel.packet ?? []) ?? [];
         const left = new Set(it.after.heldBy(Number(imp)).map((held) => held.packet?.key));
         const gone = held.filter((packet) => !left.has(packet.key)).map((packet) => packetName(it.network, packet));
-        return joinedWords([`At ${it.imp(imp)} the end of line ${line} goes down.`, lostRoutes(it, Number(imp)), sendings(it, "It"), gone.length ? `No route is left for ${listed(gone)}: dropped.` : ""]);
+        return joinedWords([filled(INSIDE["end down"], { line, imp: it.imp(imp) }), lostRoutes(it, Number(imp)), sendings(it, "it"), gone.length ? filled(INSIDE["no route left"], { packets: listed(gone) }) : ""]);
     },
     endup: (it) => {
         const [, imp, line] = it.moment.words;
         const far = farEnd(it.network, Number(line), Number(imp));
-        return `At ${it.imp(imp)} the end of line ${line} is up again. It knows no route over it until ${it.imp(far)} tells its distances.`;
+        return filled(INSIDE["end up"], { line, imp: it.imp(imp), far: it.imp(far), number: far });
     },
     impdown: (it) => {
         const held = it.before.heldBy(Number(it.moment.words[1])).length;
-        return `${capital(it.imp(it.moment.words[1]))} stops and forgets everything${held ? `, with ${count(held, "packet")} that it held` : ""}. Its neighbours don't see it until their ends of its lines go down.`;
+        return `${filled(INSIDE.stops, { imp: it.imp(it.moment.words[1]) })} ${held ? `It held ${count(held, "packet")}. ` : ""}Its neighbours don't see it until their ends of its lines go down.`;
     },
-    impup: (it) => `${capital(it.imp(it.moment.words[1]))} starts and knows nothing. Its hosts are down. Its neighbours' ends have to be reset, too, or the first packets over them may be lost.`,
+    impup: (it) => `${filled(INSIDE.starts, { imp: it.imp(it.moment.words[1]) })} Its neighbours' ends have to be reset, too, or the first packets over them may be lost.`,
     forget: (it) => `${capital(it.imp(it.moment.words[1]))} forgets the last numbers of flows from ${it.imp(it.moment.words[2])}.`,
-    giveup: (it) => `Nothing of ${messageName(it.network, it.moment.words.slice(1, 4).join(" "))} is alive any more, and it is given up. ${it.after.isUp(it.moment.words[1]) ? `Incomplete waits for ${it.host(it.moment.words[1])}.` : `${capital(it.host(it.moment.words[1]))} is down, so no answer waits.`}`,
+    giveup: (it) => `${filled(INSIDE["given up"], { message: messageName(it.network, it.moment.words.slice(1, 4).join(" ")), imp: it.imp(impOf(it.moment.words[1])) })} ${answerWaits(it, "incomplete", it.moment.words[1])}`,
     ask: (it) => {
         const flow = it.moment.words.slice(1, 4);
         const [near, far] = [impOf(flow[0]), impOf(flow[1])];
-        if (near === far) return "Both hosts are at one IMP, so there is nobody to ask.";
-        if (it.before.way(near, far).line < 0) return `${capital(it.imp(near))} knows no route to ${it.imp(far)}, so nothing is asked.`;
-        return `${capital(it.imp(near))} asks ${it.imp(far)} what became of ${messageName(it.network, flow.join(" "))}.`;
+        const ends = { imp: it.imp(near), to: it.imp(far), message: messageName(it.network, flow.join(" ")) };
+        return filled(INSIDE[near === far ? "nobody to ask" : it.before.way(near, far).line < 0 ? "nothing asked" : "asks"], ends);
     },
-    abandon: (it) => `${capital(it.imp(impOf(it.moment.words[2])))} throws away the pieces of ${messageName(it.network, it.moment.words.slice(1, 4).join(" "))}, and their slot is free.`,
+    abandon: (it) => {
+        const flow = it.moment.words.slice(1, 4).join(" ");
+        const imp = impOf(it.moment.words[2]);
+        const pieces = it.before.imp(imp)?.slots.find((it) => it[0].flow === flow)?.length ?? 0;
+        return filled(INSIDE["thrown away"], { imp: it.imp(imp), pieces, message: messageName(it.network, flow) });
+    },
 };
+
+/**
+ * Which answer waits, if its host is up.
+ *
+ * @param {Telling} it
+ * @param {"rfnm" | "dead" | "incomplete" | "nottaken"} kind
+ * @param {string} host
+ */
+function answerWaits(it, kind, host) {
+    return filled(INSIDE[it.after.isUp(host) ? "waits" : "nobody waits"], { answer: ANSWERS[kind], host: it.host(host) });
+}
 
 /**
  * The routes that an IMP has lost or found.
@@ -405,27 +367,27 @@ function lostRoutes(it, imp) {
 function delivered(it) {
     const { note, network } = it;
     if (!note.frame) return outside(it);
-    const start = `${capital(frameName(network, note.frame))} arrives at ${it.imp(note.to)} from ${it.imp(note.from)}.`;
-    const freed = note.freed.length ? `It acknowledges ${listed(note.freed.map((packet) => packetName(network, packet)))}.` : "";
+    const start = filled(INSIDE.arrives, { frame: frameName(network, note.frame), imp: it.imp(note.to), from: it.imp(note.from), line: note.line });
+    const freed = note.freed.length ? filled(INSIDE.acknowledges, { packets: listed(note.freed.map((packet) => packetName(network, packet))) }) : "";
     return joinedWords([start, fateSentence(it), freed]);
 }
 
 /** @param {Telling} it */
 function fateSentence(it) {
     const { note } = it;
-    const imp = capital(it.imp(note.to));
+    const place = { imp: it.imp(note.to), line: note.line };
     switch (note.fate) {
         case "imp":
-            return `${imp} is down and ignores it.`;
+            return filled(INSIDE["imp ignores"], place);
         case "end":
-            return `The end of line ${note.line} at ${it.imp(note.to)} is down, so it is ignored.`;
+            return filled(INSIDE["end ignores"], place);
         case "repeat":
-            return "It came before, so it is only acknowledged again.";
+            return INSIDE.repeat;
         case "full":
-            return `${imp} has no room for it and does not acknowledge it, so it will be sent again.`;
+            return filled(INSIDE.full, place);
         case "lost": {
             const cure = cureOf(it.before, note.line, note.to).map((line) => `\`${line}\``).join(", ");
-            return `It never came before, but ${it.imp(note.to)} expects the other bit on channel ${note.frame?.channel}: one end of line ${note.line} was reset and the other was not. So it is taken for a repeat, acknowledged, and LOST. To cure the line, reset both ends: ${cure}.`;
+            return filled(INSIDE.lost, { ...place, channel: note.frame?.channel ?? 0, cure });
         }
         case "news":
             return changedRoutes(it);
@@ -455,11 +417,11 @@ function taken(it) {
     if (!packet) return "";
     const target = impOf(packet.kind === "data" || packet.kind === "ask" ? packet.destination : packet.source);
     if (target !== note.to) {
-        if (before.way(note.to, target).line < 0) return `${capital(it.imp(note.to))} knows no route to ${it.imp(target)}, so it is dropped.`;
+        if (before.way(note.to, target).line < 0) return filled(INSIDE["no route"], { imp: it.imp(note.to), to: it.imp(target) });
         const on = note.sent.find((sent) => sent.frame.packet?.key === packet.key);
-        return on ? `It goes on to ${siteName(network, on.to)}.` : `It waits in the store: all channels towards ${siteName(network, target)} are busy.`;
+        return on ? `It is sent on to ${siteName(network, on.to)}.` : filled(INSIDE.stored, { imp: it.imp(note.to), to: it.imp(target) });
     }
-    if (packet.kind === "ask") return sendings(it, "It") || "No answer goes back, since none would be sure to stay true.";
+    if (packet.kind === "ask") return sendings(it, "it") || "No answer goes back, since none would be sure to stay true.";
     if (packet.kind !== "data") return answerTaken(it, packet);
     return dataTaken(it, packet, before, after);
 }
@@ -470,9 +432,9 @@ function taken(it) {
  */
 function answerTaken(it, packet) {
     const was = it.before.imp(it.note.to)?.sources.find((source) => source.flow === packet.flow);
-    if (was?.state !== "outstanding" || was.number !== packet.number) return "Its message is not outstanding any more, so it is ignored.";
+    if (was?.state !== "outstanding" || was.number !== packet.number) return INSIDE["not outstanding"];
     const kind = packet.kind === "never" ? "nottaken" : /** @type {"rfnm" | "dead"} */ (packet.kind);
-    return it.after.isUp(packet.source) ? `${ANSWERS[kind]} now waits for ${it.host(packet.source)}.` : `${capital(it.host(packet.source))} is down, so no answer waits.`;
+    return answerWaits(it, kind, packet.source);
 }
 
 /**
@@ -483,24 +445,23 @@ function answerTaken(it, packet) {
  */
 function dataTaken(it, packet, before, after) {
     const host = it.host(packet.destination);
-    if ((after.box(packet.destination)?.messages.length ?? 0) > (before.box(packet.destination)?.messages.length ?? 0)) return `The message is whole and waits for ${host}.`;
+    if ((after.box(packet.destination)?.messages.length ?? 0) > (before.box(packet.destination)?.messages.length ?? 0)) return filled(INSIDE.whole, { host });
     const kept = after.imp(it.note.to)?.kept.find((note) => note.flow === packet.flow);
     const was = before.imp(it.note.to)?.kept.find((note) => note.flow === packet.flow);
-    if (kept && kept.number === packet.number && was?.number !== packet.number && kept.fate === "dead") return `${capital(host)} is down. ${sendings(it, capital(it.imp(it.note.to))) || "No answer goes back."}`;
+    if (kept && kept.number === packet.number && was?.number !== packet.number && kept.fate === "dead") return `${filled(INSIDE["host down"], { host })} ${sendings(it, it.imp(it.note.to)) || INSIDE["no answer"]}`;
     const slot = after.imp(it.note.to)?.slots.find((pieces) => pieces[0].flow === packet.flow);
     const had = before.imp(it.note.to)?.slots.find((pieces) => pieces[0].flow === packet.flow);
-    if (slot && slot.length !== had?.length) return `The message is not whole yet: a slot holds ${count(slot.length, "piece")}.`;
-    if (was) return "Its message came to its end here before, so this copy is dropped.";
-    return "It is dropped: what is there of its message has it, or contradicts it.";
+    if (slot && slot.length !== had?.length) return filled(INSIDE["not whole"], { count: slot.length });
+    return was ? INSIDE.old : INSIDE.dropped;
 }
 
 /** @param {Telling} it */
 function dropped(it) {
     const { note, network } = it;
     if (!note.frame) return outside(it);
-    const start = `${capital(frameName(network, note.frame))} is gone from the line from ${siteName(network, note.from)} to ${siteName(network, note.to)}.`;
+    const start = filled(INSIDE.gone, { frame: frameName(network, note.frame), line: note.line, from: it.imp(note.from), to: it.imp(note.to) });
     if (!note.frame.packet) return start;
     const { packet, channel } = note.frame;
     const held = it.after.port(note.from, note.line)?.sending[channel]?.packet?.key === packet.key;
-    return `${start} ${held ? `${capital(it.imp(note.from))} still holds it and sends it again.` : `${capital(it.imp(note.from))} holds it no longer for this line.`}`;
+    return `${start} ${filled(INSIDE[held ? "still held" : "held no longer"], { imp: it.imp(note.from), number: note.from })}`;
 }

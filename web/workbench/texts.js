@@ -5,14 +5,14 @@
  * raw network a script sends what it likes.
  */
 
-import { count } from "./words.js";
+import { TABLE } from "../../python/dorydate/sentences/table.mjs";
+import { filled } from "./words.js";
+
+const TEXTS = TABLE.texts;
 
 /** The commands: their names and lengths in octets, by their codes. */
-const COMMANDS = /** @type {const} */ ([
-    ["NOP", 1], ["RTS", 10], ["STR", 10], ["CLS", 9], ["ALL", 8], ["GVB", 4], ["RET", 8],
-    ["INR", 2], ["INS", 2], ["ECO", 2], ["ERP", 2], ["ERR", 12], ["RST", 1], ["RRP", 1],
-]); // prettier-ignore
-const ERRORS = ["", "illegal code", "short", "erroneous", "no such socket", "link not connected"];
+const COMMANDS = TABLE.commands.map((it) => it.split(" ")).map(([name, length]) => ({ name, length: Number(length) }));
+const ERRORS = ["", ...Object.values(TABLE["error codes"])];
 const HEADER = 40;
 const MOST_COMMANDS = 120;
 const SHOWN = 60;
@@ -55,14 +55,14 @@ export function shown(values, bits) {
  * @param {number} bits
  */
 function programSaying(link, values, bits) {
-    if (bits < HEADER) return `malformed: ${count(bits, "bit")}, fewer than the ${HEADER} of a header`;
+    if (bits < HEADER) return filled(TEXTS.short, { bits, header: HEADER });
     const [size, number] = [values[1], (values[2] << 8) | values[3]];
-    if (bits < HEADER + size * number) return `malformed: its header announces ${count(number, "byte")} of ${count(size, "bit")}, and ${count(bits - HEADER, "bit")} follow`;
+    if (bits < HEADER + size * number) return filled(TEXTS.announced, { number, size, left: bits - HEADER });
     const data = values.slice(5, 5 + Math.ceil((size * number) / 8));
     if (link !== 0) return number === 0 ? "no data" : shown(cleared(data, size * number), size * number);
-    if (size !== 8) return `malformed: commands in bytes of ${count(size, "bit")}, and they have to be of 8`;
-    if (number > MOST_COMMANDS) return `malformed: ${number} octets of commands, and there may be ${MOST_COMMANDS}`;
-    return commands(data).join(", ") || "no commands";
+    if (size !== 8) return filled(TEXTS["byte size"], { size });
+    if (number > MOST_COMMANDS) return filled(TEXTS["too many"], { number, most: MOST_COMMANDS });
+    return commands(data).join(", ") || TEXTS.none;
 }
 
 /**
@@ -77,37 +77,36 @@ function cleared(data, bits) {
 
 /** @param {number[]} octets */
 function commands(octets) {
-    const told = [];
+    const found = [];
     for (let at = 0; at < octets.length; ) {
         const command = COMMANDS[octets[at]];
-        if (!command) return [...told, `code ${octets[at]}, which no command has`];
-        if (octets.length - at < command[1]) return [...told, `${command[0]} cut off after ${count(octets.length - at, "octet")}`];
-        told.push(commandInWords(octets.slice(at, at + command[1])));
-        at += command[1];
+        if (!command) return [...found, filled(TEXTS["no code"], { code: octets[at] })];
+        if (octets.length - at < command.length) return [...found, filled(TEXTS.cut, { name: command.name, octets: octets.length - at })];
+        found.push(commandInWords(octets.slice(at, at + command.length)));
+        at += command.length;
     }
-    return told;
+    return found;
 }
 
 /** @param {number[]} command */
 function commandInWords(command) {
-    const [name] = COMMANDS[command[0]];
+    const { name } = COMMANDS[command[0]];
     const wide = (/** @type {number} */ at) => ((command[at] << 24) | (command[at + 1] << 16) | (command[at + 2] << 8) | command[at + 3]) >>> 0;
-    const bits = () => `${count((command[2] << 8) | command[3], "message")}, ${count(wide(4), "bit")}`;
     switch (name) {
         case "RTS":
-            return `RTS ${wide(1)} from ${wide(5)} on link ${command[9]}`;
+            return filled(TEXTS.RTS, { own: wide(1), foreign: wide(5), link: command[9] });
         case "STR":
-            return `STR ${wide(1)} to ${wide(5)}, bytes of ${count(command[9], "bit")}`;
+            return filled(TEXTS.STR, { own: wide(1), foreign: wide(5), size: command[9] });
         case "CLS":
-            return `CLS ${wide(1)} ${wide(5)}`;
+            return filled(TEXTS.CLS, { own: wide(1), foreign: wide(5) });
         case "ALL":
         case "RET":
-            return `${name} ${bits()} on link ${command[1]}`;
+            return filled(TEXTS.ALL, { name, messages: (command[2] << 8) | command[3], bits: wide(4), link: command[1] });
         case "GVB":
-            return `GVB ${command[2]}/128 of the messages, ${command[3]}/128 of the bits on link ${command[1]}`;
+            return filled(TEXTS.GVB, { messages: command[2], bits: command[3], link: command[1] });
         case "INR":
         case "INS":
-            return `${name} on link ${command[1]}`;
+            return filled(TEXTS.INR, { name, link: command[1] });
         case "ECO":
         case "ERP":
             return `${name} ${command[1]}`;

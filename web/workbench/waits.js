@@ -2,10 +2,11 @@
  * What is not finished at a position, where it is, and what it waits for: the answer to "why does nothing happen?".
  */
 
+import { TABLE } from "../../python/dorydate/sentences/table.mjs";
 import { State } from "./state.js";
 import { sends } from "./talk.js";
 import { farEnd, hostName, impName, impOf, siteName } from "./topology.js";
-import { count, listed } from "./words.js";
+import { count, listed, possessive } from "./words.js";
 
 /** @typedef {import("./talk.js").Talk} Talk */
 /** @typedef {import("./talk.js").End} End */
@@ -74,7 +75,7 @@ function plainWaits(state) {
 }
 
 /** The names of answers. */
-export const ANSWERS = { rfnm: "RFNM", dead: "Dead", incomplete: "Incomplete", nottaken: "Not taken" };
+export const ANSWERS = TABLE.answers;
 
 /** What the packets that answer a message are called. */
 export const PACKETS = { data: "the message", rfnm: "its RFNM", dead: "its Dead", ask: "the question about it", never: "the answer that it never came" };
@@ -263,11 +264,6 @@ function deadNeighbours(state) {
         if (ends.length === 0) return [];
         return [{ ...wait(`${impName(network, number)} is down, and its neighbours don't see it`), for: "its neighbours' ends of its lines to go down", bad: true, cures: ends }];
     });
-}
-
-/** @param {string} name */
-function possessive(name) {
-    return /s$/i.test(name) ? `${name}'` : `${name}'s`;
 }
 
 /**

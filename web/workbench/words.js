@@ -43,3 +43,31 @@ export function capital(text) {
 export function joinedWords(parts) {
     return parts.filter(Boolean).join(" ");
 }
+
+/**
+ * A sentence of the table (python/dorydate/sentences/table.mjs) with its holes filled. `{Name}` begins with a capital, `{name's}` is possessive,
+ * `{name bit}` is a number with its noun.
+ *
+ * @param {string} sentence
+ * @param {{[name: string]: string | number}} holes
+ * @returns {string}
+ * @throws {RangeError} where a hole has no value
+ */
+export function filled(sentence, holes) {
+    return sentence.replace(/\{(\w+)('s| [a-z]+)?\}/g, (_, name, ending = "") => {
+        const key = name.slice(0, 1).toLowerCase() + name.slice(1);
+        if (holes[key] === undefined) throw new RangeError(`${key} of: ${sentence}`);
+        const value = ending.startsWith(" ") ? count(Number(holes[key]), ending.slice(1)) : ending ? possessive(String(holes[key])) : String(holes[key]);
+        return key === name ? value : capital(value);
+    });
+}
+
+/**
+ * A name in the possessive.
+ *
+ * @param {string} name
+ * @returns {string}
+ */
+export function possessive(name) {
+    return /s$/i.test(name) ? `${name}'` : `${name}'s`;
+}

@@ -5,14 +5,12 @@ import { readFileSync } from "node:fs";
 import { test } from "node:test";
 
 import { wrongLine } from "../faults.js";
-import { IN_A_HOST } from "../refusals.js";
-import { ERRORS, REASONS } from "../sentences.js";
 import { partIn } from "../trace.js";
 import { historyOf } from "./examples.js";
 
 const file = process.env.STATES ?? "";
-/** @type {{states: {[name: string]: {[part: string]: any}[]}, lines: [string, boolean, boolean][], said: any}} */
-const given = file ? JSON.parse(readFileSync(file, "utf8")) : { states: {}, lines: [], said: null };
+/** @type {{states: {[name: string]: {[part: string]: any}[]}, lines: [string, boolean, boolean][]}} */
+const given = file ? JSON.parse(readFileSync(file, "utf8")) : { states: {}, lines: [] };
 const model = given.states;
 
 /**
@@ -43,10 +41,6 @@ if (file) {
     test("lines have a fault exactly where the reader in Python finds one", () => {
         assert(given.lines.length > 1000);
         for (const [line, raw, isBad] of given.lines) assert.equal(wrongLine(line, raw) !== null, isBad, `${raw ? "raw" : "programs"}: ${line}`);
-    });
-
-    test("sentences that explain and the page say are the same", () => {
-        assert.deepEqual({ refusals: IN_A_HOST, errors: ERRORS, reasons: REASONS }, given.said);
     });
 
     test("a fold that forgets a part is found", async () => {

@@ -14,6 +14,7 @@ import { stopsOf } from "../stops.js";
 import { Talk } from "../talk.js";
 import { saying } from "../texts.js";
 import { grouped, waitsOf } from "../waits.js";
+import { filled } from "../words.js";
 import { exampleText, historyOf, historyOfText, run, twoImps } from "./examples.js";
 import { isReplay, replay } from "../runs.js";
 
@@ -98,11 +99,11 @@ const BAD_LINES = /** @type {[string, string][]} */ ([
     ["take 4/1", "the host's number is 0 to 3"],
     ["out 1/0 2/0 5 8 41", "the IMP's number is 1 to 63. Is `0/1` meant?"],
     ["take 00/1", "without leading zeros"],
-    ["calm 2 # settle", "a comment stands on a line of its own"],
+    ["calm 2 # settle", "A comment has a line of its own"],
     ["calm 4294967296", "is 0 to 4294967295"],
-    ["out 0/1 0/2 5 24 \"ABC\"", "is written 24 414243"],
+    ["out 0/1 0/2 5 24 \"ABC\"", "is `24 414243`"],
     ["out 0/1 0/2 5 8 ff", "lower-case"],
-    ["out 0/1 0/2 5 7 FF", "have to be zero"],
+    ["out 0/1 0/2 5 7 FF", "A text of 7 bits has 1 bit of its last octet unused"],
     ["out 0/1 0/2 5 0 00", "`0 -`"],
     ["deliver 0 * 0", "not a direction"],
     ["offer 0/1", "networks with host programs"],
@@ -126,7 +127,7 @@ test("each bad network has its cause and its line", async () => {
         ["hosts = 1\n[[line]]", "hosts = 5\n[[line]]", "from 0 to 4", 7],
         ["b = 2", "b = 3", "does not join two different IMPs", 8],
         ["id = 2", "id = 1", "Two IMPs have the `id` 1", 6],
-        ["raw = true\n[[imp]]\nid = 1", "[[imp]]\nraw = true\nid = 1", "stands before the first", 2],
+        ["raw = true\n[[imp]]\nid = 1", "[[imp]]\nraw = true\nid = 1", "Put it before the first `[[`", 2],
         ["\n%\n", "\n% \n", "not even a space", 11],
     ])) {
         const outcome = await replay(run, good.replace(from, to));
@@ -135,6 +136,13 @@ test("each bad network has its cause and its line", async () => {
         assert(fault.text.includes(words), `${to}: ${fault.text}`);
         assert.equal(fault.line, line, `${to}: ${fault.text}`);
     }
+});
+
+test("the holes of a sentence are filled", () => {
+    const holes = { host: "host 0/1", ours: "Sites", bits: 1, octets: 2 };
+    assert.equal(filled("{Host} has {bits bit} in {octets octet} of {host's} {bits}.", holes), "Host 0/1 has 1 bit in 2 octets of host 0/1's 1.");
+    assert.equal(filled("{Ours's} and {ours's}", holes), "Sites' and Sites'");
+    assert.throws(() => filled("{who} is it?", holes), RangeError);
 });
 
 test("what texts say", () => {

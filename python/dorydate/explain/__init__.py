@@ -1,0 +1,1 @@
+"""What ./explain says of an input, a log and a replay."""
