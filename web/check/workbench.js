@@ -2,7 +2,7 @@
  * Tries the workbench in a browser: node web/check/workbench.js PAGE BROWSER..
  *
  * Each lesson is stepped forth and back, parts are tapped, an address is opened again, keys and the focus are looked at, and at each
- * size nothing is cut and no text stands on another. Faults that are planted in the page have to be found. It ends with status 1 where
+ * size nothing is cut and no text is on another. Faults that are planted in the page have to be found. It ends with status 1 where
  * something is wrong, and says what.
  */
 
@@ -120,6 +120,37 @@ await changed(() => { location.hash = shared.hash; });
 want(count() === shared.count && script() === shared.script && $("sentence").textContent === shared.sentence, "the address brings another script or step");
 `;
 
+/** Two maps beside each other after a change, at the same step, with what differs; and the index of lessons. */
+const COMPARED = `
+await load("rerouted-over-a-triangle");
+press("tab-compare");
+want($("was").hidden && /^Nothing was changed/.test($("pane").textContent), "a script that was not changed is compared");
+for (let at = 0; at < 4; at += 1) press("next");
+const line = document.querySelector("#network .part.line");
+line.dispatchEvent(new MouseEvent("click", { bubbles: true }));
+const cut = [...$("menu").querySelectorAll("[role=menuitem]")].find((it) => /^(?:Cut|Line)/.test(it.textContent));
+await changed(() => cut.click());
+await until(() => !$("was").hidden, "the map as it was is shown");
+want(/^Not alike at this step: .*IMP 1/.test(document.querySelector("#pane .parts").textContent), "what differs is not said: " + document.querySelector("#pane .parts").textContent);
+want(document.querySelectorAll("#was .part.marked").length >= 2, "what differs is not marked");
+want(document.querySelectorAll("#network .half.down").length === 2 && document.querySelectorAll("#was .half.down").length === 0, "the two maps are not as it is and as it was");
+want(/^as it was opened, line /.test($("was-words").textContent) && /^now, line /.test($("now-words").textContent), "the maps have no captions");
+want(document.querySelectorAll("#was [tabindex]").length === 0, "keys go through the map as it was");
+press("last"); press("first"); want(/alike inside/.test(document.querySelector("#pane .parts").textContent), "at the beginning both are alike");
+await changed(() => press("undo"));
+want($("was").hidden, "the map as it was stays after Undo");
+press("tab-waits"); want($("was").hidden && $("now-words").hidden, "the map as it was stays beside another table");
+$("lessons").focus(); press("lessons");
+want($("index").open && $("index").querySelectorAll("[data-name]").length === $("lesson").options.length, "the index has other lessons than the list");
+want([...$("index").querySelectorAll(".lessons ul > li")].filter((it) => !it.querySelector("ol")).length === 2, "lessons without a question: " + [...$("index").querySelectorAll(".lessons ul > li")].filter((it) => !it.querySelector("ol")).map((it) => it.querySelector("button").textContent));
+want([...$("index").querySelectorAll(".answer")].every((it) => getComputedStyle(it).display === "none"), "the index shows answers at once");
+press("index-answers"); want([...$("index").querySelectorAll(".answer")].every((it) => getComputedStyle(it).display !== "none"), "the index shows no answers");
+window.dispatchEvent(new Event("beforeprint")); want($("handout").querySelectorAll(".lessons li li").length > 60, "the index is not printed"); window.dispatchEvent(new Event("afterprint"));
+press("index-answers");
+await changed(() => $("index").querySelector("[data-name=a-repeat-is-taken-once]").click());
+want(!$("index").open && $("lesson").value === "a-repeat-is-taken-once" , "the index opens no lesson");
+`;
+
 /** On paper each line of the script has what came of it; and a file that isn't UTF-8 is refused by name. */
 const PRINTED = `
 await load("lo-of-login");
@@ -186,8 +217,8 @@ async function trial(browser, body) {
 const PLANTED = /** @type {[string, (page: string) => string, string, string][]} */ ([
     ["the sheet has no height where the page is low", (page) => page.replace("</style>", "@media (max-height: 500px) { main { grid-template-rows: minmax(10rem, 36%) 0 0 !important; height: 0 } }</style>"), "MEASURED 720 450", "has room"],
     ["buttons that do not fit", (page) => page.replace("</style>", "@media (max-width: 560px) { #foot .group button { min-width: 14rem } }</style>"), "MEASURED 390 844", "wide at"],
-    ["a step takes the focus", (page) => page.replace('press("next", () => this.step(1));', 'press("next", () => { this.step(1); byId("next").blur(); });'), "KEYS", "takes the focus"],
-    ["space plays on a button, too", (page) => page.replace('isButton ? {} : { " ": () => this.play() }', '{ " ": () => this.play() }'), "KEYS", "space on a button plays"],
+    ["a step takes the focus", (page) => page.replace("next: () => this.step(1),", 'next: () => { this.step(1); byId("next").blur(); },'), "KEYS", "takes the focus"],
+    ["space plays on a button, too", (page) => page.replace('isButton ? {} : { " ": () => bench.player.toggle() }', '{ " ": () => bench.player.toggle() }'), "KEYS", "space on a button plays"],
     ["pale rows", (page) => page.replace("</style>", ".row.future { opacity: 0.34 !important }</style>"), "CONTRAST", "contrast"],
     ["a comment that shows while the future is hidden", (page) => page.replace("(hidden && !isPast)", '(hidden && !isPast && row.kind !== "comment")'), "HIDDEN", "a row of the future"],
 ]);
@@ -219,7 +250,7 @@ async function whole(browser, address) {
         wrong.push(...(await trial(browser, `const name = ${JSON.stringify(name)}; await load(name); ${STEPPED}`)));
         steps += await browser.evaluate('return Number(document.getElementById("slider").max);');
     }
-    for (const body of [KEYS, TAPPED, PRINTED, HIDDEN, TYPED]) wrong.push(...(await trial(browser, body)));
+    for (const body of [KEYS, TAPPED, COMPARED, PRINTED, HIDDEN, TYPED]) wrong.push(...(await trial(browser, body)));
     let places = 0;
     for (const [width, height] of SIZES) {
         await browser.resize(width, height);

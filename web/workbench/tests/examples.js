@@ -1,7 +1,8 @@
-/** The examples of the repository, replayed by the native program: what the tests stand on. */
+/** The examples of the repository, replayed by the native program or by a module of it, for all tests. */
 
 import { readFileSync, readdirSync } from "node:fs";
 
+import { moduleRunner } from "../../run/module.js";
 import { nativeRunner } from "../../run/native.js";
 import { History } from "../fold.js";
 import { isReplay, replay } from "../runs.js";
@@ -10,11 +11,11 @@ import { isReplay, replay } from "../runs.js";
 
 const root = new URL("../../../", import.meta.url).pathname;
 
-/** The path of the program, as `./check workbench` gives it. */
+/** The path of the program, as `./check workbench` gives it, or of a module (FILE.wasm). */
 const program = process.env.ARPASIM ?? "";
-if (!program) throw new Error("ARPASIM has to be the path of the native program: ./check workbench gives it");
+if (!program) throw new Error("ARPASIM has to be the path of the program: ./check workbench gives it");
 
-export const { run } = nativeRunner(program);
+export const { run } = program.endsWith(".wasm") ? moduleRunner(program) : nativeRunner(program);
 
 /** Time for a program that was built without proofs. */
 export const PATIENT = { seconds: 120, octets: 40_000_000 };

@@ -3,11 +3,9 @@
 import assert from "node:assert/strict";
 import { test } from "node:test";
 
-import { beside, printedBy } from "../compare.js";
 import { faultOf, wrongLine } from "../faults.js";
 import { stopsOfFlow, stopsWith } from "../follow.js";
-import { arranged, QUESTIONS, withQuestions } from "../lessons.js";
-import { headComment, notesOf, readInput } from "../script.js";
+import { headComment, readInput } from "../script.js";
 import { sentenceOf } from "../sentences.js";
 import { fragment, packed, placeIn, unpacked } from "../share.js";
 import { stopsOf } from "../stops.js";
@@ -175,45 +173,9 @@ test("an address brings the same text, step and view elsewhere", async () => {
     assert.equal(await placeIn("#step-24"), null);
 });
 
-test("what two replays printed stands in pairs, alike lines together", async () => {
-    const before = await historyOfText(twoImps(["calm 2", "out 0/1 0/2 5 8 41", "calm 4"]));
-    const after = await historyOfText(twoImps(["calm 2", "out 0/1 0/2 5 8 41", "hostdown 0/2", "calm 4"]));
-    const pairs = beside(printedBy(before.replay), printedBy(after.replay)).map((pair) => [pair.before?.text ?? "", pair.after?.text ?? ""]);
-    assert.deepEqual(pairs, [
-        ["out 0/1 0/2 5 8", "out 0/1 0/2 5 8"],
-        ["in 0/1 0/2 5 8", ""],
-        ["answer rfnm 0/1 0/2 5", ""],
-        ["", "down 0/2"],
-        ["", "answer dead 0/1 0/2 5"],
-    ]);
-    assert(beside(printedBy(after.replay), printedBy(after.replay)).every((pair) => pair.before && pair.after));
-});
-
 test("a file's own words are those at its head, and no comment of its script", () => {
     assert.equal(headComment(readInput(exampleText("first-message"))), "");
     assert(headComment(readInput(exampleText("lo-of-login"))).startsWith("The evening of 29 October 1969"));
-});
-
-test("questions and answers are comments before their line", () => {
-    const input = readInput(withQuestions(twoImps(["calm 2", "out 0/1 0/2 5 8 41"]), [{ line: 2, ask: "What comes?", answer: "That." }]));
-    assert.deepEqual(notesOf(input), [
-        { kind: "question", line: 2, last: 2, before: 1, text: "What comes?" },
-        { kind: "answer", line: 3, last: 3, before: 1, text: "That." },
-    ]);
-});
-
-test("each question stands before an event of its lesson, and changes nothing that is printed", async () => {
-    const names = Object.keys(QUESTIONS);
-    const lessons = arranged(names.map((name) => ({ name, title: name, text: exampleText(name) })));
-    assert.equal(lessons.length, names.length);
-    for (const { name, text } of lessons) {
-        const { lines } = readInput(exampleText(name));
-        for (const { line } of QUESTIONS[name]) assert.equal(lines[line - 1].kind, "event", `${name}: line ${line}`);
-        const asked = notesOf(readInput(text)).filter((it) => it.kind !== "comment");
-        assert.equal(asked.length, 2 * QUESTIONS[name].length);
-        const [asking, without] = [await historyOfText(text), await historyOf(name)];
-        assert.deepEqual(asking.replay.moments.map((it) => it.printed), without?.replay.moments.map((it) => it.printed));
-    }
 });
 
 test("an endless calm is cut, and what was printed till then is there", async () => {

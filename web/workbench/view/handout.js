@@ -5,7 +5,7 @@ import { sentenceOf } from "../sentences.js";
 import { stopWords } from "../sheet.js";
 import { stopsOf } from "../stops.js";
 import { count } from "../words.js";
-import { h, sayWithCode } from "./dom.js";
+import { byId, h, sayWithCode } from "./dom.js";
 
 /** @typedef {import("../fold.js").History} History */
 
@@ -40,7 +40,8 @@ export function fillHandout(element, history, title, intro) {
     for (; note < notes.length; note += 1) rows.append(...noteRows(notes[note]));
     if (moments.length === 0) rows.append(row("", "", "The script is empty."));
     const head = h("thead", {}, h("tr", {}, h("th", { scope: "col" }, ""), h("th", { scope: "col" }, "script"), h("th", { scope: "col" }, "what happens")));
-    const map = document.getElementById("network")?.cloneNode(true) ?? "";
+    const map = /** @type {Element} */ (byId("network").cloneNode(true));
+    map.removeAttribute("id");
     element.replaceChildren(h("h1", {}, title), h("p", { class: "intro" }, intro), map, h("table", {}, head, rows));
 }
 

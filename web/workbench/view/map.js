@@ -30,7 +30,7 @@ export class MapView {
     /**
      * @param {SVGElement} svg
      * @param {Network} network
-     * @param {(part: Part, element: Element) => void} tap
+     * @param {((part: Part, element: Element) => void) | null} tap null for a map to look at only
      */
     constructor(svg, network, tap) {
         this.svg = svg;
@@ -137,10 +137,13 @@ export class MapView {
      * @param {SVGElement[]} children
      */
     part(part, key, children) {
-        const element = s("g", { class: `part ${part.kind}`, "data-part": key, role: "button", tabindex: -1, "aria-label": "" }, s("title"), ...children);
+        const { tap } = this;
+        const button = tap ? { role: "button", tabindex: -1, "aria-label": "" } : {};
+        const attributes = { class: `part ${part.kind}`, "data-part": key, ...button };
+        const element = s("g", attributes, s("title"), ...children);
         element.addEventListener("click", (event) => {
             event.stopPropagation();
-            this.tap(JSON.parse(element.dataset.what ?? JSON.stringify(part)), element);
+            tap?.(JSON.parse(element.dataset.what ?? JSON.stringify(part)), element);
         });
         element.dataset.what = JSON.stringify(part);
         return element;
@@ -319,6 +322,17 @@ export class MapView {
         const moved = ghost.animate([{ transform: `translate(${start.x}px, ${start.y}px)` }, { transform: `translate(${end.x}px, ${end.y}px)` }], { duration: 420, easing: "ease-in-out" });
         moved.onfinish = () => ghost.remove();
         moved.oncancel = () => ghost.remove();
+    }
+
+    /**
+     * Marks IMPs, lines and hosts by the names of their parts in the state.
+     *
+     * @param {Set<string>} names
+     */
+    mark(names) {
+        for (const element of [...this.imps.children, ...this.lines.children, ...this.hosts.children]) {
+            element.classList.toggle("marked", names.has(element.getAttribute("data-part") ?? ""));
+        }
     }
 
     /**

@@ -1,0 +1,164 @@
+/** Draws what is around the map and the script: the sentence of the step, the step buttons, and the tabs. */
+
+import { headComment } from "../script.js";
+import { quietSentence, sentenceOf } from "../sentences.js";
+import { answerTo } from "../walk.js";
+import { byId, h, say, sayWithCode, set } from "./dom.js";
+import { legendSign } from "./map.js";
+
+/** @typedef {import("../fold.js").History} History */
+/** @typedef {import("../stops.js").Stop} Stop */
+/** @typedef {import("../script.js").Note} Note */
+/** @typedef {import("../app.js").Example} Example */
+
+/**
+ * @typedef {object} Step where one is
+ * @property {History} history
+ * @property {Stop[]} stops
+ * @property {number} at how many stops are done
+ * @property {Note[]} notes
+ * @property {Note | null} asking the question that is asked in place of the next step
+ * @property {Set<Note>} asked
+ * @property {boolean} hidden whether what is to come is hidden
+ * @property {string} title
+ * @property {() => void} next shows what happens
+ */
+
+export const TABS = /** @type {[string, string][]} */ ([
+    ["script", "Script"],
+    ["waits", "Waits"],
+    ["distances", "Distances"],
+    ["inside", "Inside"],
+    ["hosts", "Hosts"],
+    ["printed", "Printed"],
+    ["compare", "Compare"],
+]);
+const LEGEND = [
+    ["data", "data"],
+    ["rfnm", "RFNM"],
+    ["dead", "Dead"],
+    ["ask", "question"],
+    ["routes", "distances"],
+    ["ack", "ack"],
+];
+const MOST_OF_INTRO = 320; // letters
+const MOST_OF_EVENT = 90;
+
+/**
+ * Fills the lists that stay as they are: lessons, tabs, legend.
+ *
+ * @param {Example[]} examples
+ * @param {(tab: string) => void} openTab
+ */
+export function fillLists(examples, openTab) {
+    const groups = [...new Set(examples.map((it) => it.group))];
+    const options = (/** @type {string} */ group) =>
+        examples.filter((it) => it.group === group).map((it) => h("option", { value: it.name }, it.title));
+    byId("lesson").replaceChildren(...groups.map((group) => h("optgroup", { label: group }, ...options(group))));
+    byId("tabs").replaceChildren(
+        ...TABS.map(([name, title]) => {
+            const more = { type: "button", role: "tab", "aria-controls": "pane", onclick: () => openTab(name) };
+            const badge = name === "waits" ? h("span", { class: "count", hidden: true }) : null;
+            return h("button", { ...more, id: `tab-${name}`, class: `${name}-tab` }, title, badge);
+        }),
+    );
+    const signs = LEGEND.map(([kind, words]) => h("span", {}, legendSign(kind), words));
+    byId("legend").replaceChildren(...signs, h("span", {}, "Tap a part to change it"));
+}
+
+/**
+ * Draws the sentence of the step, or the question in its place.
+ *
+ * @param {Step} step
+ */
+export function drawSentence(step) {
+    const { history, stops, at, asking, asked } = step;
+    const stop = at ? stops[at - 1] : null;
+    const sentence = byId("sentence");
+    const question = asking ?? [...asked].reverse().find((it) => stop && it.before === stop.event);
+    byId("question").hidden = !question;
+    if (question) drawQuestion(step, question);
+    if (!stop) {
+        say(byId("label"), step.title);
+        return sayWithCode(sentence, asking ? "" : introOf(history));
+    }
+    const event = history.replay.input.events[stop.event];
+    const words = event.words.join(" ").slice(0, MOST_OF_EVENT);
+    say(byId("label"), asking ? "Before the next step" : `${words}${roundsOf(stop)}`);
+    const text = asking ? "" : stop.main < 0 ? quietSentence(history, stop) : sentenceOf(history, stop.main);
+    const isCut = at === stops.length && !step.hidden && history.replay.cut !== "";
+    sayWithCode(sentence, isCut ? `${text} ${history.replay.cut}` : text);
+    sentence.classList.toggle("refused", text.startsWith("Refused"));
+}
+
+/**
+ * What an input says of itself, before its first step.
+ *
+ * @param {History} history
+ */
+function introOf(history) {
+    const { network, replay } = history;
+    const intro = headComment(replay.input);
+    if (!intro) return `${network.sites.length} IMPs, ${network.hosts.length} hosts. Go forward with → or ▶.`;
+    if (intro.length <= MOST_OF_INTRO) return intro;
+    const start = intro.slice(0, MOST_OF_INTRO);
+    return start.replace(/[^.]*$/, "") || start;
+}
+
+/** @param {Stop} stop */
+function roundsOf({ round, last }) {
+    if (!round) return "";
+    return ` · round ${round === last ? round : `${round} to ${last}`}`;
+}
+
+/**
+ * @param {Step} step
+ * @param {Note} question
+ */
+function drawQuestion({ stops, at, notes, asking, next }, question) {
+    const answer = asking ? null : answerTo(notes, stops, at, question);
+    byId("question").replaceChildren(
+        h("span", {}, question.text),
+        asking ? h("button", { type: "button", onclick: next }, "Show what happens") : "",
+        answer ? h("span", { class: "answer" }, answer.text) : "",
+    );
+}
+
+/**
+ * Draws the step buttons, the slider and the count.
+ *
+ * @param {Stop[]} stops
+ * @param {number} at how many stops are done
+ * @param {boolean} hidden whether what is to come is hidden
+ * @param {{undo: boolean, redo: boolean}} can
+ */
+export function drawFoot(stops, at, hidden, can) {
+    const slider = /** @type {HTMLInputElement} */ (byId("slider"));
+    const count = `step ${at}${hidden ? "" : ` of ${stops.length}`}`;
+    set(slider, { max: hidden ? Math.max(at, 1) : stops.length, "aria-valuetext": count });
+    slider.value = String(at);
+    say(byId("count"), count);
+    set(byId("first"), { disabled: at === 0 });
+    set(byId("last"), { disabled: hidden });
+    set(byId("hide"), { "aria-pressed": String(hidden) });
+    set(byId("undo"), { disabled: !can.undo });
+    set(byId("redo"), { disabled: !can.redo });
+}
+
+/**
+ * Marks the chosen tab, and says at the tab of what waits how much does.
+ *
+ * @param {string} chosen
+ * @param {number} waits
+ * @param {boolean} isBad whether anything waits for ever
+ */
+export function drawTabs(chosen, waits, isBad) {
+    for (const [name] of TABS) {
+        set(byId(`tab-${name}`), { "aria-selected": String(name === chosen), tabindex: name === chosen ? 0 : -1 });
+    }
+    const count = byId("tab-waits").querySelector(".count");
+    if (!(count instanceof HTMLElement)) return;
+    say(count, String(waits));
+    count.hidden = waits === 0;
+    count.classList.toggle("bad", isBad);
+}
