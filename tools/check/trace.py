@@ -15,6 +15,7 @@ Then rules are broken in turn, and some script has to tell: events left out of a
 and values left out of the texts of parts.
 """
 
+import importlib
 import json
 import os
 import random
@@ -29,7 +30,7 @@ import trace_rules
 import trace_subnet
 from dorydate.model.chance.questions import Questions
 from dorydate.model.topology import network_of, spelled as spelled_network
-from parts import ROOT, loaded
+from dorydate.parts import ROOT
 from dorydate.model.script import BadLine, network_is_good, opened, read_line
 from trace_rules import OfBoxes, Traced, all_parts, made_of, spelled, text, traced
 
@@ -183,7 +184,7 @@ LOADED = {}
 def loaded_once(name):
     """Another check, as a module."""
     if name not in LOADED:
-        LOADED[name] = loaded(f"tools/check/{name}.py")
+        LOADED[name] = importlib.import_module(f"dorydate.checks.{name}")
     return LOADED[name]
 
 

@@ -1,6 +1,6 @@
 """Which promise breaks without a rule: random schedules in the independent model that lacks it, and the shortest that breaks something.
 
-The program has all its rules. So this runs in the model in Python, a schedule a process of some milliseconds, and its book is held up to
+The program has all its rules. So this runs in the model in Python, a schedule a process of some milliseconds, and its book is checked against
 the model's audit.
 """
 

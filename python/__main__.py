@@ -1,0 +1,35 @@
+"""The commands of the repository that are written in Python: python3 python COMMAND [ARGUMENTS]. ./check, ./explain and others run it."""
+
+from __future__ import annotations
+
+import sys
+from importlib import import_module
+
+from dorydate import ending
+
+# each command, and the function that runs it
+COMMANDS = {
+    "cases": "dorydate.checks.cases:run",
+    "check": "dorydate.commands:check",
+    "explain": "dorydate.explain.command:main",
+    "explore": "dorydate.explore.command:main",
+    "export": "dorydate.export.command:main",
+    "keep-unproved": "dorydate.builds.keeping:main",
+    "keep-wasm": "dorydate.builds.pages:main",
+    "measure": "dorydate.commands:measure",
+    "optimised": "dorydate.builds.optimised:main",
+}
+
+
+def main() -> int:
+    if sys.argv[1:2] == [] or sys.argv[1] not in COMMANDS:
+        print(f"usage: python3 python COMMAND [ARGUMENTS]; the commands are {', '.join(COMMANDS)}", file=sys.stderr)
+        return 1
+    name = sys.argv.pop(1)
+    module, function = COMMANDS[name].split(":")
+    sys.argv[0] = name
+    return ending.run(name, getattr(import_module(module), function))
+
+
+if __name__ == "__main__":
+    sys.exit(main())

@@ -1,0 +1,276 @@
+"""The program's --audit and --log against a second reading of logs and of the promise (a minute for 500 books): ./check audit [COUNT]
+
+Tries what the program says of logs and prints as logs, against an independent reader and judge in Python (python/dorydate/model/log.py).
+
+- Logs that were written by hand (dorydate.checks.log_rows), each with its verdict or the number of its bad line, and those of docs/audit.md.
+  Readings of these rules that are wrong in one place have to be told from the right one by these.
+- Each prefix of a short log, and the same log with each octet changed to 00, 7F and FF; logs of as many octets as may be read, and of
+  one more.
+- What `--log` prints of each example and each stored input is the log that the model makes of it, and `--audit` says `kept`.
+- The books that break where a rule is lacking, in the folder `without`: the part that each file names is told.
+- Random books (python/dorydate/model/chance/books.py): COUNT of worlds that the model runs, every other one broken on purpose in one place,
+  and as many small ones of few hosts and sockets. Of each tenth world the program's own log is compared too.
+
+It takes the proved program, or where ./build has not made that the one that was built without proofs.
+"""
+
+import glob
+import multiprocessing
+import os
+import subprocess
+import sys
+from collections import Counter
+from concurrent.futures import ProcessPoolExecutor, ThreadPoolExecutor
+
+from dorydate.checks import log_rows
+from dorydate.model.audit import PARTS
+from dorydate.model.chance.books import WAYS, of_world, small
+from dorydate.checks.cases import cases_below
+from dorydate.model.log import book_of, ended, ends_audit, ends_log, read_log, says, spelled_log
+from dorydate.model.topology import network_of, spelled_input
+from dorydate.checks import headline
+from dorydate.parts import ROOT, any_program
+
+COUNT = 10_000
+LOGGED = 10  # of so many worlds one is logged by the program too
+CORES = os.cpu_count() or 1
+
+# readings of the rules that are wrong in one place: what is read otherwise, as the text of python/dorydate/model/log.py and what takes its place
+WRONG_READINGS = [
+    ("lines may stand behind the end", "if lines[number:] or rest:", "if False:"),
+    ("the end needs no line feed", '*lines, rest = octets.decode("latin-1").split("\\n")', 'lines, rest = octets.decode("latin-1").splitlines(), ""'),
+    ("no end is needed", "    raise BadLog(len(lines) + 1)", "    return book"),
+    ("a missing end is told of the last line", "    raise BadLog(len(lines) + 1)", "    raise BadLog(len(lines))"),
+    ("lines stand in any order", "if kind < part:", "if False:"),
+    ("a text has any length", "if len(text) <= MOST_TEXT:", "if True:"),
+    ("a socket has any size", "read_number(words[2]), read_number(words[5])", "int(words[2]), int(words[5])"),
+    ("a stamp has any size", "read_number(word, 64)", "int(word)"),
+    ("a stamp has 32 bits", "read_number(word, 64)", "read_number(word)"),
+    ("an amount has any size", "read_number(word, 128)", "int(word)"),
+    ("an amount has 64 bits", "read_number(word, 128)", "read_number(word, 64)"),
+    ("the kind is not looked at", 'if life.receives() != (kind == "receive"):', "if False:"),
+    ("lists may be fewer", "if len(lives) > len(handed):", "if False:"),
+    ("lists may be more", " if len(handed) > len(lives) else None", " if False else None"),
+    ("a life too many is told of its list", "        return len(handed) + 1", "        return len(lives) + len(handed)"),
+    ("the line of a life is that of its number", "lines(len(log) + place for place", "lines(place for place"),
+    ("a break is told of the crossing before it", "for count in range(1, len(entries) + 1) if not are_kept(entries[:count])", "for count in range(len(entries)) if not are_kept(entries[: count + 1])"),
+    ("the last life is told that is malformed", "enumerate(lives, 1)", "[*enumerate(lives, 1)][::-1]"),
+    ("of two lives the first that is at odds with a later one is told", "second = first_break(lives, lambda lives: partners_are_kept(log, lives))", "second = len(lives) + 1 - first_break(lives[::-1], lambda lives: partners_are_kept(log, lives))"),
+    ("two lives are told the wrong way round", "return first(lives, lambda life: not partners_are_kept(log, [life, lives[second - 1]])), second", "return second, first(lives, lambda life: not partners_are_kept(log, [life, lives[second - 1]]))"),
+    ("the first of two lives is the first of all", "return first(lives, lambda life: not partners_are_kept(log, [life, lives[second - 1]])), second", "return 1, second"),
+    ("the match is not told", "return place, *matching[:1]", "return (place,)"),
+    ("the match is told first", "return place, *matching[:1]", "return *matching[:1], place"),
+    ("what is wrong with a stream is told of its sender too", "return not life.handed.startswith(life.bits)", "return True"),
+    ("what is not granted is told of the sender too", "if life.receives() else []\n    return not all", "if life.receives() else []\n    return not life.receives() or not all"),
+]
+
+
+# ---- the program
+
+
+def run(octets, *options):
+    """How the program ends: its status, its output and its words."""
+    ran = subprocess.run([PROGRAM, *options], input=octets, capture_output=True, timeout=600)
+    return ran.returncode, ran.stdout.decode("latin-1"), ran.stderr.decode("latin-1")
+
+
+def compared(what, octets, owed):
+    """What is wrong with the audit of a log, None where nothing is."""
+    if (found := run(octets, "--audit")) != owed:
+        return f"{what}: found {found}, wanted {owed}, of {octets[-1000:]}"
+    return None
+
+
+# ---- logs by hand
+
+
+def unnoticed():
+    """The wrong readings that judge each log by hand as it should be judged."""
+    with open(f"{ROOT}/python/dorydate/model/log.py", encoding="utf-8") as file:
+        source = file.read()
+    for name, text, other in WRONG_READINGS:
+        if source.count(text) != 1:
+            yield f"{name} (the text is there {source.count(text)} times)"
+            continue
+        names = {}
+        exec(source.replace(text, other), names)
+        if all(judged(names["says"], octets) == wanted for octets, wanted in log_rows.rows()):
+            yield name
+
+
+def judged(wrong_audit, octets):
+    """What a wrong reading says of a log, if it comes to say anything."""
+    try:
+        return wrong_audit(octets)
+    except (IndexError, StopIteration) as fault:
+        return fault
+
+
+def said(owed):
+    """What is printed about a log, without the line."""
+    return owed[1].split(" line")[0].strip() or "bad log line"
+
+
+def octets_around(octets):
+    """Each prefix of a log, and the log with each octet changed."""
+    yield from (octets[:length] for length in range(len(octets)))
+    for place in range(len(octets)):
+        yield from (octets[:place] + value + octets[place + 1 :] for value in (b"\0", b"\x7f", b"\xff"))
+
+
+def check_logs():
+    """What is wrong with logs by hand, and with prefixes and changed octets of one."""
+    wrong = [f"no log by hand tells this wrong reading: {it}" for it in unnoticed()]
+    by_hand = [(octets, wanted, says(octets)) for octets, wanted in log_rows.rows()]
+    of_page = [(octets, ended(wanted), ends_audit(octets)) for octets, wanted in log_rows.rows_of_page()]
+    wrong += [f"the reader in Python says {found}, and {wanted} is wanted, of {octets[-400:]}" for octets, wanted, found in [*by_hand, *of_page] if found != wanted]
+    rows = [*((octets, ended(wanted)) for octets, wanted, _ in by_hand), *((octets, owed) for octets, owed, _ in of_page)]
+    around = [(it, ends_audit(it)) for it in octets_around(log_rows.SHORT.encode())]
+    with ThreadPoolExecutor(CORES) as threads:
+        found = threads.map(lambda row: compared("a log by hand", *row), [*rows, *around])
+        wrong += filter(None, found)
+    ends = Counter(said(owed) for _, owed in rows)
+    print(f"check audit: {len(rows)} logs by hand ({listed(ends)}), by {len(WRONG_READINGS)} wrong readings of the rules not all judged rightly; {len(around)} logs around one")
+    return wrong
+
+
+def check_options():
+    """What is wrong with options: neither of the two goes with another one, or twice."""
+    octets = log_rows.SHORT.encode()
+    options = [[one, other] for one in ("--log", "--audit") for other in ("--log", "--audit", "--book", "--check", "--texts")]
+    options += [[*words[::-1]] for words in options if words[::-1] not in options]
+    wrong = [f"{words}: {run(octets, *words)}" for words in options if run(octets, *words) != (1, "", "arpasim: bad arguments\n")]
+    print(f"check audit: {len(options)} pairs of options that don't go together")
+    return wrong
+
+
+# ---- logs of inputs
+
+
+def owed_log(octets):
+    """How `--log` has to end on an input: as without it, where that ends in a fault, and else with the model's log."""
+    without = run(octets)
+    if without[0]:
+        return without
+    lines = octets.decode("latin-1").split("\n")
+    marker = lines.index("%")
+    return ends_log(network_of("\n".join(lines[:marker])), lines[marker + 1 :])
+
+
+def logged(case):
+    """What is wrong with the log of a stored input, None where nothing is, and how `--log` ended."""
+    status, log, words = found = run(case.octets, "--log")
+    owed = owed_log(case.octets)
+    if found != owed:
+        return f"{case.name}: --log ends with {status} {words}and {different_line(log, owed[1])}", status
+    if status == 0:
+        book = read_log(log.encode("latin-1"))
+        if spelled_log(book) != log.encode("latin-1"):
+            return f"{case.name}: its log is not read as it was printed", status
+        return compared(case.name, log.encode("latin-1"), (0, "kept\n", "")), status
+    return None, status
+
+
+def different_line(found, owed):
+    """Where two outputs differ."""
+    found, owed = found.split("\n"), owed.split("\n")
+    at = next((at for at, pair in enumerate(zip(found, owed)) if pair[0] != pair[1]), min(len(found), len(owed)))
+    return f"prints {found[at : at + 1]} as line {at + 1}, for {owed[at : at + 1]}"
+
+
+def check_long():
+    """What is wrong with logs of so many octets as are read, and of one more. The first line of each is bad."""
+    rows = [(b"x" * 33_554_432, (2, "", "arpasim: bad log line 1\n")), (b"x" * 33_554_433, (2, "", "arpasim: log too long\n"))]
+    found = [(len(octets), owed, run(octets, "--audit"), ends_audit(octets)) for octets, owed in rows]
+    print("check audit: a log of 33,554,432 octets, and one of 33,554,433")
+    return [f"a log of {count} octets: found {ended}, in Python {in_python}, wanted {owed}" for count, owed, ended, in_python in found if not ended == in_python == owed]
+
+
+def check_stored():
+    """What is wrong with the stored logs and inputs of the folder `logs`."""
+    cases = [*cases_below(f"{ROOT}/logs")]
+    found = [(case, run(case.octets, *case.args.decode().split())) for case in cases]
+    print(f"check audit: {len(cases)} stored in the folder `logs`")
+    return [f"{case.name}: {ended}" for case, ended in found if ended != (case.status, case.printed.decode(), case.words)]
+
+
+def check_inputs():
+    cases = [case for folder in ("examples", "cases") for case in cases_below(f"{ROOT}/{folder}")]
+    with ThreadPoolExecutor(CORES) as threads:
+        found = [*threads.map(logged, cases)]
+    print(f"check audit: {len(cases)} examples and stored inputs, of which {sum(status == 0 for _, status in found)} have a log")
+    return [fault for fault, _ in found if fault]
+
+
+def check_without():
+    """What is wrong with the verdicts on the books that break where a rule is lacking."""
+    wrong, seen = [], Counter()
+    for path in sorted(glob.glob(f"{ROOT}/without/*")):
+        lesson = headline.Lesson(path)
+        octets = spelled_log(book_of(lesson.network, lesson.run(lesson.rule, lesson.script)))
+        owed = ends_audit(octets)
+        if said(owed) != (f"broken {lesson.breaks}" if lesson.breaks in PARTS else "kept"):
+            wrong.append(f"{path}: it breaks {lesson.breaks}, and the audit in Python says {owed[1]}")
+        seen[said(owed)] += 1
+        wrong.append(compared(path, octets, owed))
+    print(f"check audit: the books of {sum(seen.values())} files of `without`: {listed(seen)}")
+    return [*filter(None, wrong)]
+
+
+# ---- random books
+
+
+def tried(seed):
+    """A book of a world and a small one: what they came to, and what is wrong."""
+    way, book, network, script = of_world(seed)
+    seen, wrong = Counter(), []
+    for kind, book in ("world", book), ("small", small(seed)):
+        octets = spelled_log(book)
+        owed = ends_audit(octets)
+        seen[f"{kind}: {said(owed)}"] += 1
+        seen.update({f"{kind} crossings": len(book.log), f"{kind} lives": len(book.lives)})
+        wrong.append(compared(f"the {kind} book {seed}, {way}", octets, owed))
+        if (way in WAYS) == (owed[1] == "kept\n") and kind == "world":
+            wrong.append(f"the {kind} book {seed}, {way}: {owed}")
+    seen[f"broken: {way}" if way in WAYS else f"made: {way}"] += 1
+    if seed % LOGGED == 0:
+        seen["logged"] += 1
+        wrong.append(log_of_world(seed, network, script))
+    return seen, [*filter(None, wrong)]
+
+
+def log_of_world(seed, network, script):
+    """What is wrong with the program's log of a script, None where nothing is."""
+    owed = 0, spelled_log(book_of(network, script.world)).decode("latin-1"), ""
+    found = run(spelled_input(network, script.lines), "--log")
+    return f"the log of world {seed}: {different_line(found[1], owed[1])}" if found != owed else None
+
+
+def check_chance(count):
+    seen, wrong = Counter(), []
+    with ProcessPoolExecutor(CORES, multiprocessing.get_context("fork")) as processes:
+        for found, faults in processes.map(tried, range(count), chunksize=8):
+            seen += found
+            wrong += faults
+    for kind, made in ("world", "of worlds"), ("small", "small ones"):
+        print(f"check audit: {count} books {made}, of {seen[f'{kind} crossings']} crossings and {seen[f'{kind} lives']} lives: {listed(seen, f'{kind}: ')}")
+    print(f"check audit: of those of worlds {listed(seen, 'made: ')}, and the others are broken in one place: {listed(seen, 'broken: ')}")
+    print(f"check audit: the program's own logs of {seen['logged']} of these worlds are the model's")
+    return wrong
+
+
+def listed(seen, start=""):
+    return ", ".join(f"{count} {name.removeprefix(start)}" for name, count in sorted(seen.items()) if name.startswith(start))
+
+
+def main():
+    global PROGRAM  # the processes that try books have it from here
+    count = int(sys.argv[1]) if len(sys.argv) > 1 else COUNT
+    PROGRAM = any_program()
+    if PROGRAM is None:
+        print("check audit: there is no program of these sources")
+        return 1
+    wrong = [*check_logs(), *check_long(), *check_stored(), *check_options(), *check_inputs(), *check_without(), *check_chance(count)]
+    print(*wrong[:10], sep="\n", end="\n" if wrong else "")
+    print(f"check audit: {len(wrong)} wrong" if wrong else "check audit: the program says what it should of each log, and prints the logs that it should")
+    return 1 if wrong else 0

@@ -1,0 +1,427 @@
+"""A host's program against the independent model in Python, on random calls (minutes): ./check hosts [RUNS | FOLDER]
+
+Compares hosts' programs with an independent model of their rules, on random calls.
+
+The proofs say that `Ncp` does what its definitions say. Whether the definitions say what docs/hosts.md says is for readers
+to judge; this script tries it as well. python/dorydate/model/host.py was written from those rules, in another language and another
+form, with messages and commands spelled from the formats. Both run every call, and what it answers, what it tells and what
+goes out next have to be the same. The same calls are made each time. In half of the runs one to three hosts exchange what
+they send, over boxes that may lose it; in the others one host gets what a peer of any kind may send. Besides, every command
+is cut at every length, and each octet of it is changed.
+
+The calls are made by tools/calls, built without proofs (dorydate.builds.drivers): ./check hosts [RUNS]
+A folder of calls with what they owe can be tried too: ./check hosts FOLDER
+"""
+
+import os
+import random
+import shutil
+import sys
+import tempfile
+from collections import Counter
+
+
+from dorydate.builds.drivers import run_cases, write_case
+from dorydate.model.host import GONE, READY, Host, Refused, bits_of, control_message, header, number, spell_bits
+from dorydate.model.imp import spell_flow, spell_host
+
+RUNS = 250
+CALLS = 400
+
+HOSTS = [(0, 1), (0, 2), (1, 2), (3, 63)]
+RECEIVERS = [16, 18, 20, 4294967294]
+SENDERS = [33, 35, 1, 4294967295]
+SIZES = [8, 8, 8, 1, 7, 32, 255]
+LINKS = [2, 2, 3, 4, 5, 31, 1, 32, 255]
+OPENED = [(16, 33), (18, 35)]
+
+
+# ---- calls, on the independent model and for the driver
+
+
+def spell_part(part):
+    match part:
+        case (kind, flow):
+            return f"{kind} {spell_flow(flow)}"
+        case (kind, flow, text):
+            return f"{kind} {spell_flow(flow)} {spell_bits(text)}"
+        case str():
+            return spell_bits(part)
+    return str(part)
+
+
+def spell_call(name, parts):
+    match name:
+        case "accept":
+            inbound, stamp = parts
+            return f"accept {stamp} {spell_part(inbound)}"
+        case "contact" | "echo" | "open_send" | "open_receive":
+            peer, *rest = parts
+            return " ".join([name, spell_host(peer), *map(str, rest)])
+    return " ".join([name, *map(spell_part, parts)])
+
+
+def spell_next(host):
+    found = host.next_out()
+    return f"next {spell_flow((found[0]))} {spell_bits(found[1])}" if found else "next nothing"
+
+
+class Calls:
+    """Hosts, the calls on them and what these owe."""
+
+    def __init__(self, names):
+        self.hosts = [Host(name) for name in names]
+        self.lines = [" ".join(map(spell_host, names))]
+        self.owed = []
+        self.stamp = 0
+        self.seen = Counter()
+
+    def call(self, place, name, *parts, asked=False):
+        host = self.hosts[place]
+        self.lines.append(f"{place} {'ask ' if asked else ''}{spell_call(name, parts)}")
+        try:
+            notices = getattr(host, name)(*parts)
+            self.seen[f"{name}: done"] += 1
+            self.seen.update(f"told: {notice.split()[0]}" for notice in notices)
+            answer = ";".join(["ok", *notices])
+        except Refused as refused:
+            self.seen[f"{name}: refused {refused}"] += 1
+            answer = f"refused {refused}"
+        self.owed.append(f"{answer} {spell_next(host)}")
+
+    def stamped(self, place, name, *parts):
+        """A call that takes its place in the log."""
+        self.stamp += 1
+        self.call(place, name, *parts, self.stamp)
+
+
+# ---- hosts that exchange what they send
+
+
+class Chance(Calls):
+    """Random calls on hosts, and boxes between them."""
+
+    def __init__(self, seed):
+        self.random = random.Random(seed)
+        self.single = self.random.random() < 0.5
+        names = self.random.sample(HOSTS, 1 if self.single else self.random.choice([1, 2, 2, 2, 3]))
+        super().__init__(names)
+        self.names = names
+        self.peers = (self.random.sample(HOSTS, 2) if self.single else names * 8 + [self.random.choice(HOSTS)])
+        self.messages = []
+        self.answers = []
+        # runs differ: some lose much, some reset much, some ask for wrong things, some use up the links
+        self.receivers = RECEIVERS + [*range(100, 180, 2)] * (self.random.random() < 0.1)
+        self.losses = self.random.choice([0, 0, 0.01, 0.1])
+        self.contacts = self.random.choice([0.003, 0.01, 0.1])
+        self.wrong = self.random.choice([0.03, 0.2])
+        self.users = self.random.choice([0.1, 0.3, 0.5])
+        self.strangers = 0.4 if self.single else self.random.choice([0, 0, 0.03])
+
+    def one(self, *choices):
+        return self.random.choice(choices)
+
+    def peer(self):
+        return self.random.choice(self.peers)
+
+    def text(self, size):
+        count = self.one(0, 1, 2, 5, 13, 100, 1003, self.random.randrange(40))
+        return "".join(self.random.choices("01", k=min(size * count, 9000) + (self.random.random() < self.wrong)))
+
+    def socket(self, place, sends):
+        """Mostly a socket that this host uses."""
+        ends = [end for pair in self.hosts[place].pairs.values() for end in pair.ends if end.mine]
+        used = [end.own for end in ends if end.own % 2 == sends]
+        if used and self.random.random() > self.wrong:
+            return self.random.choice(used)
+        return self.random.choice(SENDERS if sends != (self.random.random() < self.wrong) else RECEIVERS)
+
+    def user_call(self, place):
+        """A call of the user, with its arguments."""
+        host = self.hosts[place]
+        ready = any(pair.phase == READY for pair in host.pairs.values())
+        if self.random.random() < (self.contacts if ready else 0.4):
+            return "contact", self.peer()
+        sends = self.random.random() < 0.5
+        opened = any(end.is_open() for pair in host.pairs.values() for end in pair.ends)
+        match self.random.choices(
+            ["listen", "open", "send", "grant", "ask_back", "interrupt", "close", "echo"],
+            [3, 12, 24, 24, 6, 4, 4, 1] if opened else [8, 16, 1, 1, 1, 1, 2, 1],
+        )[0]:
+            case "listen":
+                size = 0 if self.random.random() < self.wrong else self.random.choice(SIZES)
+                return "listen", self.random.choice(SENDERS if sends else self.receivers), size
+            case "open":
+                return self.open_call(place, sends)
+            case "send":
+                own = self.socket(place, 1)
+                found = host.mine(own)
+                return "send", own, self.text(found[2].size if found and found[2].size else 8)
+            case "grant":
+                few, much = self.random.random() < 0.9, self.one(8, 64, 100, 500, 8000)
+                messages, bits = (self.one(1, 2, 2, 3), much) if few else (self.one(0, 65534), self.one(0, 4294967294))
+                return "grant", self.socket(place, 0), messages, bits
+            case "ask_back":
+                fractions = 0, 1, 64, 127, 128, 129, 255
+                return "ask_back", self.socket(place, 0), self.one(*fractions), self.one(*fractions)
+            case "interrupt":
+                return "interrupt", self.socket(place, sends)
+            case "close":
+                return "close", self.socket(place, sends)
+        return "echo", self.peer(), self.random.randrange(256)
+
+    def open_call(self, place, sends):
+        """A call that opens an end: as a rule one that another host waits for, or hears of."""
+        own, foreign = (SENDERS, self.receivers) if sends else (self.receivers, SENDERS)
+        if self.random.random() < self.wrong:
+            chosen = self.peer(), self.random.choice(own + foreign), self.random.choice(own + foreign)
+        else:
+            chosen = self.random.choice(self.waited_for(place, sends) or [(self.peer(), self.random.choice(own), foreign[0])])
+        size = 0 if self.random.random() < self.wrong else self.random.choice(SIZES)
+        return ("open_send", *chosen, size) if sends else ("open_receive", *chosen)
+
+    def waited_for(self, place, sends):
+        """What an end here could be opened with: ends at other hosts that have no partner, and sockets that listen."""
+        own, found = self.names[place], []
+        for host in self.hosts:
+            ends = host.pairs[own].ends if own in host.pairs else []
+            found += [(host.own, end.foreign, end.own) for end in ends if end.receives() == sends and not end.asked]
+            sockets = SENDERS[:2] if sends else self.receivers
+            found += [(host.own, self.random.choice(sockets), it) for it in host.listening if it % 2 != sends]
+        return found
+
+    # what is between the hosts
+
+    def offer(self):
+        place = self.random.choice([at for at, host in enumerate(self.hosts) if host.next_out()])
+        if self.random.random() < 0.02:
+            place = self.random.randrange(len(self.hosts))
+        found = self.hosts[place].next_out()
+        if found:
+            self.messages.append((found[0], found[1]))
+        self.stamped(place, "offered")
+
+    def take(self):
+        """A message comes to its host, or gets lost."""
+        flow, text = self.messages.pop(self.random.randrange(len(self.messages)))
+        lost = self.random.random() < self.losses
+        if flow[1] in self.names and not (lost and self.random.random() < 0.7):
+            self.stamped(self.names.index(flow[1]), "accept", ("message", flow, text))
+        elif not lost and not self.single:
+            lost = True
+        self.answers.append((self.one("incomplete", "dead", "nottaken") if lost else "rfnm", flow))
+
+    def answer(self):
+        kind, flow = self.answers.pop(self.random.randrange(len(self.answers)))
+        self.stamped(self.names.index(flow[0]), "accept", (kind, flow))
+
+    def stray(self, place):
+        """What isn't for this host, or answers nothing, as a rule."""
+        flow = self.random.choice(HOSTS), self.random.choice(HOSTS), self.one(0, 2, 5, 255)
+        if self.random.random() < 0.3:
+            self.stamped(place, "accept", ("message", flow, control_message([bytes([12])])))
+        else:
+            self.stamped(place, "accept", (self.one("rfnm", "incomplete", "dead", "nottaken"), flow))
+
+    # what a stranger sends
+
+    def command(self, place, peer):
+        """A command that means something to this host, as a rule."""
+        pair = self.hosts[place].pair(peer)
+        ends = [end for end in pair.ends if self.random.random() > self.wrong]
+        links = [end.link for end in ends if end.link] or LINKS
+        link = bytes([self.random.choice(links if self.random.random() > self.wrong else LINKS)])
+        listening = [*self.hosts[place].listening]
+        own = self.random.choice([end.own for end in ends] + listening + SENDERS[:2] + self.receivers[:2])
+        foreign = next((end.foreign for end in ends if end.own == own), 16 if own % 2 else 33)
+        if self.random.random() < self.wrong / 2:
+            foreign = self.random.choice(RECEIVERS + SENDERS)
+        sockets = number(foreign, 4) + number(own, 4)
+        code = self.random.choices(range(15), [1, 12, 12, 6, 10, 3, 3, 2, 2, 2, 1, 1, 0.4, 1.5, 0.4])[0]
+        if code in (1, 2) and self.random.random() > self.wrong:
+            code = 1 if own % 2 else 2
+        counts = number(self.one(0, 1, 2, 3, 3, 65535), 2) + number(self.one(0, 8, 100, 999, 4000, 4294967295), 4)
+        fields = {
+            1: sockets + bytes([self.one(*LINKS)]),
+            2: sockets + bytes([self.one(0, *SIZES) if self.random.random() < self.wrong else self.one(*SIZES)]),
+            3: sockets,
+            4: link + counts,
+            5: link + bytes([self.one(0, 64, 128, 255), self.one(0, 1, 128, 200)]),
+            6: link + counts,
+            7: link,
+            8: link,
+            9: b"A",
+            10: b"B",
+            11: bytes([self.one(0, 3, 255)]) + bytes(10),
+        }
+        return bytes([code]) + fields.get(code, b"")
+
+    def strange_message(self, place):
+        """A message that a peer of any kind may send."""
+        peer = self.peer()
+        pair = self.hosts[place].pair(peer)
+        if self.random.random() < 0.25:
+            found = [end for end in pair.ends if end.receives() and end.link] if self.random.random() > self.wrong else []
+            end = self.random.choice(found) if found else None
+            size, count = (end.size or 8 if end else self.random.choice(SIZES)), self.one(0, 1, 2, 12)
+            text = header(size, count) + "".join(self.random.choices("01", k=size * count + self.one(0, 0, 3)))
+            link = end.link if end else self.one(*LINKS)
+        elif pair.phase == GONE and self.random.random() < 0.4 or pair.phase != READY and self.random.random() < 0.6:
+            link, text = 0, control_message([bytes([self.one(12, 13)])])
+        else:
+            commands = [self.command(place, peer) for _ in range(self.one(1, 1, 1, 2, 3, 14))]
+            link, text = 0, control_message(commands)
+        if self.random.random() < self.wrong:
+            text = self.spoiled(text)
+        self.stamped(place, "accept", ("message", (peer, self.names[place], link), text[:8063]))
+
+    def spoiled(self, text):
+        """A text that was cut, or of which an octet was changed."""
+        if self.random.random() < 0.4:
+            return text[: self.random.randrange(len(text) + 1)]
+        at = self.random.randrange(len(text) // 8)
+        return text[: 8 * at] + bits_of(bytes([self.one(0x00, 0x7F, 0xFF, self.random.randrange(256))])) + text[8 * at + 8 :]
+
+    def something(self):
+        place = self.random.randrange(len(self.hosts))
+        chance = self.random.random()
+        if chance < self.strangers:
+            return self.strange_message(place)
+        if chance < self.strangers + 0.01:
+            return self.stray(place)
+        ways = [self.answer] * bool(self.answers) + [self.take] * bool(self.messages)
+        ways += [self.offer] * any(host.next_out() for host in self.hosts)
+        if not ways or self.random.random() < self.users:
+            return self.call(place, *self.user_call(place), asked=self.random.random() < 0.3)
+        return self.random.choice(ways)()
+
+    def run(self):
+        while len(self.owed) < CALLS:
+            self.something()
+        return self
+
+
+# ---- every command cut at every length, and with each octet changed
+
+
+class Worked(Calls):
+    """Hosts of one name, each opened with a peer, and sending on link 5 to it and receiving on link 2 from it."""
+
+    OWN, PEER = (0, 1), (0, 2)
+
+    def __init__(self, link, texts):
+        super().__init__([self.OWN] * len(texts))
+        for place, text in enumerate(texts):
+            self.open(place)
+            self.stamped(place, "accept", ("message", (self.PEER, self.OWN, link), text))
+            for _ in range(2):
+                self.goes(place)
+
+    def comes(self, place, *commands):
+        message = control_message(map(bytes.fromhex, commands))
+        self.stamped(place, "accept", ("message", (self.PEER, self.OWN, 0), message))
+
+    def goes(self, place):
+        self.stamped(place, "offered")
+        self.stamped(place, "accept", ("rfnm", (self.OWN, self.PEER, 0)))
+
+    def open(self, place):
+        self.comes(place, "0C")
+        self.goes(place)
+        self.call(place, "open_send", self.PEER, 33, 16, 8)
+        self.call(place, "open_receive", self.PEER, 18, 35)
+        self.goes(place)
+        self.comes(place, "01 00000010 00000021 05", "02 00000023 00000012 08", "04 05 0003 00000064")
+        self.call(place, "send", 33, bits_of(bytes(range(1, 14))))
+        self.call(place, "grant", 18, 3, 100)
+        self.goes(place)
+
+
+class AllLinks(Worked):
+    """A host that uses up the links of its receiving ends."""
+
+    def __init__(self):
+        Calls.__init__(self, [self.OWN])
+        self.comes(0, "0C")
+        self.goes(0)
+        for own in range(100, 164, 2):
+            self.call(0, "open_receive", self.PEER, own, 33)
+        self.call(0, "listen", 200, 8)
+        for _ in range(3):
+            self.comes(0, "02 00000021 000000C8 08")
+            for _ in range(4):
+                self.goes(0)
+            self.call(0, "close", 110)
+            self.comes(0, "03 00000021 0000006E", "03 00000021 000000C8")
+
+
+WORKED = [
+    "00",
+    "01 00000014 00000025 06",
+    "02 00000025 00000014 08",
+    "03 00000010 00000021",
+    "03 00000023 00000012",
+    "04 05 0002 00000064",
+    "05 05 40 C8",
+    "06 02 0001 00000010",
+    "07 05",
+    "08 02",
+    "09 41",
+    "0A 41",
+    "0B 01 0E070000000000000000",
+    "0C",
+    "0D",
+    "0E 07",
+    "01 000000",
+]
+
+
+def changed(text, step=8):
+    """The text cut at every length, and with each octet changed."""
+    cut = [text[:length] for length in range(0, len(text) + 1, step)]
+    octets = [(at, bits_of(octet)) for at in range(0, len(text), 8) for octet in (b"\x00", b"\x7f", b"\xff")]
+    return cut + [text[:at] + octet + text[at + 8 :] for at, octet in octets]
+
+
+def worked_runs():
+    """What is made of each command with an ECO after it, of data, and of control texts of every length."""
+    yield Worked(0, changed(control_message([bytes([0])]), 1))
+    for name in WORKED:
+        yield Worked(0, changed(control_message([bytes.fromhex(name), bytes.fromhex("09 42")])))
+    yield Worked(2, changed(header(8, 4) + bits_of(b"DATA")))
+    yield AllLinks()
+    yield Worked(0, [header(8, length) + bits_of(bytes([9, 65] * 62)[:length]) for length in range(125)])
+
+
+# ---- the runs
+
+
+def with_runs(folder, runs):
+    """Puts the calls of each run into a folder, and what is owed for them. Counts the calls by what they came to."""
+    seen = Counter()
+    made = [(f"{run:05}", Chance(run).run()) for run in range(runs)]
+    made += [(f"worked{at:02}", worked) for at, worked in enumerate(worked_runs())]
+    for name, calls in made:
+        write_case(folder, name, calls.lines, calls.owed)
+        seen += calls.seen
+        seen["calls"] += len(calls.owed)
+    return seen
+
+
+def main():
+    word = sys.argv[1] if len(sys.argv) > 1 else str(RUNS)
+    with tempfile.TemporaryDirectory() as folder:
+        if os.path.isdir(word):
+            shutil.copytree(word, f"{folder}/cases")
+            seen = Counter(calls=sum(not name.endswith(".stdout") for name in os.listdir(word)))
+        else:
+            seen = with_runs(folder, int(word))
+        said = run_cases("hosts", folder)
+    if said is not None:
+        print(said)
+        print("check hosts: a run came to something else than the rules say (the runs are made again by their number)")
+        return 1
+    print(f"check hosts: {seen.pop('calls')} calls agree")
+    for name, count in sorted(seen.items()):
+        print(f"  {name}: {count}")
+    return 0

@@ -1,0 +1,287 @@
+"""The program against the independent model in Python, on random inputs (two minutes).
+
+Compares the program with an independent model of its rules, on random inputs.
+
+The proofs say that the program does what the definitions say. Whether the definitions say what docs/program.md and
+docs/mailboxes.md say is for readers to judge; this script tries it as well. python/dorydate/model/script.py, and what it uses,
+was written from those rules, in another language and another form. Both run every input, and status, output and standard
+error have to be the same. The same inputs are made each time. TOML itself is not tried: documents are written in its
+plainest spelling.
+
+Networks with host programs are tried as far as the program runs them, which it is asked first: their scripts are made event by
+event, by looking at what the model has come to (python/dorydate/model/chance/worlds.py), and it is counted what they came to. So are scripts of raw
+networks in which IMPs ask what became of their messages (python/dorydate/model/chance/questions.py). Of these the log is compared too, since two answers
+are printed alike. `./check model asking RUNS` tries this many of these alone.
+
+It takes the proved program, or where ./build has not made that the one that was built without proofs. With `--try`, and perhaps the folder of another clone of the repository, it
+takes the program that `rt try` builds without proofs, and fewer inputs, since that one is slow.
+"""
+
+import os
+import random
+import re
+import subprocess
+import sys
+import tempfile
+from collections import Counter
+from concurrent.futures import ThreadPoolExecutor
+
+
+from dorydate.model.chance.questions import Counting, Questions
+from dorydate.model.log import ends_log
+from dorydate.model.topology import spelled_input
+from dorydate.parts import ROOT, any_program
+from dorydate.model.script import expected
+from dorydate.model.chance.worlds import reached
+from dorydate.model.chance.worlds import some_script as some_script_of_world
+
+INPUTS = 3000
+WORLDS = 1500
+ASKING = 500
+
+# ---- random inputs
+
+
+def some_network(chance):
+    """A network; up to one in three breaks a rule or cannot be run."""
+    numbers = chance.sample(range(1, 64), chance.choice([1, 2, 2, 3, 3, 7]))
+    imps = [(number, chance.choice([0, 1, 1, 2, 4])) for number in numbers]
+    # a star, or a row that may be a ring
+    lines = [(number, numbers[0]) for number in numbers[1:6]]
+    if chance.random() < 0.4:
+        lines = [*zip(numbers, numbers[1:] + numbers[: chance.choice([0, 1])])]
+        lines = lines[: len(lines) - (len(numbers) < 3)] if len(lines) == len(numbers) else lines
+    carrier, raw = chance.choice(["plain", "plain", "subnet"]), True
+    match chance.randrange(44):
+        case 0:
+            carrier = "boxes"
+        case 1:
+            raw = False
+        case 2:
+            imps = []
+        case 3:
+            others = [(number, 1) for number in range(1, 65) if number not in numbers]
+            imps += others[: chance.choice([16, 17, 63, 64]) - len(imps)]
+        case 4:
+            imps[0] = chance.choice([0, 64, 63, 17, -1]), 1
+        case 5:
+            imps[0] = numbers[0], chance.choice([-1, 5, 4])
+        case 6:
+            imps.append(imps[0])
+        case 7:
+            lines.append((numbers[0], numbers[0]))
+        case 8:
+            lines.append((numbers[0], chance.randrange(66)))
+        case 9:
+            lines.append((numbers[0], numbers[-1]))
+        case 10 | 11 if lines:
+            lines.append(chance.choice([lines[0], lines[0][::-1]]))
+        case 12 | 13 if lines:
+            lines[-1] += (chance.choice([*lines[-1], 0]),)
+    return carrier, raw, imps, lines
+
+
+def some_text(chance):
+    """The bits and the octets of a text."""
+    bits = chance.choice([0, 0, 1, 7, 8, 8, 9, 24, 1008, 8063, 8064])
+    if bits == 0:
+        return "0 -"
+    size = -(-bits // 8)
+    octets = chance.getrandbits(8 * size)
+    if chance.random() < 0.97:
+        octets = octets >> -bits % 8 << -bits % 8
+    return f"{bits} {octets:0{2 * size}X}"
+
+
+# what happens inside a network: plain mailboxes have no part for it
+RAW = [
+    "deliver {line} + 0", "drop 0 - {line}", "resend {imp}", "route {imp}", "enddown {imp} {line}", "endup {imp} 0", "impdown {imp}",
+    "impup {imp}", "forget {imp} 1", "abandon 0/1 3/{imp} 255", "ask 0/1 3/{imp} 255",
+]  # fmt: skip
+
+
+def some_script(chance, network):
+    """Lines of events, most of them about few flows of few hosts."""
+    there = [f"{host}/{number}" for number, count in network[2] for host in range(count)]
+    hosts = chance.sample(there, min(len(there), 3)) + [f"{chance.randrange(4)}/{chance.randrange(1, 64)}"]
+    flows = [f"{chance.choice(hosts)} {chance.choice(hosts)} {chance.choice([0, 5, 255])}" for _ in range(4)]
+    lines = []
+    for _ in range(chance.choice([0, 3, 10, 40, 150])):
+        match chance.choices(["out", "take", "giveup", "ask", "hostdown", "hostup", "calm", "raw", ""], [12, 16, 4, 1, 4, 6, 1, 2, 2])[0]:
+            case "out":
+                lines.append(f"out {chance.choice(flows)} {some_text(chance)}")
+            case "giveup" | "ask" as kind:
+                lines.append(f"{kind} {chance.choice(flows)}")
+            case "calm":
+                lines.append(f"calm {chance.choice([0, 1, 1, 2])}")
+            case "raw":
+                lines.append(chance.choice(RAW).format(imp=chance.randrange(1, 64), line=chance.choice([0, 4294967295])))
+            case "":
+                lines.append(chance.choice(["", "#", "# take 0/1\r", "#\xff\0"]))
+            case kind:
+                lines.append(f"{kind} {chance.choice(hosts)}")
+    # at the end hosts take what still waits, so that its order is seen
+    lines += [f"take {host}" for host in hosts for _ in range(chance.choice([0, 6]))]
+    # a text has at most 8063 bits; most scripts have no longer one
+    return lines if chance.random() < 0.2 else [it for it in lines if " 8064 " not in it]
+
+
+def changed(chance, line):
+    """A line with one octet or one word changed; now and then it is still an event."""
+    words = line.split(" ")
+    place = chance.randrange(len(line) + 1)
+    match chance.randrange(6):
+        case 0:
+            return line[:place] + chr(chance.randrange(256)).replace("\n", "%") + line[place + 1 :]
+        case 1:
+            return line[:place] + chance.choice(" \t\r\0%#+-_0/\xff") + line[place:]
+        case 2:
+            return line[:place] + line[place + 1 :]
+        case 3:
+            words[chance.randrange(len(words))] = chance.choice(["0", "00", "64", "256", "+1", "4294967301", "4/1", "0/0"])
+        case 4:
+            words.pop(chance.randrange(len(words)))
+        case 5:
+            octets = line.encode("latin-1")
+            upper, lower = octets.upper().decode("latin-1"), octets.lower().decode("latin-1")
+            return chance.choice([upper, lower, line + " 0", "calm", "calm 1", "resend 64", "drop 0 * 0", "route 1 1", "offer 0/1"])
+    return " ".join(words)
+
+
+def some_input(chance):
+    """Options, a network, and the lines of a script."""
+    words = chance.choice([[]] * 12 + [["--book"], ["--check"], ["--check", "--book"], ["--book", "--book"], ["-"], ["--texts"], ["--texts"], ["--texts", "--check"], ["--texts", "--texts"]])
+    network = some_network(chance)
+    lines = some_script(chance, network)
+    if lines and chance.random() < 0.4:
+        place = chance.randrange(len(lines))
+        lines[place] = changed(chance, lines[place])
+    if chance.random() < 0.05:
+        # the first `%` parts the input, so this one is a script line
+        lines.insert(chance.choice([0, len(lines), chance.randrange(len(lines) + 1)]), "%")
+    return words, network, lines
+
+
+def some_world_input(seed, runs):
+    """Options, a network with host programs, and the lines of a script that was made by looking at the model."""
+    chance = random.Random(f"world {seed}")
+    network, script = some_script_of_world(seed, "services" in runs)
+    lines = script.lines
+    if chance.random() < 0.15:
+        place = chance.randrange(len(lines))
+        others = ["out 0/1 0/2 5 0 -", "listen 0/1 16 256", "grant 0/1 16 65536 0", "send 0/1 33 8 F", "server 0/1 7 100", "type 0/1"]
+        lines[place] = changed(chance, lines[place]) if chance.random() < 0.6 else chance.choice(others)
+    return chance.choice([[], ["--book"], ["--texts", "--book"]]), network, lines
+
+
+def some_questions(seed, seen):
+    """A network and the lines of a script in which IMPs ask. What its questions come to is counted."""
+    questions = Questions(seed, place=Counting)
+    seen += questions.subnet.came_to()
+    return questions.network, questions.lines
+
+
+# ---- the program
+
+
+class Kept:
+    """The program that ./build keeps."""
+
+    def __init__(self, path):
+        self.path = path
+
+    def ends(self, inputs):
+        """How it ends on inputs with their options: its status, its output and its words."""
+
+        def run(given):
+            options, octets = given
+            ran = subprocess.run([self.path, *options], input=octets, capture_output=True, timeout=60)
+            return ran.returncode, ran.stdout.decode("latin-1"), ran.stderr.decode("latin-1")
+
+        with ThreadPoolExecutor(os.cpu_count() or 1) as threads:
+            yield from threads.map(run, inputs)
+
+
+class Tried:
+    """The program of a folder with the repository, built without proofs."""
+
+    def __init__(self, folder):
+        self.crate = f"{folder}/crates/arpasim"
+
+    def ends(self, inputs):
+        with tempfile.TemporaryDirectory() as cases:
+            for number, (options, octets) in enumerate(inputs):
+                for name, content in (f"{number:06}", octets), (f"{number:06}.args", "".join(f"{it}\n" for it in options).encode()):
+                    with open(f"{cases}/{name}", "wb") as file:
+                        file.write(content)
+            ran = subprocess.run(["rt", "try", "--cases", cases], cwd=self.crate, capture_output=True)
+        outputs = dict(re.findall(r"^== (\d+)\n((?:(?!== \d+\n).*\n)*)", ran.stdout.decode("latin-1"), re.MULTILINE))
+        said, ended = "", 0
+        for line in ran.stderr.decode("latin-1").splitlines(keepends=True):
+            if found := re.match(r"case=(\d+) run=ended status=(\d+)", line):
+                ended += 1
+                yield int(found[2]), outputs.get(found[1], ""), said
+            said = line if line.startswith("arpasim: ") else ""
+        if not ended:
+            sys.exit(f"check model: `rt try` ran nothing:\n{ran.stderr.decode('latin-1')}")
+
+
+def what_it_runs(program):
+    """What the program runs beside raw networks: worlds, and services on their hosts. It is asked with small inputs."""
+    network = "plain", False, [(1, 1)], []
+    questions = {"worlds": "offer 0/1", "services": "server 0/1 7 100"}
+    answers = program.ends([(["--check"], spelled_input(network, [line])) for line in questions.values()])
+    return [name for name, (status, _, _) in zip(questions, answers) if status == 0]
+
+
+def compare(program, inputs, runs):
+    """Compares the program with the model on inputs. What they came to, and how many lines were printed; None where one differs."""
+    ends, lines_printed, came_to = Counter(), 0, Counter()
+    given = [(options, spelled_input(network, lines)) for options, network, lines in inputs]
+    for place, (found, (options, network, lines)) in enumerate(zip(program.ends(given), inputs)):
+        wanted = ends_log(network, [*lines, ""]) if options == ["--log"] else expected(options, network, [*lines, ""], runs)
+        if found != wanted:
+            print(f"check model: input {place} differs, with the options {options}:\n{given[place][1]!r}\nfound  {found}\nwanted {wanted}")
+            return None
+        ends[re.sub(r" \d+", " N", found[2].strip()) or "run or read to the end"] += 1
+        lines_printed += found[1].count("\n")
+        came_to += reached(found[1].splitlines())
+    for said, count in sorted(ends.items()):
+        print(f"check model: {count} inputs: {said}")
+    print(f"check model: {len(inputs)} inputs, {lines_printed} lines of output, all the same")
+    return came_to
+
+
+def main():
+    if sys.argv[1:2] == ["--try"]:
+        program = Tried((sys.argv[2:3] or [ROOT])[0])
+    else:
+        program = Kept(any_program())
+        if program.path is None:
+            print("check model: there is no program of these sources")
+            return 1
+    runs = what_it_runs(program)
+    if sys.argv[1:2] == ["asking"]:
+        return compare_asking(program, int(sys.argv[2]) if sys.argv[2:] else 10_000, runs)
+    inputs, worlds = (INPUTS, WORLDS) if isinstance(program, Kept) else (INPUTS // 20, WORLDS // 10)
+    if compare(program, [some_input(random.Random(seed)) for seed in range(inputs)], runs) is None:
+        return 1
+    if "worlds" not in runs:
+        print("check model: this program runs no networks with host programs, so none is tried")
+        return 0
+    came_to = compare(program, [some_world_input(seed, runs) for seed in range(worlds)], runs)
+    if came_to is None:
+        return 1
+    print("check model: worlds came to", ", ".join(f"{count} {name}" for name, count in sorted(came_to.items())))
+    return compare_asking(program, ASKING if isinstance(program, Kept) else ASKING // 10, runs)
+
+
+def compare_asking(program, count, runs):
+    """Compares the program with the model on scripts with questions, each by what is printed and by its log."""
+    seen = Counter()
+    for first in range(0, count, 500):
+        scripts = [some_questions(seed, seen) for seed in range(first, min(first + 500, count))]
+        if compare(program, [(options, *script) for script in scripts for options in ([], ["--log"])], runs) is None:
+            return 1
+    print(f"check model: {count} scripts with questions, each by what is printed and by its log; they came to", ", ".join(f"{number} {name}" for name, number in sorted(seen.items())))
+    return 0

@@ -1,0 +1,216 @@
+"""A whole subnet against the independent model in Python, on random events (minutes): ./check subnet [RUNS]
+
+Compares a whole subnet with an independent model of its rules, on random events.
+
+The proofs say that `Subnet` does what its definitions say. Whether the definitions say what docs/subnet.md says is for
+readers to judge; this script tries it as well. python/dorydate/model/subnet.py was written from those rules, in another language and
+another form. Both run every event, and what crosses and what is refused has to be the same. The same events are made each
+time. What happens is mostly about what is there: frames that are live, messages that are outstanding, slots that are held.
+
+The calls are made by tools/calls, built without proofs (dorydate.builds.drivers): ./check subnet [RUNS]
+Networks of the greatest size, 63 IMPs and 157 lines, five at each IMP but one, are tried by ./check subnet largest [RUNS]
+A folder of networks and scripts with their outputs can be tried too: ./check subnet FOLDER
+"""
+
+import os
+import random
+import sys
+import tempfile
+from collections import Counter
+
+
+from dorydate.builds.drivers import run_cases, write_case
+from dorydate.model.imp import MOST_IMPS, NUMBERS, WINDOW, spell_flow, spell_host
+from dorydate.model.subnet import Subnet
+
+RUNS = 1000
+EVENTS = 100
+LARGEST_RUNS = 200
+LARGEST_EVENTS = 400
+
+
+# ---- random networks and events
+
+WEIGHTS = {
+    "out": 14, "take": 6, "calm": 2, "deliver": 20, "drop": 8, "resend": 3, "route": 2, "giveup": 4, "ask": 5, "abandon": 1, "forget": 1,
+    "enddown": 2, "endup": 3, "impdown": 0.5, "impup": 2, "hostdown": 1, "hostup": 4, "alive": 3,
+}  # fmt: skip
+
+
+class Chance:
+    """A network, and events in it. An independent model of the subnet goes along, so that what is there can be named."""
+
+    def __init__(self, seed, is_largest):
+        self.random = random.Random(seed)
+        self.events = LARGEST_EVENTS if is_largest else EVENTS
+        count = MOST_IMPS if is_largest else self.random.choice([1, 2, 2, 3, 3, 4, 7])
+        numbers = sorted(self.random.sample(range(1, MOST_IMPS + 1), count))
+        self.imps = [(number, self.random.choice([0, 1, 1, 2, 4])) for number in numbers]
+        shuffled = self.random.sample(numbers, len(numbers))
+        self.ends = self.most_lines(shuffled) if is_largest else self.lines_of(shuffled)
+        self.subnet = Subnet(self.imps, self.ends)
+        there = [(host, number) for number, count in self.imps for host in range(count)]
+        near = self.random.sample(there, min(len(there), 4))
+        # a host that isn't there, now and then
+        self.hosts = near * 6 + [(self.random.randrange(4), self.random.randrange(1, 64))]
+        self.flows = [self.flow() for _ in range(6)]
+        stops = self.random.random() < 0.4
+        rare = ("impdown", "impup", "forget", "drop")
+        self.weights = [weight * (4 if stops and kind in rare else 1) for kind, weight in WEIGHTS.items()]
+        self.lengths = self.random.choice([(0, 8, 24), (0, 24, 1008), (8, 2100), (1008, 8063)])
+        self.seen = Counter()
+
+    def lines_of(self, numbers):
+        """A star, a row or a ring; an IMP has at most five lines."""
+        match self.random.choice(["star", "row", "ring"]):
+            case "star":
+                return [(number, numbers[0]) for number in numbers[1:6]]
+            case "ring" if len(numbers) > 2:
+                return [*zip(numbers, numbers[1:] + numbers[:1])]
+        return [*zip(numbers, numbers[1:])]
+
+    def most_lines(self, numbers):
+        """From each IMP of a ring to its two neighbours each way, and to one across, which of an odd number of IMPs one has not."""
+        count, half = len(numbers), len(numbers) // 2
+        near = [(numbers[at], numbers[(at + step) % count]) for step in (1, 2) for at in range(count)]
+        lines = near + [*zip(numbers[:half], numbers[half:])]
+        return self.random.sample(lines, len(lines))
+
+    def flow(self):
+        return self.random.choice(self.hosts), self.random.choice(self.hosts), self.random.choice([0, 5, 255])
+
+    def event(self):
+        """An event with its parts."""
+        kind = self.random.choices([*WEIGHTS], self.weights)[0]
+        if kind in ("deliver", "drop") and not any(ways["+"] + ways["-"] for ways in self.subnet.live):
+            kind = self.random.choice(["out", "out", "route", kind])
+        return kind, *self.parts(kind)
+
+    def parts(self, kind):
+        imps = [number for number, _ in self.imps] * 6 + [self.random.randrange(1, 64)]
+        sure = self.random.random() < 0.9
+        match kind:
+            case "out":
+                length = self.random.choice(self.lengths)
+                return self.random.choice(self.flows), "".join(self.random.choice("01") for _ in range(length))
+            case "calm":
+                return (self.random.choice([0, 1, 1, 2, 3]),)
+            case "take" | "hostdown" | "hostup":
+                return (self.random.choice(self.hosts),)
+            case "resend" | "route" | "impdown" | "impup":
+                return (self.random.choice(imps),)
+            case "forget":
+                return self.random.choice(imps), self.random.choice(imps)
+            case "giveup" | "ask" | "abandon":
+                up = [imp for imp in self.subnet.imps.values() if imp] if sure else []
+                held = [flow for imp in up for flow in (imp.slots if kind == "abandon" else imp.outstanding)]
+                return (self.random.choice(held or self.flows),)
+            case "alive":
+                alive = self.subnet.alive() if sure else []
+                flow, number = self.random.choice(alive)[:2] if alive else (self.random.choice(self.flows), self.random.choice([0, 1, 256, WINDOW, NUMBERS - 1]))
+                return flow, (number + self.random.choice([0, 0, 1, 256])) % NUMBERS
+            case "deliver" | "drop":
+                live = self.subnet.live if sure else []
+                ways = [(line, way) for line, ways in enumerate(live) for way in "+-" if ways[way]]
+                if not ways:
+                    return self.random.choice([0, 1, 9]), self.random.choice("+-"), self.random.choice([0, 1, 300])
+                line, way = self.random.choice(ways)
+                return line, way, self.random.choice([0, self.random.randrange(len(live[line][way]))])
+            case "enddown" | "endup":
+                ends = [(imp, line) for line, joined in enumerate(self.ends) for imp in joined] if sure else []
+                return self.random.choice(ends or [(self.random.choice(imps), self.random.choice([0, 1, 9]))])
+
+    def run(self):
+        """The lines for the driver, and the lines that it owes."""
+        lines = spell_network(self.imps, self.ends)
+        events = [("calm", self.random.choice([2, 3, 4]))] * (self.random.random() < 0.9)
+        for _ in range(self.events):
+            event = events.pop() if events else self.event()
+            lines.append(spell_event(*event))
+            before = len(self.subnet.printed)
+            if event[0] == "alive":
+                self.subnet.printed.append(f"alive {str(self.subnet.is_alive(*event[1:])).lower()}")
+                self.seen[f"alive: {self.subnet.printed[-1].split()[1]}"] += 1
+                continue
+            self.subnet.happen(*event)
+            said = self.subnet.printed[before:]
+            self.seen[f"{event[0]}: {said[0] if said and said[0].startswith('refused') else 'done'}"] += 1
+            self.seen["lines of crossings"] += sum(not line.startswith("refused") for line in said)
+        return lines, [*self.subnet.printed, "end"]
+
+
+# ---- what the driver reads
+
+
+def spell_network(imps, ends):
+    return [" ".join(f"{number}:{hosts}" for number, hosts in imps), " ".join(f"{a}-{b}" for a, b in ends)]
+
+
+def spell_part(part):
+    if isinstance(part, tuple):
+        return spell_flow(part) if len(part) == 3 else spell_host(part)
+    return str(part)
+
+
+def spell_event(kind, *parts):
+    if kind == "out":
+        flow, text = parts
+        padded = text + "0" * (-len(text) % 8)
+        octets = f"{int(padded, 2):0{len(padded) // 4}X}" if padded else "-"
+        return f"out {spell_flow(flow)} {len(text)} {octets}"
+    return " ".join([kind, *map(spell_part, parts)])
+
+
+# ---- the driver
+
+
+def with_runs(folder, runs, is_largest):
+    """Puts the events of each run into a folder, and what is owed for them. Counts the events by what they came to."""
+    seen = Counter()
+    for run in range(runs):
+        chance = Chance(run, is_largest)
+        write_case(folder, f"{run:05}", *chance.run())
+        seen += chance.seen
+    return seen
+
+
+def with_files(folder, source):
+    """Puts the networks and scripts of a folder into another, as the driver reads them. Counts them."""
+    import tomllib  # Python before 3.11 has none
+
+    seen = Counter()
+    for name in sorted(os.listdir(source)):
+        path = f"{source}/{name}"
+        if os.path.isfile(path) and os.path.exists(f"{path}.stdout") and not os.path.exists(f"{path}.rows") and not os.path.exists(f"{path}.status"):
+            with open(f"{source}/{name}", encoding="utf-8") as file:
+                topology, script = file.read().split("\n%\n", 1)
+            with open(f"{source}/{name}.stdout", encoding="utf-8") as file:
+                owed = file.read().splitlines()
+            network = tomllib.loads(topology)
+            if network.get("carrier", "subnet") != "subnet" or not network.get("raw"):
+                continue
+            imps = sorted((imp["id"], imp["hosts"]) for imp in network["imp"])
+            lines = spell_network(imps, [(line["a"], line["b"]) for line in network.get("line", [])])
+            events = [line for line in script.splitlines() if line and line[0] != "#"]
+            write_case(folder, name, lines + events, owed)
+            seen[name] += len(events)
+    return seen
+
+
+def main():
+    words = sys.argv[1:]
+    is_largest = words[:1] == ["largest"]
+    source = words[0] if words and os.path.isdir(words[0]) else None
+    runs = int(words[is_largest]) if not source and len(words) > is_largest else LARGEST_RUNS if is_largest else RUNS
+    with tempfile.TemporaryDirectory() as folder:
+        seen = with_files(folder, source) if source else with_runs(folder, runs, is_largest)
+        said = run_cases("subnet", folder)
+    if said is not None:
+        print(said)
+        print("check subnet: a run came to something else than the rules say (the runs are made again by their number)")
+        return 1
+    events = LARGEST_EVENTS if is_largest else EVENTS
+    print(f"check subnet: {'all scripts' if source else f'{runs * events} events in {runs} runs'} agree")
+    for name, count in sorted(seen.items()):
+        print(f"  {name}: {count}")
+    return 0

@@ -1,0 +1,275 @@
+"""What `./explain --audit < LOG` adds to the verdict: what is wrong with a bad line, and which two lines of a broken book disagree.
+
+A bad line is checked against the forms of docs/program.md. A broken part is worked out from the log once more, by the independent
+reader of logs, and the first place at which its two lines differ is named.
+"""
+
+from __future__ import annotations
+
+import difflib
+import re
+from collections.abc import Callable
+
+from dorydate.model.audit import last_out, match, own_request, partner_request
+from dorydate.model.imp import octets as octets_of
+from dorydate.model.imp import spell_flow, spell_host
+from dorydate.model.log import BadLog, Book, read_log
+from dorydate.explain.faults import wrong_with_text, wrong_with_word
+from dorydate.explain.given import shown
+
+FORMS = {
+    "out": "S D N BITS OCTETS",
+    "in": "S D N BITS OCTETS",
+    "answer": "ANSWER S D N",
+    "down": "H",
+    "up": "H",
+    "life": "H SOCKET P FOREIGN PLACE PLACE KIND AMOUNT LENGTH AMOUNT AMOUNT AMOUNT AMOUNT STATE OCTETS",
+    "handed": "LENGTH OCTETS",
+    "end": "",
+}
+WRITTEN = {  # how a form is shown
+    "life": "HOST SOCKET PEER FOREIGN OWN PARTNER KIND MESSAGES BITS GM GB RM RB STATE OCTETS",
+    "handed": "BITS OCTETS",
+    "answer": "rfnm|dead|incomplete|nottaken S D N",
+}
+WORDS = {"ANSWER": ["rfnm", "dead", "incomplete", "nottaken"], "KIND": ["send", "receive"], "STATE": ["open", "ended"]}
+BITS_OF = {"PLACE": 64, "LENGTH": 64, "AMOUNT": 128}
+PARTS = [("out", "in", "answer", "down", "up"), ("life",), ("handed",), ("end",)]  # a log's lines, in this order
+NAMES = ["crossings", "lives", "what was handed over", "the end"]
+
+
+def explained(octets: bytes, verdict: str) -> str:
+    """Why the program says this of a log."""
+    if found := re.fullmatch(r"bad log line (\d+)", verdict):
+        return why_bad(octets, int(found[1]))
+    if verdict == "log too long":
+        return f"The log has {len(octets)} octets, and at most 33554432 are read."
+    try:
+        book = read_log(octets)
+    except BadLog as line:
+        return f"The independent reader in Python finds line {line} bad. No cause was found."
+    why = why_so(book, verdict)
+    shown_lines = [f"  {number}: {short(octets, number)}" for number in map(int, re.findall(r"\d+", verdict))]
+    return "\n".join([*shown_lines, why])
+
+
+def short(octets: bytes, number: int) -> str:
+    """A line of the log, its middle left out where it is long."""
+    lines = octets.split(b"\n")
+    return shown(lines[number - 1]) if number <= len(lines) else ""
+
+
+# ---- bad lines
+
+
+def part_of(line: bytes) -> int | None:
+    """The part of a log that a line belongs to by its first word."""
+    word = line.split(b" ")[0].decode("latin-1")
+    return next((place for place, names in enumerate(PARTS) if word in names), None)
+
+
+def why_bad(octets: bytes, number: int) -> str:
+    """What is wrong with the first bad line of a log, and the form that it should have."""
+    *lines, rest = octets.split(b"\n")
+    if number > len(lines):
+        if rest:
+            return f"Line {number} is:\n  {shown(rest)}\nIt isn't ended by a line feed."
+        return f"The log ends after line {len(lines)}. Its last line has to be `end`."
+    line = lines[number - 1]
+    before = [part for part in map(part_of, lines[: number - 1]) if part is not None]
+    why = wrong_with_entry(line) or out_of_order(line, before) or "No cause was found. docs/program.md has the forms of a log's lines."
+    return f"Line {number} is:\n  {shown(line)}\n{why}"
+
+
+def out_of_order(line: bytes, before: list[int]) -> str | None:
+    """Why a good line can't follow others of these parts."""
+    part = part_of(line)
+    if 3 in before:
+        return "It follows `end`, and nothing may."
+    if part is not None and before and part < max(before):
+        return f"It is one of the {NAMES[part]}, and follows {NAMES[max(before)]}. A log has all crossings first, then all lives, then a `handed` for each life, then `end`."
+    return None
+
+
+def wrong_with_entry(line: bytes) -> str | None:
+    """Why a line is not one of a log, with the form that it should have; None where it may be one."""
+    if line.endswith(b"\r"):
+        return "It has a carriage return at its end. The lines of a log are ended by line feeds only."
+    if not line:
+        return "It is empty. A log has no empty lines."
+    if line.startswith(b"#"):
+        return "It is a comment. A log has no comments."
+    if any(it < 32 or it > 126 for it in line):
+        return "It has an octet that is not a printable ASCII character, perhaps a tab."
+    words = line.decode("ascii").split(" ")
+    if "" in words:
+        return "Its words have to be separated by single spaces, with no space before the first word and none after the last."
+    name = words[0]
+    if name not in FORMS:
+        return unknown_entry(name)
+    names, form = FORMS[name].split(), f"The form is `{f'{name} {WRITTEN.get(name, FORMS[name])}'.rstrip()}`"
+    if len(words) != 1 + len(names):
+        return f"It has {counted(len(words) - 1, 'word')} after `{name}`, and {len(names)} are needed. {form}."
+    causes = [wrong_with_part(what, word) for what, word in zip(names, words[1:])]
+    cause = next(filter(None, causes), None) or wrong_with_octets(name, words) or wrong_with_kind(name, words)
+    return f"{cause} {form}." if cause else None
+
+
+def unknown_entry(name: str) -> str:
+    meant = difflib.get_close_matches(name.lower(), FORMS, 1)
+    hint = f" Is `{meant[0]}` meant?" if meant else ""
+    return f"`{shown(name.encode())}` begins no line of a log. They begin with {', '.join(FORMS)}, in lower case.{hint}"
+
+
+def wrong_with_part(what: str, word: str) -> str | None:
+    """Why a word isn't one for its place."""
+    if what in WORDS:
+        if word in WORDS[what]:
+            return None
+        meant = difflib.get_close_matches(word.lower(), WORDS[what], 1)
+        return f"`{word}` is none of {', '.join(WORDS[what])}.{f' Is `{meant[0]}` meant?' if meant else ''}"
+    if what in BITS_OF:
+        if not re.fullmatch("0|[1-9][0-9]*", word):
+            return f"`{word}` can't be read as a number: numbers are decimal, without a sign and without leading zeros."
+        return None if int(word[:40]) < 1 << BITS_OF[what] else f"`{word}` is out of range: it is a number of {BITS_OF[what]} bits."
+    found: str | None = wrong_with_word(what, word)
+    return found
+
+
+def wrong_with_octets(name: str, words: list[str]) -> str | None:
+    """Why the octets of a line are not those of its number of bits."""
+    if name not in ("out", "in", "life", "handed"):
+        return None
+    bits = int(words[9] if name == "life" else words[-2])
+    found: str | None = wrong_with_text(bits, words[-1])
+    return found
+
+
+def wrong_with_kind(name: str, words: list[str]) -> str | None:
+    """Why a life's kind is not that of its socket."""
+    if name != "life" or (words[7] == "send") == (int(words[2]) % 2 == 1):
+        return None
+    return f"Socket {words[2]} is {'odd and sends' if int(words[2]) % 2 else 'even and receives'}, so its life isn't one that {'sends' if words[7] == 'send' else 'receives'}."
+
+
+# ---- what a book breaks
+
+
+def why_so(book: Book, verdict: str) -> str:
+    """Why a book that was read has this verdict."""
+    numbers = [int(it) for it in re.findall(r"\d+", verdict)]
+    parts: dict[str, Callable[[Book, list[int]], str]] = {
+        "malformed": why_malformed,
+        "broken messages": why_messages,
+        "broken partners": why_partners,
+        "broken streams": why_streams,
+        "broken grants": why_grants,
+    }
+    if verdict == "kept":
+        return f"The book is safe: {counted(len(book.log), 'crossing')}, {counted(len(book.lives), 'life', 'lives')}, and all that the headline promises of them holds (docs/headline.md)."
+    found = next((tell for name, tell in parts.items() if verdict.startswith(name)), None)
+    return found(book, numbers) if found and numbers else "No cause was found."
+
+
+def counted(number: int, noun: str, nouns: str = "") -> str:
+    return f"{number} {noun if number == 1 else nouns or noun + 's'}"
+
+
+def life_at(book: Book, number: int):  # type: ignore[no-untyped-def]
+    """The life in a line of the log, and its list of what was handed over with the line of that."""
+    place = number - len(book.log) - 1
+    return book.lives[place], book.handed[place], len(book.log) + len(book.lives) + place + 1
+
+
+def why_malformed(book: Book, numbers: list[int]) -> str:
+    log, lives, handed = book
+    place = numbers[0] - len(log)
+    if len(lives) > len(handed):
+        return f"There are {counted(len(lives), 'life', 'lives')} and {counted(len(handed), 'list')} of what was handed over: this life has none. Each life needs its line `handed BITS OCTETS`."
+    if len(handed) > len(lives):
+        return f"There are {counted(len(handed), 'list')} of what was handed over and {counted(len(lives), 'life', 'lives')}: this list belongs to no life."
+    life = lives[place - 1]
+    host, peer = spell_host(life.host), spell_host(life.peer)
+    if not (life.own < len(log) and log[life.own][:2] == ("out", (life.host, life.peer, 0))):
+        return f"Its OWN is {life.own}, and {crossing_at(log, life.own)}. It has to be the place of an `out {host} {peer} 0`, the message with this end's own request. (The first line is place 0.)"
+    if not (life.partner < len(log) and log[life.partner][:2] == ("in", (life.peer, life.host, 0))):
+        return f"Its PARTNER is {life.partner}, and {crossing_at(log, life.partner)}. It has to be the place of an `in {peer} {host} 0`, the message with its partner's request. (The first line is place 0.)"
+    return f"Its PARTNER is {life.partner}, but before that place no `out {peer} {host} 0` went out that could have come in there."
+
+
+def crossing_at(log: list, place: int) -> str:  # type: ignore[type-arg]
+    """The crossing at a place of the log."""
+    if place >= len(log):
+        return f"the log has {counted(len(log), 'crossing')} only"
+    kind, *parts = log[place]
+    what = f"{parts[0]} {spell_flow(parts[1])}" if kind == "answer" else spell_flow(parts[0]) if kind in ("out", "in") else spell_host(parts[0])
+    return f"at place {place} (line {place + 1}) is `{kind} {what}`"
+
+
+def why_messages(book: Book, numbers: list[int]) -> str:
+    log, at = book.log, numbers[0] - 1
+    kind, *parts = log[at]
+    flow = parts[1] if kind == "answer" else parts[0]
+    out = last_out(log, flow, at)
+    if out is None:
+        return f"No message of the flow {spell_flow(flow)} went out before it."
+    taken = [place for place in range(out, at) if log[place][:2] == ("in", flow)]
+    if kind == "answer":
+        return f"The last message of the flow {spell_flow(flow)} went out in line {out + 1}, and no line since then says that it was taken: an RFNM is about a message that was."
+    if taken:
+        return f"The message of line {out + 1} was taken already in line {taken[0] + 1}. Each message is taken once at most."
+    return f"It isn't what went out in line {out + 1}: {difference(parts[1], log[out][2], 'what was taken', 'what went out')}"
+
+
+def difference(one: str, other: str, its: str, others: str) -> str:
+    """At which octet two lists of bits differ first, in words."""
+    for place in range(min(len(one), len(other)) // 8 + 1):
+        a, b = one[8 * place : 8 * place + 8], other[8 * place : 8 * place + 8]
+        if a != b and a and b and not a.startswith(b) and not b.startswith(a):
+            return f"at octet {place + 1} {its} has {hexadecimal(a)}, and {others} has {hexadecimal(b)}."
+    return f"{its} has {counted(len(one), 'bit')}, and {others} has {len(other)}."
+
+
+def hexadecimal(bits: str) -> str:
+    return octets_of(bits).hex().upper()
+
+
+def why_partners(book: Book, numbers: list[int]) -> str:
+    log = book.log
+    (one, *_), (other, *_) = life_at(book, numbers[0]), life_at(book, numbers[-1])
+    if len(numbers) > 1 and own_request(one) == own_request(other):
+        return f"Both have the same own request: the message at place {one.own}, from socket {one.socket} for socket {one.foreign}. A request opens one life only."
+    if len(numbers) > 1 and partner_request(log, one) == partner_request(log, other):
+        return f"Both have the same partner's request: it went out at place {partner_request(log, one)[0]}, from socket {one.foreign} for socket {one.socket}. A request opens one life only."
+    if own_request(other) == partner_request(log, one):
+        one, other = other, one
+        numbers = numbers[::-1]
+    return (
+        f"The own request of line {numbers[0]} (place {one.own}) is the partner's of line {numbers[-1]}. So line {numbers[0]} must have the own request of line {numbers[-1]} (place {other.own}) "
+        f"for its partner's, but what came in at its PARTNER, place {one.partner}, went out at place {partner_request(log, one)[0]}, for sockets {one.foreign} and {one.socket}."
+    )
+
+
+def why_streams(book: Book, numbers: list[int]) -> str:
+    life, handed, list_line = life_at(book, numbers[0])
+    if not life.receives():
+        return f"It sent what wasn't handed over in line {list_line}: {difference(life.bits, handed, 'what was sent', 'what was handed over')}"
+    senders = [place for place, it in enumerate(book.lives, len(book.log) + 1) if match(book.log, life, it)]
+    if len(senders) > 1:
+        return f"Two lives match it, in lines {senders[0]} and {senders[1]}, and a connection has one sender."
+    if not senders:
+        return (
+            f"It took {counted(len(life.bits), 'bit')}, and no life matches it. That would be one of host {spell_host(life.peer)}, socket {life.foreign}, with socket {life.socket} of {spell_host(life.host)}, "
+            f"whose own request is the partner's of this life, and the other way round."
+        )
+    sender, *_ = life_at(book, senders[0])
+    return f"Line {numbers[0]} took what line {senders[0]} didn't send: {difference(life.bits, sender.bits, 'what was taken', 'what was sent')}"
+
+
+def why_grants(book: Book, numbers: list[int]) -> str:
+    life, *_ = life_at(book, numbers[0])
+    messages, bits = life.granted[0] - life.returned[0], life.granted[1] - life.returned[1]
+    left = f"Line {numbers[0]} granted {counted(life.granted[0], 'message')} and {counted(life.granted[1], 'bit')}, and had {life.returned[0]} and {life.returned[1]} back"
+    used = [(number, life_at(book, number)[0]) for number in numbers]
+    passed = [f"line {number} {'took' if it.receives() else 'sent'} {counted(it.messages, 'message')} with {counted(len(it.bits), 'bit')}" for number, it in used]
+    return f"{left}: at most {max(messages, 0)} with {counted(max(bits, 0), 'bit')} may pass. But {' and '.join(passed)}."

@@ -1,0 +1,68 @@
+"""How long a trace takes beside the plain run of the same script: ./measure trace [--program FILE] [ROUNDS]
+
+Over plain mailboxes the scripts repeat four lines, after the topology of examples/first-message: a message is sent, taken and
+answered, and every fourth line has nothing to do; and they are calms, in which the same happens. Over a subnet messages go over a
+chain of four IMPs, once with each frame delivered and dropped by a line of its own, and once in calms. Both ways are run in turn, so
+that a busy machine slows both. A time is the processor time from the start of the process to its end, the best of the rounds. At
+most three times is wanted.
+
+It is not part of the gate.
+"""
+
+import argparse
+import subprocess
+import tempfile
+
+from dorydate.measure import processor_time, written
+from dorydate.parts import ROOT, proved_program
+
+TOPOLOGY = 'carrier = "plain"\nraw = true\n[[imp]]\nid = 1\nhosts = 1\n[[imp]]\nid = 2\nhosts = 1\n%\n'
+SINGLE = ["out 0/1 0/2 5 24 414243", "take 0/2", "take 0/1", "take 0/2"]
+CALM = ["out 0/1 0/2 5 24 414243", "calm 2"]
+CHAIN = 'raw = true\n' + "".join(f"[[imp]]\nid = {imp}\nhosts = {hosts}\n" for imp, hosts in enumerate((1, 0, 0, 1), 1)) + "".join(f"[[line]]\na = {imp}\nb = {imp + 1}\n" for imp in (1, 2, 3)) + "%\n"
+# a frame goes over a line and brings the acknowledgement back
+OVER = [f"{call} {line} {way} 0" for line in (0, 1, 2) for way in "+-" for call in ("deliver", "drop")]
+BACK = [f"{call} {line} {way} 0" for line in (2, 1, 0) for way in "-+" for call in ("deliver", "drop")]
+HOPS = ["out 0/1 0/4 5 24 414243", *OVER, "take 0/4", *BACK, "take 0/1"]
+QUIET = ["out 0/1 0/4 5 24 414243", "calm 2"]
+KINDS = [
+    ("plain mailboxes, single events", TOPOLOGY, [], SINGLE),
+    ("plain mailboxes, calms", TOPOLOGY, [], CALM),
+    ("a chain of 4 IMPs, single events", CHAIN, ["calm 4"], HOPS),
+    ("a chain of 4 IMPs, calms", CHAIN, ["calm 4"], QUIET),
+]
+
+
+def script(topology, first, lines, count):
+    return topology + "\n".join(first + lines * (count // len(lines))) + "\n"
+
+
+def printed(program, source, *options):
+    with open(source, "rb") as octets:
+        return subprocess.run([program, *options], stdin=octets, capture_output=True, check=True).stdout
+
+
+def words_of():
+    words = argparse.ArgumentParser(prog="measure trace")
+    words.add_argument("--program")
+    words.add_argument("rounds", nargs="?", type=int, default=21)
+    return words.parse_args()
+
+
+def main():
+    words = words_of()
+    program = words.program or proved_program(ROOT)
+    with tempfile.TemporaryDirectory() as folder:
+        print("| Lines | Plain | `--trace` | Times | Lines of the trace | Its octets |\n|---|---|---|---|---|---|")
+        for name, topology, first, lines in KINDS:
+            for count in (2_000, 20_000, 60_000):
+                source = written(folder, f"{name}-{count}", script(topology, first, lines, count))
+                times = [[1000 * processor_time([program, *options], source) for options in ([], ["--trace"])] for _ in range(words.rounds)]
+                plain, trace = map(min, zip(*times))
+                output = printed(program, source, "--trace")
+                told = len(output.splitlines())
+                print(f"| {count:,}, {name} | {plain:.1f} ms | {trace:.1f} ms | {trace / plain:.1f} | {told:,} | {len(output):,} |", flush=True)
+
+
+if __name__ == "__main__":
+    main()
