@@ -1,8 +1,13 @@
 /**
- * What the printed lines tell, as of a position: who is up, which messages have no answer, contacts, connections and what they have
+ * What the printed lines say, as of a position: who is up, which messages have no answer, contacts, connections and what they have
  * granted, handed over, sent and taken so far.
+ *
+ * What services grant and hand over is in no line of the script. The grants are in the messages on link 0, what a terminal hands over is
+ * what is typed, and what an echo service hands over is what it took.
  */
 
+import { countsIn } from "./commands.js";
+import { octetValues } from "./texts.js";
 import { impOf } from "./topology.js";
 
 /** @typedef {import("./runs.js").Replay} Replay */
@@ -24,10 +29,16 @@ import { impOf } from "./topology.js";
  * @property {number} foreign -1 while anybody may ask
  * @property {"listens" | "asked" | "open" | "closing" | "over"} state
  * @property {number} size bits a byte, 0 where it isn't known
- * @property {boolean} service whether a service uses it, so that the script doesn't say what is granted and handed over
+ * @property {boolean} service whether a service uses it
+ * @property {number} link by the request of the end that receives, 0 where it isn't known
  * @property {number} grantedMessages by this end's user, where it receives
  * @property {number} grantedBits
- * @property {number} handed bits that its user handed over, where it sends
+ * @property {number} heardMessages where it sends, by all grants that have come to it
+ * @property {number} heardBits
+ * @property {number} backMessages where it sends, what it gave back
+ * @property {number} backBits
+ * @property {number} handed bits that its user or its service handed over, where it sends
+ * @property {number} echoes the socket whose bits its service sends back, -1 for none
  * @property {number} messages that it sent or took
  * @property {number} bits that it sent or took
  * @property {number} returnedMessages
@@ -36,7 +47,12 @@ import { impOf } from "./topology.js";
 
 /** @typedef {{host: string, peer: string, state: "asked" | "ready" | "failed"}} Contact */
 
-/** What the lines tell up to a position. */
+/** @typedef {{host: string, peer: string, socket: number}} User a user, and the server's host and socket that it asks */
+
+/** The bits of the number that a server sends its first user: the base of its two sockets. */
+const BASE = 32;
+
+/** What the lines say up to a position. */
 export class Talk {
     /** @param {Replay} replay */
     constructor(replay) {
@@ -50,6 +66,14 @@ export class Talk {
         this.contacts = [];
         /** @type {End[]} */
         this.ends = [];
+        /** @type {Map<string, number>} by host the socket to which its terminal sends */
+        this.terminals = new Map();
+        /** @type {Set<string>} hosts and sockets on which servers wait for a first user */
+        this.doors = new Set();
+        /** @type {Map<string, number>} by host and socket the link of the last request */
+        this.links = new Map();
+        /** @type {Map<string, User>} by host the user whose initial connection isn't complete */
+        this.users = new Map();
         this.reset();
     }
 
@@ -59,6 +83,10 @@ export class Talk {
         this.messages = new Map();
         this.contacts = [];
         this.ends = [];
+        this.terminals = new Map();
+        this.doors = new Set();
+        this.links = new Map();
+        this.users = new Map();
     }
 
     /**
@@ -105,6 +133,15 @@ export class Talk {
             case "close":
                 this.use(kind, this.live(host, Number(rest[0])), rest);
                 break;
+            case "type":
+                this.type(host, rest[0] ?? "");
+                break;
+            case "server":
+                this.doors.add(`${host} ${rest[0]}`);
+                break;
+            case "user":
+                this.users.set(host, { host, peer: rest[0], socket: Number(rest[1]) });
+                break;
             case "impdown":
                 for (const flow of [...this.messages.keys()]) if (impOf(flow.split(" ")[0]) === Number(host)) this.messages.delete(flow);
         }
@@ -133,11 +170,75 @@ export class Talk {
      */
     line([kind, ...words], at) {
         const flow = words.slice(0, 3).join(" ");
+        if ((kind === "out" || kind === "in") && !this.replay.network.raw && words[2] === "0") this.commands(kind, words);
         if (kind === "out") this.messages.set(flow, { flow, since: at, bits: Number(words[3]), taken: false });
         else if (kind === "in") this.take(flow);
         else if (kind === "answer") this.messages.delete(words.slice(1, 4).join(" "));
         else if (kind === "down" || kind === "up") this.turn(words[0], kind === "up");
         else this.notice(kind, words);
+    }
+
+    /**
+     * What the commands of a message grant or give back, and which link a connection has.
+     *
+     * @param {string} kind whether it went out or came in
+     * @param {string[]} words
+     */
+    commands(kind, [source, destination, , , octets]) {
+        if (!octets) return;
+        for (const it of countsIn(octetValues(octets))) {
+            if (it.name === "RTS") {
+                this.links.set(`${source} ${it.own}`, it.link);
+                this.links.set(`${destination} ${it.foreign}`, it.link);
+            } else if ((it.name === "ALL") === (kind === "in")) {
+                const [host, peer] = kind === "in" ? [destination, source] : [source, destination];
+                const end = this.sender(host, peer, it.link);
+                if (end && kind === "in") {
+                    end.heardMessages += it.messages;
+                    end.heardBits += it.bits;
+                } else if (end) {
+                    end.backMessages += it.messages;
+                    end.backBits += it.bits;
+                }
+            }
+        }
+    }
+
+    /**
+     * The end of a host that sends to another one on a link.
+     *
+     * @param {string} host
+     * @param {string} peer
+     * @param {number} link
+     */
+    sender(host, peer, link) {
+        const live = this.ends.filter((it) => it.host === host && it.peer === peer && it.state !== "over");
+        return live.find((it) => it.link === link && sends(it.socket));
+    }
+
+    /**
+     * A line is typed: its terminal hands it over, with a carriage return and a line feed.
+     *
+     * @param {string} host
+     * @param {string} text
+     */
+    type(host, text) {
+        const end = this.live(host, this.terminals.get(host) ?? -1);
+        if (end) end.handed += 8 * (text.length + 2);
+    }
+
+    /**
+     * An initial connection is complete: a terminal or an echo service begins.
+     *
+     * @param {string} kind
+     * @param {string} host
+     * @param {number} receive
+     * @param {number} send
+     */
+    begin(kind, host, receive, send) {
+        const end = this.live(host, send);
+        if (kind === "user") this.terminals.set(host, send);
+        else if (end) end.echoes = receive;
     }
 
     /** @param {string} flow */
@@ -156,6 +257,7 @@ export class Talk {
             for (const flow of [...this.messages.keys()]) if (flow.startsWith(`${host} `)) this.messages.delete(flow);
             return;
         }
+        this.users.delete(host);
         this.contacts = this.contacts.filter((it) => it.host !== host);
         for (const end of this.ends) if (end.host === host) end.state = "over";
     }
@@ -169,6 +271,11 @@ export class Talk {
     notice(kind, [host, ...words]) {
         const end = this.live(host, Number(words[0]));
         switch (kind) {
+            case "done":
+            case "failed":
+                if (host === "user") this.users.delete(words[0]);
+                if (kind === "done") this.begin(host, words[0], Number(words[1]), Number(words[2]));
+                return;
             case "ready":
                 return this.contact(host, words[0], "ready");
             case "contactfailed":
@@ -183,12 +290,25 @@ export class Talk {
                 return;
             case "sent":
             case "arrived":
-                if (end) Object.assign(end, { messages: end.messages + 1, bits: end.bits + Number(words[1]) });
-                if (end && kind === "sent" && end.bits > end.handed) end.service = true;
+                if (end) this.carry(end, Number(words[1]));
                 return;
             case "returned":
                 if (end) Object.assign(end, { returnedMessages: end.returnedMessages + Number(words[1]), returnedBits: end.returnedBits + Number(words[2]) });
         }
+    }
+
+    /**
+     * A message went out of an end, or came in: what an echo service takes it hands over.
+     *
+     * @param {End} end
+     * @param {number} bits
+     */
+    carry(end, bits) {
+        end.messages += 1;
+        end.bits += bits;
+        if (sends(end.socket) && end.bits > end.handed) end.service = true;
+        const echo = this.ends.find((it) => it.host === end.host && it.echoes === end.socket && it.state !== "over");
+        if (echo && !sends(end.socket)) echo.handed += bits;
     }
 
     /**
@@ -201,7 +321,8 @@ export class Talk {
         const known = this.live(host, socket);
         const end = known ?? { ...newEnd(host, socket, peer, foreign, "open", 0), service: true };
         if (!known) this.ends.push(end);
-        Object.assign(end, { peer, foreign, state: "open" });
+        Object.assign(end, { peer, foreign, state: "open", link: this.links.get(`${host} ${socket}`) ?? 0 });
+        if (this.doors.delete(`${host} ${socket}`)) end.handed += BASE;
     }
 
     /**
@@ -244,7 +365,10 @@ export class Talk {
  * @returns {End}
  */
 function newEnd(host, socket, peer, foreign, state, size) {
-    return { host, socket, peer, foreign, state, size, service: false, grantedMessages: 0, grantedBits: 0, handed: 0, messages: 0, bits: 0, returnedMessages: 0, returnedBits: 0 };
+    const granted = { grantedMessages: 0, grantedBits: 0, returnedMessages: 0, returnedBits: 0 };
+    const heard = { heardMessages: 0, heardBits: 0, backMessages: 0, backBits: 0 };
+    const used = { handed: 0, messages: 0, bits: 0 };
+    return { host, socket, peer, foreign, state, size, service: false, link: 0, echoes: -1, ...granted, ...heard, ...used };
 }
 
 /**

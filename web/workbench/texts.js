@@ -6,12 +6,11 @@
  */
 
 import { TABLE } from "../../python/dorydate/sentences/table.mjs";
+import { COMMANDS, short, wide } from "./commands.js";
 import { filled } from "./words.js";
 
 const TEXTS = TABLE.texts;
 
-/** The commands: their names and lengths in octets, by their codes. */
-const COMMANDS = TABLE.commands.map((it) => it.split(" ")).map(([name, length]) => ({ name, length: Number(length) }));
 const ERRORS = ["", ...Object.values(TABLE["error codes"])];
 const HEADER = 40;
 const MOST_COMMANDS = 120;
@@ -56,7 +55,7 @@ export function shown(values, bits) {
  */
 function programSaying(link, values, bits) {
     if (bits < HEADER) return filled(TEXTS.short, { bits, header: HEADER });
-    const [size, number] = [values[1], (values[2] << 8) | values[3]];
+    const [size, number] = [values[1], short(values, 2)];
     if (bits < HEADER + size * number) return filled(TEXTS.announced, { number, size, left: bits - HEADER });
     const data = values.slice(5, 5 + Math.ceil((size * number) / 8));
     if (link !== 0) return number === 0 ? "no data" : shown(cleared(data, size * number), size * number);
@@ -91,17 +90,17 @@ function commands(octets) {
 /** @param {number[]} command */
 function commandInWords(command) {
     const { name } = COMMANDS[command[0]];
-    const wide = (/** @type {number} */ at) => ((command[at] << 24) | (command[at + 1] << 16) | (command[at + 2] << 8) | command[at + 3]) >>> 0;
+    const sockets = { own: wide(command, 1), foreign: wide(command, 5) };
     switch (name) {
         case "RTS":
-            return filled(TEXTS.RTS, { own: wide(1), foreign: wide(5), link: command[9] });
+            return filled(TEXTS.RTS, { ...sockets, link: command[9] });
         case "STR":
-            return filled(TEXTS.STR, { own: wide(1), foreign: wide(5), size: command[9] });
+            return filled(TEXTS.STR, { ...sockets, size: command[9] });
         case "CLS":
-            return filled(TEXTS.CLS, { own: wide(1), foreign: wide(5) });
+            return filled(TEXTS.CLS, sockets);
         case "ALL":
         case "RET":
-            return filled(TEXTS.ALL, { name, messages: (command[2] << 8) | command[3], bits: wide(4), link: command[1] });
+            return filled(TEXTS.ALL, { name, messages: short(command, 2), bits: wide(command, 4), link: command[1] });
         case "GVB":
             return filled(TEXTS.GVB, { messages: command[2], bits: command[3], link: command[1] });
         case "INR":

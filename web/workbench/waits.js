@@ -217,6 +217,10 @@ function connectionWaits(state, talk) {
     for (const { host, peer, state: phase } of talk.contacts) {
         if (phase === "asked") found.push({ ...wait(`${possessive(hostName(network, host))} contact with ${hostName(network, peer)}`), for: `the RRP of ${hostName(network, peer)}, after the RFNM for its own RST`, bad: !talk.up.get(peer) });
     }
+    for (const { host, peer, socket } of talk.users.values()) {
+        const what = `The initial connection of ${hostName(network, host)} with ${hostName(network, peer)}`;
+        found.push({ ...wait(what), for: `the server at socket ${socket} of ${hostName(network, peer)}`, bad: !talk.up.get(peer) });
+    }
     for (const end of talk.ends) found.push(...endWaits(network, talk, end));
     return found;
 }
@@ -232,21 +236,44 @@ function endWaits(network, talk, end) {
     if (end.state === "asked") return [{ ...wait(`The request from ${at}`), for: `${hostName(network, end.peer)} to ask for the same connection, or to listen on socket ${end.foreign}` }];
     if (end.state === "closing") return [{ ...wait(`The close of ${at}`), for: `the CLS of ${hostName(network, end.peer)}` }];
     if (!sends(end.socket) || end.state !== "open" || end.handed <= end.bits) return [];
+    return [bitsThatWait(network, talk, end, at)];
+}
+
+/**
+ * Bits that were handed over and have not gone out: they wait for a grant, or for their host to offer.
+ *
+ * @param {Network} network
+ * @param {Talk} talk
+ * @param {End} end
+ * @param {string} at
+ * @returns {Wait}
+ */
+function bitsThatWait(network, talk, end, at) {
     const mate = talk.mate(end);
-    const messages = mate ? mate.grantedMessages - end.messages - end.returnedMessages : 0;
-    const bits = mate ? mate.grantedBits - end.bits - end.returnedBits : 0;
     const left = end.handed - end.bits;
-    const granted = `${count(Math.max(messages, 0), "message")} and ${count(Math.max(bits, 0), "bit")} are left of the grant`;
+    const messages = Math.max(end.heardMessages - end.backMessages - end.messages, 0);
+    const bits = Math.max(end.heardBits - end.backBits - end.bits, 0);
     const isShort = messages < 1 || bits < (end.size || 1);
-    return [
-        {
-            ...wait(`${count(left, "bit")} on ${at}`),
-            where: `${possessive(hostName(network, end.host))} program; ${granted}`,
-            for: isShort ? `a grant of ${hostName(network, end.peer)}` : `${hostName(network, end.host)} to offer`,
-            bad: isShort,
-            cures: isShort ? [`grant ${end.peer} ${end.foreign} 1 ${left}`] : [`offer ${end.host}`],
-        },
-    ];
+    const whose = end.service ? "service" : "program";
+    const waiting = {
+        ...wait(`${count(left, "bit")} on ${at}`),
+        where: `${possessive(hostName(network, end.host))} ${whose}; ${count(messages, "message")} and ${count(bits, "bit")} are left of the grant`,
+    };
+    const peer = hostName(network, end.peer);
+    if (!isShort) return { ...waiting, for: `${hostName(network, end.host)} to offer`, cures: [`offer ${end.host}`] };
+    if (mate && isOnItsWay(end, mate)) return { ...waiting, for: `the grant of ${peer} to come (ALL)`, cures: ["calm 1"] };
+    if (mate?.service) return { ...waiting, for: `a grant of ${possessive(peer)} service`, cures: ["calm 1"] };
+    return { ...waiting, for: `a grant of ${peer}`, bad: true, cures: [`grant ${end.peer} ${end.foreign} 1 ${left}`] };
+}
+
+/**
+ * Whether more was granted by a connection's receiver than has come to its sender.
+ *
+ * @param {End} end
+ * @param {End} mate
+ */
+function isOnItsWay(end, mate) {
+    return mate.grantedMessages > end.heardMessages || mate.grantedBits > end.heardBits;
 }
 
 /**

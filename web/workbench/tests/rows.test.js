@@ -59,6 +59,46 @@ test("bits wait for a grant, and it is told how much is left of it", async () =>
     }
 });
 
+test("a grant that has not come yet is waited for, and a typed line waits for the grant of a service", async () => {
+    const open = ["calm 2", "contact 0/1 0/2", "calm 6", "listen 0/2 16 8", "opensend 0/1 0/2 33 16 8", "calm 6"];
+    const granted = await historyOfText(programs([...open, "grant 0/2 16 1 8", "send 0/1 33 8 4C"]));
+    const [wait] = waitsAtEnd(granted);
+    assert.deepEqual([wait.for, wait.bad, wait.cures], ["the grant of host 0/2 to come (ALL)", false, ["calm 1"]]);
+    assert(wait.where.includes("0 messages and 0 bits are left of the grant"), wait.where);
+
+    const begun = ["calm 2", "server 0/2 7 100", "contact 0/1 0/2", "calm 20", "user 0/1 0/2 7 16", "calm 80"];
+    const typed = (/** @type {string[]} */ ...lines) => historyOfText(programs([...begun, ...lines]));
+    assert.deepEqual(waitsAtEnd(await typed()), []);
+    const [ready] = waitsAtEnd(await typed("type 0/1 HELLO"));
+    assert(ready.what.startsWith("56 bits on socket 19") && ready.for === "host 0/1 to offer", JSON.stringify(ready));
+    assert(ready.where.includes("service; 4 messages and 4096 bits are left of the grant"), ready.where);
+    const long = Array.from({ length: 6 }, () => `type 0/1 ${"A".repeat(100)}`);
+    const waits = waitsAtEnd(await typed(...long, "offer 0/1"));
+    const rest = waits.find((it) => it.what.startsWith("800 bits on socket 19"));
+    assert(rest?.for === "a grant of host 0/2's service" && !rest.bad, JSON.stringify(waits));
+    assert(rest.where.includes("3 messages and 0 bits are left of the grant"), rest.where);
+});
+
+test("an initial connection is waited for until it is complete or has failed", async () => {
+    const contact = ["calm 2", "contact 0/1 0/2", "calm 20", "user 0/1 0/2 7 16"];
+    const asked = waitsAtEnd(await historyOfText(programs(contact)));
+    assert.deepEqual(asked.map((it) => [it.what, it.for, it.bad]), [
+        ["The initial connection of host 0/1 with host 0/2", "the server at socket 7 of host 0/2", false],
+    ]);
+    assert.deepEqual(waitsAtEnd(await historyOfText(programs([...contact, "calm 20"]))), []);
+});
+
+test("what an echo service took waits for its host to offer, and then no longer", async () => {
+    const begun = ["calm 2", "server 0/2 7 100", "contact 0/1 0/2", "calm 20", "user 0/1 0/2 7 16", "calm 80"];
+    const history = await historyOfText(programs([...begun, "type 0/1 HELLO", "calm 12"]));
+    const talk = new Talk(history.replay);
+    const at = history.replay.moments.findIndex((moment) => moment.printed.some((line) => line.startsWith("arrived 0/2 100")));
+    const waits = waitsOf(history.at(at + 1), talk.goTo(at + 1), history.replay.inside);
+    const echo = waits.find((it) => it.what.startsWith("56 bits on socket 101"));
+    assert(echo && echo.for === "host 0/2 to offer" && echo.where.includes("service; 4 messages and 4096 bits"), JSON.stringify(waits));
+    assert.deepEqual(waitsAtEnd(history), []);
+});
+
 test("a contact that never ends is told, and that nothing of its message is alive", async () => {
     const history = await historyOfText(programs(["calm 2", "contact 0/1 0/2", "calm 10", "impdown 2", "calm 3", "forget 1 2", "impup 2", "hostup 0/2", "calm 10", "contact 0/1 0/2", "calm 20"]));
     assert(history.replay.inside);

@@ -238,7 +238,7 @@ export class Panes {
 function endCells(network, end) {
     const isSending = sends(end.socket);
     const back = end.returnedBits || end.returnedMessages ? `, ${count(end.returnedMessages, "message")} and ${count(end.returnedBits, "bit")} back` : "";
-    const byService = end.service && end.grantedBits === 0 && end.handed < Math.max(end.bits, 1) ? "by its service" : "";
+    const byService = end.service && end.grantedBits === 0 && end.handed === 0 ? "by its service" : "";
     return [
         String(end.socket),
         end.peer ? `${end.foreign} of ${hostName(network, end.peer)}` : "anybody",
