@@ -17,7 +17,10 @@ import { tmpdir } from "node:os";
  * @property {(address: string) => Promise<void>} open opens a page, and waits until it is loaded
  * @property {(body: string) => Promise<any>} evaluate runs the body of an async function in the page, and gives what it returns
  * @property {(width: number, height: number) => Promise<void>} resize sets the size of the page, in CSS pixels
+ * @property {(how: {paper?: boolean, dark?: boolean}) => Promise<boolean>} look shows the page as on paper or in the dark,
+ *     and answers whether the browser can: only Chromium does
  * @property {(file: string) => Promise<void>} shoot writes a picture of the page
+ * @property {(file: string) => Promise<void>} print writes what is printed of the page, as PDF
  * @property {() => string[]} requests the addresses that the page has asked for; only Chromium tells
  * @property {() => Promise<void>} close
  */
@@ -102,8 +105,16 @@ export async function chromium(program) {
         async resize(width, height) {
             await ask("Emulation.setDeviceMetricsOverride", { width, height, deviceScaleFactor: 1, mobile: width < 600 });
         },
+        async look({ paper, dark }) {
+            const features = [{ name: "prefers-color-scheme", value: dark ? "dark" : "light" }];
+            await ask("Emulation.setEmulatedMedia", { media: paper ? "print" : "", features });
+            return true;
+        },
         async shoot(file) {
             writeFileSync(file, (await ask("Page.captureScreenshot", {})).data, "base64");
+        },
+        async print(file) {
+            writeFileSync(file, (await ask("Page.printToPDF", { paperWidth: 8.27, paperHeight: 11.69 })).data, "base64");
         },
         requests: () => requests,
         async close() {
@@ -169,8 +180,12 @@ export async function firefox(program) {
         async resize(width, height) {
             await ask("WebDriver:SetWindowRect", { width, height });
         },
+        look: async () => false,
         async shoot(file) {
             writeFileSync(file, (await ask("WebDriver:TakeScreenshot", { full: false })).value, "base64");
+        },
+        async print(file) {
+            writeFileSync(file, (await ask("WebDriver:Print", {})).value, "base64");
         },
         requests: () => [],
         async close() {

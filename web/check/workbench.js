@@ -88,6 +88,8 @@ key("Enter", part); want(!$("menu").hidden, "Enter opens the menu"); key("Escape
 $("tab-waits").focus(); key("ArrowRight", $("tab-waits")); want($("tab-distances").getAttribute("aria-selected") === "true" && document.activeElement === $("tab-distances"), "arrows do not go from tab to tab");
 want([...document.querySelectorAll("#network .part")].every((it) => it.querySelector("title").textContent === it.getAttribute("aria-label") && it.getAttribute("aria-label")), "a part without a title for who points at it");
 want([...document.querySelectorAll("th")].every((it) => it.getAttribute("scope")), "a head of a table without scope");
+const signs = [...document.querySelectorAll("#legend .sign")].map((it) => it.getAttribute("d")); want(signs.length > 5 && new Set(signs).size === signs.length, "two kinds of frames have one shape");
+want($("pace").options.length === 3, "there is no choice of speed");
 want([...document.querySelectorAll("button, select, input:not([type=file])")].every((it) => it.textContent.trim() || it.getAttribute("aria-label")), "a button without a name");
 `;
 
@@ -163,6 +165,19 @@ want(document.querySelectorAll("#handout .blank").length === 2 && document.query
 window.dispatchEvent(new Event("afterprint"));
 const given = new DataTransfer(); given.items.add(new File([new Uint8Array([0x23, 0xfc, 0x0a])], "latin.txt")); $("file").files = given.files; $("file").dispatchEvent(new Event("change"));
 await until(() => /latin.txt is not UTF-8/.test($("toast").textContent), "that the file is not UTF-8"); want($("label").textContent !== "A script", "a file in Latin-1 is opened");
+`;
+
+/** What is printed: nothing is beyond the sheet's edge, no text is on another, and the page itself is not there. */
+const PAPER = `
+window.dispatchEvent(new Event("beforeprint"));
+const width = document.documentElement.clientWidth;
+for (const it of document.querySelectorAll("body > *")) { const box = it.getBoundingClientRect(); want(it.id === "handout" || box.height === 0, "on paper there is " + (it.id || it.tagName)); }
+const cells = [...document.querySelectorAll("#handout td, #handout th, #handout h1, #handout p, #handout li > p")].filter((it) => it.textContent.trim());
+want(cells.length > 4, "nothing is printed");
+const boxes = cells.map((it) => { const range = document.createRange(); range.selectNodeContents(it); return { text: it.textContent.slice(0, 40), box: range.getBoundingClientRect(), own: it.getBoundingClientRect() }; });
+for (const { text, box, own } of boxes) want(box.right <= own.right + 1 && own.right <= width + 1, "cut on paper: " + text);
+boxes.forEach((a, at) => boxes.slice(at + 1, at + 8).forEach((b) => { const w = Math.min(a.box.right, b.box.right) - Math.max(a.box.left, b.box.left); const h = Math.min(a.box.bottom, b.box.bottom) - Math.max(a.box.top, b.box.top); want(w < 2 || h < 3, "on paper: " + a.text + " on " + b.text); }));
+window.dispatchEvent(new Event("afterprint"));
 `;
 
 /** What is to come is hidden, and questions are asked instead of the next step. */
@@ -261,6 +276,17 @@ async function whole(browser, address) {
                 places += 1;
             }
         }
+    }
+    if (await browser.look({ dark: true })) {
+        for (const name of SHOWN) {
+            const found = await trial(browser, `await load(${JSON.stringify(name)}); $("slider").value = Math.floor(0.6 * $("slider").max); $("slider").dispatchEvent(new Event("input")); await pause(150); ${CONTRAST}`);
+            wrong.push(...found.map((it) => `${name} in the dark: ${it}`));
+        }
+        await browser.resize(794, 1123); // a sheet of A4
+        await browser.look({ paper: true });
+        for (const name of SHOWN) wrong.push(...(await trial(browser, `await load(${JSON.stringify(name)}); ${PAPER}`)).map((it) => `${name}: ${it}`));
+        wrong.push(...(await trial(browser, `press("lessons"); press("index-answers"); ${PAPER} press("index-answers"); $("index").close();`)));
+        await browser.look({});
     }
     for (const [width, height] of /** @type {[number, number][]} */ ([[1024, 768], [1440, 900]])) {
         await browser.resize(width, height);

@@ -2,7 +2,7 @@
 
 /**
  * An arrow of a chart. A message that was taken goes from the row where it was sent to the row where it was taken. One that was not
- * taken has no `toRow`. An answer is drawn in the row where it was told.
+ * taken has no `toRow`. An answer is drawn in the row where it was taken.
  *
  * @typedef {object} Arrow
  * @property {"message" | "answer"} kind

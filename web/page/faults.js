@@ -5,7 +5,7 @@
  * and `bad log line 4` the fourth of all.
  *
  * @param {string} stderr what the program wrote on standard error
- * @param {string} text what stands in the box
+ * @param {string} text what is in the box
  * @returns {number | undefined}
  */
 export function lineOfFault(stderr, text) {

@@ -74,7 +74,7 @@ function mark(/** @type {Outcome} */ outcome) {
     box.scrollTop = ((line - 4) / box.value.split("\n").length) * box.scrollHeight;
 }
 
-/** Runs what stands in the box. */
+/** Runs what is in the box. */
 async function run(/** @type {Runner} */ runner) {
     const given = { text: box.value, seconds: Number(seconds.value) || 10, octets: MOST_OCTETS };
     runButton.disabled = true;

@@ -163,7 +163,7 @@ export class Workbench {
         const root = document.documentElement;
         const width = (root.clientWidth * 16) / parseFloat(getComputedStyle(root).fontSize);
         root.dataset.layout = width >= 960 ? "wide" : width > 560 ? "mid" : "narrow";
-        root.toggleAttribute("data-tight", width < 1160);
+        root.toggleAttribute("data-tight", width < 1340);
         this.draw();
     }
 

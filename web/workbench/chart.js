@@ -9,7 +9,7 @@ import { ANSWERS } from "./waits.js";
 /** @typedef {import("./fold.js").History} History */
 
 /**
- * @typedef {object} Mark what stands at a lane
+ * @typedef {object} Mark a word at a lane
  * @property {number} at the moment
  * @property {number} lane
  * @property {"out" | "in" | "rfnm" | "dead" | "incomplete" | "note" | "bad"} kind
@@ -199,7 +199,7 @@ function joined(marks) {
 }
 
 /**
- * What stands at a lane for a line that a user is told.
+ * The word at a lane for a notice to a user.
  *
  * @param {string} kind
  * @param {string[]} words

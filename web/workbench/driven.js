@@ -1,5 +1,5 @@
 /**
- * What happens inside a network whose hosts have programs: told by a raw script that their crossings drive.
+ * What happens inside a network whose hosts have programs, by a raw script that their crossings drive.
  *
  * Such a network has no trace. But each `out` that `--texts` prints is a line of a raw script. So a raw script over the same topology
  * does inside what the programs did: each crossing in its order, each inner event of the script as it is, and of each round in which a
@@ -21,7 +21,7 @@ import { readTrace } from "./trace.js";
 /** A line of a raw script, the step that it belongs to, and whether it is of the network's part of a round. */
 /** @typedef {{text: string, step: number, quiet: boolean}} Line */
 
-/** The program reads inputs of so many octets. */
+/** The most octets of an input that the program reads. */
 const MOST_OCTETS = 1_048_576;
 
 const INNER = ["take", "giveup", "hostdown", "hostup", "deliver", "drop", "resend", "route", "enddown", "endup", "impdown", "impup", "forget", "abandon", "ask"];
@@ -148,7 +148,7 @@ async function framesOfRounds(run, head, network, told, limits) {
 }
 
 /**
- * What is always refused, and not as NoSuch: the mark behind each direction of a line.
+ * What is always refused, and not as NoSuch: the mark after each direction of a line.
  *
  * @param {Network} network
  */
@@ -166,7 +166,7 @@ function beginning(network) {
 }
 
 /**
- * The raw script with `most` deliveries for each direction of a line, and a mark behind each direction.
+ * The raw script with `most` deliveries for each direction of a line, and a mark after each direction.
  *
  * @param {Network} network
  * @param {{part: Step, printed: string[]}[]} told
@@ -187,7 +187,7 @@ function paddedScript(network, told, most) {
 }
 
 /**
- * How many frames arrived, round by round: of `most` deliveries and drops for each of so many directions the rest was refused.
+ * How many frames arrived, round by round: of `most` deliveries and drops for each direction the rest was refused.
  *
  * @param {string[]} lines what was printed
  * @param {number} ways

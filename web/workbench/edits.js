@@ -1,7 +1,7 @@
 /**
- * Going on otherwise from a position: lines are added behind the moments that are done, and what results is a plain script.
+ * Another way on from a position: lines are added after the moments that are done, and what results is a plain script.
  *
- * Between two lines of the script the lines are put behind the first. At the end of round r of `calm N` it becomes `calm r`, the lines,
+ * Between two lines of the script the lines are put after the first. At the end of round r of `calm N` it becomes `calm r`, the lines,
  * and `calm N-r`. Within round r it becomes `calm r-1`, the events of round r that are done, as script lines below a comment, the
  * lines, and `calm N-r+1`: the rest of the round begins anew, so nothing is left lying.
  */
@@ -13,13 +13,13 @@ import { withScript } from "./script.js";
 /**
  * @typedef {object} Edit
  * @property {string} text the whole input
- * @property {number} position the position behind what was done before, which is the same as it was
+ * @property {number} position the position after what was done before, which is the same as it was
  * @property {number} added how many lines of the script were added
  * @property {number} line the first of them
  */
 
 /**
- * Adds lines behind a position.
+ * Adds lines after a position.
  *
  * @param {History} history
  * @param {number} position
@@ -39,7 +39,7 @@ export function goOn(history, position, lines, cutOff = false) {
 }
 
 /**
- * A position from which a script can go on: where nothing is known of the inside, the end of the round.
+ * A position from which a script can be continued: where nothing is known of the inside, the end of the round.
  *
  * @param {History} history
  * @param {number} position
@@ -52,7 +52,7 @@ function wholeRounds(history, position) {
 }
 
 /**
- * Where lines are put: behind so many lines of the script and `before`, before `after` and the lines from `next` on.
+ * Where lines are put: after the first lines of the script and `before`, before `after` and the lines from `next` on.
  *
  * @param {History} history
  * @param {number} position
@@ -60,12 +60,12 @@ function wholeRounds(history, position) {
  */
 function placeOf(history, position) {
     const { input, moments } = history.replay;
-    const behind = (/** @type {number} */ line) => ({ line, before: [], after: [], next: line });
-    if (position >= moments.length) return behind(input.lines.length);
-    if (position === 0) return behind(input.events[0].line - 1);
+    const after = (/** @type {number} */ line) => ({ line, before: [], after: [], next: line });
+    if (position >= moments.length) return after(input.lines.length);
+    if (position === 0) return after(input.events[0].line - 1);
     const { event, round } = moments[position - 1];
     const { line, words } = input.events[event];
-    if (round === 0) return behind(line);
+    if (round === 0) return after(line);
     const rounds = Number(words[1]);
     const next = moments[position];
     if (next.event !== event || next.round !== round) return { line: line - 1, before: calm(round), after: calm(rounds - round), next: line };

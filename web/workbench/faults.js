@@ -152,7 +152,7 @@ function distance(a, b) {
 }
 
 /**
- * Why a word can't stand in its place.
+ * Why a word can't be in its place.
  *
  * @param {string} name
  * @param {string} word
@@ -194,7 +194,7 @@ function wrongNumber(word, what, least, most) {
 }
 
 /**
- * Why these are not the octets of a text of so many bits.
+ * Why these are not the octets of a text of that number of bits.
  *
  * @param {number} bits
  * @param {string} octets

@@ -12,7 +12,7 @@ import { farEnd, linesOf } from "./topology.js";
  * @typedef {object} Layout
  * @property {number} width
  * @property {number} height
- * @property {boolean} small whether the map is of so many IMPs that hosts are dots
+ * @property {boolean} small whether the map has too many IMPs to name hosts, which are dots then
  * @property {Map<number, Point>} imps
  * @property {Map<string, Point>} hosts
  * @property {{w: number, h: number}} box half the size of the widest box of an IMP
@@ -48,7 +48,7 @@ export function placed(network) {
 }
 
 /**
- * Over how many lines each IMP is from each other, by their places; those that no way joins are far.
+ * Over how many lines each IMP is from each other, by their places; those that no route joins are far.
  *
  * @param {Network} network
  * @param {number[]} numbers
@@ -121,7 +121,7 @@ function turned(points) {
     return flat.map((it) => ({ x: sx * it.x, y: sy * it.y }));
 }
 
-/** Maps are about so many times wider than high. */
+/** How many times wider than high maps are, about. */
 const ASPECT = 1.8;
 
 /**

@@ -1,4 +1,4 @@
-/** Why an event was refused: what stands in its way, and what clears it. */
+/** Why an event was refused: what is in its way, and what clears it. */
 
 import { TABLE } from "../../python/dorydate/sentences/table.mjs";
 import { farEnd, hostName, impName, impOf, siteName, wayOf } from "./topology.js";

@@ -1,7 +1,7 @@
 /**
  * Runs the program on an input and gives its moments: the elementary events in turn, what each printed, and the parts that it left.
  *
- * A raw network has a trace, which is all that is needed. Where hosts have programs, the input is run with a pair of marks behind each
+ * A raw network has a trace, which is all that is needed. Where hosts have programs, the input is run with a pair of marks after each
  * event, so that it is known which event printed what; `driven.js` then finds out what happened inside.
  */
 
@@ -45,7 +45,7 @@ import { readTrace } from "./trace.js";
 /** How long a run may take and how much it may print. */
 export const LIMITS = { seconds: 8, octets: 24_000_000 };
 
-/** So many rounds of an input with host programs are followed one by one. */
+/** The most rounds of an input with host programs that are followed one by one. */
 export const MOST_ROUNDS = 2_000;
 
 /**
@@ -166,7 +166,7 @@ function isSecondMark(line) {
 }
 
 /**
- * What each step printed, by the marks behind it; the steps of which no mark came are left out.
+ * What each step printed, by the marks after it; the steps of which no mark came are left out.
  *
  * @param {Step[]} parts
  * @param {string[]} lines
@@ -187,7 +187,7 @@ export function tied(parts, lines) {
 }
 
 /**
- * The moments of a step: in a round each crossing is one, with what users and services are told of it.
+ * The moments of a step: in a round each crossing is one, with the notices to users and services about it.
  *
  * @param {Step} part
  * @param {string[]} printed

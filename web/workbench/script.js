@@ -1,14 +1,14 @@
 /**
  * An input and its script: lines, events, comments, questions.
  *
- * Lines of the script are counted from 1 behind the marker, as the program counts them.
+ * Lines of the script are counted from 1 after the marker, as the program counts them.
  */
 
 import { joinedWords } from "./words.js";
 
 /**
  * @typedef {object} ScriptLine
- * @property {number} line its number, from 1 behind the marker
+ * @property {number} line its number, from 1 after the marker
  * @property {string} text
  * @property {"event" | "comment" | "blank"} kind
  */
@@ -25,7 +25,7 @@ import { joinedWords } from "./words.js";
  * @property {string} text
  * @property {string[]} head the lines before the marker
  * @property {boolean} marked whether there is a marker
- * @property {ScriptLine[]} lines the lines behind it
+ * @property {ScriptLine[]} lines the lines after it
  * @property {ScriptEvent[]} events those that ask for an event
  */
 
@@ -49,10 +49,10 @@ import { joinedWords } from "./words.js";
 export function readInput(text) {
     const all = text.split("\n");
     const at = all.indexOf("%");
-    const behind = at < 0 ? [] : all.slice(at + 1);
-    if (behind.length && behind[behind.length - 1] === "") behind.pop();
+    const after = at < 0 ? [] : all.slice(at + 1);
+    if (after.length && after[after.length - 1] === "") after.pop();
     /** @type {ScriptLine[]} */
-    const lines = behind.map((it, place) => ({ line: place + 1, text: it, kind: it === "" ? "blank" : it.startsWith("#") ? "comment" : "event" }));
+    const lines = after.map((it, place) => ({ line: place + 1, text: it, kind: it === "" ? "blank" : it.startsWith("#") ? "comment" : "event" }));
     const events = lines.filter((it) => it.kind === "event").map((it) => ({ line: it.line, text: it.text, words: wordsOf(it.text) }));
     return { text, head: at < 0 ? all : all.slice(0, at), marked: at >= 0, lines, events };
 }
@@ -69,7 +69,7 @@ export function wordsOf(text) {
 }
 
 /**
- * The text of an input with other lines behind the marker.
+ * The text of an input with other lines after the marker.
  *
  * @param {Input} input
  * @param {string[]} lines
@@ -82,7 +82,7 @@ export function withScript(input, lines) {
 /**
  * The comments of a script; `#?` asks a question and `#!` gives its answer.
  *
- * A comment that goes on in the next line, since its line is full, is one comment.
+ * A comment whose line is full, and that continues in the next one, is one comment.
  *
  * @param {Input} input
  * @returns {Note[]}

@@ -1,7 +1,7 @@
 /**
  * The rows of the sheet: each line of the script, and below a calm its stops.
  *
- * A calm is folded to its head and the rows that printed something; only the calm in which one stands is unfolded.
+ * A calm is folded to its head and the rows that printed something; only the calm of the present step is unfolded.
  */
 
 import { notesOf } from "./script.js";
@@ -14,7 +14,7 @@ import { siteName, wayOf } from "./topology.js";
  * @typedef {object} Row
  * @property {"comment" | "question" | "event" | "stop"} kind
  * @property {number} line the line of the script, 0 for a stop
- * @property {string} number what stands in the number column
+ * @property {string} number the text of the number column
  * @property {string} text
  * @property {number} event the place of its event; of a comment that of the event that follows
  * @property {number} stop the place of its stop, -1 where it has none
@@ -77,7 +77,7 @@ export function rowsOf(history, stops) {
 const ROW = { kind: "event", line: 0, number: "", text: "", event: 0, stop: -1, at: 0, printed: false, refused: false, steps: 0 };
 
 /**
- * The rows of a calm's stops. The round stands in the number column, once.
+ * The rows of a calm's stops. The round is in the number column, once.
  *
  * @param {History} history
  * @param {Stop[]} stops
@@ -121,7 +121,7 @@ export const SHORT = { data: "data", rfnm: "RFNM", dead: "Dead", ask: "question"
  *
  * @param {string[]} words
  */
-function shortened(words) {
+export function shortened(words) {
     return words.map((word) => (word.length > 40 ? `${word.slice(0, 24)}…${word.slice(-4)}` : word)).join(" ");
 }
 

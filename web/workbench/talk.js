@@ -263,7 +263,7 @@ export class Talk {
     }
 
     /**
-     * What a user is told.
+     * A notice to a user.
      *
      * @param {string} kind
      * @param {string[]} words

@@ -65,7 +65,7 @@ function programSaying(link, values, bits) {
 }
 
 /**
- * Octets whose bits beyond so many are zero.
+ * Octets whose bits after the first `bits` are zero.
  *
  * @param {number[]} data
  * @param {number} bits

@@ -24,7 +24,7 @@
 /** @typedef {any} Value a text, a whole number, a boolean, a list or a table */
 
 /**
- * A document's tables, and the line on which each table and each key stands.
+ * A document's tables, and the line of each table and each key.
  *
  * @typedef {object} Document
  * @property {{[key: string]: Value}} values
@@ -159,14 +159,14 @@ export function readDocument(text) {
             document.places.set(table, new Map([["", line]]));
         } else {
             const key = reader.key();
-            if (key in table) throw new Unreadable(`\`${key}\` stands twice in its table`, line);
+            if (key in table) throw new Unreadable(`\`${key}\` is twice in its table`, line);
             table[key] = reader.value();
             document.places.get(table)?.set(key, line);
             const comment = /^[ \t]*#[ \t]*([^\n]*)/.exec(reader.text.slice(reader.at));
             if (key === "id" && comment) document.comments.set(table, comment[1].trim());
         }
         reader.blank(false);
-        if (!/^(?:$|[\r\n#])/.test(reader.text.slice(reader.at, reader.at + 1))) reader.fail("the line goes on after its value");
+        if (!/^(?:$|[\r\n#])/.test(reader.text.slice(reader.at, reader.at + 1))) reader.fail("there is more on the line after its value");
     }
     return document;
 }
@@ -174,7 +174,7 @@ export function readDocument(text) {
 /**
  * The network of a topology that the program accepts.
  *
- * @param {string} text what stands before the marker
+ * @param {string} text what comes before the marker
  * @returns {Network}
  */
 export function readTopology(text) {

@@ -72,6 +72,7 @@ class Page(unittest.TestCase):
 
     def test_a_title_has_the_capitals_of_its_comments(self) -> None:
         self.assertEqual(title_of("an-rfnm-is-lost", "# The RFNM is lost.\nout 0/1\n"), "An RFNM is lost")
+        self.assertEqual(title_of("a-dead-is-lost", "# Nothing is lost. Lost is the Dead that says so.\n"), "A Dead is lost")
 
 
 if __name__ == "__main__":

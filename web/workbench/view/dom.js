@@ -74,7 +74,7 @@ export function say(element, text) {
 }
 
 /**
- * A text in which what stands in backticks is code.
+ * A text in which words in backticks are code.
  *
  * @param {Element} element
  * @param {string} text

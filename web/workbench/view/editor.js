@@ -36,7 +36,7 @@ export class Editor {
         this.number();
     }
 
-    /** Numbers the lines behind the marker, as the program counts them. */
+    /** Numbers the lines after the marker, as the program counts them. */
     number() {
         const lines = this.area.value.split("\n");
         const marker = lines.indexOf("%");

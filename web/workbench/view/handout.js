@@ -2,7 +2,7 @@
 
 import { notesOf } from "../script.js";
 import { sentenceOf } from "../sentences.js";
-import { stopWords } from "../sheet.js";
+import { shortened, stopWords } from "../sheet.js";
 import { stopsOf } from "../stops.js";
 import { count } from "../words.js";
 import { byId, h, sayWithCode } from "./dom.js";
@@ -31,9 +31,10 @@ export function fillHandout(element, history, title, intro) {
         const mine = stops.slice(from, to).filter((stop) => stop.main >= 0);
         from = to;
         const [kind, rounds] = event.words;
-        if (mine.length === 0) rows.append(row(String(event.line), event.text, kind === "calm" ? `${count(Number(rounds), "round")} ${rounds === "1" ? "passes" : "pass"}, and nothing crosses a host's interface.` : ""));
+        const text = shortened(event.words);
+        if (mine.length === 0) rows.append(row(String(event.line), text, kind === "calm" ? `${count(Number(rounds), "round")} ${rounds === "1" ? "passes" : "pass"}, and nothing crosses a host's interface.` : ""));
         mine.forEach((stop, at) => {
-            const start = at === 0 ? `${event.text}${stop.round ? ", " : ""}` : "";
+            const start = at === 0 ? `${text}${stop.round ? ", " : ""}` : "";
             rows.append(row(at === 0 ? String(event.line) : "", stop.round ? `${start}round ${stop.round}: ${stopWords(history, stop)}` : start, sentenceOf(history, stop.main)));
         });
     });

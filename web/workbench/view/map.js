@@ -193,11 +193,11 @@ export class MapView {
             updateBadge(element, held);
             const below = element.querySelector(".below");
             if (below) {
-                say(below, distance < 0 ? (isUp ? (siteName(this.network, number).startsWith("IMP ") ? "" : `IMP ${number}`) : "down") : distance === FAR ? "no way" : String(distance));
+                say(below, distance < 0 ? (isUp ? (siteName(this.network, number).startsWith("IMP ") ? "" : `IMP ${number}`) : "down") : distance === FAR ? "no route" : String(distance));
                 below.classList.toggle("distance", distance >= 0);
                 if (title) set(title, { y: this.imp(number).y + (below.textContent ? -2 : 4) });
             }
-            const told = distance < 0 ? "" : distance === FAR ? ", no way" : `, distance ${distance}`;
+            const told = distance < 0 ? "" : distance === FAR ? ", no route" : `, distance ${distance}`;
             label(element, `${siteName(this.network, number)}${isUp ? "" : ", down"}${told}${held ? `, holds ${held}` : ""}`);
         });
     }

@@ -26,7 +26,7 @@ export class Menu {
      * @param {Element} from the part that was tapped
      * @param {string} title
      * @param {Item[]} items
-     * @param {Node | null} note what stands above the choices
+     * @param {Node | null} note what is above the choices
      */
     open(from, title, items, note) {
         this.from = from;

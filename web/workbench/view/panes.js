@@ -87,7 +87,7 @@ export class Panes {
         const { network } = state;
         if (network.plain || !history.replay.inside) return this.nothing(network.plain ? "Plain mailboxes have no IMPs, so there are no distances." : "What is inside isn't known for this script.");
         const columns = network.sites.length <= 9 ? network.sites.map((site) => site.number) : [to || network.sites[0].number];
-        say(this.intro, network.sites.length <= 9 ? "How far, by what the neighbours told. Choose a column to colour the map." : "How far, by what the neighbours told. Tap an IMP on the map to choose another one.");
+        say(this.intro, network.sites.length <= 9 ? "The distances that each IMP computes. Choose a column to colour the map." : "The distances that each IMP computes. Tap an IMP on the map to choose another one.");
         const changed = before ? changedWays(before, state) : new Set();
         let table = this.body.querySelector("table.distances");
         if (!table) {
@@ -127,7 +127,7 @@ export class Panes {
         const way = state.way(imp, to);
         const isUp = state.imp(imp) !== null;
         cell.className = `${to === chosen ? "chosen " : ""}${isChanged ? "changed " : ""}${!isUp || way.distance === FAR ? "nowhere" : ""}`;
-        say(cell.children[0], !isUp ? "down" : way.distance === FAR ? "no way" : String(way.distance));
+        say(cell.children[0], !isUp ? "down" : way.distance === FAR ? "no route" : String(way.distance));
         say(cell.children[1], isUp && way.line >= 0 && way.distance < FAR ? ` line ${way.line}` : "");
     }
 
@@ -287,7 +287,7 @@ function staircase(figure, history, to, position, hidden) {
         const ticks = [0, Math.round(most / 2), most];
         const svg = s("svg", { viewBox: `0 0 ${width} ${height}`, role: "img", "aria-label": `Distances to ${siteName(network, to)} over time` });
         svg.append(
-            ...[...ticks.map((tick) => ({ at: y(tick), text: String(tick) })), { at: top, text: "no way" }].flatMap(({ at, text }) => [s("line", { class: "grid", x1: left, x2: right, y1: at, y2: at }), s("text", { class: "tick", x: left - 6, y: at + 4 }, text)]),
+            ...[...ticks.map((tick) => ({ at: y(tick), text: String(tick) })), { at: top, text: "no route" }].flatMap(({ at, text }) => [s("line", { class: "grid", x1: left, x2: right, y1: at, y2: at }), s("text", { class: "tick", x: left - 6, y: at + 4 }, text)]),
             ...steps.map(({ steps }, place) => s("path", { class: `stairs s${place}`, d: steps.map((step, at) => `${at ? "H" : "M"}${x(step.at).toFixed(1)}${at ? `V${y(step.distance).toFixed(1)}` : ` ${y(step.distance).toFixed(1)}`}`).join("") + `H${right}` })),
             ...steps.map(({ imp }, place) => s("text", { class: `stairs-name s${place}`, x: left + ((right - left) * place) / Math.max(steps.length, 1), y: 12 }, `${["━", "╍", "┅", "┉", "─", "╌"][place]} ${siteName(network, imp)}`)),
             s("rect", { class: "veil", x: left, y: top - 6, width: 0, height: bottom - top + 12 }),

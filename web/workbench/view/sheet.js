@@ -277,7 +277,7 @@ export class SheetView {
 }
 
 /**
- * Words in so many letters: the parts behind the first are left out before any is cut.
+ * Words in at most `letters` letters: the parts after the first are left out before any is cut.
  *
  * @param {string} words
  * @param {number} letters
