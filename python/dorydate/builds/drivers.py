@@ -4,12 +4,15 @@ The program, tools/calls, is built without proofs in a folder of its own, once f
 out/HASH/calls (dorydate.builds.unproved). All four checks of a layer use it.
 """
 
+from __future__ import annotations
+
 import glob
 import hashlib
 import os
 import shutil
 import subprocess
 import sys
+from collections.abc import Iterable, Mapping, Sequence
 from concurrent.futures import ThreadPoolExecutor
 
 from dorydate.builds.unproved import NotKept, build, keep, kept_for_sources
@@ -22,7 +25,7 @@ EXAMPLE, WANTED = b"imp\nnew 1 0 0\nroute\n", b"ok\nok\n"
 CORES = os.cpu_count() or 1
 
 
-def crates_below(lines, name):
+def crates_below(lines: Mapping[str, Sequence[str]], name: str) -> list[str]:
     """A crate of the repository and those that it uses."""
     found = [name] if name in lines else []
     for low in lines.get(name, []):
@@ -30,7 +33,7 @@ def crates_below(lines, name):
     return found
 
 
-def with_driver(folder):
+def with_driver(folder: str) -> str:
     """Puts the program's sources into a folder as a crate, with copies of the crates that it uses."""
     with open(f"{ROOT}/crates.txt", encoding="utf-8") as file:
         lines = dict(line.strip().split(":") for line in file if line.strip() and not line.startswith("#"))
@@ -47,7 +50,7 @@ def with_driver(folder):
     return f"{folder}/crates/calls"
 
 
-def kept_at():
+def kept_at() -> str:
     """Where the program of the present sources is kept: its own are in the hash too."""
     whole = hashlib.sha256(kept_for_sources().encode())
     for path in sorted(glob.glob(f"{ROOT}/tools/calls/*.rs")):
@@ -56,7 +59,7 @@ def kept_at():
     return f"{ROOT}/out/{whole.hexdigest()}/calls"
 
 
-def driver():
+def driver() -> str:
     """The program, built where it is not kept yet."""
     kept = kept_at()
     if not os.path.exists(kept):
@@ -65,7 +68,7 @@ def driver():
     return kept
 
 
-def write_case(folder, name, lines, owed):
+def write_case(folder: str, name: str, lines: Iterable[str], owed: Iterable[str]) -> None:
     """Writes what the program reads, and what it owes."""
     os.makedirs(f"{folder}/cases", exist_ok=True)
     for path, content in (f"{folder}/cases/{name}", lines), (f"{folder}/cases/{name}.stdout", owed):
@@ -73,20 +76,20 @@ def write_case(folder, name, lines, owed):
             file.write("\n".join(content) + "\n")
 
 
-def difference(program, layer, path):
+def difference(program: str, layer: str, path: str) -> str | None:
     """What a case comes to where that is something else than it owes; None where it is not."""
     with open(path, "rb") as lines, open(f"{path}.stdout", "rb") as owed:
         asked, wanted = lines.read(), owed.read()
     ran = subprocess.run([program], input=f"{layer}\n".encode() + asked, capture_output=True)
     if (ran.returncode, ran.stdout) == (0, wanted):
         return None
-    found, owed = ran.stdout.decode().splitlines(), wanted.decode().splitlines()
-    place = next((it for it, pair in enumerate(zip(found, owed)) if pair[0] != pair[1]), min(len(found), len(owed)))
-    shown = (f"{what}: {' | '.join(lines[place : place + 1]) or 'nothing'}" for what, lines in (("found", found), ("owed", owed)))
+    sides = {"found": ran.stdout.decode().splitlines(), "owed": wanted.decode().splitlines()}
+    place = next((it for it, pair in enumerate(zip(*sides.values())) if pair[0] != pair[1]), min(map(len, sides.values())))
+    shown = (f"{what}: {' | '.join(printed[place : place + 1]) or 'nothing'}" for what, printed in sides.items())
     return "\n".join([f"run {os.path.basename(path)}, line {place + 1} of what is printed:", *shown, ran.stderr.decode()[-2000:]])
 
 
-def run_cases(layer, folder):
+def run_cases(layer: str, folder: str) -> str | None:
     """Runs the program on the cases in a folder. What it says where one came to something else than is owed."""
     try:
         program = driver()

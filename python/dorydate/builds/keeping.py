@@ -4,6 +4,8 @@ Beside it, as arpasim-unproved.bc, the module is kept that LLVM made it of, for 
 itself, and if the sources are still the same. What was kept of other sources is removed.
 """
 
+from __future__ import annotations
+
 import signal
 import sys
 
@@ -13,13 +15,13 @@ from dorydate.parts import ROOT
 EXAMPLE = f"{ROOT}/examples/first-message"
 
 
-def make(room):
+def make(room: str) -> None:
     """Builds the program into a folder."""
     with open(EXAMPLE, "rb") as octets, open(f"{EXAMPLE}.stdout", "rb") as wanted:
         build(f"{ROOT}/crates/arpasim", octets.read(), wanted.read(), room, ("program", "module.bc"))
 
 
-def main():
+def main() -> int:
     for number in (signal.SIGTERM, signal.SIGHUP, signal.SIGINT):
         signal.signal(number, lambda number, _: sys.exit(128 + number))
     try:

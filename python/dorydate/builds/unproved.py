@@ -5,6 +5,8 @@ it runs, and a link to it is made meanwhile. One build runs at a time, and a cal
 kept.
 """
 
+from __future__ import annotations
+
 import contextlib
 import fcntl
 import glob
@@ -14,6 +16,7 @@ import signal
 import subprocess
 import tempfile
 import time
+from collections.abc import Callable, Sequence
 
 from dorydate.parts import ROOT
 
@@ -25,13 +28,13 @@ class NotKept(Exception):
     """Why there is no program to keep."""
 
 
-def kept_for_sources():
+def kept_for_sources() -> str:
     """Where the proved program of the present sources is kept, whether or not it is there: others are kept beside it."""
     ran = subprocess.run([f"{ROOT}/tools/kept-program"], capture_output=True, text=True, check=True)
     return ran.stdout.strip()
 
 
-def link(file, name):
+def link(file: str, name: str) -> None:
     """Gives a file a second name, in place of another file that has it."""
     if os.path.exists(name) and os.path.samefile(file, name):
         return
@@ -42,7 +45,7 @@ def link(file, name):
     os.rename(f"{name}-linked", name)
 
 
-def has_linked(room, names):
+def has_linked(room: str, names: Sequence[str]) -> bool:
     """Whether all that `rt try` builds under these names, below this folder, has second names now; each file is there for a while only."""
     for name in names:
         for file in glob.glob(f"{room}/tmp/rt-try-*/rattle-native-*/{name}"):
@@ -51,7 +54,7 @@ def has_linked(room, names):
     return all(os.path.exists(f"{room}/{name}") for name in names)
 
 
-def without_hints(rt):
+def without_hints(rt: int) -> bool:
     """Ends the second process of `rt try`, a check that only gives hints on reserved names: it takes as long as the build."""
     with contextlib.suppress(OSError):
         with open(f"/proc/{rt}/task/{rt}/children", encoding="utf-8") as children:
@@ -63,14 +66,14 @@ def without_hints(rt):
     return False
 
 
-def end(process):
+def end(process: subprocess.Popen[bytes]) -> None:
     """Has a process of our own end, if it has not."""
     with contextlib.suppress(ProcessLookupError):
         process.terminate()
     process.wait()
 
 
-def build(crate, example, wanted, room, names=("program",)):
+def build(crate: str, example: bytes, wanted: bytes, room: str, names: Sequence[str] = ("program",)) -> None:
     """Builds the program of a crate and leaves it in a folder as `program`. What it prints on an example is known.
 
     `names` are the files that are left: `program`, and `module.bc`, which LLVM makes the program of.
@@ -82,8 +85,8 @@ def build(crate, example, wanted, room, names=("program",)):
             with open(f"{room}/inputs/{number}{ending}", "wb") as file:
                 file.write(octets)
     with open(f"{room}/said", "w+", encoding="utf-8", errors="replace") as said:
-        how = {"cwd": crate, "env": {**os.environ, "TMPDIR": f"{room}/tmp"}}
-        rt = subprocess.Popen(["rt", "try", "--cases", f"{room}/inputs"], stdin=subprocess.DEVNULL, stdout=said, stderr=said, **how)
+        env = {**os.environ, "TMPDIR": f"{room}/tmp"}
+        rt = subprocess.Popen(["rt", "try", "--cases", f"{room}/inputs"], stdin=subprocess.DEVNULL, stdout=said, stderr=said, cwd=crate, env=env)
         try:
             is_linked = has_no_hints = False
             while rt.poll() is None:
@@ -102,7 +105,7 @@ def build(crate, example, wanted, room, names=("program",)):
         raise NotKept(f"what `rt try` built does not run by itself: {ran.stderr.decode(errors='replace')}")
 
 
-def keep(where, make):
+def keep(where: Callable[[], str], make: Callable[[str], object]) -> None:
     """Keeps a program, unless another call has kept it meanwhile. `make` leaves it as `program` in a folder that it is given.
 
     `where` says where programs of the present sources are kept under its name. If `make` leaves the module that LLVM made the program of, it

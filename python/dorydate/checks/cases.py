@@ -13,11 +13,14 @@ A file NAME of a folder, or of a folder below it, is an input. Beside it may sta
   that begin with # are ignored, and so are empty lines.
 """
 
+from __future__ import annotations
+
 import ast
 import os
 import re
 import subprocess
 import sys
+from collections.abc import Iterator
 from concurrent.futures import ThreadPoolExecutor
 
 from dorydate.parts import any_program
@@ -31,7 +34,7 @@ class Wrong(Exception):
     """What is wrong with the stored files."""
 
 
-def octets_of(path):
+def octets_of(path: str) -> bytes | None:
     """The content of a file, or None where there is no such file."""
     if not os.path.exists(path):
         return None
@@ -39,7 +42,7 @@ def octets_of(path):
         return file.read()
 
 
-def row_of(line):
+def row_of(line: str) -> bytes:
     """The octets that a line of a table stands for."""
     octets, place = b"", 0
     while place < len(line):
@@ -51,7 +54,7 @@ def row_of(line):
     return octets
 
 
-def rows_of(table):
+def rows_of(table: bytes) -> list[bytes]:
     """The rows of a table, in its order."""
     return [row_of(it) for it in table.decode("ascii").splitlines() if it and not it.startswith("#")]
 
@@ -59,7 +62,7 @@ def rows_of(table):
 class Case:
     """An input, its options, and how it is to end."""
 
-    def __init__(self, name, octets, path):
+    def __init__(self, name: str, octets: bytes, path: str) -> None:
         self.name, self.octets = name, octets
         self.args = octets_of(path + ".args")
         self.printed = octets_of(path + ".stdout") or b""
@@ -68,9 +71,9 @@ class Case:
         if self.printed and self.words:
             raise Wrong(f"{name}: an input that is refused prints nothing")
 
-    def differs(self, program):
+    def differs(self, program: str) -> str | None:
         """How what comes of the case differs from what is stored, or None."""
-        words = [program, *(self.args or b"").splitlines()]
+        words = [os.fsencode(program), *(self.args or b"").splitlines()]
         try:
             ran = subprocess.run(words, input=self.octets, capture_output=True, timeout=SECONDS)
         except subprocess.TimeoutExpired:
@@ -86,13 +89,13 @@ class Case:
         return f"line {line} differs" if line else f"{len(ran.stdout)} octets are printed, wanted {len(self.printed)}"
 
 
-def cases_below(folder):
+def cases_below(folder: str) -> Iterator[Case]:
     """The cases of a folder, by name."""
     for place, _, files in sorted(os.walk(folder)):
         for file in sorted(it for it in files if not it.endswith(BESIDE)):
             path = f"{place}/{file}"
             name = os.path.relpath(path, folder).replace("/", "-")
-            head, table = octets_of(path), octets_of(path + ".rows")
+            head, table = octets_of(path) or b"", octets_of(path + ".rows")
             if table is None:
                 yield Case(name, head, path)
             else:
@@ -100,13 +103,13 @@ def cases_below(folder):
                     yield Case(f"{name}-row-{number}", head + row, path)
 
 
-def stray_files(folder):
+def stray_files(folder: str) -> Iterator[str]:
     """Files beside an input that is not there."""
     for place, _, files in os.walk(folder):
         yield from (f"{place}/{it}" for it in files if it.endswith(BESIDE) and os.path.splitext(it)[0] not in files)
 
 
-def run():
+def run() -> int:
     """Runs the cases of these folders. The status is 0 if each ended as it should."""
     folders = sys.argv[1:]
     try:
@@ -124,7 +127,7 @@ def run():
         print("cases: there is no program of these sources")
         return 1
     with ThreadPoolExecutor(os.cpu_count()) as threads:
-        ends = threads.map(lambda case: case.differs(program), cases)
+        ends = threads.map(Case.differs, cases, [program] * len(cases))
         differing = [f"{case.name}: {how}" for case, how in zip(cases, ends) if how]
     print(*differing, sep="\n", end="\n" if differing else "")
     print(f"cases: {len(cases)} inputs, of which {len(differing)} differ" if differing else f"cases: {len(cases)} inputs, each as stored")

@@ -20,6 +20,8 @@ Then it counts what hides borders and what is dead, each against its limit: impo
 beside its module lemmas, names of proofs/ that are declared `pub` and stand nowhere else, and folders of proofs/ with too many entries.
 """
 
+from __future__ import annotations
+
 import argparse
 import functools
 import glob
@@ -28,6 +30,7 @@ import os
 import re
 import unittest
 from collections import Counter
+from collections.abc import Iterator
 
 from dorydate.documents import anchors, crates_page, dialect, paragraphs, planted, rules, tests
 from dorydate.drawings import pictures
@@ -48,12 +51,12 @@ DECLARED = re.compile(
 
 
 @functools.cache
-def text_of(path):
+def text_of(path: str) -> str:
     with open(path, encoding="utf-8") as file:
         return file.read()
 
 
-def missing_files():
+def missing_files() -> Iterator[str]:
     """Links of the documents that lead to no file, and sources that are named and do not exist."""
     pages = [f"{ROOT}/README.md", f"{ROOT}/CONTRIBUTING.md", f"{ROOT}/CHANGELOG.md", f"{ROOT}/docs/*.md", f"{ROOT}/docs/measured/*.md", f"{ROOT}/crates/*/CLAIMS.md"]
     for page in sorted(it for some in pages for it in glob.glob(some)):
@@ -65,32 +68,33 @@ def missing_files():
                 yield f"{os.path.relpath(page, ROOT)}: no source {name}"
 
 
-def stands_on(crate):
+def stands_on(crate: str) -> list[str]:
     """The libraries that crates.txt names for a crate."""
-    return re.search(rf"^{crate}:(.*)$", text_of(f"{ROOT}/crates.txt"), re.MULTILINE)[1].split()
+    found = re.search(rf"^{crate}:(.*)$", text_of(f"{ROOT}/crates.txt"), re.MULTILINE)
+    return found[1].split() if found else []
 
 
 @functools.cache
-def crates_of_tests():
+def crates_of_tests() -> list[str]:
     """The crates that hold tests only."""
     return sorted(os.path.basename(it) for it in glob.glob(f"{ROOT}/crates/*_tests"))
 
 
 @functools.cache
-def declared_in(crate):
+def declared_in(crate: str) -> tuple[set[str], set[str]]:
     """The names that a crate's src/ and specs/ declare, and the functions of its module law."""
     files = [it for part in ("src", "specs") for it in glob.glob(f"{ROOT}/crates/{crate}/{part}/**/*.*", recursive=True)]
     names = {name for it in files for found in DECLARED.findall(text_of(it)) for name in found}
     return names, {name for it in files if "/src/law" in it for name in re.findall(r"pub fn (\w+)", text_of(it))}
 
 
-def crates_with_claims():
+def crates_with_claims() -> list[str]:
     """The crates that have something to claim: all of crates.txt but those of tests."""
     crates = re.findall(r"^(\w+):", text_of(f"{ROOT}/crates.txt"), re.MULTILINE)
     return [it for it in crates if it not in crates_of_tests()]
 
 
-def missing_claims():
+def missing_claims() -> Iterator[str]:
     """Crates without claims, and claims to which docs/measured/crates.md doesn't lead."""
     top = text_of(f"{ROOT}/docs/measured/crates.md")
     for crate in crates_with_claims():
@@ -100,26 +104,26 @@ def missing_claims():
             yield f"docs/measured/crates.md: no link to the claims of {crate}"
 
 
-def claims_of(crate):
+def claims_of(crate: str) -> tuple[str, str]:
     """What a crate's claims say is proved or not, and how they were attacked."""
     path = f"{ROOT}/crates/{crate}/CLAIMS.md"
     claimed, _, attacked = (text_of(path) if os.path.exists(path) else "").partition("\n## How it was attacked\n")
     return claimed, attacked
 
 
-def names_in(text):
+def names_in(text: str) -> list[str]:
     return re.findall(r"`([^`\n]+)`", text)
 
 
-def is_row(name, crate):
+def is_row(name: str, crate: str) -> bool:
     return any(is_known(name, it) for it in (*crates_of_tests(), crate)) or os.path.exists(f"{ROOT}/cases/{name}")
 
 
-def is_planted_bug(name, crate):
+def is_planted_bug(name: str, crate: str) -> bool:
     return any(os.path.exists(f"{ROOT}/crates/{crate}/{at}/{name}.edit") for at in ("must-fail", "wrong-bodies"))
 
 
-def unknown_attacks(crate, attacked):
+def unknown_attacks(crate: str, attacked: str) -> Iterator[str]:
     """Names of what attacks a crate's contracts that the code does not have."""
     table = re.compile(r"^\| ([^|]*) \| ([^|]*) \|.*\|$", re.MULTILINE)
     for definition, row in table.findall(attacked):
@@ -134,7 +138,7 @@ def unknown_attacks(crate, attacked):
             yield f"neither the code nor a planted bug is called `{name}`"
 
 
-def unknown_names():
+def unknown_names() -> Iterator[str]:
     """Names in the claims of the crates that the code does not have."""
     for crate in crates_with_claims():
         claimed, attacked = claims_of(crate)
@@ -143,7 +147,7 @@ def unknown_names():
             yield f"crates/{crate}/CLAIMS.md: {what}"
 
 
-def unknown_clauses():
+def unknown_clauses() -> Iterator[str]:
     """Names in docs/PROVED.md that the code does not have: each stands behind a path that begins with its crate."""
     for line in text_of(f"{ROOT}/docs/PROVED.md").splitlines():
         crate = None
@@ -154,7 +158,7 @@ def unknown_clauses():
                 yield f"docs/PROVED.md: {crate} has no `{name}`"
 
 
-def is_known(name, crate):
+def is_known(name: str, crate: str) -> bool:
     if not re.fullmatch(r"[\w:]+", name) and not re.fullmatch(r"[\w./-]+", name):
         return True  # no name, but words of another kind
     if "/" in name or "." in name:
@@ -171,13 +175,13 @@ def is_known(name, crate):
     return is_declared or name in below or is_there or name.startswith("-")
 
 
-def sources(pattern="crates/*"):
+def sources(pattern: str = "crates/*") -> list[str]:
     """The sources of all crates, by their paths."""
     found = glob.glob(f"{ROOT}/{pattern}/**/*.*", recursive=True)
     return sorted(it for it in found if it.endswith((".rt", ".antt")) and "/out/" not in it)
 
 
-def reaching():
+def reaching() -> Iterator[str]:
     """The imports that reach into another crate's proofs/ beside its module lemmas."""
     crates = {os.path.basename(it) for it in glob.glob(f"{ROOT}/crates/*")}
     for path in sources():
@@ -187,13 +191,11 @@ def reaching():
                 yield f"{os.path.relpath(path, ROOT)}: it reaches into {crate}/proofs beside lemmas"
 
 
-def dead():
+def dead() -> Iterator[str]:
     """The names that a file of proofs/ declares as `pub`, and that stand nowhere else in the sources, or in their own file beyond what they are."""
     text = {path: re.sub(r"(?m)(^|\s)--( .*|-*)$", "", text_of(path)) if path.endswith(".antt") else text_of(path) for path in sources()}
     counts = {path: Counter(TOKEN.findall(it)) for path, it in text.items()}
-    total = Counter()
-    for it in counts.values():
-        total.update(it)
+    total = sum(counts.values(), Counter[str]())
     for path, it in text.items():
         if "/proofs/" not in path or os.path.basename(path) in ASKED_FOR:
             continue
@@ -206,21 +208,21 @@ def dead():
                 yield f"{os.path.relpath(path, ROOT)}: nothing cites `{name}`"
 
 
-def crowded():
+def crowded() -> Iterator[str]:
     """The folders of proofs/ with too many entries."""
     for folder in {part for path in sources("crates/*/proofs") for part in parents(path)}:
         if (count := len(os.listdir(folder))) > MOST_ENTRIES:
             yield f"{os.path.relpath(folder, ROOT)}: {count} entries, of at most {MOST_ENTRIES}"
 
 
-def parents(path):
+def parents(path: str) -> Iterator[str]:
     """The folders of a file, up to proofs/."""
     while os.path.basename(path) != "proofs":
         path = os.path.dirname(path)
         yield path
 
 
-def over_limits():
+def over_limits() -> Iterator[str]:
     """What is above the limits, after a line that tells the counts."""
     kinds = ("imports into another crate's proofs/ beside lemmas", [*reaching()], MOST_REACHING), ("names that nothing cites", [*dead()], MOST_DEAD), ("crowded folders", sorted(crowded()), 0)
     print("check docs:", ", ".join(f"{len(found)} {what}" for what, found, _ in kinds))
@@ -228,19 +230,19 @@ def over_limits():
         yield from found if len(found) > most else []
 
 
-def failed_tests():
+def failed_tests() -> list[str]:
     """The tests of these checks that fail."""
     ran = unittest.TextTestRunner(stream=io.StringIO()).run(unittest.defaultTestLoader.loadTestsFromModule(tests))
     return [f"dorydate/documents/tests.py: {test.id()} fails: {why.splitlines()[-1]}" for test, why in (*ran.failures, *ran.errors)]
 
 
-def made():
+def made() -> list[str]:
     """What isn't as it is made, and what the drawings and the words of the documents have that they shouldn't."""
     print("check docs:", dialect.summary())
     return [*failed_tests(), *paragraphs.faults(), *anchors.faults(), *pictures.faults(), *crates_page.faults(), *planted.faults(), *rules.faults(), *dialect.faults()]
 
 
-def write():
+def write() -> int:
     """Makes the drawings and the pages of crates, of planted bugs and of rules."""
     crates_page.write()
     planted.write()
@@ -249,7 +251,7 @@ def write():
     return 0
 
 
-def main():
+def main() -> int:
     parser = argparse.ArgumentParser(prog="check docs", add_help=False)
     parser.add_argument("--write", action="store_true", help="make the drawings and the pages of crates, planted bugs and rules")
     parser.add_argument("--lower", action="store_true", help="lower the limits of the dialect to what is counted")

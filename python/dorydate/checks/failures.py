@@ -22,6 +22,8 @@ It takes the proved program, or where ./build has not made that the one that was
 library. Without a compiler it says that nothing was tried, and where the variable CI is set it fails.
 """
 
+from __future__ import annotations
+
 import os
 import shutil
 import subprocess
@@ -43,12 +45,13 @@ FIVE = (
 LONG = ("a-stream-over-a-line-that-loses-frames",)
 LONGEST = 1000  # octets of a short example
 CORES = os.cpu_count() or 1
+Ended = tuple[tuple[int, bytes], bytes]  # the status and the words of a run, and its output
 
 
 class Way:
     """What fails, and how reads and writes are made."""
 
-    def __init__(self, kind, at_most=0, how=None):
+    def __init__(self, kind: str, at_most: int = 0, how: str | None = None) -> None:
         self.kind, self.how = kind, how
         self.variables = {"AT_MOST": str(at_most)} if at_most else {}
         if how:
@@ -56,11 +59,11 @@ class Way:
         size = {0: "whole", 1: "of one octet"}.get(at_most, f"of {at_most} octets")
         self.name = kind if kind == "allocations" else f"{kind} {size}{f', {how.lower()}' if how else ''}"
 
-    def variable(self):
+    def variable(self) -> str:
         return {"allocations": "FAIL_ALLOCATION", "reads": "FAIL_READ", "writes": "FAIL_WRITE"}[self.kind]
 
 
-def streams(at_most):
+def streams(at_most: int) -> list[Way]:
     """The ways in which reads and writes of at most this many octets fail."""
     return [
         Way("reads", at_most), Way("reads", at_most, "INTERRUPTED"),
@@ -68,7 +71,7 @@ def streams(at_most):
     ]  # fmt: skip
 
 
-def ways_of(name):
+def ways_of(name: str) -> list[Way]:
     """What fails in turn of an example."""
     if name in FIVE:
         return [Way("allocations"), *streams(1), *streams(0)]
@@ -78,29 +81,29 @@ def ways_of(name):
 class Trial:
     """The program on one example."""
 
-    def __init__(self, program, before, room, path):
+    def __init__(self, program: str, before: str, room: str, path: str) -> None:
         self.program, self.before, self.room, self.name = program, before, room, os.path.basename(path)
         self.path = path
         self.words = self.beside(".args").decode().split()
-        self.wrong = []
+        self.wrong: list[str] = []
         self.whole = (int(self.beside(".status") or 0), self.beside(".stderr")), self.beside(".stdout")
         if self.run({}) != self.whole:
             self.wrong.append("without a failure it ends otherwise than it should")
 
-    def beside(self, ending):
+    def beside(self, ending: str) -> bytes:
         """What is in a file beside the input, if it is there."""
         if not os.path.isfile(self.path + ending):
             return b""
         with open(self.path + ending, "rb") as file:
             return file.read()
 
-    def run(self, variables):
+    def run(self, variables: dict[str, str]) -> Ended:
         """How a run ends: its status and words, and its output."""
         with open(self.path, "rb") as octets:
             ran = subprocess.run([self.program, *self.words], stdin=octets, capture_output=True, env=variables, timeout=120)
         return (ran.returncode, ran.stderr), ran.stdout
 
-    def fail(self, way, number):
+    def fail(self, way: Way, number: int) -> bool:
         """Whether there is a call of that number, and what is wrong with how it fails."""
         told = f"{self.room}/{self.name}-{way.variable()}-{number}"
         variables = {"LD_PRELOAD": self.before, "TOLD": told, way.variable(): str(number), **way.variables}
@@ -116,7 +119,7 @@ class Trial:
             self.wrong.append(f"{way.name}, {number}: {ended}, written again: {len(later)}, output: {output!r}")
         return True
 
-    def is_right(self, way, ended, output, later):
+    def is_right(self, way: Way, ended: tuple[int, bytes], output: bytes, later: list[str]) -> bool:
         """Whether a run may end so."""
         if way.how == "INTERRUPTED":
             return (ended, output) == self.whole
@@ -126,15 +129,16 @@ class Trial:
             return False
         return ended == STOPPED and self.whole[1].startswith(output)
 
-    def all_of(self, way, threads):
+    def all_of(self, way: Way, threads: ThreadPoolExecutor) -> int:
         """Has each call of a kind fail, and counts them."""
         for start in count(1, 4 * CORES):
             found = list(threads.map(lambda number: self.fail(way, number), range(start, start + 4 * CORES)))
             if not all(found):
                 return start - 1 + found.index(False)
+        raise AssertionError("numbers have no end")
 
 
-def check_streams(program):
+def check_streams(program: str) -> int:
     """How many things are wrong with what the program does with endless input and full output."""
     wanted = (1, b"", b"arpasim: bad topology\n")
     with open("/dev/zero", "rb") as zeros, tempfile.TemporaryFile() as long, open("/dev/full", "wb") as full:
@@ -151,7 +155,7 @@ def check_streams(program):
     return found.count(False)
 
 
-def main():
+def main() -> int:
     program = any_program()
     if program is None:
         print("check failures: there is no program of these sources")
@@ -160,7 +164,7 @@ def main():
     if not compiler:
         print("check failures: NOT TRIED, for want of a C compiler")
         return 1 if os.environ.get("CI") else 0
-    wrong, total = 0, Counter()
+    wrong, total = 0, Counter[str]()
     paths = [f"{ROOT}/{folder}/{name}" for folder in ("examples", "logs") for name in sorted(os.listdir(f"{ROOT}/{folder}")) if "." not in name]
     paths = [it for it in paths if os.path.basename(it) in FIVE + LONG or os.path.getsize(it) <= LONGEST]
     with tempfile.TemporaryDirectory() as room, ThreadPoolExecutor(CORES) as threads:

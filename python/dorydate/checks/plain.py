@@ -7,10 +7,13 @@ status it has to have. What the plain program leaves out is counted apart: optio
 topologies that are refused or that it doesn't read. It is not part of the gate.
 """
 
+from __future__ import annotations
+
 import subprocess
 import sys
 import tempfile
 from collections import Counter
+from collections.abc import Iterable, Iterator, Sequence
 
 from dorydate.checks.cases import cases_below
 from dorydate.parts import ROOT
@@ -18,13 +21,13 @@ from dorydate.parts import ROOT
 LEFT_OUT = ("--log", "--trace", "--audit")
 
 
-def ended(program, options, octets):
+def ended(program: str, options: Iterable[str], octets: bytes) -> tuple[int, bytes, str]:
     """How a program ends on an input: its status, what it prints, and what it says."""
     ran = subprocess.run([program, *options], input=octets, capture_output=True, check=False)
     return ran.returncode, ran.stdout, ran.stderr.decode(errors="backslashreplace")
 
 
-def stored(program):
+def stored(program: str) -> Iterator[tuple[str, str]]:
     """Of each stored input its name, and "same", "differs" or "left out"."""
     for folder in ("examples", "cases"):
         for case in cases_below(f"{ROOT}/{folder}"):
@@ -38,7 +41,7 @@ def stored(program):
                 yield f"{folder}: {case.name}", "left out" if "topology" in case.words else "differs"
 
 
-def beside(program, other, paths):
+def beside(program: str, other: str, paths: Sequence[str]) -> Iterator[tuple[str, str]]:
     """The same of further inputs, beside another program."""
     for path in paths:
         with open(path, "rb") as file:
@@ -46,7 +49,7 @@ def beside(program, other, paths):
         yield path, "same" if ended(program, [], octets) == ended(other, [], octets) else "differs"
 
 
-def main():
+def main() -> int:
     words = sys.argv[1:]
     with tempfile.TemporaryDirectory() as folder:
         program = f"{folder}/plain"

@@ -8,6 +8,8 @@ found before, and the audit keeps the log of each schedule that an exploration r
 the variable DORYDATE_PROGRAM names (tools/optimised makes one).
 """
 
+from __future__ import annotations
+
 import os
 import shutil
 import subprocess
@@ -21,7 +23,7 @@ SEARCHES = {"taken-and-incomplete": 8, "half-open": 9, "resets-in-step": 6, "los
 SCHEDULES = 1_000  # whose logs are audited
 
 
-def mypy():
+def mypy() -> bool:
     """Whether the types are right; True where nobody can tell."""
     if not shutil.which("mypy"):
         print("check python: mypy is not installed, so the types were not checked (apt-get install mypy)")
@@ -32,7 +34,7 @@ def mypy():
     return ran.returncode == 0
 
 
-def pyflakes():
+def pyflakes() -> bool:
     """Whether nothing is imported or set for nothing; True where nobody can tell."""
     if not shutil.which("pyflakes3"):
         print("check python: pyflakes3 is not installed, so it did not run (apt-get install pyflakes3)")
@@ -42,11 +44,11 @@ def pyflakes():
     return ran.returncode == 0
 
 
-def python(*words, env):
+def python(*words: str, env: dict[str, str]) -> subprocess.CompletedProcess[str]:
     return subprocess.run([sys.executable, "-B", *words], cwd=ROOT, capture_output=True, text=True, env=env)
 
 
-def tests(env):
+def tests(env: dict[str, str]) -> bool:
     """Whether the unit tests and the tutorial pass."""
     ran = python("-m", "unittest", "discover", "-q", "-s", "python", "-t", "python", env=env)
     print(f"check python: {ran.stderr.strip().splitlines()[-3] if ran.returncode == 0 else ran.stderr.strip()}")
@@ -55,7 +57,7 @@ def tests(env):
     return ran.returncode == told.returncode == 0
 
 
-def explorations(env):
+def explorations(env: dict[str, str]) -> bool:
     """Whether each search finds its script, and the logs of schedules are kept."""
     wrong = []
     for name, most in SEARCHES.items():
@@ -70,7 +72,7 @@ def explorations(env):
     return not wrong
 
 
-def main():
+def main() -> int:
     program = os.environ.get("DORYDATE_PROGRAM") or any_program()
     if program is None:
         print("check python: there is no program of these sources: ./build makes it")

@@ -9,6 +9,8 @@ answers so has to have run out of memory elsewhere, as in making the world.
 The program is built without proofs (dorydate.builds.unproved), once for the present sources.
 """
 
+from __future__ import annotations
+
 import hashlib
 import os
 import shutil
@@ -35,13 +37,13 @@ SEEN = {(3, "stopped\n"): "in events", (4, "no memory outside of events\n"): "el
 CORES = os.cpu_count() or 1
 
 
-def kept_at():
+def kept_at() -> str:
     """Where the program of the present sources is kept."""
     with open(f"{ROOT}/tools/steps.rs", "rb") as file:
         return f"{ROOT}/out/{hashlib.sha256(kept_for_sources().encode() + file.read()).hexdigest()}/steps"
 
 
-def with_sources(folder):
+def with_sources(folder: str) -> str:
     """Puts the program's source into a folder as a crate, with copies of the crates that it uses."""
     with open(f"{ROOT}/crates.txt", encoding="utf-8") as file:
         lines = dict(line.strip().split(":") for line in file if line.strip() and not line.startswith("#"))
@@ -57,7 +59,7 @@ def with_sources(folder):
     return f"{folder}/crates/steps"
 
 
-def events_of(name):
+def events_of(name: str) -> bytes:
     """What the program reads for an input, whose IMPs are in a row and have a host each."""
     with open(f"{ROOT}/{name}", "rb") as file:
         topology, script = file.read().split(b"\n%\n", 1)
@@ -66,11 +68,11 @@ def events_of(name):
     return f"{'raw' if raw else 'world'} {carrier} {len(imps)}\n".encode() + script
 
 
-def check(program, before, room, name, threads):
+def check(program: str, before: str, room: str, name: str, threads: ThreadPoolExecutor) -> int:
     """How many allocations of an input are refused otherwise than they should be."""
     octets = events_of(name)
 
-    def refuse(number):
+    def refuse(number: int) -> tuple[int, str] | None:
         """What a run comes to in which an allocation is refused; None where there is no such allocation."""
         told = f"{room}/{number}"
         variables = {"LD_PRELOAD": before, "TOLD": told, "FAIL_ALLOCATION": str(number)}
@@ -81,7 +83,7 @@ def check(program, before, room, name, threads):
         return ran.returncode, ran.stdout.decode()
 
     whole = subprocess.run([program], input=octets, capture_output=True, timeout=300)
-    seen, wrong = Counter(), int((whole.returncode, whole.stdout) != (0, WANTED))
+    seen, wrong = Counter[str](), int((whole.returncode, whole.stdout) != (0, WANTED))
     for start in count(1, 4 * CORES):
         found = list(threads.map(refuse, range(start, start + 4 * CORES)))
         for number, it in enumerate(found, start):
@@ -96,7 +98,7 @@ def check(program, before, room, name, threads):
     return wrong if seen["in events"] else wrong + 1
 
 
-def main():
+def main() -> int:
     compiler = shutil.which("cc") or shutil.which("clang")
     if not compiler:
         print("check steps: NOT TRIED, for want of a C compiler")

@@ -15,6 +15,8 @@ With --browser the plain page is opened from a file in Chromium and Firefox, whe
 work, and nothing may be cut at the width of a telephone.
 """
 
+from __future__ import annotations
+
 import base64
 import glob
 import gzip
@@ -30,6 +32,8 @@ import tempfile
 
 from dorydate.checks.cases import cases_below
 from dorydate.parts import ROOT
+from collections.abc import Callable
+from typing import Any
 from wasm import binary, make
 
 # lists of words that each example is run with
@@ -42,26 +46,26 @@ class Wrong(Exception):
     """What is not as it has to be."""
 
 
-def node():
-    """The command of Node, or None."""
-    return shutil.which("node") or shutil.which("nodejs")
+def node() -> str:
+    """The command of Node, nothing where there is none."""
+    return shutil.which("node") or shutil.which("nodejs") or ""
 
 
-def call(*words, **how):
+def call(*words: str, **how: Any) -> None:
     """Runs a command whose output is shown, and has to succeed."""
     sys.stdout.flush()
     if subprocess.run(words, **how).returncode:
         raise Wrong(f"failed: {' '.join(os.path.relpath(it, ROOT) if it.startswith(ROOT) else it for it in words[:4])}")
 
 
-def in_tools(root=ROOT):
+def in_tools(root: str = ROOT) -> dict[str, Any]:
     return {"cwd": f"{root}/tools", "env": {**os.environ, "PYTHONDONTWRITEBYTECODE": "1"}}
 
 
 # ---- the surroundings
 
 
-def try_shims(folder, sources, root=ROOT):
+def try_shims(folder: str, sources: str, root: str = ROOT) -> str | None:
     """Builds the surroundings and tries them; what was said is given back if something differs, else None."""
     built = subprocess.run([sys.executable, "-m", "wasm.shims", folder, sources], capture_output=True, text=True, **in_tools(root))
     if built.returncode:
@@ -73,19 +77,22 @@ def try_shims(folder, sources, root=ROOT):
     return tried.stderr
 
 
-def apply(edit, folder):
+def apply(edit: str, folder: str) -> None:
     """Changes one file of a folder as an edit says."""
     with open(edit, encoding="utf-8") as file:
-        name, old, new = re.fullmatch(r"file: (.*)\nold: (.*)\nnew: (.*)\n", file.read()).groups()
+        found = re.fullmatch(r"file: (.*)\nold: (.*)\nnew: (.*)\n", file.read())
+    if found is None:
+        raise Wrong(f"{os.path.basename(edit)} has not a file, an old text and a new one")
+    name, old, new = found.groups()
     with open(f"{folder}/{name}", encoding="utf-8") as file:
         text = file.read()
     if text.count(f"{old}\n") != 1:
-        raise Wrong(f"{os.path.basename(edit)}: its old text does not stand once in {name}")
+        raise Wrong(f"{os.path.basename(edit)}: its old text is not once in {name}")
     with open(f"{folder}/{name}", "w", encoding="utf-8") as file:
         file.write(text.replace(f"{old}\n", f"{new}\n"))
 
 
-def try_wrong_bodies():
+def try_wrong_bodies() -> None:
     """Each wrong body has to be found by what the models say, or by a trap."""
     edits = sorted(glob.glob(f"{ROOT}/tools/wasm/wrong-bodies/*.edit"))
     for edit in edits:
@@ -101,7 +108,7 @@ def try_wrong_bodies():
 # ---- runs
 
 
-def changed(octets, chance):
+def changed(octets: bytes, chance: random.Random) -> bytes:
     """An input with one octet or one line that is another, in random places."""
     if chance.random() < 0.3:
         at = chance.randrange(len(octets))
@@ -116,7 +123,7 @@ def changed(octets, chance):
     return b"".join(lines)
 
 
-def write_runs(folder):
+def write_runs(folder: str) -> None:
     """Writes the stored inputs, and which words each is run with: examples with every list, the others with their own and none.
 
     Each example is also there with changes in random places, most of which still are inputs that are replayed.
@@ -133,19 +140,19 @@ def write_runs(folder):
                 with open(f"{file}-{number}", "wb") as made:
                     made.write(changed(case.octets, chance))
                 runs.append({"file": f"{file}-{number}", "words": [["--book", "--texts"]]})
-    with open(f"{folder}/runs.json", "w", encoding="utf-8") as file:
-        json.dump(runs, file)
+    with open(f"{folder}/runs.json", "w", encoding="utf-8") as listed:
+        json.dump(runs, listed)
 
 
 # ---- limits of memory
 
 
-def examples():
+def examples() -> list[str]:
     """The files of the examples that are replayed to their end."""
     return [f"{ROOT}/examples/{case.name}" for case in cases_below(f"{ROOT}/examples") if case.status == 0]
 
 
-def write_limited(module, folder):
+def write_limited(module: str, folder: str) -> None:
     """Writes the module once for each limit of its memory."""
     with open(module, "rb") as file:
         octets = file.read()
@@ -158,15 +165,15 @@ def write_limited(module, folder):
 # ---- the page and what it holds
 
 
-def block_of(page, name):
+def block_of(page: str, name: str) -> str:
     """A data block of a page."""
     found = re.findall(rf'<script type="[^"]*" id="{name}">(.*?)</script>', page, re.DOTALL)
     if len(found) != 1:
         raise Wrong(f"the page has {len(found)} blocks {name}")
-    return found[0]
+    return str(found[0])
 
 
-def check_module(module, sources, is_proved):
+def check_module(module: bytes, sources: str, is_proved: bool) -> None:
     """A module has to come from these sources, and to say whether it is proved as its compiler's mark does."""
     note = json.loads(binary.note_of(module, make.NOTE) or b"{}")
     if note.get("sources") != sources:
@@ -178,7 +185,7 @@ def check_module(module, sources, is_proved):
         raise Wrong(f"the module is {'not ' * (not note['proved'])}proved, and the program {'not ' * (not is_proved)}")
 
 
-def check_page(page, sources, is_proved, module=None):
+def check_page(page: str, sources: str, is_proved: bool, module: bytes | None = None) -> None:
     """A page has to hold the module, of these sources, and to forbid every request."""
     held = gzip.decompress(base64.b64decode(block_of(page, "program")))
     check_module(held, sources, is_proved)
@@ -191,7 +198,7 @@ def check_page(page, sources, is_proved, module=None):
         raise Wrong(f"the page names {word}")
 
 
-def check_released(page, note):
+def check_released(page: str, note: dict[str, Any]) -> None:
     """The page of the last release has to be the one that its note tells of, and proved. It needn't be of today's sources."""
     if hashlib.sha256(page.encode()).hexdigest() != note["page"]:
         raise Wrong("released/dorydate.html is not the page that released/note.json tells of")
@@ -203,7 +210,7 @@ def check_released(page, note):
     check_page(page, note["sources"], True)
 
 
-def check_release():
+def check_release() -> None:
     """The page in the repository, if there is one yet, and pages in its place that are wrong."""
     if not os.path.exists(f"{ROOT}/released/note.json"):
         print("no page was released yet")
@@ -217,7 +224,7 @@ def check_release():
     print(f"released/dorydate.html is as its note says, of the sources {note['sources'][:16]}; 3 wrong ones were found")
 
 
-def has_to_refuse(what, check, *given):
+def has_to_refuse(what: str, check: Callable[..., None], *given: object) -> None:
     try:
         check(*given)
     except Wrong:
@@ -225,7 +232,7 @@ def has_to_refuse(what, check, *given):
     raise Wrong(f"not found: {what}")
 
 
-def check_pages(program):
+def check_pages(program: str) -> None:
     """The page that is kept, and pages that are wrong."""
     sources, is_proved = os.path.basename(os.path.dirname(program)), not program.endswith("-unproved")
     with open(f"{program}.html", encoding="utf-8") as file, open(f"{program}.wasm", "rb") as held:
@@ -233,7 +240,7 @@ def check_pages(program):
     check_page(page, sources, is_proved, module)
     packed = block_of(page, "program")
 
-    def page_with(**changes):
+    def page_with(**changes: object) -> str:
         note = {**json.loads(binary.note_of(module, make.NOTE)), **changes}
         changed = make.noted(module, binary.note_of(module, "producers"), note)
         return page.replace(packed, base64.b64encode(gzip.compress(changed)).decode())
@@ -246,7 +253,7 @@ def check_pages(program):
     print(f"the page holds the module of the sources {sources[:16]}, which is {'' if is_proved else 'NOT '}proved; 5 wrong pages were found")
 
 
-def main():
+def main() -> int:
     words = sys.argv[1:]
     if words not in ([], ["--browser"]):
         sys.exit("usage: ./check wasm [--browser]")

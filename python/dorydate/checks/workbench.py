@@ -61,7 +61,7 @@ def states_of(text: bytes) -> list[dict[str, object]] | None:
 
 def model_states() -> dict[str, object]:
     """Those of each example that the program replays."""
-    found = {}
+    found: dict[str, object] = {}
     for name in sorted(os.listdir(f"{ROOT}/examples")):
         if "." in name or os.path.exists(f"{ROOT}/examples/{name}.status"):
             continue
@@ -123,7 +123,7 @@ def failures(told: str) -> str:
 
 
 def check_browsers(command: str) -> None:
-    browsers = [found for names in (("chromium", "chromium-browser", "google-chrome"), ("firefox", "firefox-esr")) if (found := next(filter(None, map(shutil.which, names)), None))]
+    browsers = [found[0] for names in (("chromium", "chromium-browser", "google-chrome"), ("firefox", "firefox-esr")) if (found := [path for name in names if (path := shutil.which(name))])]
     if not browsers:
         print("check workbench: there is no browser here, so the page was tried in none")
         return

@@ -231,7 +231,7 @@ def difference(one: str, other: str, its: str, others: str) -> str:
 
 
 def hexadecimal(bits: str) -> str:
-    return octets_of(bits).hex().upper()
+    return str(octets_of(bits).hex().upper())
 
 
 def why_partners(book: Book, numbers: list[int]) -> str:

@@ -16,9 +16,13 @@ Told are the median and the best processor time of the rounds, from the start of
 compares the best: a hundred times as long is a square. It wants GNU time at /usr/bin/time, and is not part of the gate.
 """
 
+from __future__ import annotations
+
 import statistics
 import sys
 import tempfile
+from collections.abc import Callable
+from typing import Any
 
 from dorydate.model.audit import CONTROL
 from dorydate.model.log import Book, spelled_log
@@ -30,28 +34,29 @@ SIZES = (1_000, 100), (10_000, 1_000)
 A, B = (0, 1), (0, 2)
 TEXT = "01000001"
 DATA = 5  # a link of data
+Make = Callable[[int, int], Book]  # a book of this many crossings and lives
 
 
-def passed(log, flow):
+def passed(log: list[Any], flow: Any) -> tuple[int, int]:
     """Adds a message that goes out, is taken and answered. It gives the places where it went out and came in."""
     log += [("out", flow, TEXT), ("in", flow, TEXT), ("answer", "rfnm", flow)]
     return len(log) - 3, len(log) - 2
 
 
-def hosts():
+def hosts() -> list[tuple[Any, Any]]:
     """All pairs of two hosts."""
     names = [(host, imp) for imp in range(1, 64) for host in range(4)]
     return [(one, other) for one in names for other in names if one < other]
 
 
-def filled(book, crossings):
+def filled(book: Book, crossings: int) -> Book:
     """Fills up a log with messages of data."""
     while len(book.log) <= crossings - 3:
         passed(book.log, (A, B, DATA + 1))
     return book
 
 
-def connected(book, asked, answered, receiver, sender, socket=16):
+def connected(book: Book, asked: tuple[int, int], answered: tuple[int, int], receiver: Any, sender: Any, socket: int = 16) -> None:
     """Adds both lives of a connection whose two requests went out and came in at these places."""
     bits = TEXT[:5]
     book.lives.append(Life(receiver, socket, sender, socket + 17, asked[0], answered[1], bits, 1, [1, 8]))
@@ -59,11 +64,11 @@ def connected(book, asked, answered, receiver, sender, socket=16):
     book.handed.extend(["", bits])
 
 
-def without_lives(crossings, _):
+def without_lives(crossings: int, _: int) -> Book:
     return filled(Book([], [], []), crossings)
 
 
-def different(crossings, lives):
+def different(crossings: int, lives: int) -> Book:
     book = Book([], [], [])
     for one, other in hosts()[: lives // 2]:
         requests = passed(book.log, (one, other, CONTROL)), passed(book.log, (other, one, CONTROL))
@@ -72,7 +77,7 @@ def different(crossings, lives):
     return filled(book, crossings)
 
 
-def alike(crossings, lives):
+def alike(crossings: int, lives: int) -> Book:
     book = Book([], [], [])
     for _ in range(lives // 2):
         requests = passed(book.log, (A, B, CONTROL)), passed(book.log, (B, A, CONTROL))
@@ -80,7 +85,7 @@ def alike(crossings, lives):
     return filled(book, crossings)
 
 
-def alike_and_late(crossings, lives):
+def alike_and_late(crossings: int, lives: int) -> Book:
     book, late = Book([], [], []), (B, A, CONTROL)
     asked = passed(book.log, (A, B, CONTROL))
     book.log.append(("out", late, TEXT))
@@ -93,7 +98,7 @@ def alike_and_late(crossings, lives):
     return filled(book, crossings)
 
 
-def in_one_message(crossings, lives):
+def in_one_message(crossings: int, lives: int) -> Book:
     book, late = Book([], [], []), (B, A, CONTROL)
     asked = passed(book.log, (A, B, CONTROL))
     book.log.append(("out", late, TEXT))
@@ -104,7 +109,7 @@ def in_one_message(crossings, lives):
     return book
 
 
-def all_at_once(crossings, _):
+def all_at_once(crossings: int, _: int) -> Book:
     flows = [(one, other, CONTROL) for one, other in hosts()[: crossings // 3]]
     outs, ins = ([(kind, flow, TEXT) for flow in flows] for kind in ("out", "in"))
     return Book([*outs, *ins, *(("answer", "rfnm", flow) for flow in flows)], [], [])
@@ -120,9 +125,9 @@ MEASURED = [
 ]
 
 
-def measure(program, folder, rounds, name, make):
+def measure(program: str, folder: str, rounds: int, name: str, make: Make) -> None:
     """Tells one size and ten times that size."""
-    short = 0
+    short = 0.0
     for crossings, lives in SIZES:
         book = make(crossings, lives)
         source = written(folder, f"{make.__name__}-{crossings}", spelled_log(book).decode())
@@ -137,7 +142,7 @@ def measure(program, folder, rounds, name, make):
         short = best
 
 
-def main():
+def main() -> None:
     words = sys.argv[1:]
     program = proved_program() if words[:1] != ["--program"] else words[1]
     words = words[2:] if words[:1] == ["--program"] else words

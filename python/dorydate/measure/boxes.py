@@ -19,6 +19,8 @@ takes for ten times the lines; at most twelve times is wanted, and at most 150 m
 The earlier state is run only once on a script that takes it more than a second. It is not part of the gate.
 """
 
+from __future__ import annotations
+
 import argparse
 import os
 import statistics
@@ -37,29 +39,29 @@ HOSTS = [f"{host}/{imp}" for imp in range(1, 10) for host in range(4) if f"{host
 FLOWS = [f"{source} {to} {link}" for links in (range(10), range(10, 100)) for to in HOSTS for link in links for source in HOSTS]
 
 
-def out(count):
+def out(count: int) -> list[str]:
     return [f"out {flow} 0 -" for flow in FLOWS[:count]]
 
 
-def takes(count):
+def takes(count: int) -> list[str]:
     return out(count // 2)
 
 
-def givings_up(count):
+def givings_up(count: int) -> list[str]:
     waiting = 45 * count // 100
     return out(waiting) + [f"giveup {flow}" for flow in reversed(FLOWS[:waiting])]
 
 
-def givings_up_in_order(count):
+def givings_up_in_order(count: int) -> list[str]:
     waiting = 45 * count // 100
     return out(waiting) + [f"giveup {flow}" for flow in FLOWS[:waiting]]
 
 
-def refused_offers(count):
+def refused_offers(count: int) -> list[str]:
     return 2 * out(43 * count // 100)
 
 
-def stops_and_starts(count):
+def stops_and_starts(count: int) -> list[str]:
     changes = [f"hostdown {IDLE}", f"hostup {IDLE}", f"hostdown {HOSTS[0]}", f"hostup {HOSTS[0]}"]
     return out(count // 2) + [changes[at % 4] for at in range(count // 2)]
 
@@ -73,19 +75,19 @@ SCRIPTS = {
 }
 
 
-def printed(program, source):
+def printed(program: str, source: str) -> bytes:
     with open(source, "rb") as octets:
         return subprocess.run([program], stdin=octets, capture_output=True, check=True).stdout
 
 
-def filled(name, count):
+def filled(name: str, count: int) -> str:
     """A script of this many lines."""
     lines = SCRIPTS[name](count)
     lines += (count - len(lines)) * [f"take {IDLE}"]
     return TOPOLOGY + "\n".join(lines) + "\n"
 
 
-def words_of():
+def words_of() -> argparse.Namespace:
     words = argparse.ArgumentParser(prog="measure boxes")
     words.add_argument("--program")
     words.add_argument("other")
@@ -93,7 +95,7 @@ def words_of():
     return words.parse_args()
 
 
-def main():
+def main() -> None:
     words = words_of()
     other = os.path.realpath(words.other)
     programs = [other if os.path.isfile(other) else proved_program(other), words.program or proved_program(ROOT)]
@@ -101,7 +103,7 @@ def main():
     with tempfile.TemporaryDirectory() as folder:
         print("| Measured | Lines | Before | After | Times | Ten times the lines |\n|---|---|---|---|---|---|")
         for name in SCRIPTS:
-            short = 0
+            short = 0.0
             for count in (6_000, 60_000):
                 source = written(folder, f"{name}-{count}", filled(name, count))
                 if printed(programs[0], source) != printed(programs[1], source):
@@ -111,7 +113,7 @@ def main():
                     for taken, program in zip(times, programs):
                         if taken[0] < 1000:
                             taken.append(1000 * processor_time([program], source))
-                before, after = map(statistics.median, times)
+                before, after = (statistics.median(it) for it in times)
                 growth = f"{after / short:.1f}" if short else "-"
                 print(f"| {name} | {count:,} | {before:.1f} ms | {after:.1f} ms | {before / after:.1f} | {growth} |", flush=True)
                 short = after

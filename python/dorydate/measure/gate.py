@@ -6,12 +6,15 @@ passed on this machine before the gate proves nothing again, so the table takes 
 comments of the page only where no crate was kept; else it is only printed. From nothing it takes an hour on four cores.
 """
 
+from __future__ import annotations
+
 import os
 import re
 import subprocess
 import sys
 import tempfile
 import time
+from collections.abc import Callable, Mapping
 
 from dorydate.parts import ROOT
 
@@ -19,15 +22,16 @@ PAGE = f"{ROOT}/docs/measured/gate.md"
 MARKERS = "<!-- gate table: begin -->", "<!-- gate table: end -->"
 TICKS = os.sysconf("SC_CLK_TCK")
 PARTS = "library", "tests", "planted bugs"
+Work = tuple[str, str]  # a crate, and a part of it
 
 
-def crates():
+def crates() -> list[str]:
     """The crates, in the order of crates.txt."""
     with open(f"{ROOT}/crates.txt", encoding="utf-8") as file:
         return [it[1] for line in file if (it := re.match(r"(\w+)[^:#]*:", line))]
 
 
-def lines_of(crate):
+def lines_of(crate: str) -> int:
     """The lines of a crate's sources."""
     count = 0
     for folder, _, names in os.walk(f"{ROOT}/crates/{crate}"):
@@ -39,7 +43,7 @@ def lines_of(crate):
     return count
 
 
-def read(path):
+def read(path: str) -> str:
     """A file of /proc, empty where its process has ended."""
     try:
         with open(path, "rb") as file:
@@ -48,7 +52,7 @@ def read(path):
         return ""
 
 
-def work_of(pid, parent):
+def work_of(pid: str, parent: Work | None) -> Work | None:
     """What a process works on: a crate and which part of it. Whoever is no call of the compiler works for its parent."""
     words = read(f"/proc/{pid}/cmdline").split("\0")
     if not words[0].endswith("/rattle") or "--crate-name" not in words:
@@ -63,9 +67,11 @@ def work_of(pid, parent):
     return crate, PARTS[part]
 
 
-def watch(session, goes_on):
+def watch(session: int, goes_on: Callable[[], bool]) -> dict[Work | None, float]:
     """The seconds of the processor of each work of a session, as long as it continues."""
-    used, works, latest = {}, {}, {}
+    used: dict[tuple[str, str], int] = {}
+    works: dict[tuple[str, str], Work | None] = {}
+    latest: dict[str, Work | None] = {}
     while goes_on():
         for pid in filter(str.isdigit, os.listdir("/proc")):
             fields = read(f"/proc/{pid}/stat").rpartition(")")[2].split()
@@ -77,17 +83,17 @@ def watch(session, goes_on):
             latest[pid] = works[key]
             used[key] = int(fields[11]) + int(fields[12])
         time.sleep(0.4)
-    seconds = {}
+    seconds: dict[Work | None, float] = {}
     for key, ticks in used.items():
         seconds[works[key]] = seconds.get(works[key], 0) + ticks / TICKS
     return seconds
 
 
-def table(seconds):
+def table(seconds: Mapping[Work | None, float]) -> tuple[list[str], list[str]]:
     """The rows of the table, and the crates of which no proof was seen."""
     rows = ["| Crate | Lines | Library | Tests | Planted bugs |", "|---|---|---|---|---|"]
-    kept = []
-    whole = [0, 0, 0]
+    kept: list[str] = []
+    whole = [0.0, 0.0, 0.0]
     for crate in crates():
         own = [seconds.get((crate, part), 0) for part in PARTS]
         whole = [a + b for a, b in zip(whole, own)]
@@ -98,7 +104,7 @@ def table(seconds):
     return rows, kept
 
 
-def write(rows):
+def write(rows: list[str]) -> None:
     """Puts the table between the markers of the page."""
     with open(PAGE, encoding="utf-8") as file:
         text = file.read()
@@ -109,7 +115,7 @@ def write(rows):
         file.write("\n".join([head + MARKERS[0], "", *rows, "", MARKERS[1] + rest.split(MARKERS[1])[1]]))
 
 
-def gate(folder):
+def gate(folder: str) -> dict[Work | None, float]:
     """The seconds of each work of a gate in a fresh clone."""
     subprocess.run(["git", "clone", "-q", ROOT, f"{folder}/gate"], check=True)
     os.symlink(os.path.realpath(f"{ROOT}/../shared"), f"{folder}/shared")
@@ -122,7 +128,7 @@ def gate(folder):
     return seconds
 
 
-def main():
+def main() -> None:
     if sys.argv[1:]:
         seconds = watch(int(sys.argv[1]), lambda: os.path.exists(f"/proc/{sys.argv[1]}"))
     else:

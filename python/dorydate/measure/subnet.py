@@ -22,12 +22,16 @@ and for ten times the events at most eleven times as long. It wants GNU time at 
 gate.
 """
 
+from __future__ import annotations
+
 import argparse
 import random
 import statistics
 import subprocess
 import sys
 import tempfile
+from collections.abc import Callable, Sequence
+from dataclasses import dataclass
 
 from dorydate.model.imp import MOST_IMPS
 from dorydate.measure import best_of_all, instructions, most_memory, processor_time, written
@@ -35,16 +39,17 @@ from dorydate.parts import proved_program
 from dorydate.model.subnet import Subnet
 
 HOPS = 14
+Script = tuple[str, list[str]]  # a topology, and the lines of a script
 RING = [(number, number % 16 + 1) for number in range(1, 17)]
 
 
-def network(imps, lines):
+def network(imps: Sequence[tuple[int, int]], lines: Sequence[tuple[int, int]]) -> str:
     """The document of IMPs with this many hosts, and of lines."""
     sites = "".join(f"[[imp]]\nid={number}\nhosts={hosts}\n" for number, hosts in imps)
     return 'carrier = "subnet"\nraw = true\n' + sites + "".join(f"[[line]]\na={a}\nb={b}\n" for a, b in lines) + "%\n"
 
 
-def chain(messages):
+def chain(messages: int) -> Script:
     imps = [(number, int(number in (1, 8))) for number in range(1, 9)]
     lines = ["calm 8"]
     for _ in range(messages // 8):
@@ -52,7 +57,7 @@ def chain(messages):
     return network(imps, [(number, number + 1) for number in range(1, 8)]), lines
 
 
-def between_many(messages):
+def between_many(messages: int) -> Script:
     hosts = [f"{host}/{number}" for number in range(1, 17) for host in range(4)]
     lines = ["calm 16"]
     for at in range(messages // 64):
@@ -61,11 +66,11 @@ def between_many(messages):
     return network([(number, 4) for number in range(1, 17)], RING), lines
 
 
-def quiet(rounds):
+def quiet(rounds: int) -> Script:
     return network([(number, 4) for number in range(1, 17)], RING), ["calm 100"] * (rounds // 100)
 
 
-def between_most(messages):
+def between_most(messages: int) -> Script:
     """A ring of all IMPs with lines to the next but one, and to the one across, and messages for hosts all over it."""
     numbers = range(1, MOST_IMPS + 1)
     hosts = [f"{host}/{number}" for number in numbers for host in range(4)]
@@ -77,20 +82,20 @@ def between_most(messages):
     return network([(number, 4) for number in numbers], near + [(number, number + 31) for number in range(1, 32)]), lines
 
 
-def row(messages):
+def row(messages: int) -> Script:
     imps = [(number, int(number in (1, MOST_IMPS))) for number in range(1, MOST_IMPS + 1)]
     lines = ["calm 63"] + [f"out 0/1 0/{MOST_IMPS} 5 8 FF", "calm 64"] * messages
     return network(imps, [(number, number + 1) for number in range(1, MOST_IMPS)]), lines
 
 
-def chance(events):
+def chance(events: int) -> Script:
     chosen = random.Random(1972)
     imps = [(number, 1) for number in range(1, 17)]
     ends = RING + [(number, number + 8) for number in range(1, 9)]
     subnet = Subnet(imps, ends)
     lines = []
 
-    def add(line, happen):
+    def add(line: str, happen: Callable[[], object]) -> None:
         lines.append(line)
         happen()
 
@@ -116,7 +121,7 @@ def chance(events):
     return network(imps, ends), lines[:events]
 
 
-def input_of(head, lines):
+def input_of(head: str, lines: Sequence[str]) -> str:
     return head + "\n".join(lines) + "\n"
 
 
@@ -130,20 +135,20 @@ MEASURED = [
 ]
 
 
-def ended(program, source):
+def ended(program: str, source: str) -> tuple[int, bytes]:
     """The status of a run, and what it printed."""
     with open(source, "rb") as octets:
         ran = subprocess.run([program], stdin=octets, capture_output=True)
     return ran.returncode, ran.stdout
 
 
-def alone(program, source, rounds):
+def alone(program: str, source: str, rounds: int) -> tuple[float, float]:
     """The median and the best processor time of this many runs."""
     runs = [processor_time([program], source) for _ in range(rounds)]
     return statistics.median(runs), min(runs)
 
 
-def words_of():
+def words_of() -> argparse.Namespace:
     words = argparse.ArgumentParser(prog="measure subnet")
     words.add_argument("--program")
     words.add_argument("--beside")
@@ -153,22 +158,25 @@ def words_of():
     return words.parse_args()
 
 
+@dataclass(frozen=True)
 class Measure:
-    """The programs, how often they are run, and how what they take is told: in milliseconds or in millions of instructions."""
+    """The programs, how often they are run, and whether what they take is counted in instructions, not in milliseconds."""
 
-    def __init__(self, words):
-        self.program, self.beside, self.rounds, self.counts = words.program or proved_program(), words.beside, words.rounds, words.instructions
+    program: str
+    beside: str | None
+    rounds: int
+    counts: bool
 
-    def head(self):
+    def head(self) -> str:
         taken = "Instructions" if self.counts else "Median | Best | A second"
         columns = "Before | After | After by before | Most memory before | after" if self.beside else f"{taken} | Most memory"
         told = f"| Measured | Count | {columns} | Ten times the count |"
         return f"{told}\n|{'---|' * (told.count('|') - 1)}"
 
-    def number(self, taken):
+    def number(self, taken: float) -> str:
         return f"{taken:,.1f} M" if self.counts else f"{1000 * taken:.1f} ms"
 
-    def row(self, source, unit, count):
+    def row(self, source: str, unit: str, count: int) -> tuple[str, float]:
         """The words of a row, and what the program takes."""
         memory = most_memory(self.program, source)[0]
         if not self.beside:
@@ -179,21 +187,21 @@ class Measure:
         if status == 0 and earlier != later:
             sys.exit(f"measure subnet: the two programs print something else on {source}")
         programs = [self.beside, self.program] if status == 0 else [self.program]
-        taken = [instructions(it, source) for it in programs] if self.counts else [*best_of_all(programs, source, self.rounds)]
+        costs = [instructions(it, source) for it in programs] if self.counts else best_of_all(programs, source, self.rounds)
         if status != 0:
-            return f"refused | {self.number(taken[0])} | | | {memory:,} KiB", taken[0]
-        before, after = taken
+            return f"refused | {self.number(costs[0])} | | | {memory:,} KiB", costs[0]
+        before, after = costs
         told = f"{self.number(before)} | {self.number(after)} | {after / before:.2f}"
         return f"{told} | {most_memory(self.beside, source)[0]:,} KiB | {memory:,} KiB", after
 
 
-def main():
+def main() -> None:
     words = words_of()
-    measure = Measure(words)
+    measure = Measure(words.program or proved_program(), words.beside, words.rounds, words.instructions)
     print(measure.head())
     with tempfile.TemporaryDirectory() as folder:
         for name, make, counts, unit, each in MEASURED:
-            short = 0
+            short = 0.0
             for count in counts if words.only in name else []:
                 source = written(folder, f"{make.__name__}-{count}", input_of(*make(count)))
                 told, best = measure.row(source, unit, each * count)

@@ -13,6 +13,8 @@ so that a busy machine slows both.
 It wants GNU time at /usr/bin/time, which tells how much memory a process held. It is not part of the gate.
 """
 
+from __future__ import annotations
+
 import os
 import random
 import re
@@ -21,6 +23,7 @@ import statistics
 import subprocess
 import sys
 import tempfile
+from collections.abc import Sequence
 
 from dorydate.builds.drivers import crates_below
 from dorydate.measure import MOST_OCTETS, most_memory, processor_time, written
@@ -31,7 +34,7 @@ TOPOLOGY = 'carrier = "plain"\nraw = true\n[[imp]]\nid = 1\nhosts = 1\n[[imp]]\n
 CALLS = {"pad16": 20_000, "strip": 20_000, "cut": 8_000, "write": 8_000, "read": 8_000}
 
 
-def long_texts():
+def long_texts() -> tuple[str, int]:
     """A script of as many messages as an input has room for, and their number."""
     chance = random.Random(8063)
     lines, size = [TOPOLOGY], len(TOPOLOGY)
@@ -44,33 +47,33 @@ def long_texts():
         size += len(line)
 
 
-def told(name, before, after, unit):
+def told(name: str, before: float, after: float, *, unit: str) -> None:
     """Prints a row: both values and how many times the first is the second."""
     shown = [f"{value:,.0f}" if value >= 100 else f"{value:.2f}" for value in (before, after)]
     print(f"| {name} | {shown[0]} {unit} | {shown[1]} {unit} | {before / after:.1f} |", flush=True)
 
 
-def measure_script(programs, folder, rounds):
+def measure_script(programs: Sequence[str], folder: str, rounds: int) -> None:
     """Runs the script of long texts in both states."""
     text, count = long_texts()
     source = written(folder, "script", text)
     held = [most_memory(program, source) for program in programs]
     if held[0][1] != held[1][1] or held[0][1].count(b"\n") != 3 * count + 1:
         sys.exit("measure texts: the two programs print something else")
-    times = [[], []]
+    times: list[list[float]] = [[], []]
     for _ in range(rounds):
         for taken, program in zip(times, programs):
             taken.append(1000 * processor_time([program], source))
     name = f"a script of {len(text):,} octets, {count} messages"
-    told(f"{name}: median", *map(statistics.median, times), "ms")
-    told(f"{name}: best", *map(min, times), "ms")
-    told(f"{name}: most memory", held[0][0], held[1][0], "KiB")
+    told(f"{name}: median", *(statistics.median(it) for it in times), unit="ms")
+    told(f"{name}: best", *(min(it) for it in times), unit="ms")
+    told(f"{name}: most memory", held[0][0], held[1][0], unit="KiB")
 
 
-def caller(root, folder):
+def caller(root: str, folder: str) -> str:
     """Proves and builds tools/texts.rs over the crates of a clone."""
     with open(f"{root}/crates.txt", encoding="utf-8") as file:
-        lines = dict(re.fullmatch(r"(\w+):(.*)", line.strip()).groups() for line in file if not line.startswith("#") and line.strip())
+        lines: dict[str, str] = dict(re.findall(r"^(\w+):(.*)$", file.read(), re.MULTILINE))
     needed = crates_below({name: below.split() for name, below in lines.items()}, "packetiser")
     os.makedirs(f"{folder}/crates/texts/src")
     shutil.copy(f"{ROOT}/tools/texts.rs", f"{folder}/crates/texts/src/main.rt")
@@ -85,23 +88,23 @@ def caller(root, folder):
     return f"{folder}/crates/texts/out/texts"
 
 
-def call_time(program, call, count):
+def call_time(program: str, call: str, count: int) -> float:
     """How many microseconds of the processor a call takes."""
     start = processor_time([program, call, "0"])
     return 1_000_000 * (processor_time([program, call, str(count)]) - start) / count
 
 
-def measure_calls(programs, rounds):
+def measure_calls(programs: Sequence[str], rounds: int) -> None:
     """Makes each public call in both states, so often that each state takes about the same time."""
     for call, count in CALLS.items():
-        times = [[], []]
+        times: list[list[float]] = [[], []]
         for _ in range(rounds):
             times[0].append(call_time(programs[0], call, count))
             times[1].append(call_time(programs[1], call, 20 * count))
-        told(f"`{call}`: median", *map(statistics.median, times), "us")
+        told(f"`{call}`: median", *(statistics.median(it) for it in times), unit="us")
 
 
-def main():
+def main() -> None:
     if not 2 <= len(sys.argv) <= 3:
         sys.exit("measure texts: the path of a clone at another commit is wanted, and how many rounds")
     roots = [os.path.realpath(sys.argv[1]), ROOT]

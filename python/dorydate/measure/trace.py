@@ -9,6 +9,8 @@ most three times is wanted.
 It is not part of the gate.
 """
 
+from __future__ import annotations
+
 import argparse
 import subprocess
 import tempfile
@@ -24,8 +26,9 @@ CHAIN = 'raw = true\n' + "".join(f"[[imp]]\nid = {imp}\nhosts = {hosts}\n" for i
 OVER = [f"{call} {line} {way} 0" for line in (0, 1, 2) for way in "+-" for call in ("deliver", "drop")]
 BACK = [f"{call} {line} {way} 0" for line in (2, 1, 0) for way in "-+" for call in ("deliver", "drop")]
 HOPS = ["out 0/1 0/4 5 24 414243", *OVER, "take 0/4", *BACK, "take 0/1"]
+NEITHER_AND_TRACE: tuple[list[str], list[str]] = [], ["--trace"]
 QUIET = ["out 0/1 0/4 5 24 414243", "calm 2"]
-KINDS = [
+KINDS: list[tuple[str, str, list[str], list[str]]] = [
     ("plain mailboxes, single events", TOPOLOGY, [], SINGLE),
     ("plain mailboxes, calms", TOPOLOGY, [], CALM),
     ("a chain of 4 IMPs, single events", CHAIN, ["calm 4"], HOPS),
@@ -33,23 +36,23 @@ KINDS = [
 ]
 
 
-def script(topology, first, lines, count):
+def script(topology: str, first: list[str], lines: list[str], count: int) -> str:
     return topology + "\n".join(first + lines * (count // len(lines))) + "\n"
 
 
-def printed(program, source, *options):
+def printed(program: str, source: str, *options: str) -> bytes:
     with open(source, "rb") as octets:
         return subprocess.run([program, *options], stdin=octets, capture_output=True, check=True).stdout
 
 
-def words_of():
+def words_of() -> argparse.Namespace:
     words = argparse.ArgumentParser(prog="measure trace")
     words.add_argument("--program")
     words.add_argument("rounds", nargs="?", type=int, default=21)
     return words.parse_args()
 
 
-def main():
+def main() -> None:
     words = words_of()
     program = words.program or proved_program(ROOT)
     with tempfile.TemporaryDirectory() as folder:
@@ -57,12 +60,8 @@ def main():
         for name, topology, first, lines in KINDS:
             for count in (2_000, 20_000, 60_000):
                 source = written(folder, f"{name}-{count}", script(topology, first, lines, count))
-                times = [[1000 * processor_time([program, *options], source) for options in ([], ["--trace"])] for _ in range(words.rounds)]
-                plain, trace = map(min, zip(*times))
+                times = [[1000 * processor_time([program, *options], source) for options in NEITHER_AND_TRACE] for _ in range(words.rounds)]
+                plain, trace = (min(it) for it in zip(*times))
                 output = printed(program, source, "--trace")
                 told = len(output.splitlines())
                 print(f"| {count:,}, {name} | {plain:.1f} ms | {trace:.1f} ms | {trace / plain:.1f} | {told:,} | {len(output):,} |", flush=True)
-
-
-if __name__ == "__main__":
-    main()

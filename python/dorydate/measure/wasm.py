@@ -6,6 +6,8 @@ time of the rounds over all inputs of `./measure kinds`, in Node: the form with 
 takes 10 ms or more.
 """
 
+from __future__ import annotations
+
 import gzip
 import os
 import shutil
@@ -13,6 +15,7 @@ import statistics
 import subprocess
 import sys
 import tempfile
+from collections.abc import Iterator, Sequence
 
 from dorydate.measure import best_of_all, written
 from dorydate.measure.kinds import kinds
@@ -21,27 +24,27 @@ from dorydate.parts import ROOT, any_program
 LONG = 0.010  # seconds of the native program from which on a ratio is told by itself
 
 
-def inputs(folder):
+def inputs(folder: str) -> Iterator[str]:
     """Files of every kind of script, at both sizes."""
     for number, (name, carrier, sizes) in enumerate(kinds()):
         for size, make in sizes:
             yield written(folder, f"{number:02}-{size}", make())
 
 
-def times_of(module, rounds, files, *options):
+def times_of(module: str, rounds: int, files: Sequence[str], *options: str) -> list[float]:
     """The least processor time of each file, in seconds."""
-    node = shutil.which("node") or shutil.which("nodejs")
+    node = shutil.which("node") or shutil.which("nodejs") or "node"
     ran = subprocess.run([node, *options, f"{ROOT}/web/check/time.js", module, str(rounds), *files], stdout=subprocess.PIPE, text=True, check=True)
     return [float(line.split()[0]) / 1000 for line in ran.stdout.splitlines()]
 
 
-def told(name, times, native):
+def told(name: str, times: Sequence[float], native: Sequence[float]) -> None:
     """A row of the table."""
     ratios = [mine / other for mine, other in zip(times, native) if other >= LONG]
     print(f"| {name} | {sum(times):.2f} s | {sum(times) / sum(native):.2f} | {statistics.median(ratios):.2f} | {max(ratios):.2f} |")
 
 
-def main():
+def main() -> None:
     rounds = int(sys.argv[1]) if sys.argv[1:] else 3
     program = any_program()
     if not program or not os.path.exists(f"{program}.wasm"):
@@ -58,7 +61,3 @@ def main():
         told("native", native, native)
         told("addresses of 32 bits", times_of(f"{program}.wasm", rounds, files), native)
         told("addresses of 64 bits", times_of(f"{program}64.wasm", rounds, files, "--experimental-wasm-memory64"), native)
-
-
-if __name__ == "__main__":
-    main()

@@ -30,18 +30,25 @@ is wanted for ten times the work. With --beside the best of both programs are to
 to end. It wants GNU time at /usr/bin/time, and is not part of the gate.
 """
 
+from __future__ import annotations
+
 import argparse
 import random
 import statistics
 import sys
 import tempfile
+from collections.abc import Callable, Sequence
 
 from dorydate.measure import best_of_all, most_memory, processor_time, written
 from dorydate.parts import proved_program
 
+CHANCE = random.Random(1822)
 CONNECTIONS = 40
+Script = tuple[list[str], dict[str, int]]  # its lines, and how many lines of some kinds it has to print
+Make = Callable[[str, int, int], Script]
+Carrier = tuple[str, str, int]
 # For each carrier: its topology, its second host, and the rounds of a calm in which one message or one request passes.
-CARRIERS = {
+CARRIERS: dict[str, Carrier] = {
     "plain mailboxes": ('carrier = "plain"\nraw = false\n[[imp]]\nid=1\nhosts=1\n[[imp]]\nid=2\nhosts=1\n%\n', "0/2", 1),
     "a chain of 4 IMPs": (
         'carrier = "subnet"\nraw = false\n'
@@ -69,29 +76,29 @@ BETWEEN_TWO = ["plain mailboxes", "a chain of 4 IMPs"]
 OF_64 = ["plain mailboxes of 64 hosts", "a ring of 16 IMPs with 4 hosts"]
 
 
-def octets(bits):
+def octets(bits: int) -> str:
     """This many random bits, spelled as a script spells them."""
     return f"{bits} {CHANCE.randbytes(bits // 8).hex().upper()}"
 
 
-def ready(other, rounds):
+def ready(other: str, rounds: int) -> list[str]:
     """The IMPs know their routes, and both hosts are through a reset."""
     return [f"calm {4 * rounds}", f"contact 0/1 {other}", f"calm {4 * rounds}"]
 
 
-def opened(sender, receiver, rounds, at=0):
+def opened(sender: str, receiver: str, rounds: int, at: int = 0) -> list[str]:
     """A connection opens from the sender's socket to the receiver's."""
     return [f"listen {sender} {133 + 2 * at} 8", f"openrecv {receiver} {sender} {132 + 2 * at} {133 + 2 * at}", f"calm {2 * rounds}"]
 
 
-def stream(other, rounds, bits):
+def stream(other: str, rounds: int, bits: int) -> Script:
     lines = ready(other, rounds) + opened(other, "0/1", rounds)
     for _ in range(bits // 8_000):
         lines += ["grant 0/1 132 1 8000", f"send {other} 133 {octets(8_000)}", f"calm {2 * rounds}"]
     return lines, {"arrived": bits // 8_000, "opened": 2, "ended": 0}
 
 
-def at_once(other, rounds, messages):
+def at_once(other: str, rounds: int, messages: int) -> Script:
     lines = ready(other, rounds)
     ends = [((other, "0/1") if at % 2 else ("0/1", other)) for at in range(CONNECTIONS)]
     for at, (sender, receiver) in enumerate(ends):
@@ -103,52 +110,52 @@ def at_once(other, rounds, messages):
     return lines, {"arrived": messages, "opened": 2 * CONNECTIONS, "ended": 0}
 
 
-def closings(other, rounds, count):
+def closings(other: str, rounds: int, count: int) -> Script:
     lines = ready(other, rounds)
     for _ in range(count):
         lines += opened(other, "0/1", rounds) + ["close 0/1 132", f"calm {2 * rounds}"]
     return lines, {"opened": 2 * count, "ended": 2 * count}
 
 
-def beside_one(other, rounds, count):
+def beside_one(other: str, rounds: int, count: int) -> Script:
     lines, printed = closings(other, rounds, count)
     first = len(ready(other, rounds))
     return lines[:first] + opened(other, "0/1", rounds, 1) + lines[first:], {**printed, "opened": 2 * count + 2}
 
 
-def asked(other, rounds, at=0):
+def asked(other: str, rounds: int, at: int = 0) -> list[str]:
     """An initial connection: the other host serves, and a user of 0/1 asks it. Each has sockets of its own."""
     return [f"server {other} {10 * at + 7} {10 * at + 100}", f"user 0/1 {other} {10 * at + 7} {10 * at + 16}", f"calm {10 * rounds}"]
 
 
-def typed(other, rounds, count):
+def typed(other: str, rounds: int, count: int) -> Script:
     lines = ready(other, rounds) + asked(other, rounds)
     for _ in range(count):
         lines += ["type 0/1 A", f"calm {6 * rounds}"]
     return lines, {"line": count, "done": 2}
 
 
-def initial(other, rounds, count):
+def initial(other: str, rounds: int, count: int) -> Script:
     lines = ready(other, rounds)
     for at in range(count):
         lines += asked(other, rounds, at) + [f"close 0/1 {10 * at + 18}", f"calm {6 * rounds}"]
     return lines, {"done": 2 * count, "opened": 6 * count, "ended": 6 * count}
 
 
-def queued(other, rounds, count):
+def queued(other: str, rounds: int, count: int) -> Script:
     lines = ready(other, rounds) + [f"echo 0/1 {other} 7"] * count
     return [*lines, f"calm {count}"], {"echoed": count}
 
 
-def listening(_, __, count):
+def listening(_: str, __: int, count: int) -> Script:
     return [f"listen 0/1 {100_000 + at} 8" for at in range(count)], {"opened": 0}
 
 
-def waiting(_, __, count):
+def waiting(_: str, __: int, count: int) -> Script:
     return [f"server 0/1 {2 * at + 1} {200_000 + 2 * at}" for at in range(count)], {"done": 0, "failed": 0}
 
 
-def at_one_host(_, __, count):
+def at_one_host(_: str, __: int, count: int) -> Script:
     others = [f"{host}/{imp}" for imp in range(1, 17) for host in range(4)][1 : 1 + -(-count // 30)]
     passing = f"calm {20 + count // 30}"
     lines = [f"contact 0/1 {other}" for other in others] + [passing]
@@ -160,13 +167,13 @@ def at_one_host(_, __, count):
     return lines, {"opened": 2 * count, "ended": 2 * count}
 
 
-def pairs_of(count):
+def pairs_of(count: int) -> list[tuple[str, str]]:
     """This many pairs of the 64 hosts, as far apart as they go: each host has to do with a few others."""
     hosts = [f"{host}/{imp}" for imp in range(1, 17) for host in range(4)]
     return [(hosts[at % 64], hosts[(at + 1 + at // 64) % 64]) for at in range(count)]
 
 
-def over_pairs(_, rounds, count):
+def over_pairs(_: str, rounds: int, count: int) -> Script:
     pairs = pairs_of(-(-count // 10))
     lines = [f"calm {4 * rounds}", *(f"contact {one} {other}" for one, other in pairs), f"calm {6 * rounds}"]
     for at in range(count):
@@ -179,7 +186,7 @@ def over_pairs(_, rounds, count):
     return lines, {"opened": 2 * count, "ended": 2 * count}
 
 
-def initial_over_pairs(_, rounds, count):
+def initial_over_pairs(_: str, rounds: int, count: int) -> Script:
     pairs = pairs_of(min(count, 200))
     lines = [f"calm {4 * rounds}", *(f"contact {one} {other}" for one, other in pairs), f"calm {6 * rounds}"]
     for at in range(count):
@@ -189,27 +196,27 @@ def initial_over_pairs(_, rounds, count):
     return lines, {"done": 2 * count}
 
 
-def waiting_bits(other, rounds, count):
+def waiting_bits(other: str, rounds: int, count: int) -> Script:
     lines = ready(other, rounds) + opened("0/1", other, rounds)
     return [*lines, *(["send 0/1 133 8 2A"] * count), f"calm {rounds}"], {"opened": 2, "sent": 0}
 
 
-def to_nobody(_, __, count):
+def to_nobody(_: str, __: int, count: int) -> Script:
     return ["send 0/1 133 8 2A"] * count, {"refused": count}
 
 
-def unanswered(other, rounds, count):
+def unanswered(other: str, rounds: int, count: int) -> Script:
     opens = [f"opensend 0/1 {other} {100_001 + 2 * at} 200000 8" for at in range(count)]
     return ready(other, rounds) + opens, {"opened": 0}
 
 
-def quiet(_, __, count):
+def quiet(_: str, __: int, count: int) -> Script:
     return [f"calm {count}"], {"opened": 0}
 
 
 # What is measured, over which carriers, and at which sizes.
-MEASURED = [
-    ("a stream of so many bits", stream, BETWEEN_TWO, [(1_000_000,), (400_000, 4_000_000)]),
+MEASURED: list[tuple[str, Make, list[str], list[tuple[int, ...]]]] = [
+    ("a stream of this many bits", stream, BETWEEN_TWO, [(1_000_000,), (400_000, 4_000_000)]),
     ("messages on 40 connections", at_once, BETWEEN_TWO, [(1_200, 12_000)]),
     ("openings and closings", closings, BETWEEN_TWO, [(1_000, 10_000)]),
     ("the same beside an open connection", beside_one, BETWEEN_TWO, [(1_000, 10_000)]),
@@ -228,7 +235,7 @@ MEASURED = [
 ]
 
 
-def memory_of(program, source, wanted):
+def memory_of(program: str, source: str, wanted: dict[str, int]) -> tuple[int, bytes]:
     """The most memory that a run held, in KiB, and what it printed, which has to have this many lines of each of these kinds."""
     memory, output = most_memory(program, source)
     kinds = [line.partition(b" ")[0].decode() for line in output.splitlines()]
@@ -239,14 +246,14 @@ def memory_of(program, source, wanted):
     return memory, output
 
 
-def alone(program, source, rounds, wanted):
+def alone(program: str, source: str, rounds: int, wanted: dict[str, int]) -> tuple[str, float]:
     """What is told of one program, and its best time in seconds."""
     memory, _ = memory_of(program, source, wanted)
     runs = [processor_time([program], source) for _ in range(rounds)]
     return f"{1000 * statistics.median(runs):.1f} ms | {1000 * min(runs):.1f} ms | {memory:,} KiB", min(runs)
 
 
-def beside(programs, source, rounds, wanted):
+def beside(programs: Sequence[str], source: str, rounds: int, wanted: dict[str, int]) -> tuple[str, float]:
     """What is told of an earlier program and of the later one, and the best time of the later one in seconds."""
     (former, lines), (latter, others) = [memory_of(program, source, wanted) for program in programs]
     if lines != others:
@@ -255,9 +262,9 @@ def beside(programs, source, rounds, wanted):
     return f"{1000 * before:.1f} ms | {1000 * after:.1f} ms | {before / after:.2f} | {former:,} KiB | {latter:,} KiB", after
 
 
-def measure(words, folder, name, make, carrier, sizes):
+def measure(words: argparse.Namespace, folder: str, name: str, make: Make, carrier: str, sizes: Sequence[int]) -> None:
     """Tells one size and ten times that size."""
-    short = 0
+    short = 0.0
     for size in sizes:
         head, sender, passing = CARRIERS[carrier]
         lines, printed = make(sender, passing, size)
@@ -271,7 +278,7 @@ def measure(words, folder, name, make, carrier, sizes):
         short = best
 
 
-def words_of():
+def words_of() -> argparse.Namespace:
     words = argparse.ArgumentParser(prog="measure worlds")
     words.add_argument("--program")
     words.add_argument("--beside")
@@ -280,7 +287,7 @@ def words_of():
     return words.parse_args()
 
 
-def main():
+def main() -> None:
     words = words_of()
     words.program = words.program or proved_program()
     with tempfile.TemporaryDirectory() as folder:
@@ -292,6 +299,3 @@ def main():
             for carrier in carriers if words.only in name else []:
                 for sizes in pairs:
                     measure(words, folder, name, make, carrier, sizes)
-
-
-CHANCE = random.Random(1822)
