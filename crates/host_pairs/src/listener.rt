@@ -58,6 +58,13 @@ impl Listeners {
         }
     }
 
+    /// Returns the sockets that listen, the oldest first.
+    pub fn as_slice(&self) -> &[Listener]
+        ensures { result.now ≡ self.now }
+    {
+        &self.listening
+    }
+
     /// Adds a listening socket after the others.
     pub fn push(&mut self, listener: Listener) -> Result<(), AllocError>
         ensures { OnOk result (self.new ≡ self.old ++ listener ∷ []) }

@@ -20,7 +20,7 @@ const ROOM: usize = 32;
 ///
 /// Beside each is what it may hear of, and beside all of them what any of them may hear of.
 #[derive(Drop)]
-pub(crate) struct Block {
+pub struct Block {
     services: Vec<Service>,
     ears: Vec<Ear>,
     scope: Scope,
@@ -107,6 +107,13 @@ impl Block {
             ears: Vec::new(alloc),
             scope: Scope::empty(),
         }
+    }
+
+    /// Returns its services, in the order in which they began.
+    pub fn as_slice(&self) -> &[Service]
+        ensures { result.now ≡ self.now }
+    {
+        &self.services
     }
 
     /// Returns whether no service is to join it.

@@ -20,6 +20,7 @@ mod services;
 mod typed_line;
 pub mod worked;
 
+pub use block::Block;
 pub use desk::{Deeds, ServiceDesk, copy_of};
 pub use report::{Report, Reported};
 pub use service::Service;

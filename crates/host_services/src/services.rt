@@ -134,6 +134,13 @@ impl Services {
         self.typing
     }
 
+    /// Returns the services in blocks, and those that began after them, in the order in which they began.
+    pub fn running(&self) -> (&[Block], &[Service])
+        ensures { all_in result.0.now ++ result.1.now ≡ self.now.running }
+    {
+        (&self.full, self.last.as_slice())
+    }
+
     /// Begins a new block where the last one is full.
     #[tactic(auto, using(crate::proofs::BlockLemmas::one_block_more))]
     fn make_room(&mut self) -> Result<(), AllocError>

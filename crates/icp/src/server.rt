@@ -165,6 +165,27 @@ impl Server {
         self.send
     }
 
+    /// Returns the far end of the connection on which a user asked, once one was opened.
+    pub fn user(&self) -> Option<Partner>
+        ensures { result ≡ self.now.user }
+    {
+        self.user
+    }
+
+    /// Returns the far end of the connection on which it receives, once that was opened.
+    pub fn receiving(&self) -> Option<Partner>
+        ensures { result ≡ self.now.receiving }
+    {
+        self.receiving
+    }
+
+    /// Returns the far end of the connection on which it sends, once that was opened.
+    pub fn sending(&self) -> Option<Partner>
+        ensures { result ≡ self.now.sending }
+    {
+        self.sending
+    }
+
     /// Returns whether both ends on which it serves were opened.
     pub fn is_open(&self) -> bool
         ensures { result ≡ (is_some self.now.receiving && is_some self.now.sending) }

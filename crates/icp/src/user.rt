@@ -106,6 +106,55 @@ impl User {
         self.over
     }
 
+    /// Returns the server's host.
+    pub fn peer(&self) -> HostAddr
+        ensures { result ≡ self.now.peer }
+    {
+        self.peer
+    }
+
+    /// Returns the server's socket that is asked.
+    pub fn listen(&self) -> SendSocket
+        ensures { result ≡ self.now.listen }
+    {
+        self.listen
+    }
+
+    /// Returns whether the connection on which it asks was opened.
+    pub fn has_asked(&self) -> bool
+        ensures { result ≡ self.now.opened }
+    {
+        self.opened
+    }
+
+    /// Returns the bits that came on it so far.
+    pub fn bits(&self) -> &Bits
+        ensures { result.now ≡ self.now.bits }
+    {
+        &self.bits
+    }
+
+    /// Returns the server's base, once the bits said it.
+    pub fn base(&self) -> Option<ReceiveSocket>
+        ensures { result ≡ self.now.base }
+    {
+        self.base
+    }
+
+    /// Returns whether the connection was opened on which it is to receive.
+    pub fn is_receiving(&self) -> bool
+        ensures { result ≡ self.now.receiving }
+    {
+        self.receiving
+    }
+
+    /// Returns whether the connection was opened on which it is to send.
+    pub fn is_sending(&self) -> bool
+        ensures { result ≡ self.now.sending }
+    {
+        self.sending
+    }
+
     /// Returns its socket that asks.
     pub fn own(&self) -> ReceiveSocket
         ensures { result ≡ self.now.own }

@@ -90,8 +90,22 @@ impl<C: Carrier> World<C> {
         self.book().handed()
     }
 
+    /// Returns the carrier.
+    pub fn carrier(&self) -> &C
+        ensures { result.now ≡ self.now.carrier }
+    {
+        &self.carrier
+    }
+
+    /// Returns what runs on the hosts beside their programs, in the carrier's order.
+    pub fn services(&self) -> &[ServiceSeat]
+        ensures { result.now ≡ self.now.services }
+    {
+        &self.services
+    }
+
     /// Returns the hosts with their programs, in the carrier's order.
-    pub(crate) fn seats(&self) -> &[Seat]
+    pub fn seats(&self) -> &[Seat]
         ensures value { result.now ≡ self.now.seats }
         ensures once { self.now.stopped ≡ false → IsOnce (hosts_of self.now.seats) }
     {

@@ -5,9 +5,9 @@ ghost use Rattle.sockets.specs.Calls.{IsSpent};
 ghost use Rattle.sockets.specs.Pairs as pairs;
 ghost use Rattle.sockets.specs.declared.fault.NcpFault.TheVariants as fault;
 
-use crate::NcpFault;
 use crate::peers::Peers;
-use host_pairs::Listeners;
+use crate::{NcpFault, Peer};
+use host_pairs::{Listener, Listeners};
 use leader1822::HostAddr;
 use std::alloc::{AllocError, Global};
 use std::marker::Model;
@@ -53,6 +53,20 @@ impl Ncp {
         ensures { result ≡ self.now.own }
     {
         self.own
+    }
+
+    /// Returns the other hosts that it has to do with, in order of their address octets.
+    pub fn peers(&self) -> &[Peer]
+        ensures { result.now ≡ self.now.peers }
+    {
+        self.peers.as_slice()
+    }
+
+    /// Returns the sockets that listen, the oldest first.
+    pub fn listening(&self) -> &[Listener]
+        ensures { result.now ≡ self.now.listening }
+    {
+        self.listening.as_slice()
     }
 
     /// Returns whether running out of memory has made it useless.

@@ -85,6 +85,20 @@ impl LineTerminal {
         self.send
     }
 
+    /// Returns the bits that came and are no whole octet yet.
+    pub fn part(&self) -> &Bits
+        ensures { result.now ≡ self.now.part }
+    {
+        &self.part
+    }
+
+    /// Returns the octets that came since the end of the last line.
+    pub fn rest(&self) -> &[u8]
+        ensures { result.now ≡ self.now.rest }
+    {
+        &self.rest
+    }
+
     /// Returns whether running out of memory has made it useless.
     pub fn is_spent(&self) -> bool
         ensures { result ≡ self.now.spent }
