@@ -40,7 +40,7 @@ spoken_append own foreign [] ys word = refl
 spoken_append own foreign (x ∷ xs) ys word = spoken_append own foreign xs ys (upon (marks_of_text own foreign (untagged x)) word)
 
 -- a prefix of texts says a prefix of what they say
-front_spoken : (own foreign : ℕ) (xs ys : List (List Bool)) → stays.IsFront xs ys → IsOlder (spoken_upon own foreign xs []) (spoken_upon own foreign ys [])
+front_spoken : (own foreign : ℕ) (xs ys : List (List Bool)) → stays.IsPrefix xs ys → IsOlder (spoken_upon own foreign xs []) (spoken_upon own foreign ys [])
 front_spoken own foreign xs ys front =
     let above : Above (spoken_upon own foreign front.0 (spoken_upon own foreign xs [])) (spoken_upon own foreign xs []) = spoken_above own foreign front.0 (spoken_upon own foreign xs []) in
     (above.new, ap (λ (texts : List (List Bool)). spoken_upon own foreign texts []) (sym front.1) ∙ spoken_append own foreign xs front.0 [] ∙ above.is)

@@ -76,21 +76,21 @@ pub record Match (log : List Crossing) (receiver sender : Life) : Type 0 where
   pub answered : partner_request log sender ≡ Some (own_request receiver)
 
 -- a list is a prefix of another
-abbrev pub IsFront : List Bool → List Bool → Type 0
-IsFront xs ys = (rest : List Bool) × (xs ++ rest ≡ ys)
+abbrev pub IsPrefix : List Bool → List Bool → Type 0
+IsPrefix xs ys = (rest : List Bool) × (xs ++ rest ≡ ys)
 
 -- a sending life that a receiving one matches, and that sent what the receiving one took
 pub record Source (log : List Crossing) (lives : List Life) (receiver : Life) : Type 0 where
   pub sender : Life
   pub there : Contains lives sender
   pub matches : Match log receiver sender
-  pub front : IsFront receiver.bits sender.bits
+  pub front : IsPrefix receiver.bits sender.bits
 
 -- what each sending life sent is a prefix of what was handed over in it
 abbrev pub AreHanded : List Life → List (List Bool) → Type 0
 AreHanded [] handed = handed ≡ []
 AreHanded (x ∷ lives) [] = ⊥
-AreHanded (x ∷ lives) (h ∷ handed) = (sends x ≡ true → IsFront x.bits h) × AreHanded lives handed
+AreHanded (x ∷ lives) (h ∷ handed) = (sends x ≡ true → IsPrefix x.bits h) × AreHanded lives handed
 
 -- a receiving life matches at most one sending one; where it took any bit there is one, and what it took is a prefix of what
 -- that one sent. What each sending life sent is a prefix of what was handed over in it

@@ -24,7 +24,7 @@ ghost use Rattle.reset_law.specs.Events.{part_of};
 ghost use Rattle.reset_law.specs.Pairs as pairs;
 ghost use Rattle.reset_law.specs.Pairs.{Pair, MaySend, pair_moved};
 ghost use Rattle.reset_law.specs.Runs as runs;
-ghost use Rattle.reset_law.specs.Stays.{IsFront, heard_in_stay, said_in_stay};
+ghost use Rattle.reset_law.specs.Stays.{IsPrefix, heard_in_stay, said_in_stay};
 ghost use Rattle.sockets.specs.Accepting.{accepted};
 ghost use Rattle.sockets.specs.Pairs.{NcpState, opening_state, pair_with};
 ghost use Rattle.sockets.specs.Peers.{AreInOrder};
@@ -130,7 +130,7 @@ pub fn clean_resets<C: Carrier>()
     ensures clean { (hosts : List Host) (w : WorldState C) → IsLawful C.seen hosts w → (newer older : List Crossing) (m : HostMessage) → w.kept.book.crossings ≡ newer ++ crossing.In m ∷ older → IsText m → is_through m.flow.destination m.flow.source w.kept.book.contacts older ≡ true → IsFresh m w.kept.book.contacts older }
 
     // link by link, what a host heard of its peer in its last stay is a prefix of what the peer said in its own
-    ensures stays { (hosts : List Host) (w : WorldState C) → IsLawful C.seen hosts w → (a b : Host) (link : ℕ) → IsFront (heard_in_stay a b link (events_in w.kept.book.contacts w.kept.book.crossings)) (said_in_stay a b link (events_in w.kept.book.contacts w.kept.book.crossings)) }
+    ensures stays { (hosts : List Host) (w : WorldState C) → IsLawful C.seen hosts w → (a b : Host) (link : ℕ) → IsPrefix (heard_in_stay a b link (events_in w.kept.book.contacts w.kept.book.crossings)) (said_in_stay a b link (events_in w.kept.book.contacts w.kept.book.crossings)) }
 
     // for the book is a run of the law of resets, and each program in a seat is, for each peer, where that law has it
     ensures run { (hosts : List Host) (w : WorldState C) → IsLawful C.seen hosts w → runs.IsRun hosts (events_in w.kept.book.contacts w.kept.book.crossings) }

@@ -8,6 +8,7 @@ ghost use Rattle.leader1822.specs.declared.crossing.Answer.TheVariants as answer
 ghost use Rattle.leader1822.specs.declared.crossing.Crossing.TheVariants as crossing;
 ghost use Rattle.leader1822.specs.declared.event.NetEvent.TheVariants as event;
 ghost use Rattle.net_sim.specs.Book.{opening_kept, book_told, asked, crossed, all_crossed};
+ghost use Rattle.net_sim.specs.Handed.{AreUnhanded};
 ghost use Rattle.net_sim.specs.Safe.{SafeBook, SafePartners, SafeStreams, SafeGrants, Match, own_request, partner_request, last_out, before, control_flow};
 ghost use Rattle.net_sim.specs.Worked.{eight, eight_zeros, four, crossings, message, opened_kept, used, receiver, sender, taker, giver, elsewhere, asker, stranger, over, any_carrier, fresh, down, busy, halted, lacking, stamp_of};
 ghost use Rattle.net_sim.specs.Carriers.{IsBooked};
@@ -55,10 +56,16 @@ pub fn worked_lives()
 
 /// What else a book has, and what was handed over.
 pub fn worked_books()
-    // one list of bits for each life, in their order; nothing is handed over in a receiving life
+    // one list of bits for each life, in their order
     ensures handed { used.handed ≡ eight ∷ [] ∷ [] }
     ensures handed_more { (asked second (request.Send 33 four) used).handed ≡ (eight ++ four) ∷ [] ∷ [] }
     ensures handed_anew { (asked second (request.Send 33 four) (book_told second (notice.Opened 33 first 16 7 8) (book_told second (notice.Ended 33 first 16) used))).handed ≡ eight ∷ [] ∷ four ∷ [] }
+
+    // there is one list for each life, in which nothing is for a receiving one
+    ensures unhanded { AreUnhanded (giver ∷ taker ∷ []) (eight ∷ [] ∷ []) }
+    ensures to_a_receiver { AreUnhanded (giver ∷ taker ∷ []) (eight ∷ eight ∷ []) → ⊥ }
+    ensures no_list { AreUnhanded (giver ∷ taker ∷ []) (eight ∷ []) → ⊥ }
+    ensures no_life { AreUnhanded [] ([] ∷ []) → ⊥ }
 
     // bits that are handed over aren't sent yet
     ensures unsent { (asked second (request.Send 33 four) used).book.lives ≡ giver ∷ taker ∷ [] }

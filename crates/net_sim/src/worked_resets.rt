@@ -32,6 +32,9 @@ pub fn worked_clean()
     ensures fresh { IsFresh text contacts (crossing.Out text ∷ reset_on []) }
     ensures stale { IsFresh text (call first 1 second ∷ []) (reset_on (crossing.Out text ∷ [])) → ⊥ }
 
+    // what never went out isn't fresh
+    ensures unsent { IsFresh text contacts (reset_on []) → ⊥ }
+
     // an RST is no text, though link 0 has texts too
     ensures signal { IsText (rst first second) → ⊥ }
     ensures control { IsText (message first second 0) }

@@ -7,7 +7,7 @@ use Rattle.reset_law.specs.Events.{Message, Reset, Reply, Other, Event, Contact,
 use Rattle.reset_law.specs.Boxes.{Box, Empty, Waiting, Taken, WaitsWith, Fits, Put, Fetch, Clear, ClearAll, fetched, posted, boxes}
 use Rattle.reset_law.specs.Pairs.{Pair, MaySend, pair_moved, pair}
 use Rattle.reset_law.specs.Runs.{IsRun}
-use Rattle.reset_law.specs.Stays.{is_ready, ready, takes_reset, stays, heard_in_stay, said_in_stay, IsFront}
+use Rattle.reset_law.specs.Stays.{is_ready, ready, takes_reset, stays, heard_in_stay, said_in_stay, IsPrefix}
 use Rattle.reset_law.proofs.lemmas.{heard_front}
 use Rattle.pairing_law.specs.Places.{tagged, with_place, with_box, placed_event, placed}
 
@@ -170,7 +170,7 @@ placed_run hosts (Down x ∷ events) r = (up_same hosts x events ∙ r.0, tt, pl
 placed_run hosts (Up x ∷ events) r = ((r.0.0, up_same hosts x events ∙ r.0.1), tt, placed_run hosts events r.2)
 placed_run hosts (Idle ∷ events) r = (tt, tt, placed_run hosts events r.2)
 
-pub placed_front : (hosts : List Host) (events : List Event) → IsRun hosts events → (a b : Host) (l : ℕ) → IsFront (heard_in_stay a b l (placed events)) (said_in_stay a b l (placed events))
+pub placed_front : (hosts : List Host) (events : List Event) → IsRun hosts events → (a b : Host) (l : ℕ) → IsPrefix (heard_in_stay a b l (placed events)) (said_in_stay a b l (placed events))
 placed_front hosts events r a b l = heard_front hosts (placed events) (placed_run hosts events r) a b l
 
 -- ---- stays are the same

@@ -66,7 +66,7 @@ pub fn places()
     ensures same { (events : List reset.Event) (a b : Host) → (pair a b (placed events) ≡ pair a b events) × (stay.stays a b (placed events) ≡ stay.stays a b events) }
 
     // so what a host heard of its peer in its stay is a prefix of what the peer said in its own, text by text and place by place
-    ensures front { (hosts : List Host) (events : List reset.Event) → reset_run.IsRun hosts events → (a b : Host) (link : ℕ) → stay.IsFront (stay.heard_in_stay a b link (placed events)) (stay.said_in_stay a b link (placed events)) }
+    ensures front { (hosts : List Host) (events : List reset.Event) → reset_run.IsRun hosts events → (a b : Host) (link : ℕ) → stay.IsPrefix (stay.heard_in_stay a b link (placed events)) (stay.said_in_stay a b link (placed events)) }
 {}
 
 /// A message and its place.

@@ -12,7 +12,7 @@ use Rattle.reset_law.specs.Pairs.{Pair, MaySend, pair_moved, pair}
 use Rattle.reset_law.specs.Monitor.{monitor}
 use Rattle.reset_law.specs.Invariant.{InHeard, Shape, Sound}
 use Rattle.reset_law.specs.Runs.{IsRun}
-use Rattle.reset_law.specs.Stays.{is_ready, ready, joint, begins, takes_reset, stays, said_by, heard_by, said_in_stay, heard_in_stay, waits_in, IsFront}
+use Rattle.reset_law.specs.Stays.{is_ready, ready, joint, begins, takes_reset, stays, said_by, heard_by, said_in_stay, heard_in_stay, waits_in, IsPrefix}
 use Rattle.reset_law.proofs.Links.{at}
 use Rattle.reset_law.proofs.Runs.{carry, sound_run, alone_run, ready_up}
 use Rattle.reset_law.proofs.Fresh.{turned_about, still_ready, ready_taken}
@@ -416,7 +416,7 @@ heard_waiting hosts (Up x) events r a b l = inl refl
 heard_waiting hosts Idle events r a b l = inl refl
 
 -- whoever has left meanwhile
-pub heard_front : (hosts : List Host) (events : List Event) → IsRun hosts events → (a b : Host) (l : ℕ) → IsFront (heard_in_stay a b l events) (said_in_stay a b l events)
+pub heard_front : (hosts : List Host) (events : List Event) → IsRun hosts events → (a b : Host) (l : ℕ) → IsPrefix (heard_in_stay a b l events) (said_in_stay a b l events)
 heard_front hosts [] r a b l = ([], refl)
 heard_front hosts (e ∷ events) r a b l = by (begins a b e events) refl (heard_front hosts events r.2 a b l) where
   new : List (List Bool)
@@ -425,16 +425,16 @@ heard_front hosts (e ∷ events) r a b l = by (begins a b e events) refl (heard_
   spoken : List (List Bool)
   spoken = if stays a b events then said_by a b l e else []
 
-  more : (t : Bool) → stays b a events ≡ t → IsFront (heard_in_stay a b l events) (said_in_stay a b l events) → IsFront (heard_in_stay a b l events ++ (if t then heard_by a b l e else [])) (said_in_stay a b l events)
-  more false left h = subst (λ (v : List (List Bool)). IsFront v (said_in_stay a b l events)) (sym (append-nil (heard_in_stay a b l events))) h
+  more : (t : Bool) → stays b a events ≡ t → IsPrefix (heard_in_stay a b l events) (said_in_stay a b l events) → IsPrefix (heard_in_stay a b l events ++ (if t then heard_by a b l e else [])) (said_in_stay a b l events)
+  more false left h = subst (λ (v : List (List Bool)). IsPrefix v (said_in_stay a b l events)) (sym (append-nil (heard_in_stay a b l events))) h
   more true stay h = elim (heard_waiting hosts e events r a b l) [
-    | inl none ↦ subst (λ (v : List (List Bool)). IsFront v (said_in_stay a b l events)) (sym (ap (λ (v : List (List Bool)). heard_in_stay a b l events ++ v) none ∙ append-nil (heard_in_stay a b l events))) h
-    | inr waits ↦ subst (λ (v : List (List Bool)). IsFront v (said_in_stay a b l events)) (sym (ap (λ (v : List (List Bool)). heard_in_stay a b l events ++ v) waits)) (stay_run hosts events r.2 a b l stay).front
+    | inl none ↦ subst (λ (v : List (List Bool)). IsPrefix v (said_in_stay a b l events)) (sym (ap (λ (v : List (List Bool)). heard_in_stay a b l events ++ v) none ∙ append-nil (heard_in_stay a b l events))) h
+    | inr waits ↦ subst (λ (v : List (List Bool)). IsPrefix v (said_in_stay a b l events)) (sym (ap (λ (v : List (List Bool)). heard_in_stay a b l events ++ v) waits)) (stay_run hosts events r.2 a b l stay).front
   ]
 
-  by : (t : Bool) → begins a b e events ≡ t → IsFront (heard_in_stay a b l events) (said_in_stay a b l events) → IsFront (heard_in_stay a b l (e ∷ events)) (said_in_stay a b l (e ∷ events))
-  by true begun h = subst (λ (v : List (List Bool)). IsFront v (said_in_stay a b l (e ∷ events))) (sym (anew (begins a b e events) (heard_in_stay a b l events ++ new) begun)) (said_in_stay a b l (e ∷ events), refl)
+  by : (t : Bool) → begins a b e events ≡ t → IsPrefix (heard_in_stay a b l events) (said_in_stay a b l events) → IsPrefix (heard_in_stay a b l (e ∷ events)) (said_in_stay a b l (e ∷ events))
+  by true begun h = subst (λ (v : List (List Bool)). IsPrefix v (said_in_stay a b l (e ∷ events))) (sym (anew (begins a b e events) (heard_in_stay a b l events ++ new) begun)) (said_in_stay a b l (e ∷ events), refl)
   by false same h =
-      let front : IsFront (heard_in_stay a b l events ++ new) (said_in_stay a b l events ++ spoken) = front_longer (heard_in_stay a b l events ++ new) (said_in_stay a b l events) spoken (more (stays b a events) refl h) in
-      subst (λ (v : List (List Bool)). IsFront v (said_in_stay a b l (e ∷ events))) (sym (goes_on (begins a b e events) (heard_in_stay a b l events ++ new) same))
-      (subst (λ (v : List (List Bool)). IsFront (heard_in_stay a b l events ++ new) v) (sym (goes_on (begins a b e events) (said_in_stay a b l events ++ spoken) same)) front)
+      let front : IsPrefix (heard_in_stay a b l events ++ new) (said_in_stay a b l events ++ spoken) = front_longer (heard_in_stay a b l events ++ new) (said_in_stay a b l events) spoken (more (stays b a events) refl h) in
+      subst (λ (v : List (List Bool)). IsPrefix v (said_in_stay a b l (e ∷ events))) (sym (goes_on (begins a b e events) (heard_in_stay a b l events ++ new) same))
+      (subst (λ (v : List (List Bool)). IsPrefix (heard_in_stay a b l events ++ new) v) (sym (goes_on (begins a b e events) (said_in_stay a b l events ++ spoken) same)) front)

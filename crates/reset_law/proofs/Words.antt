@@ -1,10 +1,10 @@
 -- What was heard begins what was said: lists of texts alone.
 use Rattle.std.proofs.Common.{◌≡◌, ◌⊎◌, Bool, true, false, List, [], ◌++◌, refl, ap, sym, subst, ◌∙◌, inl, inr, if◌then◌else◌, append_assoc, append-nil}
-use Rattle.reset_law.specs.Stays.{IsFront}
+use Rattle.reset_law.specs.Stays.{IsPrefix}
 
 -- what was heard, and what waits, begins what was said; it is all of it where `all` holds
 pub record Tells (all : Bool) (xs ys : List (List Bool)) : Type 0 where
-  pub front : IsFront xs ys
+  pub front : IsPrefix xs ys
   pub whole : all ≡ true → xs ≡ ys
 
 pub tells_as : (all : Bool) (xs xs' ys ys' : List (List Bool)) → xs' ≡ xs → ys' ≡ ys → Tells all xs ys → Tells all xs' ys'
@@ -15,10 +15,10 @@ tells_as all xs xs' ys ys' e f h =
 pub tells_all : (all : Bool) (xs ys : List (List Bool)) → xs ≡ ys → Tells all xs ys
 tells_all all xs ys e = record { front = ([], append-nil xs ∙ e); whole = λ t. e }
 
-front_shorter : (xs w ys : List (List Bool)) → IsFront (xs ++ w) ys → IsFront xs ys
+front_shorter : (xs w ys : List (List Bool)) → IsPrefix (xs ++ w) ys → IsPrefix xs ys
 front_shorter xs w ys f = (w ++ f.0, sym (append_assoc xs w f.0) ∙ f.1)
 
-pub front_longer : (xs ys z : List (List Bool)) → IsFront xs ys → IsFront xs (ys ++ z)
+pub front_longer : (xs ys z : List (List Bool)) → IsPrefix xs ys → IsPrefix xs (ys ++ z)
 front_longer xs ys z f = (f.0 ++ z, sym (append_assoc xs f.0 z) ∙ ap (λ (v : List (List Bool)). v ++ z) f.1)
 
 if_nothing : (t : Bool) (z ys : List (List Bool)) → z ≡ [] → ys ++ (if t then z else []) ≡ ys
@@ -37,7 +37,7 @@ tells_quiet all all' t xs w w' ys more said none silent before waits h =
     by : (w' ≡ w) ⊎ ((w' ≡ []) × (all' ≡ true → w ≡ [])) → Tells all' (xs ++ w') ys
     by (inl same) = tells_as all' (xs ++ w) (xs ++ w') ys ys (ap (λ (v : List (List Bool)). xs ++ v) same) refl (record { front = h.front; whole = λ e. h.whole (before e) })
     by (inr lost) = record {
-      front = subst (λ (v : List (List Bool)). IsFront v ys) (sym (ap (λ (v : List (List Bool)). xs ++ v) lost.0 ∙ append-nil xs)) (front_shorter xs w ys h.front);
+      front = subst (λ (v : List (List Bool)). IsPrefix v ys) (sym (ap (λ (v : List (List Bool)). xs ++ v) lost.0 ∙ append-nil xs)) (front_shorter xs w ys h.front);
       whole = λ e. (ap (λ (v : List (List Bool)). xs ++ v) (lost.0 ∙ sym (lost.1 e)) ∙ h.whole (before e));
     }
 

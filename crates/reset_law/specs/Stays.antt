@@ -61,5 +61,5 @@ waits_in (Waiting place (Other text)) = text ∷ []
 waits_in box = []
 
 -- a list begins with another
-abbrev pub IsFront : List (List Bool) → List (List Bool) → Type 0
-IsFront xs ys = (rest : List (List Bool)) × (xs ++ rest ≡ ys)
+abbrev pub IsPrefix : List (List Bool) → List (List Bool) → Type 0
+IsPrefix xs ys = (rest : List (List Bool)) × (xs ++ rest ≡ ys)

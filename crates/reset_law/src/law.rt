@@ -11,7 +11,7 @@ ghost use Rattle.reset_law.specs.Monitor.{monitor};
 ghost use Rattle.reset_law.specs.Pairs.{pair, opening_pair, MaySend};
 ghost use Rattle.reset_law.specs.Phases.{Closed, Want, Gone, Heard, Ready};
 ghost use Rattle.reset_law.specs.Runs.{IsRun, WaitsAfterClean};
-ghost use Rattle.reset_law.specs.Stays.{ready, joint, begins, stays, said_in_stay, heard_in_stay, waits_in, IsFront};
+ghost use Rattle.reset_law.specs.Stays.{ready, joint, begins, stays, said_in_stay, heard_in_stay, waits_in, IsPrefix};
 
 /// A whole reset, step by step.
 pub fn worked_reset()
@@ -43,10 +43,10 @@ pub fn clean_reset()
 /// reset, and ends for each of them where it leaves.
 pub fn stays()
     // what a host heard of its peer in its stay is a prefix of what the peer said in its own, whoever has left meanwhile
-    ensures front { (hosts : List Host) (events : List Event) → IsRun hosts events → (a b : Host) (link : ℕ) → IsFront (heard_in_stay a b link events) (said_in_stay a b link events) }
+    ensures front { (hosts : List Host) (events : List Event) → IsRun hosts events → (a b : Host) (link : ℕ) → IsPrefix (heard_in_stay a b link events) (said_in_stay a b link events) }
 
     // while the host stays, so is what it heard and what waits for it
-    ensures waiting { (hosts : List Host) (events : List Event) → IsRun hosts events → (a b : Host) (link : ℕ) → stays b a events ≡ true → IsFront (heard_in_stay a b link events ++ waits_in (boxes a b events link)) (said_in_stay a b link events) }
+    ensures waiting { (hosts : List Host) (events : List Event) → IsRun hosts events → (a b : Host) (link : ℕ) → stays b a events ≡ true → IsPrefix (heard_in_stay a b link events ++ waits_in (boxes a b events link)) (said_in_stay a b link events) }
 
     // while both are through a reset nothing is lost
     ensures whole { (hosts : List Host) (events : List Event) → IsRun hosts events → (a b : Host) (link : ℕ) → joint a b events ≡ true → heard_in_stay a b link events ++ waits_in (boxes a b events link) ≡ said_in_stay a b link events }

@@ -6,7 +6,7 @@ use Rattle.ncp_control.specs.Allocation as counters
 use Rattle.ncp_control.specs.declared.allocation.Allocation.{Allocation}
 use Rattle.ncp_control.proofs.lemmas.{share-le}
 use Rattle.stream_law.specs.Words.{Word, Rts, Str, All, Gvb, Ret, Cls, for, covers, holds}
-use Rattle.stream_law.specs.Within.{message_bits, IsFront}
+use Rattle.stream_law.specs.Within.{message_bits, IsPrefix}
 
 pub parts : (a b : Bool) → (a && b) ≡ true → (a ≡ true) × (b ≡ true)
 parts true b e = (refl, e)
@@ -154,7 +154,7 @@ total_append : (u : Counter) (xs ys : List (List Bool)) → total u xs ≤ total
 total_append u [] ys = omega arith
 total_append u (x ∷ xs) ys = let l : total u xs ≤ total u (xs ++ ys) = total_append u xs ys in omega (arith, l)
 
-pub total_front : (u : Counter) (xs ys : List (List Bool)) → IsFront xs ys → total u xs ≤ total u ys
+pub total_front : (u : Counter) (xs ys : List (List Bool)) → IsPrefix xs ys → total u xs ≤ total u ys
 total_front u xs ys f = subst (λ (zs : List (List Bool)). total u xs ≤ total u zs) f.1 (total_append u xs f.0)
 
 pub total_messages : (ms : List (List Bool)) → total Messages ms ≡ length ms

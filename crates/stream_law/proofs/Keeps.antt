@@ -6,7 +6,7 @@ use Rattle.stream_law.specs.Receivers as receivers
 use Rattle.stream_law.specs.Receivers.{Receiver}
 use Rattle.stream_law.specs.Senders.{Sender}
 use Rattle.stream_law.specs.Streams.{Stream, Box, Empty, Waiting, Taken}
-use Rattle.stream_law.specs.Within.{IsFront, waiting_in}
+use Rattle.stream_law.specs.Within.{IsPrefix, waiting_in}
 use Rattle.stream_law.proofs.Amounts.{unlike, some_is, Counter, Messages, Bits, number, cost, total, total_of, granted_in, returned_in, held}
 use Rattle.stream_law.proofs.Words.{unless, NoRts, DownFits, UpFits}
 
@@ -73,7 +73,7 @@ abbrev pub Settled : Receiver → Sender → Type 0
 Settled r s = (c : ℕ) → r.over c ≡ true → r.first c ≡ false → r.taken c ≡ s.sent c
 
 abbrev pub Fronts : Receiver → Sender → Type 0
-Fronts r s = (c : ℕ) → IsFront (r.taken c) (s.sent c)
+Fronts r s = (c : ℕ) → IsPrefix (r.taken c) (s.sent c)
 
 abbrev pub Unsent : Receiver → Sender → Type 0
 Unsent r s = (c : ℕ) → r.asked c ≡ false → s.sent c ≡ []

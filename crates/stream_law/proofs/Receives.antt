@@ -6,7 +6,7 @@ use Rattle.stream_law.specs.Receivers as receivers
 use Rattle.stream_law.specs.Receivers.{Receiver}
 use Rattle.stream_law.specs.Senders.{Sender}
 use Rattle.stream_law.specs.Streams.{Stream, Box, Empty, Waiting, Taken}
-use Rattle.stream_law.specs.Within.{IsFront, waiting_in}
+use Rattle.stream_law.specs.Within.{IsPrefix, waiting_in}
 use Rattle.stream_law.proofs.Amounts.{parts, not_true, unlike, some_is, at, for_here, for_more, for_less, mine, mine_same, mine_most, number, amount, cost, total, number_all, number_spent, number_less, number_for, total_for, granted_in, granted_more}
 use Rattle.stream_law.proofs.Words.{unless, unless_none, DownFits, down_more, no_rts_said, down_said, down_asked, up_more, closed_more}
 use Rattle.stream_law.proofs.Keeps.{made, Firsts, Settled, Account, Inv, all_over, sole, waits_for, waits_of, acceptable}
@@ -25,7 +25,7 @@ opens c r e =
     let q : (r.opened ≡ true) × (not r.closed ≡ true) = parts r.opened (not r.closed) p.0 in
     (q.0, not_true r.closed q.1, not_true (r.over c) p.1)
 
-no_front : (xs : List (List Bool)) → IsFront xs [] → xs ≡ []
+no_front : (xs : List (List Bool)) → IsPrefix xs [] → xs ≡ []
 no_front [] f = refl
 no_front (x ∷ xs) f = let e : x ∷ (xs ++ f.0) ≡ [] = f.1 in absurd (cc)
 
@@ -75,7 +75,7 @@ settled_heard x h c closed first = by_over (x.receiver.over c) refl where
   ]
   by_asked over false e =
       let unsent : x.sender.sent c ≡ [] = h.unsent c e in
-      no_front (x.receiver.taken c) (subst (λ (l : List (List Bool)). IsFront (x.receiver.taken c) l) unsent (h.fronts c)) ∙ sym unsent
+      no_front (x.receiver.taken c) (subst (λ (l : List (List Bool)). IsPrefix (x.receiver.taken c) l) unsent (h.fronts c)) ∙ sym unsent
 
   by_over : (v : Bool) → x.receiver.over c ≡ v → x.receiver.taken c ≡ x.sender.sent c
   by_over true e = h.settled c e first
@@ -112,7 +112,7 @@ module _ (r : Receiver) (s : Sender) (d u : List Word) (b : Box) (h : Inv (made 
     before = subst (λ (o : Option ℕ). DownFits r.over r.asked (unless s.shut s.end) d o) (ap (λ (o : Option ℕ). unless r.closed o) none ∙ unless_none r.closed) h.down
 
     untaken : r.taken c ≡ []
-    untaken = no_front (r.taken c) (subst (λ (l : List (List Bool)). IsFront (r.taken c) l) (h.unsent c fresh) (h.fronts c))
+    untaken = no_front (r.taken c) (subst (λ (l : List (List Bool)). IsPrefix (r.taken c) l) (h.unsent c fresh) (h.fronts c))
 
   pub kept_open : (c : ℕ) → r.end ≡ Some c → is_some (r.size c) ≡ true → Inv (made (record r { opened = true }) s d u b)
   kept_open c end size = record {
@@ -406,7 +406,7 @@ module _ (r : Receiver) (s : Sender) (d u : List Word) (c z : ℕ) (bits : List 
     ];
     fronts = λ k. elim (at c (r.taken c ++ bits ∷ []) r.taken k) [
       | inl t ↦ ([], append-nil (for c (r.taken c ++ bits ∷ []) r.taken k) ∙ sym (same k t.0))
-      | inr t ↦ subst (λ (l : List (List Bool)). IsFront l (s.sent k)) (sym t.1) (h.fronts k)
+      | inr t ↦ subst (λ (l : List (List Bool)). IsPrefix l (s.sent k)) (sym t.1) (h.fronts k)
     ];
     unsent = h.unsent;
     account = h.account;

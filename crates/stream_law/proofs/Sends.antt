@@ -9,7 +9,7 @@ use Rattle.stream_law.specs.Receivers.{Receiver}
 use Rattle.stream_law.specs.Senders as senders
 use Rattle.stream_law.specs.Senders.{Sender}
 use Rattle.stream_law.specs.Streams.{Box, Empty, Waiting, Taken, word_queued}
-use Rattle.stream_law.specs.Within.{IsFront}
+use Rattle.stream_law.specs.Within.{IsPrefix}
 use Rattle.stream_law.proofs.Amounts.{parts, not_true, unlike, never, some_is, at, for_here, for_more, for_less, mine, mine_add, mine_within, Counter, number, amount, cost, total, number_granted, number_spent, number_back, number_nothing, total_for, returned_in, returned_more, held, held_is}
 use Rattle.stream_law.proofs.Words.{unless, unless_none, unless_some, DownFits, up_more, up_said}
 use Rattle.stream_law.proofs.Keeps.{made, Waits, Account, Inv, sole, link_free}
@@ -30,7 +30,7 @@ size_more c z size none k y e = elim (at c (Some z) size k) [
   | inr t ↦ (t.1 ∙ e)
 ]
 
-front_more : (xs ys : List (List Bool)) (m : List Bool) → IsFront xs ys → IsFront xs (ys ++ m ∷ [])
+front_more : (xs ys : List (List Bool)) (m : List Bool) → IsPrefix xs ys → IsPrefix xs (ys ++ m ∷ [])
 front_more xs ys m f = (f.0 ++ m ∷ [], sym (append_assoc xs f.0 (m ∷ [])) ∙ ap (λ (l : List (List Bool)). l ++ m ∷ []) f.1)
 
 -- ---- an end that goes
@@ -228,8 +228,8 @@ module _ (r : Receiver) (s : Sender) (d u : List Word) (h : Inv (made r s d u Em
       | inr t ↦ (h.settled k e f ∙ sym t.1)
     ];
     fronts = λ k. elim (at c (s.sent c ++ bits ∷ []) s.sent k) [
-      | inl t ↦ subst (λ (l : List (List Bool)). IsFront (r.taken k) l) (ap (λ (j : ℕ). s.sent j ++ bits ∷ []) t.0 ∙ sym t.1) (front_more (r.taken k) (s.sent k) bits (h.fronts k))
-      | inr t ↦ subst (λ (l : List (List Bool)). IsFront (r.taken k) l) (sym t.1) (h.fronts k)
+      | inl t ↦ subst (λ (l : List (List Bool)). IsPrefix (r.taken k) l) (ap (λ (j : ℕ). s.sent j ++ bits ∷ []) t.0 ∙ sym t.1) (front_more (r.taken k) (s.sent k) bits (h.fronts k))
+      | inr t ↦ subst (λ (l : List (List Bool)). IsPrefix (r.taken k) l) (sym t.1) (h.fronts k)
     ];
     unsent = λ k e. elim (at c (s.sent c ++ bits ∷ []) s.sent k) [
       | inl t ↦ absurd (unlike (r.asked k) (ap r.asked t.0 ∙ h.heard c end) e)

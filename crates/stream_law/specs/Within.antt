@@ -5,8 +5,8 @@ use Rattle.stream_law.specs.Words.{Word, Ret}
 use Rattle.stream_law.specs.Streams.{Stream, Box, Empty, Waiting, Taken}
 
 -- these messages are the first of those
-abbrev pub IsFront : List (List Bool) → List (List Bool) → Type 0
-IsFront xs ys = (rest : List (List Bool)) × (xs ++ rest ≡ ys)
+abbrev pub IsPrefix : List (List Bool) → List (List Bool) → Type 0
+IsPrefix xs ys = (rest : List (List Bool)) × (xs ++ rest ≡ ys)
 
 -- the bits of messages
 abbrev pub message_bits : List (List Bool) → ℕ
@@ -27,7 +27,7 @@ waiting_in Taken = []
 -- of each connection: what was taken is a prefix of what was sent, and all of it once the receiver has heard the sender's CLS without having
 -- said its own before; and both are granted
 pub record IsSafe (x : Stream) (c : ℕ) : Type 0 where
-  pub front : IsFront (x.receiver.taken c) (x.sender.sent c)
+  pub front : IsPrefix (x.receiver.taken c) (x.sender.sent c)
   pub whole : x.receiver.over c ≡ true → x.receiver.first c ≡ false → x.receiver.taken c ≡ x.sender.sent c
   pub taken : AreGranted (x.receiver.taken c) (x.receiver.returned c) (x.receiver.granted c)
   pub sent : AreGranted (x.sender.sent c) (x.receiver.returned c) (x.receiver.granted c)

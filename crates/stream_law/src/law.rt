@@ -6,7 +6,7 @@ ghost use Rattle.stream_law.specs.Words.{Rts, Str, All, Gvb, Ret, Cls};
 ghost use Rattle.stream_law.specs.Receivers as receivers;
 ghost use Rattle.stream_law.specs.Senders as senders;
 ghost use Rattle.stream_law.specs.Streams.{Event, Receives, Sends, Empty, Waiting, Taken, stream, IsRun};
-ghost use Rattle.stream_law.specs.Within.{IsFront, message_bits, waiting_in, AreGranted, IsSafe, NoneReturned, NothingLeft};
+ghost use Rattle.stream_law.specs.Within.{IsPrefix, message_bits, waiting_in, AreGranted, IsSafe, NoneReturned, NothingLeft};
 ghost use Rattle.stream_law.specs.Agreed.{ArePrompt, IsAtRest, AreAgreed};
 ghost use Rattle.stream_law.specs.Example.{two, three, opened_events, granted_events, sent_events, taken_events, returned_events, closed_events, ended_events, quit_events, rested_events, late_events, next, hasty, early};
 
@@ -139,9 +139,9 @@ pub fn worked_dropping()
 /// What a promise says.
 pub fn worked_within()
     // prefixes are of whole messages, from the first on
-    ensures front { IsFront (two ∷ []) (two ∷ three ∷ []) }
-    ensures behind { IsFront (three ∷ []) (two ∷ three ∷ []) → ⊥ }
-    ensures longer { IsFront (two ∷ three ∷ []) (two ∷ []) → ⊥ }
+    ensures front { IsPrefix (two ∷ []) (two ∷ three ∷ []) }
+    ensures behind { IsPrefix (three ∷ []) (two ∷ three ∷ []) → ⊥ }
+    ensures longer { IsPrefix (two ∷ three ∷ []) (two ∷ []) → ⊥ }
     ensures bits { message_bits (two ∷ three ∷ []) ≡ 5 }
 
     // what was returned counts with the messages and with the bits

@@ -28,7 +28,7 @@ use Rattle.sockets.proofs.lemmas.{not_first, pair_changed}
 use Rattle.net_sim.specs.declared.life.Life.{Life}
 use Rattle.net_sim.specs.Book as book
 use Rattle.net_sim.specs.Book.{Kept, all_told, asked, handed_to, lives_at, where_it}
-use Rattle.net_sim.specs.Safe.{IsFront, receives}
+use Rattle.net_sim.specs.Safe.{IsPrefix, receives}
 use Rattle.world_keeps_lives.specs.Lives.{AddsUp, AreRefusing, EachIn, EachOn, IsFresh, IsLifeOf, IsOwned, IsSafe, NoneOf, has_opened, mine_on}
 use Rattle.world_keeps_lives.proofs.Ends.{IsRefusing, mine_append, mine_one, refusing_append, refusing_changed, refusing_mapped, split}
 use Rattle.world_keeps_lives.proofs.Books.{each_apart, each_handed, each_weaker, other_socket, there_at}
@@ -68,7 +68,7 @@ granted_life p messages bits e x t ok i = record {
 }
 
 more_safe : (bits : List Bool) (x : Life) (t : List Bool) → IsSafe x t → IsSafe x (t ++ bits)
-more_safe bits x t s = record { front = λ q. let f : IsFront x.bits t = s.front q in (f.0 ++ bits, sym (append_assoc x.bits f.0 bits) ∙ ap (λ (l : List Bool). l ++ bits) f.1); within = s.within; bounded = s.bounded }
+more_safe bits x t s = record { front = λ q. let f : IsPrefix x.bits t = s.front q in (f.0 ++ bits, sym (append_assoc x.bits f.0 bits) ∙ ap (λ (l : List Bool). l ++ bits) f.1); within = s.within; bounded = s.bounded }
 
 more_life : (p : Host) (bits : List Bool) (e : Entry) (x : Life) (t : List Bool) → IsLifeOf p e x t → IsLifeOf p (with_more_bits bits e) x (t ++ bits)
 more_life p bits e x t i = record {

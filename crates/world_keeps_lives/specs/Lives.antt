@@ -11,7 +11,7 @@ use Rattle.sockets.specs.Pairs.{NcpState, pair_with}
 pub use Rattle.host_keeps_streams.specs.Ends.{has_opened}
 use Rattle.net_sim.specs.Book.{Kept}
 use Rattle.net_sim.specs.declared.life.Life.{Life}
-use Rattle.net_sim.specs.Safe.{IsFront, IsGranted, receives, sends}
+use Rattle.net_sim.specs.Safe.{IsPrefix, IsGranted, receives, sends}
 
 -- ---- the ends of a host's own
 
@@ -44,7 +44,7 @@ pub record IsBounded (x : Life) : Type 0 where
 
 -- what was sent in a life is a prefix of what was handed over; what was taken in it is granted, and its grants are bounded
 pub record IsSafe (x : Life) (handed : List Bool) : Type 0 where
-  pub front : sends x ≡ true → IsFront x.bits handed
+  pub front : sends x ≡ true → IsPrefix x.bits handed
   pub within : receives x ≡ true → IsGranted x x.messages (length x.bits)
   pub bounded : receives x ≡ true → IsBounded x
 

@@ -25,7 +25,7 @@ onto_above (w ∷ ws) base =
 older_older : (xs ys zs : List Word) → AreOlder xs ys → AreOlder ys zs → AreOlder xs zs
 older_older xs ys zs h k = (k.0 ++ h.0, k.1 ∙ ap (λ (l : List Word). k.0 ++ l) h.1 ∙ sym (append_assoc k.0 h.0 xs))
 
-front_words : (who : Who) (xs ys : List (List Bool)) → stay.IsFront xs ys → AreOlder (onto (words_of who xs) []) (onto (words_of who ys) [])
+front_words : (who : Who) (xs ys : List (List Bool)) → stay.IsPrefix xs ys → AreOlder (onto (words_of who xs) []) (onto (words_of who ys) [])
 front_words who xs ys f =
     let above : AreOlder (onto (words_of who xs) []) (onto (words_of who f.0) (onto (words_of who xs) [])) = onto_above (words_of who f.0) (onto (words_of who xs) []) in
     let is : onto (words_of who ys) [] ≡ onto (words_of who f.0) (onto (words_of who xs) []) =
@@ -63,7 +63,7 @@ heard_now : (who : Who) (hosts : List Host) (e : Event) (events : List Event) �
 heard_now who hosts e events r a b stays true f =
     absurd (let f : Fresh a b e events = begins_fresh hosts e events r a b f in let no : true ≡ false = sym stays ∙ f.peer_left in cc)
 heard_now who hosts e events r a b stays false f =
-    let front : stay.IsFront (stay.heard_in_stay a b 0 (e ∷ events)) (stay.said_in_stay a b 0 (e ∷ events)) = heard_front hosts (e ∷ events) r a b 0 in
+    let front : stay.IsPrefix (stay.heard_in_stay a b 0 (e ∷ events)) (stay.said_in_stay a b 0 (e ∷ events)) = heard_front hosts (e ∷ events) r a b 0 in
     let here : stay.heard_in_stay a b 0 (e ∷ events) ≡ stay.heard_in_stay a b 0 events ++ stay.heard_by a b 0 e = rw (f, stays) refl in
     let there : stay.said_in_stay a b 0 (e ∷ events) ≡ stay.said_in_stay a b 0 events ++ (if stay.stays a b events then stay.said_by a b 0 e else []) = rw f refl in
     subst (λ (l : List Word). AreOlder l (onto_if (stay.stays a b events) (words_of who (stay.said_by a b 0 e)) (onto (words_of who (stay.said_in_stay a b 0 events)) [])))

@@ -9,7 +9,7 @@ ghost use Rattle.leader1822.specs.declared.message.HostMessage.{HostMessage};
 ghost use Rattle.host_keeps_streams.specs.Ends.{HasReceiver};
 ghost use Rattle.host_keeps_streams.specs.Histories.{AreAllowed, HasClosed, IsHistory, ends_now, name_now, numbered, receiver_now, sender_now};
 ghost use Rattle.host_keeps_streams.specs.Names.{IsSending};
-ghost use Rattle.stream_law.specs.Within.{AreGranted, IsFront};
+ghost use Rattle.stream_law.specs.Within.{AreGranted, IsPrefix};
 ghost use Rattle.reset_law.specs.Stays as stay;
 ghost use Rattle.sockets.specs.Pairs.{pair_with};
 ghost use Rattle.sockets.specs.Worked as dialogue;
@@ -46,7 +46,7 @@ pub fn programs()
 /// and how many connections of theirs are over, which both count alike.
 pub fn streams()
     // what the one has taken in a connection is a prefix of what the other has sent in it
-    ensures front { (hosts : List Host) (moments : List Moment) → HaveAddresses hosts → mail.IsRun hosts (crossings_of moments) → IsTimeline hosts moments → (a b : Host) (link : ℕ) → (link == 0) ≡ false → stay.stays a b (events_of moments) ≡ true → stay.stays b a (events_of moments) ≡ true → (c : ℕ) → IsFront ((receiver_now numbered b link (own_calls a b moments)).taken c) ((sender_now numbered_by_peer a link (own_calls b a moments)).sent c) }
+    ensures front { (hosts : List Host) (moments : List Moment) → HaveAddresses hosts → mail.IsRun hosts (crossings_of moments) → IsTimeline hosts moments → (a b : Host) (link : ℕ) → (link == 0) ≡ false → stay.stays a b (events_of moments) ≡ true → stay.stays b a (events_of moments) ≡ true → (c : ℕ) → IsPrefix ((receiver_now numbered b link (own_calls a b moments)).taken c) ((sender_now numbered_by_peer a link (own_calls b a moments)).sent c) }
 
     // and all of it, where it has heard the other's CLS and its own user hasn't closed the end
     ensures whole { (hosts : List Host) (moments : List Moment) → HaveAddresses hosts → mail.IsRun hosts (crossings_of moments) → IsTimeline hosts moments → (a b : Host) (link : ℕ) → (link == 0) ≡ false → stay.stays a b (events_of moments) ≡ true → stay.stays b a (events_of moments) ≡ true → (c : ℕ) → (receiver_now numbered b link (own_calls a b moments)).over c ≡ true → (HasClosed numbered b link c (own_calls a b moments) → ⊥) → (receiver_now numbered b link (own_calls a b moments)).taken c ≡ (sender_now numbered_by_peer a link (own_calls b a moments)).sent c }

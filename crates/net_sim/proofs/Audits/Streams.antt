@@ -9,8 +9,8 @@ use Rattle.std.proofs.lemmas.Bool.{eqb-true, cases_lt}
 use Rattle.leader1822.specs.declared.crossing.Crossing.{Crossing}
 use Rattle.leader1822.proofs.lemmas.{and_true}
 use Rattle.net_sim.specs.Book.{Life}
-use Rattle.net_sim.specs.Inside.Audit.{asked_at, is_asked, is_partner, is_match, same_bit, same_found, is_front, is_source, is_fed, is_handed, handed_at, are_handed, is_unmatched, some_fed, streams_hold, Found}
-use Rattle.net_sim.specs.Safe.{Name, SafePartners, SafeStreams, Match, Source, IsFront, AreHanded, own_request, partner_request, receives, sends}
+use Rattle.net_sim.specs.Inside.Audit.{asked_at, is_asked, is_partner, is_match, same_bit, same_found, is_prefix, is_source, is_fed, is_handed, handed_at, are_handed, is_unmatched, some_fed, streams_hold, Found}
+use Rattle.net_sim.specs.Safe.{Name, SafePartners, SafeStreams, Match, Source, IsPrefix, AreHanded, own_request, partner_request, receives, sends}
 use Rattle.net_sim.proofs.Audits.Elements.{and_false, and_is, or_cases, or_right, when_true, when_is, not_is, not_true, all_at, all_from, all_take, any_at, any_from, is_false}
 use Rattle.net_sim.proofs.Audits.Searches.{none_found}
 use Rattle.net_sim.proofs.Audits.Requests.{asks, asks_is, asked_sockets, partner_true, partner_is}
@@ -42,21 +42,21 @@ match_is log x y m =
 
 -- ---- prefixes
 
-pub front_true : (xs ys : List Bool) → is_front xs ys ≡ true → IsFront xs ys
+pub front_true : (xs ys : List Bool) → is_prefix xs ys ≡ true → IsPrefix xs ys
 front_true [] ys h = (ys, refl)
 front_true (x ∷ xs) [] h = absurd (cc)
 front_true (x ∷ xs) (y ∷ ys) h =
-    let t = and_true (same_bit x y) (is_front xs ys) h in
+    let t = and_true (same_bit x y) (is_prefix xs ys) h in
     let rest = front_true xs ys t.1 in
     let e : x ≡ y = same_bit-true x y t.0 in
     (rest.0, ap (λ (z : Bool). z ∷ xs ++ rest.0) e ∙ ap (λ (zs : List Bool). y ∷ zs) rest.1)
 
-front_append : (xs rest : List Bool) → is_front xs (xs ++ rest) ≡ true
+front_append : (xs rest : List Bool) → is_prefix xs (xs ++ rest) ≡ true
 front_append [] rest = refl
-front_append (x ∷ xs) rest = and_is (same_bit x x) (is_front xs (xs ++ rest)) (same_bit-refl x) (front_append xs rest)
+front_append (x ∷ xs) rest = and_is (same_bit x x) (is_prefix xs (xs ++ rest)) (same_bit-refl x) (front_append xs rest)
 
-pub front_is : (xs ys : List Bool) → IsFront xs ys → is_front xs ys ≡ true
-front_is xs ys (rest, e) = let P : List Bool → Type 0 = λ z. is_front xs z ≡ true in subst P e (front_append xs rest)
+pub front_is : (xs ys : List Bool) → IsPrefix xs ys → is_prefix xs ys ≡ true
+front_is xs ys (rest, e) = let P : List Bool → Type 0 = λ z. is_prefix xs z ≡ true in subst P e (front_append xs rest)
 
 -- one bit more
 get_drop : (xs : List Bool) (i : ℕ) → i < length xs → (x : Bool) × (slice_get xs i ≡ Some x) × (drop i xs ≡ x ∷ drop (suc i) xs)
@@ -70,7 +70,7 @@ past_drop [] (suc i) h = (refl, refl)
 past_drop (x ∷ xs) zero h = absurd (omega arith)
 past_drop (x ∷ xs) (suc i) h = past_drop xs i (omega arith)
 
-front_step : (xs ys : List Bool) (i : ℕ) → i < length xs → is_front (drop i xs) (drop i ys) ≡ (same_found (slice_get xs i) (slice_get ys i) && is_front (drop (suc i) xs) (drop (suc i) ys))
+front_step : (xs ys : List Bool) (i : ℕ) → i < length xs → is_prefix (drop i xs) (drop i ys) ≡ (same_found (slice_get xs i) (slice_get ys i) && is_prefix (drop (suc i) xs) (drop (suc i) ys))
 front_step xs ys i h =
     let a = get_drop xs i h in
     elim (cases_lt i (length ys)) [
@@ -79,19 +79,19 @@ front_step xs ys i h =
     ]
 
 pub front_more : (xs ys : List Bool) (i : ℕ) (a b : Option Bool) (r : Bool) → i < length xs → a ≡ slice_get xs i → b ≡ slice_get ys i → r ≡ same_found a b
-    → is_front (drop i xs) (drop i ys) ≡ is_front xs ys → r ≡ true → is_front (drop (i + 1) xs) (drop (i + 1) ys) ≡ is_front xs ys
+    → is_prefix (drop i xs) (drop i ys) ≡ is_prefix xs ys → r ≡ true → is_prefix (drop (i + 1) xs) (drop (i + 1) ys) ≡ is_prefix xs ys
 front_more xs ys i a b r h p q s e t =
     let here : same_found (slice_get xs i) (slice_get ys i) ≡ true = rw (← p, ← q) (sym s ∙ t) in
-    let step : is_front (drop i xs) (drop i ys) ≡ (same_found (slice_get xs i) (slice_get ys i) && is_front (drop (suc i) xs) (drop (suc i) ys)) = front_step xs ys i h in
-    let after : is_front (drop i xs) (drop i ys) ≡ is_front (drop (suc i) xs) (drop (suc i) ys) = rw here at step in
+    let step : is_prefix (drop i xs) (drop i ys) ≡ (same_found (slice_get xs i) (slice_get ys i) && is_prefix (drop (suc i) xs) (drop (suc i) ys)) = front_step xs ys i h in
+    let after : is_prefix (drop i xs) (drop i ys) ≡ is_prefix (drop (suc i) xs) (drop (suc i) ys) = rw here at step in
     rw (add-one) (sym after ∙ e)
 
 pub front_stops : (xs ys : List Bool) (i : ℕ) (a b : Option Bool) (r : Bool) → i < length xs → a ≡ slice_get xs i → b ≡ slice_get ys i → r ≡ same_found a b
-    → is_front (drop i xs) (drop i ys) ≡ is_front xs ys → r ≡ false → false ≡ is_front xs ys
+    → is_prefix (drop i xs) (drop i ys) ≡ is_prefix xs ys → r ≡ false → false ≡ is_prefix xs ys
 front_stops xs ys i a b r h p q s e t =
     let here : same_found (slice_get xs i) (slice_get ys i) ≡ false = rw (← p, ← q) (sym s ∙ t) in
-    let step : is_front (drop i xs) (drop i ys) ≡ (same_found (slice_get xs i) (slice_get ys i) && is_front (drop (suc i) xs) (drop (suc i) ys)) = front_step xs ys i h in
-    let after : is_front (drop i xs) (drop i ys) ≡ false = rw here at step in
+    let step : is_prefix (drop i xs) (drop i ys) ≡ (same_found (slice_get xs i) (slice_get ys i) && is_prefix (drop (suc i) xs) (drop (suc i) ys)) = front_step xs ys i h in
+    let after : is_prefix (drop i xs) (drop i ys) ≡ false = rw here at step in
     sym after ∙ e
 
 -- ---- what was handed over
@@ -102,14 +102,14 @@ handed_true [] (b ∷ handed) h = absurd (cc)
 handed_true (x ∷ lives) [] h = absurd (cc)
 handed_true (x ∷ lives) (b ∷ handed) h =
     let t = and_true (is_handed x b) (are_handed lives handed) h in
-    (λ s. front_true x.bits b (when_true (sends x) (is_front x.bits b) t.0 s), handed_true lives handed t.1)
+    (λ s. front_true x.bits b (when_true (sends x) (is_prefix x.bits b) t.0 s), handed_true lives handed t.1)
 
 pub handed_is : (lives : List Life) (handed : List (List Bool)) → AreHanded lives handed → are_handed lives handed ≡ true
 handed_is [] [] h = refl
 handed_is [] (b ∷ handed) h = absurd (cc)
 handed_is (x ∷ lives) [] h = absurd h
 handed_is (x ∷ lives) (b ∷ handed) (f, rest) =
-    and_is (is_handed x b) (are_handed lives handed) (when_is (sends x) (is_front x.bits b) (λ s. front_is x.bits b (f s))) (handed_is lives handed rest)
+    and_is (is_handed x b) (are_handed lives handed) (when_is (sends x) (is_prefix x.bits b) (λ s. front_is x.bits b (f s))) (handed_is lives handed rest)
 
 -- as many lists as lives
 handed_length : (lives : List Life) (handed : List (List Bool)) → are_handed lives handed ≡ true → length lives ≡ length handed
@@ -135,13 +135,13 @@ fed_true log lives x h r n =
       | inr b ↦ b
     ] in
     let found = any_at (is_source log (asked_at log x) x) lives source in
-    let t = and_true (is_match log (asked_at log x) x found.0) (is_front x.bits found.0.bits) found.2 in
+    let t = and_true (is_match log (asked_at log x) x found.0) (is_prefix x.bits found.0.bits) found.2 in
     record { sender = found.0; there = found.1; matches = match_true log x found.0 t.0; front = front_true x.bits found.0.bits t.1 }
 
 fed_by : (log : List Crossing) (lives : List Life) (x : Life) → Source log lives x → list_any (is_source log (asked_at log x) x) lives ≡ true
 fed_by log lives x s =
     any_from (is_source log (asked_at log x) x) lives s.sender s.there
-    (and_is (is_match log (asked_at log x) x s.sender) (is_front x.bits s.sender.bits) (match_is log x s.sender s.matches) (front_is x.bits s.sender.bits s.front))
+    (and_is (is_match log (asked_at log x) x s.sender) (is_prefix x.bits s.sender.bits) (match_is log x s.sender s.matches) (front_is x.bits s.sender.bits s.front))
 
 fed_is : (log : List Crossing) (lives : List Life) (x : Life) → (receives x ≡ true → (x.bits ≡ [] → ⊥) → Source log lives x)
     → (r : Bool) → receives x ≡ r → (e : Bool) → (length x.bits == 0) ≡ e → is_fed log lives x ≡ true

@@ -7,7 +7,7 @@ use Rattle.leader1822.specs.declared.crossing.Crossing.{Crossing}
 use Rattle.leader1822.specs.declared.crossing.Crossing.TheVariants as crossing
 use Rattle.sockets.specs.Worked.{first, second, third, on_link}
 use Rattle.net_sim.specs.Book.{Life}
-use Rattle.net_sim.specs.Safe.{Name, SafeBook, IsGranted, Source, Match, IsFront, sends, own_request, partner_request}
+use Rattle.net_sim.specs.Safe.{Name, SafeBook, IsGranted, Source, Match, IsPrefix, sends, own_request, partner_request}
 use Rattle.net_sim.specs.Worked.{eight, eight_zeros, four, crossings, message, receiver, sender, taker, giver, elsewhere, asker, stranger}
 
 -- ---- where a life stands
@@ -109,7 +109,7 @@ other_bits b =
     let x : Life = record giver { bits = four } in
     let s : Source crossings (x ∷ taker ∷ []) taker = b.streams.source taker (1, omega arith, refl) refl (λ none. absurd (cc)) in
     elim (two_there x taker s.sender s.there) [
-      | inl is ↦ (let f : IsFront eight four = subst (λ (y : Life). IsFront eight y.bits) (sym is) s.front in (let e : eight ++ f.0 ≡ four = f.1 in absurd (cc)))
+      | inl is ↦ (let f : IsPrefix eight four = subst (λ (y : Life). IsPrefix eight y.bits) (sym is) s.front in (let e : eight ++ f.0 ≡ four = f.1 in absurd (cc)))
       | inr is ↦ not_sending s.sender (ap sends is) s.matches.sending
     ]
 
@@ -118,9 +118,9 @@ other_taken b =
     let x : Life = record giver { bits = eight_zeros } in
     let s : Source crossings (x ∷ taker ∷ []) taker = b.streams.source taker (1, omega arith, refl) refl (λ none. absurd (cc)) in
     elim (two_there x taker s.sender s.there) [
-      | inl is ↦ (let f : IsFront eight eight_zeros = subst (λ (y : Life). IsFront eight y.bits) (sym is) s.front in (let e : eight ++ f.0 ≡ eight_zeros = f.1 in absurd (cc)))
+      | inl is ↦ (let f : IsPrefix eight eight_zeros = subst (λ (y : Life). IsPrefix eight y.bits) (sym is) s.front in (let e : eight ++ f.0 ≡ eight_zeros = f.1 in absurd (cc)))
       | inr is ↦ not_sending s.sender (ap sends is) s.matches.sending
     ]
 
 pub other_handed : SafeBook crossings (giver ∷ taker ∷ []) (eight_zeros ∷ [] ∷ []) → ⊥
-other_handed b = let f : IsFront eight eight_zeros = b.streams.sent.0 refl in let e : eight ++ f.0 ≡ eight_zeros = f.1 in absurd (cc)
+other_handed b = let f : IsPrefix eight eight_zeros = b.streams.sent.0 refl in let e : eight ++ f.0 ≡ eight_zeros = f.1 in absurd (cc)

@@ -4,7 +4,7 @@ use Rattle.leader1822.specs.declared.crossing.Crossing.TheVariants as crossing
 use Rattle.leader1822.specs.Host.{Host}
 use Rattle.sockets.specs.Worked.{first, second, third}
 use Rattle.net_sim.specs.Book.{Life}
-use Rattle.net_sim.specs.Safe.{SafeBook, IsGranted, Source, Match, IsFront, sends, own_request, partner_request}
+use Rattle.net_sim.specs.Safe.{SafeBook, IsGranted, Source, Match, IsPrefix, sends, own_request, partner_request}
 use Rattle.net_sim.specs.Worked.{eight, four, crossings, message, receiver, sender, taker, giver, elsewhere, asker, stranger, over}
 use Rattle.net_sim.proofs.Books.Unsafe.{one_there, not_sending, place_of}
 
@@ -33,7 +33,7 @@ one_way b =
 -- ---- streams
 
 pub unhanded : SafeBook crossings (over giver ∷ over taker ∷ []) (four ∷ [] ∷ []) → ⊥
-unhanded b = let f : IsFront eight four = b.streams.sent.0 refl in let e : eight ++ f.0 ≡ four = f.1 in absurd (cc)
+unhanded b = let f : IsPrefix eight four = b.streams.sent.0 refl in let e : eight ++ f.0 ≡ four = f.1 in absurd (cc)
 
 pub from_nobody : SafeBook crossings (over taker ∷ []) ([] ∷ []) → ⊥
 from_nobody b =

@@ -15,7 +15,7 @@ use Rattle.reset_law.specs.Events as reset
 use Rattle.reset_law.specs.Events.{Message, Other, In}
 use Rattle.reset_law.specs.Pairs.{Pair, pair}
 use Rattle.reset_law.specs.Runs.{IsRun, WaitsAfterClean}
-use Rattle.reset_law.specs.Stays.{IsFront, heard_in_stay, said_in_stay}
+use Rattle.reset_law.specs.Stays.{IsPrefix, heard_in_stay, said_in_stay}
 use Rattle.reset_law.proofs.lemmas.{clean_run, heard_front, ready_phase}
 use Rattle.net_sim.specs.Book.{Called}
 use Rattle.net_sim.specs.Clean.{HaveAddresses, IsFresh, IsLawful, IsText, is_through}
@@ -115,7 +115,7 @@ module _ {C : Type 0} (seen : C → Seen) (hosts : List Host) (w : WorldState C)
       record { place = waits.place; out = waiting_out m.flow waits.place kept.0 older kept.1; after = waits.after }
 
   -- link by link, what a host heard in its last stay is a prefix of what was said
-  pub book_front : (a b : Host) (link : ℕ) → IsFront (heard_in_stay a b link (events_in contacts log)) (said_in_stay a b link (events_in contacts log))
+  pub book_front : (a b : Host) (link : ℕ) → IsPrefix (heard_in_stay a b link (events_in contacts log)) (said_in_stay a b link (events_in contacts log))
   book_front a b link = heard_front hosts (events_in contacts log) book_run a b link
 
   -- and so is the program in the seat of each host that is up

@@ -156,21 +156,21 @@ same_found (Some x) None = false
 same_found (Some x) (Some y) = same_bit x y
 
 -- whether the first list is a prefix of the second
-abbrev pub is_front : List Bool → List Bool → Bool
-is_front [] ys = true
-is_front (x ∷ xs) [] = false
-is_front (x ∷ xs) (y ∷ ys) = same_bit x y && is_front xs ys
+abbrev pub is_prefix : List Bool → List Bool → Bool
+is_prefix [] ys = true
+is_prefix (x ∷ xs) [] = false
+is_prefix (x ∷ xs) (y ∷ ys) = same_bit x y && is_prefix xs ys
 
 -- whether the second life matches the first, and sent what that one took
 abbrev pub is_source : List Crossing → Option ℕ → Life → Life → Bool
-is_source log asked x y = is_match log asked x y && is_front x.bits y.bits
+is_source log asked x y = is_match log asked x y && is_prefix x.bits y.bits
 
 -- whether a life took nothing, or what the one that it matches sent
 abbrev pub is_fed : List Crossing → List Life → Life → Bool
 is_fed log lives x = not (receives x) || length x.bits == 0 || list_any (is_source log (asked_at log x) x) lives
 
 abbrev pub is_handed : Life → List Bool → Bool
-is_handed x handed = not (sends x) || is_front x.bits handed
+is_handed x handed = not (sends x) || is_prefix x.bits handed
 
 abbrev pub are_handed : List Life → List (List Bool) → Bool
 are_handed [] [] = true

@@ -21,8 +21,8 @@ fn same_found(bit: Option<bool>, other: Option<bool>) -> bool
 }
 
 /// Returns whether the first list is a prefix of the second.
-fn is_front(bits: &BitLog, other: &BitLog) -> bool
-    ensures { result ≡ tests.is_front bits.now other.now }
+fn is_prefix(bits: &BitLog, other: &BitLog) -> bool
+    ensures { result ≡ tests.is_prefix bits.now other.now }
 {
     for i in 0..bits.len() {
         if !same_found(bits.get(i), other.get(i)) {
@@ -36,7 +36,7 @@ fn is_front(bits: &BitLog, other: &BitLog) -> bool
 fn is_source(log: &[Crossing], asked: Option<usize>, x: &Life, y: &Life) -> bool
     ensures { result ≡ tests.is_source (reverse log.now) asked x.now y.now }
 {
-    is_match(log, asked, x, y) && is_front(&x.bits, &y.bits)
+    is_match(log, asked, x, y) && is_prefix(&x.bits, &y.bits)
 }
 
 /// Returns whether a life matches this one, and sent what this one took.
@@ -63,7 +63,7 @@ fn is_fed(log: &[Crossing], lives: &[Life], x: &Life) -> bool
 fn is_handed(x: &Life, handed: &BitLog) -> bool
     ensures { result ≡ tests.is_handed x.now handed.now }
 {
-    !sends(x) || is_front(&x.bits, handed)
+    !sends(x) || is_prefix(&x.bits, handed)
 }
 
 /// Returns whether what a life sent was handed over at its place, where anything was.

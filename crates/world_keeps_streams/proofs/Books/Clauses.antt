@@ -24,7 +24,7 @@ pub record OldSource (ms : List Moment) (x : Life) : Type 0 where
   pub there : IsOf sender (lives_in ms)
   pub over : sender.ended ≡ true
   pub matches : Match (crossings_of ms) x sender
-  pub front : book.IsFront x.bits sender.bits
+  pub front : book.IsPrefix x.bits sender.bits
 
 pub record OldGranter (ms : List Moment) (s : Life) : Type 0 where
   pub receiver : Life

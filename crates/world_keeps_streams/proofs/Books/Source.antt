@@ -27,7 +27,7 @@ module _ (a b : Host) (Own Heard : List Moment → ℕ → ℕ → ℕ → ℕ �
     pub peer : sender.peer ≡ a
     pub is : PresentS a b Own Heard ms j sender
     pub matches : Match (crossings_of ms) x sender
-    pub front : book.IsFront x.bits sender.bits
+    pub front : book.IsPrefix x.bits sender.bits
 
   -- who granted what a sending life sent
   pub record Granter (j : (n : ℕ) → Joined a b (suc n) ms) (s : Life) : Type 0 where
@@ -66,7 +66,7 @@ module _ (a b : Host) (Own Heard : List Moment → ℕ → ℕ → ℕ → ℕ �
           peer = h.peer;
           is = h.is;
           matches = one_matches x h.life p.g h.is.g i h.there (f, g) (h.host, h.peer) q h.name p.own h.is.heard;
-          front = subst (λ (bs : List Bool). book.IsFront x.bits bs) (sym bits)
+          front = subst (λ (bs : List Bool). book.IsPrefix x.bits bs) (sym bits)
               (front_on x.bits (all_bits ((w.j p.link).x.receiver.taken (numbered x.socket x.foreign p.g))) (all_bits ((w.j p.link).x.sender.sent (numbered x.socket x.foreign p.g))) p.bits
               (front_bits ((w.j p.link).x.receiver.taken (numbered x.socket x.foreign p.g)) ((w.j p.link).x.sender.sent (numbered x.socket x.foreign p.g)) safe.front));
         }

@@ -2,7 +2,7 @@
 use Rattle.std.proofs.Common.{◌≡◌, ℕ, ◌+◌, Bool, List, [], ◌∷◌, ◌++◌, length, refl, ap, sym, ◌∙◌}
 use Rattle.std.proofs.lemmas.List.{append_assoc, length-append}
 use Rattle.net_sim.specs.Safe as book
-use Rattle.stream_law.specs.Within.{message_bits, IsFront}
+use Rattle.stream_law.specs.Within.{message_bits, IsPrefix}
 use Rattle.world_keeps_streams.proofs.Carried.Streams.{all_bits}
 
 all_bits_append : (xs ys : List (List Bool)) → all_bits (xs ++ ys) ≡ all_bits xs ++ all_bits ys
@@ -13,16 +13,16 @@ pub all_bits_length : (xs : List (List Bool)) → length (all_bits xs) ≡ messa
 all_bits_length [] = refl
 all_bits_length (x ∷ xs) = length-append x (all_bits xs) ∙ ap (λ (n : ℕ). length x + n) (all_bits_length xs)
 
-pub front_bits : (xs ys : List (List Bool)) → IsFront xs ys → book.IsFront (all_bits xs) (all_bits ys)
+pub front_bits : (xs ys : List (List Bool)) → IsPrefix xs ys → book.IsPrefix (all_bits xs) (all_bits ys)
 front_bits xs ys f = (all_bits f.0, sym (all_bits_append xs f.0) ∙ ap all_bits f.1)
 
-pub front_on : (xs ys zs : List Bool) → book.IsFront xs ys → book.IsFront ys zs → book.IsFront xs zs
+pub front_on : (xs ys zs : List Bool) → book.IsPrefix xs ys → book.IsPrefix ys zs → book.IsPrefix xs zs
 front_on xs ys zs f g = (f.0 ++ g.0, sym (append_assoc xs f.0 g.0) ∙ ap (λ (bs : List Bool). bs ++ g.0) f.1 ∙ g.1)
 
-pub front_none : (xs ys : List Bool) → book.IsFront xs ys → ys ≡ [] → xs ≡ []
+pub front_none : (xs ys : List Bool) → book.IsPrefix xs ys → ys ≡ [] → xs ≡ []
 front_none [] ys f e = refl
 front_none (x ∷ xs) ys f e = absurd (let none : x ∷ (xs ++ f.0) ≡ [] = f.1 ∙ e in cc)
 
-pub fronts_none : (xs ys : List (List Bool)) → IsFront xs ys → ys ≡ [] → xs ≡ []
+pub fronts_none : (xs ys : List (List Bool)) → IsPrefix xs ys → ys ≡ [] → xs ≡ []
 fronts_none [] ys f e = refl
 fronts_none (x ∷ xs) ys f e = absurd (let none : x ∷ (xs ++ f.0) ≡ [] = f.1 ∙ e in cc)

@@ -112,7 +112,7 @@ module _ (a b : Host) (Own Heard : List Moment → ℕ → ℕ → ℕ → ℕ �
   pub record PresentR (ms : List Moment) (j : (n : ℕ) → Joined a b (suc n) ms) (x : Life) : Type 0 where
     pub link : ℕ
     pub g : ℕ
-    pub bits : book.IsFront x.bits (all_bits ((j link).x.receiver.taken (numbered x.socket x.foreign g)))
+    pub bits : book.IsPrefix x.bits (all_bits ((j link).x.receiver.taken (numbered x.socket x.foreign g)))
     pub granted_messages : x.granted.messages ≡ ((j link).x.receiver.granted (numbered x.socket x.foreign g)).messages
     pub granted_bits : x.granted.bits ≡ ((j link).x.receiver.granted (numbered x.socket x.foreign g)).bits
     pub returned_messages : x.returned.messages ≡ ((j link).x.receiver.returned (numbered x.socket x.foreign g)).messages

@@ -13,7 +13,7 @@ use Rattle.stream_law.specs.Words.{covers, for, is_size}
 use Rattle.stream_law.specs.Receivers as receivers
 use Rattle.stream_law.specs.Receivers.{Receiver}
 use Rattle.stream_law.specs.Streams.{Stream}
-use Rattle.stream_law.specs.Within.{IsFront}
+use Rattle.stream_law.specs.Within.{IsPrefix}
 use Rattle.host_pairs.specs.Control.{Legal, orders_of}
 use Rattle.host_pairs.specs.Data.{data_taken}
 use Rattle.host_pairs.specs.Desk.{desk_of}
@@ -50,12 +50,12 @@ use Rattle.world_keeps_streams.proofs.Calls.MayCalls.{MayCalls}
 pub record Took (old new : Receiver) : Type 0 where
   pub granted : (c : ℕ) → new.granted c ≡ old.granted c
   pub returned : (c : ℕ) → new.returned c ≡ old.returned c
-  pub taken : (c : ℕ) → IsFront (old.taken c) (new.taken c)
+  pub taken : (c : ℕ) → IsPrefix (old.taken c) (new.taken c)
 
 same_took : (r : Receiver) → Took r r
 same_took r = record { granted = λ c. refl; returned = λ c. refl; taken = λ c. ([], append-nil (r.taken c)) }
 
-front_if : (v : Bool) (xs ys : List (List Bool)) (bits : List Bool) → (v ≡ true → ys ≡ xs) → IsFront xs (if v then ys ++ bits ∷ [] else xs)
+front_if : (v : Bool) (xs ys : List (List Bool)) (bits : List Bool) → (v ≡ true → ys ≡ xs) → IsPrefix xs (if v then ys ++ bits ∷ [] else xs)
 front_if true xs ys bits e = (bits ∷ [], ap (λ (l : List (List Bool)). l ++ bits ∷ []) (sym (e refl)))
 front_if false xs ys bits e = ([], append-nil xs)
 

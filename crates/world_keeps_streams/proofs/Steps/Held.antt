@@ -4,7 +4,7 @@ use Rattle.std.proofs.lemmas.List.{append-nil}
 use Rattle.leader1822.specs.Host.{Host}
 use Rattle.ncp_control.specs.declared.command.Command.{Command}
 use Rattle.stream_law.specs.Streams.{Stream}
-use Rattle.stream_law.specs.Within.{IsFront}
+use Rattle.stream_law.specs.Within.{IsPrefix}
 use Rattle.host_keeps_streams.specs.Histories as calls
 use Rattle.host_keeps_streams.specs.Histories.{AreAllowed, IsTelling, gone_now, receiver_now, sender_now}
 use Rattle.reset_law.specs.Stays as stay
@@ -48,7 +48,7 @@ module _ (number other : ℕ → ℕ → ℕ → ℕ) (tells : IsTelling number)
     pub receiver : second.receiver ≡ y.receiver
     pub granted : stay.stays h p (events_of moments) ≡ false → (c : ℕ) → first.receiver.granted c ≡ x.receiver.granted c
     pub returned : stay.stays h p (events_of moments) ≡ false → (c : ℕ) → first.receiver.returned c ≡ x.receiver.returned c
-    pub taken : stay.stays h p (events_of moments) ≡ false → (c : ℕ) → IsFront (x.receiver.taken c) (first.receiver.taken c)
+    pub taken : stay.stays h p (events_of moments) ≡ false → (c : ℕ) → IsPrefix (x.receiver.taken c) (first.receiver.taken c)
     pub said : stay.stays h p (events_of moments) ≡ false → (c : ℕ) → second.sender.sent c ≡ y.sender.sent c
 
   abbrev pub HereIn : Host → Host → List Moment → List Command → Post → Party → Stream → Stream → Type 0
@@ -95,7 +95,7 @@ module _ (number other : ℕ → ℕ → ℕ → ℕ) (tells : IsTelling number)
         receiver = g.receiver;
         granted = λ e. no_case ((c : ℕ) → g.first.receiver.granted c ≡ x.receiver.granted c) (stay.stays h p (events_of (m ∷ moments))) s e;
         returned = λ e. no_case ((c : ℕ) → g.first.receiver.returned c ≡ x.receiver.returned c) (stay.stays h p (events_of (m ∷ moments))) s e;
-        taken = λ e. no_case ((c : ℕ) → IsFront (x.receiver.taken c) (g.first.receiver.taken c)) (stay.stays h p (events_of (m ∷ moments))) s e;
+        taken = λ e. no_case ((c : ℕ) → IsPrefix (x.receiver.taken c) (g.first.receiver.taken c)) (stay.stays h p (events_of (m ∷ moments))) s e;
         said = λ e. no_case ((c : ℕ) → g.second.sender.sent c ≡ y.sender.sent c) (stay.stays h p (events_of (m ∷ moments))) s e;
       }
 

@@ -7,7 +7,7 @@ use Rattle.reset_law.specs.Boxes.{boxes}
 use Rattle.reset_law.specs.Events.{Message, Other, Reset, Reply}
 use Rattle.reset_law.specs.Stays as stay
 use Rattle.stream_law.specs.Streams.{Stream}
-use Rattle.stream_law.specs.Within.{IsFront}
+use Rattle.stream_law.specs.Within.{IsPrefix}
 use Rattle.host_pairs.specs.Control.{Order, Legal, Wrong, orders_of}
 use Rattle.host_keeps_streams.specs.Histories.{AreAllowed, IsTelling, gone_now, numbered, receiver_now, sender_now}
 use Rattle.host_keeps_streams.proofs.lemmas.{numbered_tells}
@@ -85,5 +85,5 @@ pub record Joined (a b : Host) (link : ℕ) (moments : List Moment) : Type 0 whe
 pub record Keeps (receiver_stays sender_stays : Bool) (old new : Stream) : Type 0 where
   pub granted : receiver_stays ≡ false → (c : ℕ) → new.receiver.granted c ≡ old.receiver.granted c
   pub returned : receiver_stays ≡ false → (c : ℕ) → new.receiver.returned c ≡ old.receiver.returned c
-  pub taken : receiver_stays ≡ false → (c : ℕ) → IsFront (old.receiver.taken c) (new.receiver.taken c)
+  pub taken : receiver_stays ≡ false → (c : ℕ) → IsPrefix (old.receiver.taken c) (new.receiver.taken c)
   pub sent : sender_stays ≡ false → (c : ℕ) → new.sender.sent c ≡ old.sender.sent c

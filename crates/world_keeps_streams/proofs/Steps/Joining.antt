@@ -5,7 +5,7 @@ use Rattle.ncp_control.specs.declared.command.Command.{Command}
 use Rattle.stream_law.specs.Receivers.{Receiver}
 use Rattle.stream_law.specs.Senders.{Sender}
 use Rattle.stream_law.specs.Streams.{Stream}
-use Rattle.stream_law.specs.Within.{IsFront}
+use Rattle.stream_law.specs.Within.{IsPrefix}
 use Rattle.host_keeps_streams.specs.Histories.{numbered}
 use Rattle.host_keeps_streams.proofs.lemmas.{numbered_tells}
 use Rattle.pair_keeps_streams.proofs.lemmas.{Joint, Party}
@@ -72,7 +72,7 @@ module _ (link : ℕ) (mirrors : Mirrors link) (a b : Host) (x : Moment) (moment
         keeps_x = record {
           granted = λ e c. ap (λ (r : Receiver). r.granted c) two.receiver ∙ one.granted e c;
           returned = λ e c. ap (λ (r : Receiver). r.returned c) two.receiver ∙ one.returned e c;
-          taken = λ e c. subst (λ (r : Receiver). IsFront (old.x.receiver.taken c) (r.taken c)) (sym two.receiver) (one.taken e c);
+          taken = λ e c. subst (λ (r : Receiver). IsPrefix (old.x.receiver.taken c) (r.taken c)) (sym two.receiver) (one.taken e c);
           sent = λ e c. two.said e c ∙ ap (λ (u : Sender). u.sent c) one.sender;
         };
       }

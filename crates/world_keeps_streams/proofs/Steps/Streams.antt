@@ -9,7 +9,7 @@ use Rattle.host_keeps_streams.specs.Names.{IsSending}
 use Rattle.host_keeps_streams.proofs.lemmas.{Holds, closed_first, holds_now, numbered_tells}
 use Rattle.stream_law.specs.Receivers.{Receiver}
 use Rattle.stream_law.specs.Senders.{Sender}
-use Rattle.stream_law.specs.Within.{AreGranted, IsFront, IsSafe}
+use Rattle.stream_law.specs.Within.{AreGranted, IsPrefix, IsSafe}
 use Rattle.stream_law.proofs.lemmas.{safe_inv}
 use Rattle.reset_law.specs.Stays as stay
 use Rattle.sockets.specs.Pairs.{pair_with}
@@ -59,10 +59,10 @@ module _ (hosts : List Host) (addresses : HaveAddresses hosts) (link : ℕ) (off
     safe : IsSafe (joined link off hosts addresses a b moments run time).x c
     safe = safe_inv (joined link off hosts addresses a b moments run time).x (joined link off hosts addresses a b moments run time).joint.inv_x c
 
-    pub both_front : IsFront ((receiver_now numbered b link (own_calls a b moments)).taken c) ((sender_now numbered_by_peer a link (own_calls b a moments)).sent c)
+    pub both_front : IsPrefix ((receiver_now numbered b link (own_calls a b moments)).taken c) ((sender_now numbered_by_peer a link (own_calls b a moments)).sent c)
     both_front =
-        subst (λ (s : Sender). IsFront ((receiver_now numbered b link (own_calls a b moments)).taken c) (s.sent c)) sent
-        (subst (λ (r : Receiver). IsFront (r.taken c) ((joined link off hosts addresses a b moments run time).x.sender.sent c)) received safe.front)
+        subst (λ (s : Sender). IsPrefix ((receiver_now numbered b link (own_calls a b moments)).taken c) (s.sent c)) sent
+        (subst (λ (r : Receiver). IsPrefix (r.taken c) ((joined link off hosts addresses a b moments run time).x.sender.sent c)) received safe.front)
 
     -- and all of it, where the sender's CLS was heard and no user closed the end here
     pub both_whole : (receiver_now numbered b link (own_calls a b moments)).over c ≡ true → (HasClosed numbered b link c (own_calls a b moments) → ⊥)

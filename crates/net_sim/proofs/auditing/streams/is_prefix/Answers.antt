@@ -1,6 +1,6 @@
 use Rattle.std.proofs.Common.{rules}
 use Rattle.net_sim.proofs.Audits.Streams.{front_more, front_stops}
-use Rattle.net_sim.proofs.auditing.streams.is_front.Goals as goal
+use Rattle.net_sim.proofs.auditing.streams.is_prefix.Goals as goal
 
 pub returns-then-not-same_found : goal.returns-then-not-same_found
 returns-then-not-same_found c =
