@@ -3,8 +3,8 @@
 
 FOLDER has `page.html`, `page.css` and `main.js`, the module of JavaScript that the page begins with (web/page, or another one). In
 `page.html` four comments say where what is packed goes: `<!-- policy -->`, `<!-- style -->`, `<!-- data -->` and `<!-- script -->`. The
-data are blocks that no browser runs: `program` (MODULE, by gzip and base64), `worker` (web/run/worker.js), `examples` (JSON: a name, a
-title and the text of each input in examples/) and `opened` (inputs like these with which the page opens, if any).
+data are blocks that no browser runs: `program` (MODULE, by gzip and base64), `worker` (web/run/worker.js), `examples` (JSON by gzip and
+base64: a name, a title and the text of each input in examples/) and `opened` (inputs like these with which the page opens, if any).
 
 Modules are joined to one script, each in a function of its own, so names of two never meet. They may import names, or all names as one
 (`import * as it`), from other files, and export declarations and lists of names; anything else is refused. The policy of the page forbids
@@ -131,6 +131,11 @@ def block(name: str, kind: str, text: str) -> str:
     return f'<script type="{kind}" id="{name}">{text}</script>\n'
 
 
+def by_gzip(octets: bytes) -> str:
+    """Octets by gzip and base64."""
+    return base64.b64encode(gzip.compress(octets, 9, mtime=0)).decode()
+
+
 def hash_of(text: str) -> str:
     """The hash of a style or a script, as a policy names it."""
     return f"'sha256-{base64.b64encode(hashlib.sha256(text.encode()).digest()).decode()}'"
@@ -142,10 +147,11 @@ def page(folder: str, module: bytes, first: list[dict[str, str]] | None = None) 
     if "</style" in style or "</script" in script:
         raise Refused("the style or the script would end too early")
     policy = f"default-src 'none'; script-src {hash_of(script)} 'wasm-unsafe-eval'; style-src {hash_of(style)}; worker-src blob:; base-uri 'none'; form-action 'none'"
-    data = block("program", "application/octet-stream", base64.b64encode(gzip.compress(module, 9, mtime=0)).decode())
+    examples = json.dumps(examples_in(f"{ROOT}/examples"), ensure_ascii=False)
+    data = block("program", "application/octet-stream", by_gzip(module))
     data += block("worker", "text/plain", joined(f"{ROOT}/web/run/worker.js"))
     data += block("opened", "application/json", json.dumps(first or [], ensure_ascii=False).replace("<", "\\u003c"))
-    data += block("examples", "application/json", json.dumps(examples_in(f"{ROOT}/examples"), ensure_ascii=False).replace("<", "\\u003c"))
+    data += block("examples", "application/octet-stream", by_gzip(examples.encode()))
     parts = {
         "policy": f'<meta http-equiv="Content-Security-Policy" content="{policy}">',
         "style": f"<style>{style}</style>",

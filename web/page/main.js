@@ -1,6 +1,6 @@
 /** The plain page: a script, its options, Run and Stop, what was printed, and a chart of what crossed. */
 
-import { block, embedded } from "../run/embedded.js";
+import { embedded, examplesInPage } from "../run/embedded.js";
 import { drawn } from "./chart.js";
 import { chartOf } from "./crossings.js";
 import { lineOfFault, rangeOf, summary } from "./faults.js";
@@ -119,7 +119,7 @@ function take(/** @type {Example} */ example) {
 
 async function start() {
     /** @type {Example[]} */
-    const examples = JSON.parse(block("examples"));
+    const examples = await examplesInPage();
     list.append(...examples.map((it) => new Option(it.title, it.name)));
     const first = examples.find((it) => it.name === location.hash.slice(1)) ?? examples.find((it) => it.name === "first-message") ?? examples[0];
     take(first);

@@ -1,5 +1,5 @@
 /**
- * The program that stands in a page: the packer (tools/wasm/pack.py) puts the module and the worker into data blocks, which
+ * The program in a page: the packer (tools/wasm/pack.py) puts the module and the worker into data blocks, which
  * the page opens without a request.
  */
 
@@ -38,6 +38,15 @@ export function block(id) {
 export async function unpacked(text) {
     const packed = Uint8Array.from(atob(text.trim()), (letter) => letter.charCodeAt(0));
     return new Response(new Blob([packed]).stream().pipeThrough(new DecompressionStream("gzip"))).arrayBuffer();
+}
+
+/**
+ * The examples of the page.
+ *
+ * @returns {Promise<{name: string, title: string, text: string}[]>}
+ */
+export async function examplesInPage() {
+    return JSON.parse(new TextDecoder().decode(await unpacked(block("examples"))));
 }
 
 /**

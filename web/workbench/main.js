@@ -1,6 +1,6 @@
 /** Starts the workbench with the program and the examples in the page. */
 
-import { block, embedded } from "../run/embedded.js";
+import { block, embedded, examplesInPage } from "../run/embedded.js";
 import { Workbench } from "./app.js";
 import { arranged, opened } from "./lessons.js";
 import { byId, say } from "./view/dom.js";
@@ -12,7 +12,7 @@ async function start() {
     const sources = note.sources.slice(0, 12);
     const words = `The program in this page is arpasim as WebAssembly, ${proved}. Sources ${sources}.`;
     say(byId("note"), `${words} The page makes no request.`);
-    const examples = JSON.parse(block("examples"));
+    const examples = await examplesInPage();
     const bench = new Workbench(runner, [...opened(JSON.parse(block("opened")), examples), ...arranged(examples)]);
     await bench.begin();
     document.documentElement.dataset.ready = "yes";
