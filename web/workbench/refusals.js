@@ -45,6 +45,19 @@ export function why(state, name, words) {
 }
 
 /**
+ * Why there are no pieces of a message to throw away.
+ *
+ * @param {State} state
+ * @param {string} flow
+ */
+function noPieces({ network, parts }, flow) {
+    const number = impOf(flow.split(" ")[1]);
+    const imp = impName(network, number);
+    if (!parts[`imp ${number}`]) return filled(REFUSED["no pieces, down"], { imp });
+    return filled(REFUSED["no pieces"], { imp, message: messageName(network, flow) });
+}
+
+/**
  * The host, the IMP or the end of a line that an event is of.
  *
  * @param {State} state
@@ -74,7 +87,7 @@ function noSuch(state, words) {
     }
     if (what.includes("/")) {
         const host = kind === "abandon" ? words[2] : what;
-        if (network.hosts.includes(host) && kind === "abandon") return filled(REFUSED["no pieces"], { imp: impName(network, impOf(host)), message: messageName(network, words.slice(1, 4).join(" ")) });
+        if (network.hosts.includes(host) && kind === "abandon") return noPieces(state, words.slice(1, 4).join(" "));
         return filled(REFUSED["no host"], { host });
     }
     if (kind === "forget" && what === way) return REFUSED["own numbers"];

@@ -90,6 +90,7 @@ export const TABLE = {
 "no imp": "The network has no IMP {number}.",
 "no end": "Line {line} does not end at {imp}.",
 "no pieces": "{Imp} holds no pieces of {message}.",
+"no pieces, down": "{Imp} is down, so it holds no pieces.",
 "own numbers": "An IMP keeps no numbers of its own hosts' flows, so there are none to forget.",
 "end": "the end of line {line} at {imp}",
 "down": "{What} is down: `{event}` starts it.",

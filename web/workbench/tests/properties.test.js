@@ -70,6 +70,7 @@ for (const name of NAMES) {
         const history = await historyOf(name);
         assert(history);
         const chart = chartOf(history);
+        assert(chart.marks.every((mark) => /[A-Za-z0-9]/.test(mark.words)), "each mark on the chart has a word");
         assert.deepEqual(withoutLane(history, chart.lanes), []);
         const { imps, boxes, hosts } = placed(history.network);
         const points = [...imps].map(([imp, point]) => ({ ...point, ...(boxes.get(imp) ?? { w: 0, h: 0 }) }));

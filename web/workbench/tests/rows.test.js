@@ -122,6 +122,31 @@ test("the sixteen messages of the lockup are two rows", async () => {
     assert.deepEqual(grouped(history.network, waits).map((it) => it.count), [8, 8]);
 });
 
+test("a message that has come to its host's IMP is said to wait there, and not to be in transit", async () => {
+    const history = await historyOfText(twoImps(["calm 2", "out 0/1 0/2 5 8 41", "deliver 0 + 0", "drop 0 + 0"]));
+    const [wait, ...more] = waitsAtEnd(history);
+    assert.deepEqual(more, []);
+    assert.deepEqual([wait.where, wait.for, wait.bad], ["IMP 2", "host 0/2 to take it", false]);
+});
+
+/** A script whose last event is refused, and words of the cause. */
+const REFUSED = /** @type {[string[], string][]} */ ([
+    [["abandon 0/1 0/2 9"], "IMP 2 holds no pieces"],
+    [["impdown 2", "abandon 0/1 0/2 9"], "IMP 2 is down"],
+    [["abandon 0/1 3/2 9"], "no host 3/2"],
+    [["giveup 0/1 0/2 9"], "No message is outstanding on link 9"],
+    [["enddown 1 7"], "Line 7 does not end at IMP 1"],
+    [["impup 1"], "up already"],
+]);
+
+test("each refusal has its own cause", async () => {
+    for (const [script, words] of REFUSED) {
+        const history = await historyOfText(twoImps(["calm 2", ...script]));
+        const sentence = sentenceOf(history, history.length - 1);
+        assert(sentence.startsWith("Refused: ") && sentence.includes(words), `${script}: ${sentence}`);
+    }
+});
+
 /** A line, and words of the fault that is meant. */
 const BAD_LINES = /** @type {[string, string][]} */ ([
     ["jump", "is not an event"],
