@@ -1,5 +1,6 @@
 /**
- * The chart beside the script: a lane for each host that sends, receives or is sent to, words at the lanes, and arrows between moments.
+ * The chart beside the script: a lane for each host that sends, receives or is sent to, words at the lanes, and arrows
+ * between moments.
  */
 
 import { answerKind, textOf } from "./sentences.js";
@@ -46,7 +47,9 @@ import { ANSWERS } from "./waits.js";
  */
 export function chartOf(history) {
     const drawing = new Drawing(history);
-    history.replay.moments.forEach((moment, at) => moment.printed.forEach((line, place) => drawing.line(at, place, line.split(" "))));
+    history.replay.moments.forEach(
+        (moment, at) => moment.printed.forEach((line, place) => drawing.line(at, place, line.split(" "))),
+    );
     drawing.finish();
     return { lanes: drawing.lanes, marks: joined(drawing.marks), arrows: drawing.arrows, down: drawing.down };
 }
@@ -98,11 +101,20 @@ class Drawing {
         const flow = words.slice(0, 3).join(" ");
         const said = () => {
             const text = textOf(moment, this.history.at(at), words);
-            return text === null ? `${words[3]} bits` : saying(network.raw, Number(words[2]), Number(words[3]), text) || "empty";
+            return text === null
+                ? `${words[3]} bits`
+                : saying(network.raw, Number(words[2]), Number(words[3]), text) || "empty";
         };
         switch (kind) {
             case "out": {
-                const arrow = { kind: /** @type {const} */ ("message"), from: at, lane: this.lane(words[0]), to: -1, end: this.lane(words[1]), failed: -1 };
+                const arrow = {
+                    kind: /** @type {const} */ ("message"),
+                    from: at,
+                    lane: this.lane(words[0]),
+                    to: -1,
+                    end: this.lane(words[1]),
+                    failed: -1,
+                };
                 this.mark(at, words[0], "out", said());
                 this.arrows.push(arrow);
                 this.sent.set(flow, { arrow, taken: -1 });
@@ -127,7 +139,12 @@ class Drawing {
             case "refused":
                 return this.mark(at, moment.words[1], "bad", `refused: ${words[0]}`);
         }
-        this.mark(at, kind === "done" || kind === "failed" ? words[1] : words[0], kind === "failed" || kind === "error" || kind === "contactfailed" || kind === "pairreset" ? "bad" : "note", noticeWords(kind, words));
+        this.mark(
+            at,
+            kind === "done" || kind === "failed" ? words[1] : words[0],
+            kind === "failed" || kind === "error" || kind === "contactfailed" || kind === "pairreset" ? "bad" : "note",
+            noticeWords(kind, words),
+        );
     }
 
     /** @param {string} host */
@@ -170,7 +187,9 @@ class Drawing {
         if (!sent) return;
         this.sent.delete(flow);
         const lane = this.lane(words[1]);
-        if (sent.taken >= 0) this.arrows.push({ kind: sort, from: sent.taken, lane: sent.arrow.end, to: at, end: lane, failed: -1 });
+        if (sent.taken >= 0) {
+            this.arrows.push({ kind: sort, from: sent.taken, lane: sent.arrow.end, to: at, end: lane, failed: -1 });
+        }
         else {
             sent.arrow.failed = at;
             this.arrows.push({ kind: sort, from: sent.arrow.from, lane, to: at, end: lane, failed: -1 });

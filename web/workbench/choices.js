@@ -1,4 +1,7 @@
-/** What can be done to a part of the network that somebody taps: each choice in words, and the script lines that it adds. */
+/**
+ * What can be done to a part of the network that somebody taps: each choice in words, and the script lines that it
+ * adds.
+ */
 
 import { frameName } from "./sentences.js";
 import { farEnd, hostName, impName, impOf, linesOf, siteName, wayOf } from "./topology.js";
@@ -9,7 +12,10 @@ import { capital } from "./words.js";
 /** @typedef {import("./talk.js").Talk} Talk */
 
 /**
- * @typedef {{kind: "line", line: number} | {kind: "frame", line: number, way: "+" | "-", place: number} | {kind: "imp", imp: number} | {kind: "host", host: string}} Part
+ * @typedef {{kind: "line", line: number}} LinePart
+ * @typedef {{kind: "frame", line: number, way: "+" | "-", place: number}} FramePart
+ * @typedef {{kind: "imp", imp: number} | {kind: "host", host: string}} SitePart
+ * @typedef {LinePart | FramePart | SitePart} Part
  */
 
 /**
@@ -37,7 +43,9 @@ export function partTitle(state, part) {
             if (!frame) return "A frame";
             const where = frame.packet ? ` (channel ${frame.channel}, bit ${frame.bit})` : "";
             if (frame.routes) {
-                const told = network.sites.filter(({ number }) => frame.routes?.[number] !== undefined).map(({ number }) => `${siteName(network, number)} ${frame.routes?.[number]}`);
+                const told = network.sites.filter(({ number }) => frame.routes?.[number] !== undefined).map(
+                    ({ number }) => `${siteName(network, number)} ${frame.routes?.[number]}`,
+                );
                 return `Distances of ${siteName(network, wayOf(network, part.line, part.way)[0])}: ${told.join(", ") || "none"}`;
             }
             return `${capital(frameName(network, frame))}${where}`;
@@ -81,10 +89,34 @@ function lineChoices(state, line) {
     /** @type {Choice[]} */
     const found = [];
     if (up.length === 2) found.push({ words: "Cut the line", lines: ends.map((imp) => `enddown ${imp} ${line}`) });
-    if (down.length) found.push({ words: "Mend the line, both ends reset", lines: [...up.map((imp) => `enddown ${imp} ${line}`), ...[...up, ...down].sort((a, b) => ends.indexOf(a) - ends.indexOf(b)).map((imp) => `endup ${imp} ${line}`)] });
-    for (const imp of up) found.push({ words: `Only the end at ${siteName(network, imp)} fails`, lines: [`enddown ${imp} ${line}`] });
-    if (down.length && up.length) for (const imp of down) found.push({ words: `Only the end at ${siteName(network, imp)} comes up`, lines: [`endup ${imp} ${line}`] });
-    if (up.length === 2) found.push({ words: "Reset both ends", lines: [...ends.map((imp) => `enddown ${imp} ${line}`), ...ends.map((imp) => `endup ${imp} ${line}`)] });
+    if (down.length) {
+        found.push({
+            words: "Mend the line, both ends reset",
+            lines: [
+                ...up.map((imp) => `enddown ${imp} ${line}`),
+                ...[...up, ...down].sort((a, b) => ends.indexOf(a) - ends.indexOf(b)).map(
+                    (imp) => `endup ${imp} ${line}`,
+                ),
+            ],
+        });
+    }
+    for (const imp of up) {
+        found.push({ words: `Only the end at ${siteName(network, imp)} fails`, lines: [`enddown ${imp} ${line}`] });
+    }
+    if (down.length && up.length) {
+        for (const imp of down) {
+            found.push({
+                words: `Only the end at ${siteName(network, imp)} comes up`,
+                lines: [`endup ${imp} ${line}`],
+            });
+        }
+    }
+    if (up.length === 2) {
+        found.push({
+            words: "Reset both ends",
+            lines: [...ends.map((imp) => `enddown ${imp} ${line}`), ...ends.map((imp) => `endup ${imp} ${line}`)],
+        });
+    }
     return found;
 }
 
@@ -111,16 +143,26 @@ function impChoices(state, imp) {
     const lines = linesOf(network, imp);
     const neighbours = lines.map((line) => ({ line, far: farEnd(network, line, imp) }));
     if (!state.imp(imp)) {
-        const resets = neighbours.filter(({ line, far }) => state.isEndUp(far, line)).map(({ line, far }) => `enddown ${far} ${line}`);
+        const resets = neighbours.filter(({ line, far }) => state.isEndUp(far, line)).map(
+            ({ line, far }) => `enddown ${far} ${line}`,
+        );
         const ups = neighbours.filter(({ far }) => state.imp(far)).map(({ line, far }) => `endup ${far} ${line}`);
-        const keeping = network.sites.filter(({ number }) => state.imp(number)?.kept.some((it) => impOf(it.flow.split(" ")[0]) === imp)).map(({ number }) => `forget ${number} ${imp}`);
+        const isOfImp = (/** @type {{flow: string}} */ it) => impOf(it.flow.split(" ")[0]) === imp;
+        const keeping = network.sites
+            .filter(({ number }) => state.imp(number)?.kept.some(isOfImp))
+            .map(({ number }) => `forget ${number} ${imp}`);
         const hosts = network.hosts.filter((host) => impOf(host) === imp).map((host) => `hostup ${host}`);
         return [
-            { words: "It starts, with its hosts and both ends of its lines", lines: [...resets, ...keeping, `impup ${imp}`, ...ups, ...hosts] },
+            {
+                words: "It starts, with its hosts and both ends of its lines",
+                lines: [...resets, ...keeping, `impup ${imp}`, ...ups, ...hosts],
+            },
             { words: "Only the IMP starts", lines: [`impup ${imp}`] },
         ];
     }
-    const seen = neighbours.filter(({ line, far }) => state.isEndUp(far, line)).map(({ line, far }) => `enddown ${far} ${line}`);
+    const seen = neighbours.filter(({ line, far }) => state.isEndUp(far, line)).map(
+        ({ line, far }) => `enddown ${far} ${line}`,
+    );
     return [
         { words: "Colour the map by the distance to it", lines: [] },
         { words: "It stops, and its neighbours see it", lines: [`impdown ${imp}`, ...seen] },
@@ -144,15 +186,26 @@ function hostChoices(state, talk, host) {
     const found = [{ words: "It takes what waits", lines: [`take ${host}`] }];
     const others = network.hosts.filter((it) => it !== host);
     if (network.raw) {
-        for (const other of others.slice(0, 8)) found.push({ words: `It sends “HI” to ${hostName(network, other)}`, lines: [`out ${host} ${other} ${freeLink(talk, host, other)} 16 4849`] });
+        for (const other of others.slice(0, 8)) {
+            found.push({
+                words: `It sends “HI” to ${hostName(network, other)}`,
+                lines: [`out ${host} ${other} ${freeLink(talk, host, other)} 16 4849`],
+            });
+        }
     } else {
         found.push({ words: "It offers its next message", lines: [`offer ${host}`] });
-        for (const other of others.slice(0, 6)) found.push({ words: `It contacts ${hostName(network, other)}`, lines: [`contact ${host} ${other}`] });
-        if (talk.ends.some((end) => end.host === host && end.state === "open")) found.push({ words: "A line is typed at its terminal", lines: [`type ${host} HELLO`] });
+        for (const other of others.slice(0, 6)) {
+            found.push({ words: `It contacts ${hostName(network, other)}`, lines: [`contact ${host} ${other}`] });
+        }
+        if (talk.ends.some((end) => end.host === host && end.state === "open")) {
+            found.push({ words: "A line is typed at its terminal", lines: [`type ${host} HELLO`] });
+        }
     }
     for (const { flow } of talk.messages.values()) {
         if (!flow.startsWith(`${host} `)) continue;
-        if (!network.plain) found.push({ words: `It asks what became of ${messageName(network, flow)}`, lines: [`ask ${flow}`] });
+        if (!network.plain) {
+            found.push({ words: `It asks what became of ${messageName(network, flow)}`, lines: [`ask ${flow}`] });
+        }
         found.push({ words: `${capital(messageName(network, flow))} is given up`, lines: [`giveup ${flow}`] });
     }
     return [...found, { words: "It stops", lines: [`hostdown ${host}`] }];

@@ -1,5 +1,6 @@
 /** Two replays beside each other: where one is in the other, what differs inside, and what each printed. */
 
+import { inPairs } from "./alike.js";
 import { addedLines, announced } from "./edits.js";
 import { siteName } from "./topology.js";
 
@@ -15,9 +16,6 @@ import { siteName } from "./topology.js";
  */
 
 /** @typedef {{before: Printed | null, after: Printed | null}} Pair */
-
-/** Up to this number of lines that differ are compared one by one. Beyond it they come one after the other. */
-const MOST = 1_200;
 
 /**
  * What a replay printed.
@@ -39,57 +37,8 @@ export function printedBy({ moments, input }) {
  * @returns {Pair[]}
  */
 export function beside(before, after) {
-    const isSame = (/** @type {number} */ a, /** @type {number} */ b) => before[a].text === after[b].text;
-    const least = Math.min(before.length, after.length);
-    const [last, final] = [before.length - 1, after.length - 1];
-    let start = 0;
-    while (start < least && isSame(start, start)) start += 1;
-    let end = 0;
-    while (end < least - start && isSame(last - end, final - end)) end += 1;
-    const shift = after.length - before.length;
-    const tail = before.length - end;
-    return [
-        ...before.slice(0, start).map((it, place) => ({ before: it, after: after[place] })),
-        ...differing(before.slice(start, tail), after.slice(start, after.length - end)),
-        ...before.slice(tail).map((it, place) => ({ before: it, after: after[tail + shift + place] })),
-    ];
-}
-
-/**
- * @param {Printed[]} before
- * @param {Printed[]} after
- * @returns {Pair[]}
- */
-function differing(before, after) {
-    const olds = before.map((it) => ({ before: it, after: null }));
-    const news = after.map((it) => ({ before: null, after: it }));
-    if (before.length > MOST || after.length > MOST) return [...olds, ...news];
-    const longest = longestCommon(before, after);
-    /** @type {Pair[]} */
-    const found = [];
-    for (let a = 0, b = 0; a < before.length || b < after.length; ) {
-        const isOld = a < before.length && (b === after.length || longest[a + 1][b] >= longest[a][b + 1]);
-        if (before[a]?.text === after[b]?.text) found.push({ before: before[a++], after: after[b++] });
-        else found.push(isOld ? olds[a++] : news[b++]);
-    }
-    return found;
-}
-
-/**
- * How many lines two lists have in common from each pair of places on.
- *
- * @param {Printed[]} before
- * @param {Printed[]} after
- */
-function longestCommon(before, after) {
-    const longest = Array.from({ length: before.length + 1 }, () => new Uint16Array(after.length + 1));
-    for (let a = before.length - 1; a >= 0; a -= 1) {
-        for (let b = after.length - 1; b >= 0; b -= 1) {
-            const isSame = before[a].text === after[b].text;
-            longest[a][b] = isSame ? longest[a + 1][b + 1] + 1 : Math.max(longest[a + 1][b], longest[a][b + 1]);
-        }
-    }
-    return longest;
+    const texts = (/** @type {Printed[]} */ lines) => lines.map((it) => it.text);
+    return inPairs(texts(before), texts(after)).map(([a, b]) => ({ before: before[a] ?? null, after: after[b] ?? null }));
 }
 
 /**

@@ -1,10 +1,10 @@
 /**
  * What happens inside a network whose hosts have programs, by a raw script that their crossings drive.
  *
- * Such a network has no trace. But each `out` that `--texts` prints is a line of a raw script. So a raw script over the same topology
- * does inside what the programs did: each crossing in its order, each inner event of the script as it is, and of each round in which a
- * host sends the network's part of it, event by event. Its trace is taken, and used only if it prints exactly the crossings of the
- * real replay.
+ * Such a network has no trace. But each `out` that `--texts` prints is a line of a raw script. So a raw script over the
+ * same topology does inside what the programs did: each crossing in its order, each inner event of the script as it is,
+ * and of each round in which a host sends the network's part of it, event by event. Its trace is taken, and used only
+ * if it prints exactly the crossings of the real replay.
  */
 
 import { octetsOf, textOf } from "./octets.js";
@@ -24,7 +24,23 @@ import { readTrace } from "./trace.js";
 /** The most octets of an input that the program reads. */
 const MOST_OCTETS = 1_048_576;
 
-const INNER = ["take", "giveup", "hostdown", "hostup", "deliver", "drop", "resend", "route", "enddown", "endup", "impdown", "impup", "forget", "abandon", "ask"];
+const INNER = [
+    "take",
+    "giveup",
+    "hostdown",
+    "hostup",
+    "deliver",
+    "drop",
+    "resend",
+    "route",
+    "enddown",
+    "endup",
+    "impdown",
+    "impup",
+    "forget",
+    "abandon",
+    "ask",
+];
 
 /**
  * The moments of a replay with what is inside, or null where that can't be had.
@@ -84,7 +100,8 @@ function crossings(printed) {
 }
 
 /**
- * The raw script: `frames` has for each round in which a host sends how many frames arrive, line by line, first `+` and then `-`.
+ * The raw script: `frames` has for each round in which a host sends how many frames arrive, line by line, first `+` and
+ * then `-`.
  *
  * @param {Network} network
  * @param {{part: Step, printed: string[]}[]} told
@@ -121,8 +138,8 @@ function quietRound(network, frames) {
 }
 
 /**
- * How many frames arrive in each round in which a host sends: the raw script is run with more deliveries than there are frames, and
- * those beyond are refused.
+ * How many frames arrive in each round in which a host sends: the raw script is run with more deliveries than there are
+ * frames, and those beyond are refused.
  *
  * @param {Runner["run"]} run
  * @param {string[]} head
@@ -142,7 +159,9 @@ async function framesOfRounds(run, head, network, told, limits) {
         if (outcome.ended !== "exit" || outcome.status !== 0) return null;
         const counts = counted(textOf(outcome).split("\n"), 2 * network.lines.length, most);
         if (counts.length !== sending.length) return null;
-        if (counts.every((it) => it.every((count) => count < most))) return new Map(sending.map((step, place) => [step, counts[place]]));
+        if (counts.every((it) => it.every((count) => count < most))) {
+            return new Map(sending.map((step, place) => [step, counts[place]]));
+        }
     }
     return null;
 }
@@ -196,7 +215,9 @@ function paddedScript(network, told, most) {
 function counted(lines, ways, most) {
     /** @type {number[][]} */
     const rounds = [];
-    const isMark = (/** @type {string | undefined} */ line) => line !== undefined && line.startsWith("refused ") && line !== "refused NoSuch";
+    const isMark = (/** @type {string | undefined} */ line) => line !== undefined
+        && line.startsWith("refused ")
+        && line !== "refused NoSuch";
     for (let at = 0; at + 2 < lines.length; at += 1) {
         if (lines[at] !== "refused NoSuch" || !isMark(lines[at + 1]) || !isMark(lines[at + 2])) continue;
         at += 3;
@@ -232,7 +253,9 @@ async function traceOf(run, head, lines, limits) {
  * @param {string[]} printed
  */
 function crossed(printed) {
-    return printed.filter((line) => /^(?:out|in|answer|down|up|refused) /.test(line)).map((line) => (/^(?:out|in) /.test(line) ? line.split(" ").slice(0, 5).join(" ") : line));
+    return printed.filter((line) => /^(?:out|in|answer|down|up|refused) /.test(line)).map(
+        (line) => (/^(?:out|in) /.test(line) ? line.split(" ").slice(0, 5).join(" ") : line),
+    );
 }
 
 /**
@@ -266,7 +289,9 @@ export function joinedMoments(lines, records, moments) {
         }
         before = moment;
         const wanted = crossed(moment.printed);
-        while (left.length && left[0].printed.length === 0 && moment.round) found.push({ ...moment, words: left[0].words, printed: [], parts: (left.shift() ?? left[0]).parts });
+        while (left.length && left[0].printed.length === 0 && moment.round) {
+            found.push({ ...moment, words: left[0].words, printed: [], parts: (left.shift() ?? left[0]).parts });
+        }
         const record = isOfNetwork(moment) ? left.shift() : undefined;
         if (record && JSON.stringify(record.printed) !== JSON.stringify(wanted)) return null;
         if (!record && wanted.some((line) => !line.startsWith("refused "))) return null;

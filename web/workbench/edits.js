@@ -1,11 +1,12 @@
 /**
  * Another way on from a position: lines are added after the moments that are done, and what results is a plain script.
  *
- * Between two lines of the script the lines are put after the first. At the end of round r of `calm N` it becomes `calm r`, the lines,
- * and `calm N-r`. Within round r it becomes `calm r-1`, the events of round r that are done, as script lines below a comment, the
- * lines, and `calm N-r+1`: the rest of the round begins anew, so nothing is left lying.
+ * Between two lines of the script the lines are put after the first. At the end of round r of `calm N` it becomes `calm
+ * r`, the lines, and `calm N-r`. Within round r it becomes `calm r-1`, the events of round r that are done, as script
+ * lines below a comment, the lines, and `calm N-r+1`: the rest of the round begins anew, so nothing is left lying.
  */
 
+import { inPairs } from "./alike.js";
 import { withScript } from "./script.js";
 
 /** @typedef {import("./fold.js").History} History */
@@ -35,7 +36,12 @@ export function goOn(history, position, lines, cutOff = false) {
     const before = script.slice(0, place.line);
     const left = cutOff ? [] : [...place.after, ...script.slice(place.next)];
     const begun = [...before, ...place.before];
-    return { text: withScript(input, [...begun, ...lines, ...left]), position: from, added: lines.length, line: begun.length + 1 };
+    return {
+        text: withScript(input, [...begun, ...lines, ...left]),
+        position: from,
+        added: lines.length,
+        line: begun.length + 1,
+    };
 }
 
 /**
@@ -46,8 +52,11 @@ export function goOn(history, position, lines, cutOff = false) {
  */
 function wholeRounds(history, position) {
     const { moments, inside } = history.replay;
+    if (inside || position === 0) return position;
+    const isWithin = (/** @type {import("./runs.js").Moment | undefined} */ it, /** @type {number} */ at) =>
+        it && it.round > 0 && it.round === moments[at - 1].round && it.event === moments[at - 1].event;
     let at = position;
-    while (!inside && at > 0 && at < moments.length && moments[at].round > 0 && moments[at].round === moments[at - 1].round && moments[at].event === moments[at - 1].event) at += 1;
+    while (isWithin(moments[at], at)) at += 1;
     return at;
 }
 
@@ -68,12 +77,19 @@ function placeOf(history, position) {
     if (round === 0) return after(line);
     const rounds = Number(words[1]);
     const next = moments[position];
-    if (next.event !== event || next.round !== round) return { line: line - 1, before: calm(round), after: calm(rounds - round), next: line };
+    if (next.event !== event || next.round !== round) {
+        return { line: line - 1, before: calm(round), after: calm(rounds - round), next: line };
+    }
     let from = position;
     while (from > 0 && moments[from - 1].event === event && moments[from - 1].round === round) from -= 1;
     const done = moments.slice(from, position).map((moment) => moment.words.join(" "));
     const comment = `# round ${round} of calm ${rounds}, its first ${done.length} events`;
-    return { line: line - 1, before: [...calm(round - 1), comment, ...done], after: calm(rounds - round + 1), next: line };
+    return {
+        line: line - 1,
+        before: [...calm(round - 1), comment, ...done],
+        after: calm(rounds - round + 1),
+        next: line,
+    };
 }
 
 /** @param {number} rounds */
@@ -99,23 +115,5 @@ export function announced(text) {
  * @returns {Set<number>} lines of `after`, from 1
  */
 export function addedLines(before, after) {
-    let start = 0;
-    while (start < before.length && start < after.length && before[start] === after[start]) start += 1;
-    let end = 0;
-    while (end < before.length - start && end < after.length - start && before[before.length - 1 - end] === after[after.length - 1 - end]) end += 1;
-    const olds = before.slice(start, before.length - end);
-    const news = after.slice(start, after.length - end);
-    /** @type {number[][]} */
-    const longest = Array.from({ length: olds.length + 1 }, () => Array(news.length + 1).fill(0));
-    for (let a = olds.length - 1; a >= 0; a -= 1) for (let b = news.length - 1; b >= 0; b -= 1) longest[a][b] = olds[a] === news[b] ? longest[a + 1][b + 1] + 1 : Math.max(longest[a + 1][b], longest[a][b + 1]);
-    /** @type {Set<number>} */
-    const found = new Set();
-    for (let a = 0, b = 0; b < news.length; ) {
-        if (a < olds.length && olds[a] === news[b]) {
-            a += 1;
-            b += 1;
-        } else if (a < olds.length && longest[a + 1][b] >= longest[a][b + 1]) a += 1;
-        else found.add(start + (b += 1));
-    }
-    return found;
+    return new Set(inPairs(before, after).flatMap(([a, b]) => (a < 0 ? [b + 1] : [])));
 }

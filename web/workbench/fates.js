@@ -1,8 +1,8 @@
 /**
  * What each moment did: of a frame that is delivered what became of it, and how much a moment matters.
  *
- * A packet whose channel expects the other bit is thrown away. It is a repeat only if it was accepted before at this end since the
- * end's IMP started; otherwise the two ends of the line disagree, and it is lost.
+ * A packet whose channel expects the other bit is thrown away. It is a repeat only if it was accepted before at this
+ * end since the end's IMP started; otherwise the two ends of the line disagree, and it is lost.
  */
 
 import { FAR } from "./state.js";
@@ -97,7 +97,9 @@ function fateOf(frame, line, to, before, after, accepted) {
     if (!was.up) return "end";
     if (frame.routes) return hasNews(to, before, after) ? "news" : "same";
     if (!frame.packet) return "ack";
-    if (Number(was.expected[frame.channel]) !== frame.bit) return accepted.at(to, line).has(frame.packet.key) ? "repeat" : "lost";
+    if (Number(was.expected[frame.channel]) !== frame.bit) {
+        return accepted.at(to, line).has(frame.packet.key) ? "repeat" : "lost";
+    }
     if (is.expected[frame.channel] === was.expected[frame.channel]) return "full";
     accepted.add(to, line, frame.packet.key);
     return "fresh";
@@ -129,7 +131,9 @@ function hasNews(imp, before, after) {
 function freedBy(line, imp, before, after) {
     const were = before.port(imp, line)?.sending ?? [];
     const are = after.port(imp, line)?.sending ?? [];
-    return were.flatMap(({ bit, packet }, channel) => (packet && are[channel] && are[channel].bit !== bit ? [packet] : []));
+    return were.flatMap(
+        ({ bit, packet }, channel) => (packet && are[channel] && are[channel].bit !== bit ? [packet] : []),
+    );
 }
 
 /**

@@ -39,10 +39,16 @@ export function faultOf({ input, said, status }) {
     if (found) {
         const number = Number(found[1]);
         const text = input.lines[number - 1]?.text ?? "";
-        return { text: `Line ${number} of the script: ${wrongLine(text, isRaw(input)) ?? "No cause was found."}`, line: input.head.length + 1 + number };
+        return {
+            text: `Line ${number} of the script: ${wrongLine(text, isRaw(input)) ?? "No cause was found."}`,
+            line: input.head.length + 1 + number,
+        };
     }
     if (said.includes("bad topology")) return wrongTopology(input);
-    return { text: said.trim().replace(/^arpasim: /, "The program says: ") || `The program ended with status ${status}.`, line: 0 };
+    return {
+        text: said.trim().replace(/^arpasim: /, "The program says: ") || `The program ended with status ${status}.`,
+        line: 0,
+    };
 }
 
 /** @param {Input} input */
@@ -69,9 +75,16 @@ export function wrongLine(text, raw) {
     const mistake = knownMistake(words, text);
     if (mistake) return mistake;
     const parts = words.slice(1);
-    if (parts.length !== form.length) return filled(FAULTS.words, { word: words[0], needed: form.length, form: [words[0], ...form].join(" "), found: parts.length });
+    if (parts.length !== form.length) {
+        return filled(
+            FAULTS.words,
+            { word: words[0], needed: form.length, form: [words[0], ...form].join(" "), found: parts.length },
+        );
+    }
     for (const [place, name] of form.entries()) {
-        const why = name === "OCTETS" ? wrongOctets(Number(parts[place - 1]), parts[place]) : wrongWord(name, parts[place]);
+        const why = name === "OCTETS"
+            ? wrongOctets(Number(parts[place - 1]), parts[place])
+            : wrongWord(name, parts[place]);
         if (why) return why;
     }
     return null;
@@ -88,7 +101,8 @@ function typedWords(text) {
 }
 
 /**
- * What is meant where a line has a comment after it, an empty line at a terminal without its space, or octets in another spelling.
+ * What is meant where a line has a comment after it, an empty line at a terminal without its space, or octets in
+ * another spelling.
  *
  * @param {string[]} words
  * @param {string} line
@@ -96,7 +110,9 @@ function typedWords(text) {
  */
 function knownMistake(words, line) {
     if (words[0] === "type") return words.length === 2 ? filled(FAULTS["empty line"], { line }) : null;
-    if (words.slice(1).some((it) => it.startsWith("#"))) return filled(FAULTS.comment, { comment: line.slice(line.indexOf(" #") + 1) });
+    if (words.slice(1).some((it) => it.startsWith("#"))) {
+        return filled(FAULTS.comment, { comment: line.slice(line.indexOf(" #") + 1) });
+    }
     if (words[0] !== "out" && words[0] !== "send") return null;
     const quoted = /"([^"]*)"/.exec(line);
     if (quoted) {
@@ -145,7 +161,11 @@ function distance(a, b) {
     let row = Array.from({ length: b.length + 1 }, (_, place) => place);
     for (let at = 1; at <= a.length; at += 1) {
         const next = [at];
-        for (let place = 1; place <= b.length; place += 1) next.push(Math.min(row[place] + 1, next[place - 1] + 1, row[place - 1] + (a[at - 1] === b[place - 1] ? 0 : 1)));
+        for (let place = 1; place <= b.length; place += 1) {
+            next.push(
+                Math.min(row[place] + 1, next[place - 1] + 1, row[place - 1] + (a[at - 1] === b[place - 1] ? 0 : 1)),
+            );
+        }
         row = next;
     }
     return row[b.length];
@@ -163,12 +183,16 @@ function wrongWord(name, word) {
     if (["S", "D", "H", "P"].includes(name)) {
         const parts = word.split("/");
         if (parts.length !== 2) return filled(FAULTS["not a host"], { word });
-        const swapped = /^[1-9]\d*\/[0-3]$/.test(word) && (Number(parts[0]) > 3 || parts[1] === "0") ? ` ${filled(FAULTS.meant, { meant: `${parts[1]}/${parts[0]}` })}` : "";
+        const swapped = /^[1-9]\d*\/[0-3]$/.test(word) && (Number(parts[0]) > 3 || parts[1] === "0")
+            ? ` ${filled(FAULTS.meant, { meant: `${parts[1]}/${parts[0]}` })}`
+            : "";
         const why = wrongNumber(parts[0], "the host's number", 0, 3) ?? wrongNumber(parts[1], ...rangeFor("I"));
         return why && why + swapped;
     }
     if (name === "+|-") return word === "+" || word === "-" ? null : filled(FAULTS["not a direction"], { word });
-    if (name === "OCTET" && /^0x/.test(word)) return `\`${word}\`: octets are decimal numbers here, as in ${parseInt(word, 16) || 65}.`;
+    if (name === "OCTET" && /^0x/.test(word)) {
+        return `\`${word}\`: octets are decimal numbers here, as in ${parseInt(word, 16) || 65}.`;
+    }
     return Object.hasOwn(RANGES, name) ? wrongNumber(word, ...rangeFor(name)) : null;
 }
 
@@ -190,7 +214,9 @@ function rangeFor(name) {
  */
 function wrongNumber(word, what, least, most) {
     if (!/^(?:0|[1-9]\d*)$/.test(word)) return filled(FAULTS["not a number"], { word, what });
-    return word.length > 10 || Number(word) < least || Number(word) > most ? filled(FAULTS.range, { word, what, least, most }) : null;
+    return word.length > 10 || Number(word) < least || Number(word) > most
+        ? filled(FAULTS.range, { word, what, least, most })
+        : null;
 }
 
 /**
@@ -201,11 +227,18 @@ function wrongNumber(word, what, least, most) {
  * @returns {string | null}
  */
 function wrongOctets(bits, octets) {
-    if ((bits === 0) !== (octets === "-")) return bits === 0 ? FAULTS["no bits"] : filled(FAULTS["no octets"], { bits });
+    if ((bits === 0) !== (octets === "-")) {
+        return bits === 0 ? FAULTS["no bits"] : filled(FAULTS["no octets"], { bits });
+    }
     if (bits === 0) return null;
     if (!/^[0-9A-F]*$/.test(octets)) return FAULTS.digits;
     const digits = 2 * Math.ceil(bits / 8);
-    if (octets.length !== digits) return filled(FAULTS.length, { bits, octets: digits / 2, digits, found: octets.length, for: 4 * octets.length });
+    if (octets.length !== digits) {
+        return filled(
+            FAULTS.length,
+            { bits, octets: digits / 2, digits, found: octets.length, for: 4 * octets.length },
+        );
+    }
     const unused = (8 - (bits % 8)) % 8;
     return unused && parseInt(octets.slice(-2), 16) % (1 << unused) ? filled(FAULTS.unused, { bits, unused }) : null;
 }
@@ -218,7 +251,9 @@ function wrongOctets(bits, octets) {
  */
 function wrongTopology(input) {
     const { text, head, marked } = input;
-    if (new TextEncoder().encode(text).length > MOST_OCTETS) return { text: filled(TOPOLOGIES.octets, { most: MOST_OCTETS }), line: 0 };
+    if (new TextEncoder().encode(text).length > MOST_OCTETS) {
+        return { text: filled(TOPOLOGIES.octets, { most: MOST_OCTETS }), line: 0 };
+    }
     if (!marked) {
         const line = head.findIndex((it) => it.trim() === "%");
         return { text: `${TOPOLOGIES.marker}${line >= 0 ? ` ${TOPOLOGIES["marker alone"]}` : ""}`, line: line + 1 };
@@ -226,7 +261,9 @@ function wrongTopology(input) {
     try {
         return wrongNetwork(readDocument(head.join("\n")));
     } catch (why) {
-        if (why instanceof Unreadable) return { text: `Line ${why.line} of the network: ${why.message}.`, line: why.line };
+        if (why instanceof Unreadable) {
+            return { text: `Line ${why.line} of the network: ${why.message}.`, line: why.line };
+        }
         throw why;
     }
 }
@@ -242,8 +279,15 @@ function wrongNetwork(document) {
     const at = (/** @type {object} */ table, /** @type {string} */ key) => places.get(table)?.get(key) ?? places.get(table)?.get("") ?? 0;
     const keys = ["carrier", "raw", "imp", "line"];
     const further = Object.keys(values).find((key) => !keys.includes(key));
-    if (further) return { text: `${filled(TOPOLOGIES.key, { key: further })}${nearest(further, keys) ? ` ${filled(FAULTS.meant, { meant: nearest(further, keys) })}` : ""}`, line: at(values, further) };
-    if (!["plain", "subnet"].includes(values.carrier ?? "subnet")) return { text: TOPOLOGIES.carrier, line: at(values, "carrier") };
+    if (further) {
+        return {
+            text: `${filled(TOPOLOGIES.key, { key: further })}${nearest(further, keys) ? ` ${filled(FAULTS.meant, { meant: nearest(further, keys) })}` : ""}`,
+            line: at(values, further),
+        };
+    }
+    if (!["plain", "subnet"].includes(values.carrier ?? "subnet")) {
+        return { text: TOPOLOGIES.carrier, line: at(values, "carrier") };
+    }
     if (typeof (values.raw ?? false) !== "boolean") return { text: TOPOLOGIES.raw, line: at(values, "raw") };
     const imps = tables(values.imp);
     if (imps.length < 1 || imps.length > 63) return { text: TOPOLOGIES.imps, line: 0 };
@@ -271,13 +315,22 @@ function wrongLines(lines, numbers, at) {
         const why = wrongTable("line", line, { a: [1, 63], b: [1, 63] });
         if (why) return { text: why.text, line: at(line, why.key) };
         const { a, b } = line;
-        if (a === b || !numbers.includes(a) || !numbers.includes(b)) return { text: filled(TOPOLOGIES.joins, { a, b }), line: at(line, "") };
+        if (a === b || !numbers.includes(a) || !numbers.includes(b)) {
+            return { text: filled(TOPOLOGIES.joins, { a, b }), line: at(line, "") };
+        }
         const pair = `${Math.min(a, b)} ${Math.max(a, b)}`;
-        if (joined.has(pair)) return { text: filled(TOPOLOGIES["two lines"], { a: Math.min(a, b), b: Math.max(a, b) }), line: at(line, "") };
+        if (joined.has(pair)) {
+            return {
+                text: filled(TOPOLOGIES["two lines"], { a: Math.min(a, b), b: Math.max(a, b) }),
+                line: at(line, ""),
+            };
+        }
         joined.add(pair);
         for (const imp of [a, b]) {
             counts.set(imp, (counts.get(imp) ?? 0) + 1);
-            if ((counts.get(imp) ?? 0) > 5) return { text: filled(TOPOLOGIES["five lines"], { number: imp }), line: at(line, "") };
+            if ((counts.get(imp) ?? 0) > 5) {
+                return { text: filled(TOPOLOGIES["five lines"], { number: imp }), line: at(line, "") };
+            }
         }
     }
     return { text: "The network is refused. docs/program.md has the form of networks.", line: 0 };
@@ -292,8 +345,22 @@ function wrongLines(lines, numbers, at) {
 function wrongTable(name, table, ranges) {
     const keys = Object.keys(ranges);
     const wrong = Object.keys(table).find((key) => !keys.includes(key));
-    if (wrong === "raw" || wrong === "carrier") return { text: filled(TOPOLOGIES.displaced, { key: wrong, table: name }), key: wrong };
-    if (wrong || Object.keys(table).length !== keys.length) return { text: filled(TOPOLOGIES.keys, { table: name, keys: keys.join(" and "), found: Object.keys(table).join(", ") || "none" }), key: wrong ?? "" };
-    for (const [key, [least, most]] of Object.entries(ranges)) if (!Number.isInteger(table[key]) || table[key] < least || table[key] > most) return { text: filled(TOPOLOGIES.number, { key, table: name, least, most }), key };
+    if (wrong === "raw" || wrong === "carrier") {
+        return { text: filled(TOPOLOGIES.displaced, { key: wrong, table: name }), key: wrong };
+    }
+    if (wrong || Object.keys(table).length !== keys.length) {
+        return {
+            text: filled(
+                TOPOLOGIES.keys,
+                { table: name, keys: keys.join(" and "), found: Object.keys(table).join(", ") || "none" },
+            ),
+            key: wrong ?? "",
+        };
+    }
+    for (const [key, [least, most]] of Object.entries(ranges)) {
+        if (!Number.isInteger(table[key]) || table[key] < least || table[key] > most) {
+            return { text: filled(TOPOLOGIES.number, { key, table: name, least, most }), key };
+        }
+    }
     return null;
 }

@@ -7,7 +7,8 @@ import { stopWords } from "./sheet.js";
 /** @typedef {import("./stops.js").Stop} Stop */
 
 /**
- * The stops in which something of a flow happens: it crosses, a packet of it arrives for the first time or is lost, or it is given up.
+ * The stops in which something of a flow happens: it crosses, a packet of it arrives for the first time or is lost, or
+ * it is given up.
  *
  * @param {History} history
  * @param {Stop[]} stops
@@ -19,7 +20,10 @@ export function stopsOfFlow(history, stops, flow) {
         if (stop.main < 0) return [];
         const { words, printed } = history.replay.moments[stop.main];
         const { frame, freed } = history.notes[stop.main];
-        const isOfFlow = frame?.packet?.flow === flow || freed.some((packet) => packet.flow === flow) || words.slice(1, 4).join(" ") === flow || printed.some((line) => ` ${line} `.includes(` ${flow} `));
+        const isOfFlow = frame?.packet?.flow === flow
+            || freed.some((packet) => packet.flow === flow)
+            || words.slice(1, 4).join(" ") === flow
+            || printed.some((line) => ` ${line} `.includes(` ${flow} `));
         return isOfFlow ? [place] : [];
     });
 }
@@ -38,7 +42,10 @@ export function stopsWith(history, stops, text) {
     const has = (/** @type {string} */ it) => it.toLowerCase().includes(wanted);
     return stops.flatMap((stop, place) => {
         const { printed } = stop.main < 0 ? { printed: [] } : history.replay.moments[stop.main];
-        const isThere = has(history.replay.input.events[stop.event].text) || has(stopWords(history, stop)) || printed.some(has) || (stop.main >= 0 && has(sentenceOf(history, stop.main)));
+        const isThere = has(history.replay.input.events[stop.event].text)
+            || has(stopWords(history, stop))
+            || printed.some(has)
+            || (stop.main >= 0 && has(sentenceOf(history, stop.main)));
         return isThere ? [place] : [];
     });
 }

@@ -1,6 +1,6 @@
 /**
- * Places the IMPs and hosts of a network on a map, by stress majorisation: the distance of two IMPs on the map follows the number of
- * lines between them. The same network is always placed alike.
+ * Places the IMPs and hosts of a network on a map, by stress majorisation: the distance of two IMPs on the map follows
+ * the number of lines between them. The same network is always placed alike.
  */
 
 import { farEnd, linesOf } from "./topology.js";
@@ -29,7 +29,9 @@ import { farEnd, linesOf } from "./topology.js";
 export function placed(network) {
     const numbers = network.sites.map((site) => site.number);
     const small = numbers.length > 12;
-    const sized = (/** @type {number} */ letters) => (small ? { w: Math.max(13, 3.1 * letters + 5), h: 10 } : { w: Math.max(34, 5.2 * letters + 14), h: 21 });
+    const sized = (/** @type {number} */ letters) => (
+        small ? { w: Math.max(13, 3.1 * letters + 5), h: 10 } : { w: Math.max(34, 5.2 * letters + 14), h: 21 }
+    );
     const boxes = new Map(network.sites.map((site) => [site.number, sized(site.name.length)]));
     const box = sized(Math.max(0, ...network.sites.map((site) => site.name.length)));
     const radius = small ? 5 : 15;
@@ -40,11 +42,32 @@ export function placed(network) {
     const imps = new Map(numbers.map((number, place) => [number, points[place]]));
     const hosts = hostsAround(network, imps, boxes, radius, small);
     const margin = small ? 12 : 26;
-    const all = [...[...imps].flatMap(([number, { x, y }]) => [{ x: x - (boxes.get(number)?.w ?? 0), y: y - box.h }, { x: x + (boxes.get(number)?.w ?? 0), y: y + box.h }]), ...[...hosts.values()].flatMap(({ x, y }) => [{ x: x - radius, y: y - radius }, { x: x + radius, y: y + radius }])];
+    const all = [
+        ...[...imps].flatMap(
+            ([number, { x, y }]) => [
+                { x: x - (boxes.get(number)?.w ?? 0), y: y - box.h },
+                { x: x + (boxes.get(number)?.w ?? 0), y: y + box.h },
+            ],
+        ),
+        ...[...hosts.values()].flatMap(
+            ({ x, y }) => [{ x: x - radius, y: y - radius }, { x: x + radius, y: y + radius }],
+        ),
+    ];
     const left = Math.min(...all.map((it) => it.x)) - margin;
     const top = Math.min(...all.map((it) => it.y)) - margin;
-    for (const it of [...imps.values(), ...hosts.values()]) Object.assign(it, { x: Math.round(10 * (it.x - left)) / 10, y: Math.round(10 * (it.y - top)) / 10 });
-    return { width: Math.max(...all.map((it) => it.x)) + margin - left, height: Math.max(...all.map((it) => it.y)) + margin - top, small, imps, hosts, box, boxes, radius };
+    for (const it of [...imps.values(), ...hosts.values()]) {
+        Object.assign(it, { x: Math.round(10 * (it.x - left)) / 10, y: Math.round(10 * (it.y - top)) / 10 });
+    }
+    return {
+        width: Math.max(...all.map((it) => it.x)) + margin - left,
+        height: Math.max(...all.map((it) => it.y)) + margin - top,
+        small,
+        imps,
+        hosts,
+        box,
+        boxes,
+        radius,
+    };
 }
 
 /**
@@ -62,7 +85,9 @@ function hopCounts(network, numbers) {
         const seen = new Set([from]);
         let edge = [from];
         for (let hops = 1; edge.length; hops += 1) {
-            const next = edge.flatMap((imp) => linesOf(network, imp).map((line) => farEnd(network, line, imp))).filter((imp) => !seen.has(imp) && seen.add(imp));
+            const next = edge.flatMap((imp) => linesOf(network, imp).map((line) => farEnd(network, line, imp))).filter(
+                (imp) => !seen.has(imp) && seen.add(imp),
+            );
             for (const imp of next) counts[place.get(imp) ?? 0] = hops;
             edge = next;
         }
@@ -81,7 +106,10 @@ function hopCounts(network, numbers) {
 function spread(count, hops, step) {
     let points = Array.from({ length: count }, (_, at) => {
         const angle = (2 * Math.PI * at) / Math.max(count, 1) + 0.3;
-        return { x: step * Math.sqrt(count) * 0.4 * Math.cos(angle), y: step * Math.sqrt(count) * 0.4 * Math.sin(angle) };
+        return {
+            x: step * Math.sqrt(count) * 0.4 * Math.cos(angle),
+            y: step * Math.sqrt(count) * 0.4 * Math.sin(angle),
+        };
     });
     for (let turn = 0; turn < (count > 20 ? 150 : 300); turn += 1) {
         points = points.map((it, at) => {
@@ -155,7 +183,9 @@ function apart(points, widths, gap, h) {
                 const [over, under] = [widths[a] + widths[b] + gap - Math.abs(dx), h - Math.abs(dy)];
                 if (over <= 0 || under <= 0) continue;
                 moved = true;
-                const push = over < under ? { x: ((dx < 0 ? -1 : 1) * over) / 2 + 0.1, y: 0 } : { x: 0, y: ((dy < 0 ? -1 : 1) * under) / 2 + 0.1 };
+                const push = over < under
+                    ? { x: ((dx < 0 ? -1 : 1) * over) / 2 + 0.1, y: 0 }
+                    : { x: 0, y: ((dy < 0 ? -1 : 1) * under) / 2 + 0.1 };
                 points[a] = { x: points[a].x - push.x, y: points[a].y - push.y };
                 points[b] = { x: points[b].x + push.x, y: points[b].y + push.y };
             }
@@ -211,7 +241,10 @@ function widest(taken) {
     let best = { angle: -Math.PI / 2, room: -1 };
     for (let at = 0; at < 48; at += 1) {
         const angle = -Math.PI / 2 + (at * Math.PI) / 24;
-        const room = Math.min(Math.PI, ...taken.map((it) => Math.abs(Math.atan2(Math.sin(angle - it), Math.cos(angle - it)))));
+        const room = Math.min(
+            Math.PI,
+            ...taken.map((it) => Math.abs(Math.atan2(Math.sin(angle - it), Math.cos(angle - it)))),
+        );
         if (room > best.room + 1e-9) best = { angle, room };
     }
     return best.angle;

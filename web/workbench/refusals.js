@@ -83,7 +83,10 @@ function noSuch(state, words) {
         if (line >= network.lines.length) return filled(REFUSED["no line"], { line });
         const frames = state.line(line)[way === "+" ? "+" : "-"].length;
         const [a, b] = wayOf(network, line, way);
-        return filled(REFUSED["no frame"], { line, from: siteName(network, a), to: siteName(network, b), frames, place });
+        return filled(
+            REFUSED["no frame"],
+            { line, from: siteName(network, a), to: siteName(network, b), frames, place },
+        );
     }
     if (what.includes("/")) {
         const host = kind === "abandon" ? words[2] : what;
@@ -91,7 +94,9 @@ function noSuch(state, words) {
         return filled(REFUSED["no host"], { host });
     }
     if (kind === "forget" && what === way) return REFUSED["own numbers"];
-    const missing = (kind === "forget" ? [what, way] : [what]).find((imp) => !network.sites.some((site) => site.number === Number(imp)));
+    const missing = (kind === "forget" ? [what, way] : [what]).find(
+        (imp) => !network.sites.some((site) => site.number === Number(imp)),
+    );
     if (missing) return filled(REFUSED["no imp"], { number: missing });
     return filled(REFUSED["no end"], { line: way, imp: impName(network, Number(what)) });
 }
@@ -104,8 +109,12 @@ function isDown(state, words) {
     const [kind, what] = words;
     const ofHost = what.includes("/");
     const imp = ofHost ? impOf(what) : Number(what);
-    if (!state.network.plain && !state.imp(imp) && kind !== "impdown") return filled(REFUSED.down, { what: impName(state.network, imp), event: `impup ${imp}` });
-    if (ofHost && kind !== "hostdown") return filled(REFUSED.down, { what: subject(state, words), event: `hostup ${what}` });
+    if (!state.network.plain && !state.imp(imp) && kind !== "impdown") {
+        return filled(REFUSED.down, { what: impName(state.network, imp), event: `impup ${imp}` });
+    }
+    if (ofHost && kind !== "hostdown") {
+        return filled(REFUSED.down, { what: subject(state, words), event: `hostup ${what}` });
+    }
     return filled(REFUSED["down already"], { what: subject(state, words) });
 }
 
@@ -126,9 +135,14 @@ function blocked(state, words) {
     const flow = flowOf(words);
     if (!flow) return "Its next message has to wait for the answer to the last one on its link.";
     const [source, destination, link] = flow.split(" ");
-    const rule = filled(REFUSED["one at a time"], { link, source: hostName(state.network, source), destination: hostName(state.network, destination) });
+    const rule = filled(
+        REFUSED["one at a time"],
+        { link, source: hostName(state.network, source), destination: hostName(state.network, destination) },
+    );
     const answer = state.box(source)?.answers.find((it) => it.flow === flow);
-    if (answer) return `${rule} ${filled(REFUSED["answer waits"], { answer: ANSWERS[answer.kind], host: hostName(state.network, source), word: source })}`;
+    if (answer) {
+        return `${rule} ${filled(REFUSED["answer waits"], { answer: ANSWERS[answer.kind], host: hostName(state.network, source), word: source })}`;
+    }
     return `${rule} ${settling(state, flow)}`;
 }
 
@@ -141,7 +155,9 @@ function blocked(state, words) {
 function settling(state, flow) {
     const [source, destination] = flow.split(" ");
     if (state.network.plain) {
-        if (state.box(destination)?.messages.some((it) => it.flow === flow)) return `The last one waits for ${hostName(state.network, destination)}: \`take ${destination}\`.`;
+        if (state.box(destination)?.messages.some((it) => it.flow === flow)) {
+            return `The last one waits for ${hostName(state.network, destination)}: \`take ${destination}\`.`;
+        }
         return "The last one has no answer yet.";
     }
     const number = outstandingNumber(state, flow);
@@ -196,7 +212,11 @@ export function placeName(state, held) {
  * @param {string} host
  */
 function unsettled(state, host) {
-    const flows = state.network.plain ? [] : (state.imp(impOf(host))?.sources ?? []).filter((it) => it.state === "outstanding" && it.flow.startsWith(`${host} `));
+    const flows = state.network.plain
+        ? []
+        : (state.imp(impOf(host))?.sources ?? []).filter(
+            (it) => it.state === "outstanding" && it.flow.startsWith(`${host} `),
+        );
     const message = flows.length ? messageName(state.network, flows[0].flow) : "a message that it sent";
     return `${filled(REFUSED.stopped, { host: hostName(state.network, host), message })} ${flows.length ? settling(state, flows[0].flow) : REFUSED.settle}`;
 }
@@ -209,7 +229,12 @@ function notOutstanding(state, words) {
     const flow = flowOf(words);
     const source = words[1];
     const answer = state.box(source)?.answers.find((it) => it.flow === flow);
-    if (answer) return filled(REFUSED.answered, { answer: ANSWERS[answer.kind], host: hostName(state.network, source), word: source });
+    if (answer) {
+        return filled(
+            REFUSED.answered,
+            { answer: ANSWERS[answer.kind], host: hostName(state.network, source), word: source },
+        );
+    }
     return `No message is outstanding on link ${words[3]}: ${messageName(state.network, flow)} has been answered or given up, or there was none.`;
 }
 
@@ -224,19 +249,36 @@ function stillAlive(state, words) {
     if (kind === "impup") {
         const imp = Number(what);
         const alive = everything.filter((it) => it.flow.split(" ").slice(0, 2).some((host) => impOf(host) === imp));
-        const keeping = network.sites.filter(({ number }) => number !== imp && state.imp(number)?.kept.some((it) => impOf(it.flow.split(" ")[0]) === imp));
-        const found = keeping.map(({ number }) => filled(REFUSED.keeps, { imp: impName(network, number), other: impName(network, imp), number, from: imp }));
+        const keeping = network.sites.filter(
+            ({ number }) => number !== imp
+                && state.imp(number)?.kept.some((it) => impOf(it.flow.split(" ")[0]) === imp),
+        );
+        const found = keeping.map(
+            ({ number }) => filled(
+                REFUSED.keeps,
+                { imp: impName(network, number), other: impName(network, imp), number, from: imp },
+            ),
+        );
         if (alive.length) found.unshift(filled(REFUSED["still alive"], { places: places(state, alive) }));
         return found.join(" ") || "A message to one of its hosts is outstanding: it has to be given up first.";
     }
     if (kind === "forget") {
-        const alive = everything.filter((it) => it.kind !== "rfnm" && it.kind !== "dead" && impOf(it.flow.split(" ")[0]) === Number(other) && impOf(it.flow.split(" ")[1]) === Number(what));
-        return alive.length ? filled(REFUSED["still alive"], { places: places(state, alive) }) : `A message from ${siteName(network, Number(other))} is outstanding: it has to be answered or given up first.`;
+        const alive = everything.filter(
+            (it) => it.kind !== "rfnm"
+                && it.kind !== "dead"
+                && impOf(it.flow.split(" ")[0]) === Number(other)
+                && impOf(it.flow.split(" ")[1]) === Number(what),
+        );
+        return alive.length
+            ? filled(REFUSED["still alive"], { places: places(state, alive) })
+            : `A message from ${siteName(network, Number(other))} is outstanding: it has to be answered or given up first.`;
     }
     const flow = flowOf(words);
     const number = outstandingNumber(state, flow);
     const alive = everything.filter((it) => it.flow === flow && (kind !== "giveup" || it.number === number));
-    return alive.length ? `${filled(REFUSED["still alive"], { places: places(state, alive) })} It has to arrive or to be lost first.` : "Something of an earlier message could still be mistaken for it.";
+    return alive.length
+        ? `${filled(REFUSED["still alive"], { places: places(state, alive) })} It has to arrive or to be lost first.`
+        : "Something of an earlier message could still be mistaken for it.";
 }
 
 /**
@@ -246,6 +288,8 @@ function stillAlive(state, words) {
 function noRoom(state, words) {
     const imp = impOf(words[1]);
     const it = state.imp(imp);
-    const held = (it?.store.length ?? 0) + (it?.ports.reduce((sum, port) => sum + port.sending.filter((channel) => channel.packet).length, 0) ?? 0);
+    const held = (it?.store.length ?? 0) + (
+        it?.ports.reduce((sum, port) => sum + port.sending.filter((channel) => channel.packet).length, 0) ?? 0
+    );
     return `${capital(impName(state.network, imp))} has no room: it holds ${count(held, "packet")} in its store and channels, 32 at most, and 16 messages may wait for a host.`;
 }

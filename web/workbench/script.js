@@ -52,8 +52,14 @@ export function readInput(text) {
     const after = at < 0 ? [] : all.slice(at + 1);
     if (after.length && after[after.length - 1] === "") after.pop();
     /** @type {ScriptLine[]} */
-    const lines = after.map((it, place) => ({ line: place + 1, text: it, kind: it === "" ? "blank" : it.startsWith("#") ? "comment" : "event" }));
-    const events = lines.filter((it) => it.kind === "event").map((it) => ({ line: it.line, text: it.text, words: wordsOf(it.text) }));
+    const lines = after.map(
+        (it, place) => (
+            { line: place + 1, text: it, kind: it === "" ? "blank" : it.startsWith("#") ? "comment" : "event" }
+        ),
+    );
+    const events = lines.filter((it) => it.kind === "event").map(
+        (it) => ({ line: it.line, text: it.text, words: wordsOf(it.text) }),
+    );
     return { text, head: at < 0 ? all : all.slice(0, at), marked: at >= 0, lines, events };
 }
 
@@ -98,7 +104,10 @@ export function notesOf(input) {
         const told = text.replace(/^#[?!]?\s*/, "");
         const last = notes[notes.length - 1];
         const before = last && input.lines[last.last - 1].text;
-        const goesOn = last && last.last === line - 1 && sort === "comment" && (last.kind !== "comment" || (before !== undefined && before.length > 60 && !/[.:!?]$/.test(before)));
+        const goesOn = last
+            && last.last === line - 1
+            && sort === "comment"
+            && (last.kind !== "comment" || (before !== undefined && before.length > 60 && !/[.:!?]$/.test(before)));
         if (goesOn) {
             last.text = joinedWords([last.text, told]);
             last.last = line;

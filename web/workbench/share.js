@@ -32,13 +32,22 @@ export async function fragment({ text, example, at, grain, hidden, to }) {
  * @returns {Promise<Place | null>}
  */
 export async function placeIn(hash) {
-    const parts = new Map(hash.replace(/^#/, "").split("&").map((it) => /** @type {[string, string]} */ ([it.split("=")[0], it.split("=").slice(1).join("=")])));
+    const parts = new Map(
+        hash.replace(/^#/, "").split("&").map(
+            (it) => /** @type {[string, string]} */ ([it.split("=")[0], it.split("=").slice(1).join("=")]),
+        ),
+    );
     const packedText = parts.get("s");
     const example = parts.get("e");
     if (!packedText && !example) return null;
     const number = (/** @type {string} */ name) => Math.max(0, Math.trunc(Number(parts.get(name) ?? 0)) || 0);
     const grain = parts.get("g") ?? "arrival";
-    const place = { at: number("at"), grain: ["event", "arrival", "round"].includes(grain) ? grain : "arrival", hidden: parts.has("hide"), to: number("to") };
+    const place = {
+        at: number("at"),
+        grain: ["event", "arrival", "round"].includes(grain) ? grain : "arrival",
+        hidden: parts.has("hide"),
+        to: number("to"),
+    };
     if (example) return { ...place, example: decodeURIComponent(example) };
     try {
         return { ...place, text: await unpacked(packedText ?? "") };
@@ -66,7 +75,10 @@ export async function packed(text) {
  * @param {string} letters
  */
 export async function unpacked(letters) {
-    const octets = Uint8Array.from(atob(letters.replace(/-/g, "+").replace(/_/g, "/")), (letter) => letter.charCodeAt(0));
+    const octets = Uint8Array.from(
+        atob(letters.replace(/-/g, "+").replace(/_/g, "/")),
+        (letter) => letter.charCodeAt(0),
+    );
     const stream = new Blob([octets]).stream().pipeThrough(new DecompressionStream("deflate-raw"));
     return new Response(stream).text();
 }

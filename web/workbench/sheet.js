@@ -52,7 +52,9 @@ export function rowsOf(history, stops) {
         const mine = stops.slice(first, stop);
         const isCalm = words[0] === "calm" && mine.length > 0 && !(mine.length === 1 && mine[0].main < 0);
         const only = isCalm ? undefined : mine[0];
-        const printed = only ? history.replay.moments.slice(only.from, only.to).flatMap((moment) => moment.printed) : [];
+        const printed = only
+            ? history.replay.moments.slice(only.from, only.to).flatMap((moment) => moment.printed)
+            : [];
         rows.push({
             ...ROW,
             kind: "event",
@@ -74,7 +76,18 @@ export function rowsOf(history, stops) {
 }
 
 /** @type {Row} */
-const ROW = { kind: "event", line: 0, number: "", text: "", event: 0, stop: -1, at: 0, printed: false, refused: false, steps: 0 };
+const ROW = {
+    kind: "event",
+    line: 0,
+    number: "",
+    text: "",
+    event: 0,
+    stop: -1,
+    at: 0,
+    printed: false,
+    refused: false,
+    steps: 0,
+};
 
 /**
  * The rows of a calm's stops. The round is in the number column, once.
@@ -91,7 +104,16 @@ function calmRows(history, stops, first, event) {
         const number = stop.round === round ? "" : stop.round === stop.last ? `r${stop.round}` : `r${stop.last}`;
         round = stop.last;
         const printed = stop.main >= 0 && history.replay.moments[stop.main].printed.length > 0;
-        return { ...ROW, kind: "stop", number, text: stopWords(history, stop), event, stop: first + place, at: stop.to, printed };
+        return {
+            ...ROW,
+            kind: "stop",
+            number,
+            text: stopWords(history, stop),
+            event,
+            stop: first + place,
+            at: stop.to,
+            printed,
+        };
     });
 }
 
@@ -102,15 +124,27 @@ function calmRows(history, stops, first, event) {
  * @param {Stop} stop
  */
 export function stopWords(history, stop) {
-    if (stop.main < 0) return stop.round === stop.last ? "nothing new" : `rounds ${stop.round} to ${stop.last}: nothing new`;
+    if (stop.main < 0) {
+        return stop.round === stop.last ? "nothing new" : `rounds ${stop.round} to ${stop.last}: nothing new`;
+    }
     const { words } = history.replay.moments[stop.main];
     const { frame, line, from, to } = history.notes[stop.main];
     if (words[0] !== "deliver" && words[0] !== "drop") return words.join(" ");
     if (!frame || line < 0) return words.join(" ");
     const [a, b] = from ? [from, to] : wayOf(history.network, line, words[2]);
-    const what = frame.packet ? `${frame.packet.kind === "data" ? "data" : SHORT[frame.packet.kind]} ${frame.packet.source}→${frame.packet.destination} ${frame.packet.link}${frame.packet.kind === "data" && !(frame.packet.last && frame.packet.place === 0) ? `.${frame.packet.place + 1}` : ""}` : frame.routes ? "distances" : "ack";
+    const what = frame.packet ? packetWords(frame.packet) : frame.routes ? "distances" : "ack";
     const short = (/** @type {number} */ imp) => siteName(history.network, imp).replace(/^IMP /, "");
     return `${short(a)}→${short(b)} ${what}${words[0] === "drop" ? " dropped" : ""}`;
+}
+
+/**
+ * A packet in the words of the script's column.
+ *
+ * @param {import("./trace.js").Packet} packet
+ */
+function packetWords({ kind, source, destination, link, last, place }) {
+    const isPiece = kind === "data" && !(last && place === 0);
+    return `${SHORT[kind]} ${source}→${destination} ${link}${isPiece ? `.${place + 1}` : ""}`;
 }
 
 /** The names of packets that are short enough for a row. */

@@ -58,7 +58,9 @@ export function stopsOf(history, grain) {
  */
 function isStop(history, at, grain) {
     const { weight } = history.notes[at];
-    return grain === "event" || history.replay.moments[at].round === 0 || (grain === "arrival" ? weight > 0 : weight === 2);
+    return grain === "event"
+        || history.replay.moments[at].round === 0
+        || (grain === "arrival" ? weight > 0 : weight === 2);
 }
 
 /**
@@ -70,7 +72,11 @@ function isStop(history, at, grain) {
  */
 function stopsOfRound(from, to, mains) {
     if (mains.length === 0) return [{ from, to, main: -1 }];
-    return mains.map((main, place) => ({ from: place ? mains[place - 1] + 1 : from, to: place + 1 < mains.length ? main + 1 : to, main }));
+    return mains.map(
+        (main, place) => (
+            { from: place ? mains[place - 1] + 1 : from, to: place + 1 < mains.length ? main + 1 : to, main }
+        ),
+    );
 }
 
 /**

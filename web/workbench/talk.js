@@ -1,9 +1,9 @@
 /**
- * What the printed lines say, as of a position: who is up, which messages have no answer, contacts, connections and what they have
- * granted, handed over, sent and taken so far.
+ * What the printed lines say, as of a position: who is up, which messages have no answer, contacts, connections and
+ * what they have granted, handed over, sent and taken so far.
  *
- * What services grant and hand over is in no line of the script. The grants are in the messages on link 0, what a terminal hands over is
- * what is typed, and what an echo service hands over is what it took.
+ * What services grant and hand over is in no line of the script. The grants are in the messages on link 0, what a
+ * terminal hands over is what is typed, and what an echo service hands over is what it took.
  */
 
 import { countsIn } from "./commands.js";
@@ -96,7 +96,9 @@ export class Talk {
      */
     goTo(position) {
         if (position < this.position) this.reset();
-        for (; this.position < position; this.position += 1) this.see(this.replay.moments[this.position], this.position);
+        for (; this.position < position; this.position += 1) {
+            this.see(this.replay.moments[this.position], this.position);
+        }
         return this;
     }
 
@@ -143,7 +145,9 @@ export class Talk {
                 this.users.set(host, { host, peer: rest[0], socket: Number(rest[1]) });
                 break;
             case "impdown":
-                for (const flow of [...this.messages.keys()]) if (impOf(flow.split(" ")[0]) === Number(host)) this.messages.delete(flow);
+                for (const flow of [...this.messages.keys()]) {
+                    if (impOf(flow.split(" ")[0]) === Number(host)) this.messages.delete(flow);
+                }
         }
     }
 
@@ -170,7 +174,9 @@ export class Talk {
      */
     line([kind, ...words], at) {
         const flow = words.slice(0, 3).join(" ");
-        if ((kind === "out" || kind === "in") && !this.replay.network.raw && words[2] === "0") this.commands(kind, words);
+        if ((kind === "out" || kind === "in") && !this.replay.network.raw && words[2] === "0") {
+            this.commands(kind, words);
+        }
         if (kind === "out") this.messages.set(flow, { flow, since: at, bits: Number(words[3]), taken: false });
         else if (kind === "in") this.take(flow);
         else if (kind === "answer") this.messages.delete(words.slice(1, 4).join(" "));
@@ -293,7 +299,15 @@ export class Talk {
                 if (end) this.carry(end, Number(words[1]));
                 return;
             case "returned":
-                if (end) Object.assign(end, { returnedMessages: end.returnedMessages + Number(words[1]), returnedBits: end.returnedBits + Number(words[2]) });
+                if (end) {
+                    Object.assign(
+                        end,
+                        {
+                            returnedMessages: end.returnedMessages + Number(words[1]),
+                            returnedBits: end.returnedBits + Number(words[2]),
+                        },
+                    );
+                }
         }
     }
 
@@ -351,7 +365,13 @@ export class Talk {
      * @param {End} end
      */
     mate(end) {
-        return this.ends.find((it) => it.host === end.peer && it.socket === end.foreign && it.peer === end.host && it.foreign === end.socket && (it.state === "over") === (end.state === "over"));
+        return this.ends.find(
+            (it) => it.host === end.peer
+                && it.socket === end.foreign
+                && it.peer === end.host
+                && it.foreign === end.socket
+                && (it.state === "over") === (end.state === "over"),
+        );
     }
 }
 
@@ -368,7 +388,20 @@ function newEnd(host, socket, peer, foreign, state, size) {
     const granted = { grantedMessages: 0, grantedBits: 0, returnedMessages: 0, returnedBits: 0 };
     const heard = { heardMessages: 0, heardBits: 0, backMessages: 0, backBits: 0 };
     const used = { handed: 0, messages: 0, bits: 0 };
-    return { host, socket, peer, foreign, state, size, service: false, link: 0, echoes: -1, ...granted, ...heard, ...used };
+    return {
+        host,
+        socket,
+        peer,
+        foreign,
+        state,
+        size,
+        service: false,
+        link: 0,
+        echoes: -1,
+        ...granted,
+        ...heard,
+        ...used,
+    };
 }
 
 /**

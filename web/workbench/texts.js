@@ -1,8 +1,8 @@
 /**
  * What the text of a message says, in words.
  *
- * Hosts with programs send a header of 40 bits, then commands on link 0 and bytes of data on every other link (docs/commands.md). In a
- * raw network a script sends what it likes.
+ * Hosts with programs send a header of 40 bits, then commands on link 0 and bytes of data on every other link
+ * (docs/commands.md). In a raw network a script sends what it likes.
  */
 
 import { TABLE } from "../../python/dorydate/sentences/table.mjs";
@@ -43,8 +43,11 @@ export function octetValues(octets) {
  * @param {number} bits
  */
 export function shown(values, bits) {
-    const isText = bits % 8 === 0 && values.every((it) => (it >= 32 && it <= 126) || it === 9 || it === 10 || it === 13);
-    const text = isText ? `“${String.fromCharCode(...values).replace(/\t/g, "\\t").replace(/\n/g, "\\n").replace(/\r/g, "\\r")}”` : values.map((it) => it.toString(16).toUpperCase().padStart(2, "0")).join("");
+    const isText = bits % 8 === 0
+        && values.every((it) => (it >= 32 && it <= 126) || it === 9 || it === 10 || it === 13);
+    const text = isText
+        ? `“${String.fromCharCode(...values).replace(/\t/g, "\\t").replace(/\n/g, "\\n").replace(/\r/g, "\\r")}”`
+        : values.map((it) => it.toString(16).toUpperCase().padStart(2, "0")).join("");
     return text.length > SHOWN ? `${text.slice(0, SHOWN)}…` : text;
 }
 
@@ -80,7 +83,9 @@ function commands(octets) {
     for (let at = 0; at < octets.length; ) {
         const command = COMMANDS[octets[at]];
         if (!command) return [...found, filled(TEXTS["no code"], { code: octets[at] })];
-        if (octets.length - at < command.length) return [...found, filled(TEXTS.cut, { name: command.name, octets: octets.length - at })];
+        if (octets.length - at < command.length) {
+            return [...found, filled(TEXTS.cut, { name: command.name, octets: octets.length - at })];
+        }
         found.push(commandInWords(octets.slice(at, at + command.length)));
         at += command.length;
     }

@@ -1,8 +1,8 @@
 /**
  * Reads the topology of an input: which IMPs, hosts and lines there are, and the names of the sites.
  *
- * The program reads topologies as TOML 1.1 and refuses what is wrong; `faults.js` says why. This reader takes the part of TOML that a
- * topology can need: tables, keys, strings, whole numbers, booleans, lists and inline tables.
+ * The program reads topologies as TOML 1.1 and refuses what is wrong; `faults.js` says why. This reader takes the part
+ * of TOML that a topology can need: tables, keys, strings, whole numbers, booleans, lists and inline tables.
  */
 
 /**
@@ -166,7 +166,9 @@ export function readDocument(text) {
             if (key === "id" && comment) document.comments.set(table, comment[1].trim());
         }
         reader.blank(false);
-        if (!/^(?:$|[\r\n#])/.test(reader.text.slice(reader.at, reader.at + 1))) reader.fail("there is more on the line after its value");
+        if (!/^(?:$|[\r\n#])/.test(reader.text.slice(reader.at, reader.at + 1))) {
+            reader.fail("there is more on the line after its value");
+        }
     }
     return document;
 }
@@ -275,7 +277,8 @@ export function impName(network, imp) {
 }
 
 /**
- * A host in words: UCLA where it is the site's only host, UCLA's host 1/1 where there are more, host 0/1 where the site has no name.
+ * A host in words: UCLA where it is the site's only host, UCLA's host 1/1 where there are more, host 0/1 where the site
+ * has no name.
  *
  * @param {Network} network
  * @param {string} host

@@ -33,7 +33,11 @@ import { count, listed, possessive } from "./words.js";
  * @returns {Wait[]}
  */
 export function waitsOf(state, talk, inside) {
-    return [...messageWaits(state, talk, inside), ...connectionWaits(state, talk), ...(inside ? deadNeighbours(state) : [])];
+    return [
+        ...messageWaits(state, talk, inside),
+        ...connectionWaits(state, talk),
+        ...(inside ? deadNeighbours(state) : []),
+    ];
 }
 
 /**
@@ -44,14 +48,32 @@ export function waitsOf(state, talk, inside) {
  */
 function messageWaits(state, talk, inside) {
     const { network } = state;
-    if (!inside) return [...talk.messages.values()].map((it) => ({ ...wait(messageName(network, it.flow)), where: it.taken ? "taken" : "in the network", for: "its answer", flow: it.flow }));
+    if (!inside) {
+        return [...talk.messages.values()].map(
+            (it) => (
+                {
+                    ...wait(messageName(network, it.flow)),
+                    where: it.taken ? "taken" : "in the network",
+                    for: "its answer",
+                    flow: it.flow,
+                }
+            ),
+        );
+    }
     if (network.plain) return plainWaits(state);
     const everything = state.everything();
     /** @type {Wait[]} */
     const found = [];
     for (const site of network.sites) {
         for (const it of state.imp(site.number)?.sources ?? []) {
-            if (it.state === "answered") found.push({ ...wait(`The answer to ${messageName(network, it.flow)}`), where: impName(network, site.number), for: `${hostName(network, it.flow.split(" ")[0])} to take it`, flow: it.flow });
+            if (it.state === "answered") {
+                found.push({
+                    ...wait(`The answer to ${messageName(network, it.flow)}`),
+                    where: impName(network, site.number),
+                    for: `${hostName(network, it.flow.split(" ")[0])} to take it`,
+                    flow: it.flow,
+                });
+            }
             if (it.state === "outstanding") found.push(outstanding(state, it.flow, it.number, everything));
         }
     }
@@ -68,8 +90,26 @@ function plainWaits(state) {
         const box = state.box(host);
         if (!box) return [];
         return [
-            ...box.messages.map((it) => ({ ...wait(messageName(network, it.flow)), where: `the mailbox of ${hostName(network, host)}`, for: `${hostName(network, host)} to take it`, flow: it.flow })),
-            ...box.answers.map((it) => ({ ...wait(`${ANSWERS[it.kind]} for ${messageName(network, it.flow)}`), where: `the mailbox of ${hostName(network, host)}`, for: `${hostName(network, host)} to take it`, flow: it.flow })),
+            ...box.messages.map(
+                (it) => (
+                    {
+                        ...wait(messageName(network, it.flow)),
+                        where: `the mailbox of ${hostName(network, host)}`,
+                        for: `${hostName(network, host)} to take it`,
+                        flow: it.flow,
+                    }
+                ),
+            ),
+            ...box.answers.map(
+                (it) => (
+                    {
+                        ...wait(`${ANSWERS[it.kind]} for ${messageName(network, it.flow)}`),
+                        where: `the mailbox of ${hostName(network, host)}`,
+                        for: `${hostName(network, host)} to take it`,
+                        flow: it.flow,
+                    }
+                ),
+            ),
         ];
     });
 }
@@ -78,7 +118,13 @@ function plainWaits(state) {
 export const ANSWERS = TABLE.answers;
 
 /** What the packets that answer a message are called. */
-export const PACKETS = { data: "the message", rfnm: "its RFNM", dead: "its Dead", ask: "the question about it", never: "the answer that it never came" };
+export const PACKETS = {
+    data: "the message",
+    rfnm: "its RFNM",
+    dead: "its Dead",
+    ask: "the question about it",
+    never: "the answer that it never came",
+};
 
 /**
  * A message by its source, destination and link.
@@ -115,16 +161,24 @@ function outstanding(state, flow, number, everything) {
     const far = impOf(flow.split(" ")[1]);
     if (copies.length === 0) {
         const canAsk = far !== impOf(flow.split(" ")[0]) && state.way(impOf(flow.split(" ")[0]), far).line >= 0;
-        return { ...told, for: "nothing of it is alive: ask, or give it up", bad: true, cures: [...(canAsk ? [`ask ${flow}`] : []), `giveup ${flow}`] };
+        return {
+            ...told,
+            for: "nothing of it is alive: ask, or give it up",
+            bad: true,
+            cures: [...(canAsk ? [`ask ${flow}`] : []), `giveup ${flow}`],
+        };
     }
     const best = furthest(state, copies);
     const held = copies.filter((it) => it.place.at !== "line").length;
-    const others = copies.length > 1 ? `(${listed([...(held ? [`${held} held`] : []), ...(copies.length > held ? [`${copies.length - held} on lines`] : [])])})` : "";
+    const others = copies.length > 1
+        ? `(${listed([...(held ? [`${held} held`] : []), ...(copies.length > held ? [`${copies.length - held} on lines`] : [])])})`
+        : "";
     return { ...told, ...placeOf(state, best), copies: others };
 }
 
 /**
- * The copy that matters: an answer before a question before the message, and of each kind the one that is nearest to its end.
+ * The copy that matters: an answer before a question before the message, and of each kind the one that is nearest to
+ * its end.
  *
  * @param {State} state
  * @param {Held[]} copies
@@ -166,19 +220,41 @@ function placeOf(state, held) {
     switch (held.place.at) {
         case "host": {
             const host = held.flow.split(" ")[1];
-            return { where: `${impName(network, imp)}`, for: `${hostName(network, host)} to take it`, bad: !state.isUp(host), cures: [`take ${host}`] };
+            return {
+                where: `${impName(network, imp)}`,
+                for: `${hostName(network, host)} to take it`,
+                bad: !state.isUp(host),
+                cures: [`take ${host}`],
+            };
         }
         case "slot":
-            return { where: `${impName(network, imp)}, a slot with ${count(place, "piece")}`, for: "its other pieces", bad: false, cures: [] };
+            return {
+                where: `${impName(network, imp)}, a slot with ${count(place, "piece")}`,
+                for: "its other pieces",
+                bad: false,
+                cures: [],
+            };
         case "store":
-            return { where: `${what}${impName(network, imp)}, in the store`, for: `a free channel towards ${siteName(network, target(held))}`, bad: false, cures: [] };
+            return {
+                where: `${what}${impName(network, imp)}, in the store`,
+                for: `a free channel towards ${siteName(network, target(held))}`,
+                bad: false,
+                cures: [],
+            };
         case "line":
-            return { where: `${what}on the line from ${siteName(network, imp)} to ${siteName(network, far)}`, for: room || "the frame to arrive", bad: false, cures: ["calm 1"] };
+            return {
+                where: `${what}on the line from ${siteName(network, imp)} to ${siteName(network, far)}`,
+                for: room || "the frame to arrive",
+                bad: false,
+                cures: ["calm 1"],
+            };
     }
     const isDown = !state.isEndUp(far, line);
     return {
         where: `${what}${impName(network, imp)}, channel ${channel} to ${siteName(network, far)}`,
-        for: isDown ? `the acknowledgement of ${siteName(network, far)}, whose end of line ${line} is down` : room || `the acknowledgement of ${siteName(network, far)}`,
+        for: isDown
+            ? `the acknowledgement of ${siteName(network, far)}, whose end of line ${line} is down`
+            : room || `the acknowledgement of ${siteName(network, far)}`,
         bad: isDown,
         cures: isDown ? [`enddown ${imp} ${line}`] : [],
     };
@@ -195,9 +271,18 @@ function wantOfRoom(state, imp, { packet, flow, kind }) {
     const it = state.imp(imp);
     if (!it || !packet) return "";
     const to = impOf(flow.split(" ")[kind === "data" || kind === "ask" ? 1 : 0]);
-    if (to === imp && kind === "data" && !(packet.last && packet.place === 0) && it.slots.length >= SLOTS && !it.slots.some((pieces) => pieces[0].flow === flow)) return `a free slot at ${impName(state.network, imp)}: all ${SLOTS} are held`;
-    const stored = it.store.length + it.ports.reduce((sum, port) => sum + port.sending.filter((channel) => channel.packet).length, 0);
-    return to !== imp && stored >= PLACES ? `room at ${impName(state.network, imp)}: its ${PLACES} places are taken` : "";
+    const isPiece = to === imp && kind === "data" && !(packet.last && packet.place === 0);
+    const hasSlot = it.slots.length < SLOTS || it.slots.some((pieces) => pieces[0].flow === flow);
+    if (isPiece && !hasSlot) {
+        return `a free slot at ${impName(state.network, imp)}: all ${SLOTS} are held`;
+    }
+    const stored = it.store.length + it.ports.reduce(
+        (sum, port) => sum + port.sending.filter((channel) => channel.packet).length,
+        0,
+    );
+    return to !== imp && stored >= PLACES
+        ? `room at ${impName(state.network, imp)}: its ${PLACES} places are taken`
+        : "";
 }
 
 /** How many messages an IMP reassembles at a time, and how many packets it stores. */
@@ -215,11 +300,21 @@ function connectionWaits(state, talk) {
     /** @type {Wait[]} */
     const found = [];
     for (const { host, peer, state: phase } of talk.contacts) {
-        if (phase === "asked") found.push({ ...wait(`${possessive(hostName(network, host))} contact with ${hostName(network, peer)}`), for: `the RRP of ${hostName(network, peer)}, after the RFNM for its own RST`, bad: !talk.up.get(peer) });
+        if (phase === "asked") {
+            found.push({
+                ...wait(`${possessive(hostName(network, host))} contact with ${hostName(network, peer)}`),
+                for: `the RRP of ${hostName(network, peer)}, after the RFNM for its own RST`,
+                bad: !talk.up.get(peer),
+            });
+        }
     }
     for (const { host, peer, socket } of talk.users.values()) {
         const what = `The initial connection of ${hostName(network, host)} with ${hostName(network, peer)}`;
-        found.push({ ...wait(what), for: `the server at socket ${socket} of ${hostName(network, peer)}`, bad: !talk.up.get(peer) });
+        found.push({
+            ...wait(what),
+            for: `the server at socket ${socket} of ${hostName(network, peer)}`,
+            bad: !talk.up.get(peer),
+        });
     }
     for (const end of talk.ends) found.push(...endWaits(network, talk, end));
     return found;
@@ -233,8 +328,17 @@ function connectionWaits(state, talk) {
  */
 function endWaits(network, talk, end) {
     const at = `socket ${end.socket} of ${hostName(network, end.host)}`;
-    if (end.state === "asked") return [{ ...wait(`The request from ${at}`), for: `${hostName(network, end.peer)} to ask for the same connection, or to listen on socket ${end.foreign}` }];
-    if (end.state === "closing") return [{ ...wait(`The close of ${at}`), for: `the CLS of ${hostName(network, end.peer)}` }];
+    if (end.state === "asked") {
+        return [
+            {
+                ...wait(`The request from ${at}`),
+                for: `${hostName(network, end.peer)} to ask for the same connection, or to listen on socket ${end.foreign}`,
+            },
+        ];
+    }
+    if (end.state === "closing") {
+        return [{ ...wait(`The close of ${at}`), for: `the CLS of ${hostName(network, end.peer)}` }];
+    }
     if (!sends(end.socket) || end.state !== "open" || end.handed <= end.bits) return [];
     return [bitsThatWait(network, talk, end, at)];
 }
@@ -255,13 +359,16 @@ function bitsThatWait(network, talk, end, at) {
     const bits = Math.max(end.heardBits - end.backBits - end.bits, 0);
     const isShort = messages < 1 || bits < (end.size || 1);
     const whose = end.service ? "service" : "program";
+    const granted = `${count(messages, "message")} and ${count(bits, "bit")}`;
     const waiting = {
         ...wait(`${count(left, "bit")} on ${at}`),
-        where: `${possessive(hostName(network, end.host))} ${whose}; ${count(messages, "message")} and ${count(bits, "bit")} are left of the grant`,
+        where: `${possessive(hostName(network, end.host))} ${whose}; ${granted} are left of the grant`,
     };
     const peer = hostName(network, end.peer);
     if (!isShort) return { ...waiting, for: `${hostName(network, end.host)} to offer`, cures: [`offer ${end.host}`] };
-    if (mate && isOnItsWay(end, mate)) return { ...waiting, for: `the grant of ${peer} to come (ALL)`, cures: ["calm 1"] };
+    if (mate && isOnItsWay(end, mate)) {
+        return { ...waiting, for: `the grant of ${peer} to come (ALL)`, cures: ["calm 1"] };
+    }
     if (mate?.service) return { ...waiting, for: `a grant of ${possessive(peer)} service`, cures: ["calm 1"] };
     return { ...waiting, for: `a grant of ${peer}`, bad: true, cures: [`grant ${end.peer} ${end.foreign} 1 ${left}`] };
 }
@@ -287,9 +394,22 @@ function deadNeighbours(state) {
     if (network.plain) return [];
     return network.sites.flatMap(({ number }) => {
         if (state.imp(number)) return [];
-        const ends = network.lines.flatMap((ends, line) => (ends.includes(number) && state.isEndUp(farEnd(network, line, number), line) ? [`enddown ${farEnd(network, line, number)} ${line}`] : []));
+        const ends = network.lines.flatMap(
+            (ends, line) => (
+                ends.includes(number) && state.isEndUp(farEnd(network, line, number), line)
+                    ? [`enddown ${farEnd(network, line, number)} ${line}`]
+                    : []
+            ),
+        );
         if (ends.length === 0) return [];
-        return [{ ...wait(`${impName(network, number)} is down, and its neighbours don't see it`), for: "its neighbours' ends of its lines to go down", bad: true, cures: ends }];
+        return [
+            {
+                ...wait(`${impName(network, number)} is down, and its neighbours don't see it`),
+                for: "its neighbours' ends of its lines to go down",
+                bad: true,
+                cures: ends,
+            },
+        ];
     });
 }
 
@@ -306,7 +426,9 @@ export function grouped(network, waits) {
     for (const it of waits) {
         const pair = it.flow.split(" ").slice(0, 2).join(" ");
         const isAnswer = it.what.startsWith("The answer");
-        const key = it.flow ? `${isAnswer}|${pair}|${it.where.replace(/channel \d+/, "channel")}|${it.for}` : `${it.what}|${it.where}|${it.for}`;
+        const key = it.flow
+            ? `${isAnswer}|${pair}|${it.where.replace(/channel \d+/, "channel")}|${it.for}`
+            : `${it.what}|${it.where}|${it.for}`;
         groups.set(key, [...(groups.get(key) ?? []), it]);
     }
     return [...groups.values()].map((group) => {
@@ -317,6 +439,13 @@ export function grouped(network, waits) {
         const start = first.what.startsWith("The answer") ? `The answers to ${group.length}` : String(group.length);
         const what = `${start} messages from ${hostName(network, source)} to ${hostName(network, destination)}, links ${links}`;
         const where = first.where.replace(/channel \d+/, "channels");
-        return { ...first, what, where, copies: "", count: group.length, cures: group.length > 1 && first.cures.length ? group.flatMap((it) => it.cures.slice(-1)) : [] };
+        return {
+            ...first,
+            what,
+            where,
+            copies: "",
+            count: group.length,
+            cures: group.length > 1 && first.cures.length ? group.flatMap((it) => it.cures.slice(-1)) : [],
+        };
     });
 }

@@ -26,11 +26,22 @@ export function byId(id) {
 export function set(element, attributes) {
     for (const [name, value] of Object.entries(attributes)) {
         if (typeof value === "function") element.addEventListener(name.slice(2), value);
-        else if (name === "style") /** @type {ElementCSSInlineStyle} */ (/** @type {unknown} */ (element)).style.cssText = String(value); // a policy forbids the attribute
+        else if (name === "style") styleOf(element).cssText = String(value); // a policy forbids the attribute
         else if (value === null || value === undefined || value === false) element.removeAttribute(name);
-        else if (element.getAttribute(name) !== String(value)) element.setAttribute(name, value === true ? "" : String(value));
+        else if (element.getAttribute(name) !== String(value)) element.setAttribute(
+            name,
+            value === true ? "" : String(value),
+        );
     }
     return element;
+}
+
+/**
+ * @param {Element} element
+ * @returns {CSSStyleDeclaration}
+ */
+function styleOf(element) {
+    return /** @type {ElementCSSInlineStyle} */ (/** @type {unknown} */ (element)).style;
 }
 
 /**
@@ -44,7 +55,9 @@ export function set(element, attributes) {
 export function h(tag, attributes = {}, ...children) {
     const element = document.createElement(tag);
     set(element, attributes);
-    element.append(.../** @type {(string | Node)[]} */ (children.filter((it) => it !== null && it !== undefined && it !== false)));
+    element.append(
+        .../** @type {(string | Node)[]} */ (children.filter((it) => it !== null && it !== undefined && it !== false)),
+    );
     return element;
 }
 
@@ -82,7 +95,9 @@ export function say(element, text) {
 export function sayWithCode(element, text) {
     if (element.getAttribute("data-said") === text) return;
     element.setAttribute("data-said", text);
-    element.replaceChildren(...text.split("\x60").map((part, place) => (place % 2 ? h("code", {}, part) : document.createTextNode(part))));
+    element.replaceChildren(
+        ...text.split("\x60").map((part, place) => (place % 2 ? h("code", {}, part) : document.createTextNode(part))),
+    );
 }
 
 /**

@@ -1,4 +1,6 @@
-/** The editor: the whole input with line numbers as the program counts them, and faults at their lines while one types. */
+/**
+ * The editor: the whole input with line numbers as the program counts them, and faults at their lines while one types.
+ */
 
 import { h, keep, say, sayWithCode } from "./dom.js";
 
@@ -10,11 +12,27 @@ export class Editor {
      */
     constructor(element, does) {
         this.numbers = h("div", { class: "gutter", "aria-hidden": "true" });
-        this.area = /** @type {HTMLTextAreaElement} */ (h("textarea", { spellcheck: "false", autocapitalize: "off", autocomplete: "off", "aria-label": "network and script", wrap: "off" }));
+        this.area = /** @type {HTMLTextAreaElement} */ (
+            h(
+                "textarea",
+                {
+                    spellcheck: "false",
+                    autocapitalize: "off",
+                    autocomplete: "off",
+                    "aria-label": "network and script",
+                    wrap: "off",
+                },
+            )
+        );
         this.fault = h("p", { class: "fault", role: "status" });
         this.element = element;
         element.replaceChildren(
-            h("div", { class: "editor-head" }, h("span", {}, "Network, %, script"), h("button", { type: "button", class: "done", onclick: does.close }, "Done")),
+            h(
+                "div",
+                { class: "editor-head" },
+                h("span", {}, "Network, %, script"),
+                h("button", { type: "button", class: "done", onclick: does.close }, "Done"),
+            ),
             h("div", { class: "editor-body" }, this.numbers, this.area),
             this.fault,
         );
@@ -22,7 +40,10 @@ export class Editor {
             this.number();
             does.changed(this.area.value);
         });
-        this.area.addEventListener("scroll", () => (this.numbers.style.transform = `translateY(${-this.area.scrollTop}px)`));
+        this.area.addEventListener(
+            "scroll",
+            () => (this.numbers.style.transform = `translateY(${-this.area.scrollTop}px)`),
+        );
         this.area.addEventListener("keydown", (event) => {
             event.stopPropagation();
             if (event.key === "Enter" && (event.ctrlKey || event.metaKey)) does.run();

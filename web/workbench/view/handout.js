@@ -32,15 +32,41 @@ export function fillHandout(element, history, title, intro) {
         from = to;
         const [kind, rounds] = event.words;
         const text = shortened(event.words);
-        if (mine.length === 0) rows.append(row(String(event.line), text, kind === "calm" ? `${count(Number(rounds), "round")} ${rounds === "1" ? "passes" : "pass"}, and nothing crosses a host's interface.` : ""));
+        if (mine.length === 0) {
+            rows.append(
+                row(
+                    String(event.line),
+                    text,
+                    kind === "calm"
+                        ? `${count(Number(rounds), "round")} ${rounds === "1" ? "passes" : "pass"}, and no host's interface is crossed.`
+                        : "",
+                ),
+            );
+        }
         mine.forEach((stop, at) => {
             const start = at === 0 ? `${text}${stop.round ? ", " : ""}` : "";
-            rows.append(row(at === 0 ? String(event.line) : "", stop.round ? `${start}round ${stop.round}: ${stopWords(history, stop)}` : start, sentenceOf(history, stop.main)));
+            rows.append(
+                row(
+                    at === 0 ? String(event.line) : "",
+                    stop.round ? `${start}round ${stop.round}: ${stopWords(history, stop)}` : start,
+                    sentenceOf(history, stop.main),
+                ),
+            );
         });
     });
     for (; note < notes.length; note += 1) rows.append(...noteRows(notes[note]));
     if (moments.length === 0) rows.append(row("", "", "The script is empty."));
-    const head = h("thead", {}, h("tr", {}, h("th", { scope: "col" }, ""), h("th", { scope: "col" }, "script"), h("th", { scope: "col" }, "what happens")));
+    const head = h(
+        "thead",
+        {},
+        h(
+            "tr",
+            {},
+            h("th", { scope: "col" }, ""),
+            h("th", { scope: "col" }, "script"),
+            h("th", { scope: "col" }, "what happens"),
+        ),
+    );
     const map = /** @type {Element} */ (byId("network").cloneNode(true));
     map.removeAttribute("id");
     element.replaceChildren(h("h1", {}, title), h("p", { class: "intro" }, intro), map, h("table", {}, head, rows));

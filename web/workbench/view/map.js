@@ -38,7 +38,13 @@ export class MapView {
         this.tap = tap;
         this.layout = placed(network);
         const { width, height } = this.layout;
-        set(svg, { viewBox: `0 0 ${Math.max(width, 200).toFixed(1)} ${Math.max(height, 120).toFixed(1)}`, "data-small": this.layout.small });
+        set(
+            svg,
+            {
+                viewBox: `0 0 ${Math.max(width, 200).toFixed(1)} ${Math.max(height, 120).toFixed(1)}`,
+                "data-small": this.layout.small,
+            },
+        );
         this.arcs = s("g", { class: "arcs" });
         this.spokes = s("g", { class: "spokes" });
         this.lines = s("g", { class: "lines" });
@@ -93,11 +99,23 @@ export class MapView {
         this.network.lines.forEach((imps, line) => {
             const [a, b] = this.ends(line);
             const middle = between(a, b, 0.5);
-            const halves = [a, b].map((end, place) => s("line", { class: "half", "data-imp": imps[place], x1: end.x, y1: end.y, x2: middle.x, y2: middle.y }));
+            const halves = [a, b].map(
+                (end, place) => s(
+                    "line",
+                    { class: "half", "data-imp": imps[place], x1: end.x, y1: end.y, x2: middle.x, y2: middle.y },
+                ),
+            );
             const crosses = [a, b].map((end) => cross(between(end, middle, 0.55), this.layout.small ? 3 : 5));
             const hit = s("line", { class: "hit", x1: a.x, y1: a.y, x2: b.x, y2: b.y });
-            const label = this.layout.small ? [] : [s("rect", { class: "plate", x: middle.x - 7, y: middle.y - 7, width: 14, height: 14, rx: 3 }), s("text", { class: "number", x: middle.x, y: middle.y + 3.5 }, String(line))];
-            this.lines.append(this.part({ kind: "line", line }, `line ${line}`, [...halves, ...crosses, hit, ...label]));
+            const label = this.layout.small
+                ? []
+                : [
+                    s("rect", { class: "plate", x: middle.x - 7, y: middle.y - 7, width: 14, height: 14, rx: 3 }),
+                    s("text", { class: "number", x: middle.x, y: middle.y + 3.5 }, String(line)),
+                ];
+            this.lines.append(
+                this.part({ kind: "line", line }, `line ${line}`, [...halves, ...crosses, hit, ...label]),
+            );
         });
     }
 
@@ -106,9 +124,17 @@ export class MapView {
             const { x, y } = this.imp(number);
             const { w, h } = this.box(number);
             const small = this.layout.small;
-            const title = s("text", { class: "title", x, y: small ? y + 3.5 : y - 2 }, small ? name || String(number) : name || `IMP ${number}`);
+            const title = s(
+                "text",
+                { class: "title", x, y: small ? y + 3.5 : y - 2 },
+                small ? name || String(number) : name || `IMP ${number}`,
+            );
             const below = s("text", { class: "below", x, y: y + 13 }, name ? `IMP ${number}` : "");
-            const parts = [s("rect", { class: "box", x: x - w, y: y - h, width: 2 * w, height: 2 * h, rx: small ? 3 : 6 }), s("rect", { class: "hatch", x: x - w, y: y - h, width: 2 * w, height: 2 * h, rx: small ? 3 : 6 }), title];
+            const parts = [
+                s("rect", { class: "box", x: x - w, y: y - h, width: 2 * w, height: 2 * h, rx: small ? 3 : 6 }),
+                s("rect", { class: "hatch", x: x - w, y: y - h, width: 2 * w, height: 2 * h, rx: small ? 3 : 6 }),
+                title,
+            ];
             if (!small) parts.push(below);
             parts.push(badge(x + w - 2, y - h + 1, small ? 5.5 : 8.5));
             this.imps.append(this.part({ kind: "imp", imp: number }, `imp ${number}`, parts));
@@ -120,9 +146,16 @@ export class MapView {
         for (const host of this.network.hosts) {
             const { x, y } = this.host(host);
             const imp = this.imp(impOf(host));
-            const edge = leaving(imp, { x: imp.x + 9 * (x - imp.x), y: imp.y + 9 * (y - imp.y) }, this.box(impOf(host)));
+            const edge = leaving(
+                imp,
+                { x: imp.x + 9 * (x - imp.x), y: imp.y + 9 * (y - imp.y) },
+                this.box(impOf(host)),
+            );
             this.spokes.append(s("line", { class: "spoke", x1: edge.x, y1: edge.y, x2: x, y2: y }));
-            const parts = [s("circle", { class: "disc", cx: x, cy: y, r: radius }), s("path", { class: "crossed", d: crossPath(x, y, radius * 0.6) })];
+            const parts = [
+                s("circle", { class: "disc", cx: x, cy: y, r: radius }),
+                s("path", { class: "crossed", d: crossPath(x, y, radius * 0.6) }),
+            ];
             if (!small) parts.push(s("text", { class: "name", x, y: y + 3.5 }, host));
             parts.push(badge(x + radius * 0.86, y - radius * 0.98, small ? 5 : 7.5));
             this.hosts.append(this.part({ kind: "host", host }, `host ${host}`, parts));
@@ -174,7 +207,10 @@ export class MapView {
                 element.children[place + 3].classList.toggle("shown", !up[place]);
             });
             const downAt = imps.filter((_, place) => !up[place]).map((imp) => siteName(this.network, imp));
-            label(element, `${partTitle(state, { kind: "line", line })}${downAt.length ? `, down at ${downAt.join(" and ")}` : ""}`);
+            label(
+                element,
+                `${partTitle(state, { kind: "line", line })}${downAt.length ? `, down at ${downAt.join(" and ")}` : ""}`,
+            );
         });
     }
 
@@ -193,12 +229,22 @@ export class MapView {
             updateBadge(element, held);
             const below = element.querySelector(".below");
             if (below) {
-                say(below, distance < 0 ? (isUp ? (siteName(this.network, number).startsWith("IMP ") ? "" : `IMP ${number}`) : "down") : distance === FAR ? "no route" : String(distance));
+                say(
+                    below,
+                    distance < 0
+                        ? (isUp ? (siteName(this.network, number).startsWith("IMP ") ? "" : `IMP ${number}`) : "down")
+                        : distance === FAR
+                        ? "no route"
+                        : String(distance),
+                );
                 below.classList.toggle("distance", distance >= 0);
                 if (title) set(title, { y: this.imp(number).y + (below.textContent ? -2 : 4) });
             }
             const told = distance < 0 ? "" : distance === FAR ? ", no route" : `, distance ${distance}`;
-            label(element, `${siteName(this.network, number)}${isUp ? "" : ", down"}${told}${held ? `, holds ${held}` : ""}`);
+            label(
+                element,
+                `${siteName(this.network, number)}${isUp ? "" : ", down"}${told}${held ? `, holds ${held}` : ""}`,
+            );
         });
     }
 
@@ -227,9 +273,15 @@ export class MapView {
                 const middle = between(source, destination, 0.5);
                 const length = Math.hypot(destination.x - source.x, destination.y - source.y) || 1;
                 const bend = Math.min(46, 0.18 * length) + 5 * (Number(it.flow.split(" ")[2]) % 4);
-                const over = { x: middle.x + (bend * (destination.y - source.y)) / length, y: middle.y - (bend * (destination.x - source.x)) / length };
+                const over = {
+                    x: middle.x + (bend * (destination.y - source.y)) / length,
+                    y: middle.y - (bend * (destination.x - source.x)) / length,
+                };
                 const y = Math.max(over.y, 6);
-                return s("path", { class: "arc", d: `M${source.x} ${source.y} Q${over.x} ${y} ${destination.x} ${destination.y}` });
+                return s(
+                    "path",
+                    { class: "arc", d: `M${source.x} ${source.y} Q${over.x} ${y} ${destination.x} ${destination.y}` },
+                );
             },
             (element, it) => element.classList.toggle("taken", it.taken),
         );
@@ -241,7 +293,15 @@ export class MapView {
      * @param {Scene} scene
      */
     updateWays({ state, inside, to }) {
-        const chosen = to && inside && !this.network.plain ? this.network.sites.flatMap(({ number }) => (state.imp(number) && state.way(number, to).line >= 0 ? [{ imp: number, line: state.way(number, to).line }] : [])) : [];
+        const chosen = to && inside && !this.network.plain
+            ? this.network.sites.flatMap(
+                ({ number }) => (
+                    state.imp(number) && state.way(number, to).line >= 0
+                        ? [{ imp: number, line: state.way(number, to).line }]
+                        : []
+                ),
+            )
+            : [];
         keep(
             this.ways,
             chosen,
@@ -251,7 +311,14 @@ export class MapView {
                 const [from, other] = this.network.lines[line][0] === imp ? [a, b] : [b, a];
                 const at = between(from, other, 0.3);
                 const angle = (Math.atan2(other.y - from.y, other.x - from.x) * 180) / Math.PI;
-                return s("path", { class: "way", d: this.layout.small ? "M-4 -4 L3 0 L-4 4" : "M-6 -6 L5 0 L-6 6", transform: `translate(${at.x} ${at.y}) rotate(${angle})` });
+                return s(
+                    "path",
+                    {
+                        class: "way",
+                        d: this.layout.small ? "M-4 -4 L3 0 L-4 4" : "M-6 -6 L5 0 L-6 6",
+                        transform: `translate(${at.x} ${at.y}) rotate(${angle})`,
+                    },
+                );
             },
         );
     }
@@ -265,7 +332,17 @@ export class MapView {
                 for (const way of /** @type {const} */ (["+", "-"])) {
                     const frames = state.line(line)[way];
                     const count = Math.min(frames.length, this.layout.small ? 2 : MOST_FRAMES);
-                    for (let place = 0; place < count; place += 1) shown.push({ key: `${line} ${way} ${place}`, line, way, place, frame: frames[place], count, more: place === count - 1 ? frames.length - count : 0 });
+                    for (let place = 0; place < count; place += 1) {
+                        shown.push({
+                            key: `${line} ${way} ${place}`,
+                            line,
+                            way,
+                            place,
+                            frame: frames[place],
+                            count,
+                            more: place === count - 1 ? frames.length - count : 0,
+                        });
+                    }
                 }
             });
         }
@@ -273,7 +350,16 @@ export class MapView {
             this.frames,
             shown,
             (it) => it.key,
-            ({ line, way, place }) => this.part({ kind: "frame", line, way, place }, `frame ${line} ${way} ${place}`, [s("circle", { class: "hit", r: 12 }), s("path", { class: "sign" }), s("path", { class: "stroke" }), s("text", { class: "more" })]),
+            ({ line, way, place }) => this.part(
+                { kind: "frame", line, way, place },
+                `frame ${line} ${way} ${place}`,
+                [
+                    s("circle", { class: "hit", r: 12 }),
+                    s("path", { class: "sign" }),
+                    s("path", { class: "stroke" }),
+                    s("text", { class: "more" }),
+                ],
+            ),
             (element, it) => this.updateFrame(state, element, it),
         );
     }
@@ -295,9 +381,18 @@ export class MapView {
         const angle = (Math.atan2(to.y - from.y, to.x - from.x) * 180) / Math.PI;
         const kind = frame.packet ? frame.packet.kind : frame.routes ? "routes" : "ack";
         const scale = this.layout.small ? 0.6 : 1;
-        set(element, { class: `part frame ${kind}`, style: `transform: translate(${x.toFixed(1)}px, ${y.toFixed(1)}px)`, "data-way": wayOf(this.network, line, way).join(" ") });
+        set(
+            element,
+            {
+                class: `part frame ${kind}`,
+                style: `transform: translate(${x.toFixed(1)}px, ${y.toFixed(1)}px)`,
+                "data-way": wayOf(this.network, line, way).join(" "),
+            },
+        );
         label(element, partTitle(state, { kind: "frame", line, way, place }));
-        const turn = kind === "data" || kind === "routes" ? `rotate(${angle.toFixed(1)}) scale(${scale})` : `scale(${scale})`;
+        const turn = kind === "data" || kind === "routes"
+            ? `rotate(${angle.toFixed(1)}) scale(${scale})`
+            : `scale(${scale})`;
         set(element.children[2], { d: SIGNS[kind], transform: turn });
         set(element.children[3], { d: STROKES[kind] ?? "", transform: `scale(${scale})` });
         say(element.children[4], more ? `+${more}` : "");
@@ -317,9 +412,20 @@ export class MapView {
         const kind = frame.packet ? frame.packet.kind : frame.routes ? "routes" : "ack";
         const angle = (Math.atan2(end.y - start.y, end.x - start.x) * 180) / Math.PI;
         const turn = kind === "data" || kind === "routes" ? `rotate(${angle}) scale(1.25)` : "scale(1.25)";
-        const ghost = s("g", { class: `ghost frame ${kind}`, "aria-hidden": "true" }, s("path", { class: "sign", d: SIGNS[kind], transform: turn }), s("path", { class: "stroke", d: STROKES[kind] ?? "" }));
+        const ghost = s(
+            "g",
+            { class: `ghost frame ${kind}`, "aria-hidden": "true" },
+            s("path", { class: "sign", d: SIGNS[kind], transform: turn }),
+            s("path", { class: "stroke", d: STROKES[kind] ?? "" }),
+        );
         this.svg.append(ghost);
-        const moved = ghost.animate([{ transform: `translate(${start.x}px, ${start.y}px)` }, { transform: `translate(${end.x}px, ${end.y}px)` }], { duration: 420, easing: "ease-in-out" });
+        const moved = ghost.animate(
+            [
+                { transform: `translate(${start.x}px, ${start.y}px)` },
+                { transform: `translate(${end.x}px, ${end.y}px)` },
+            ],
+            { duration: 420, easing: "ease-in-out" },
+        );
         moved.onfinish = () => ghost.remove();
         moved.oncancel = () => ghost.remove();
     }
@@ -341,7 +447,9 @@ export class MapView {
      * @returns {SVGElement[]}
      */
     parts() {
-        return /** @type {SVGElement[]} */ ([...this.imps.children, ...this.hosts.children, ...this.lines.children, ...this.frames.children]);
+        return /** @type {SVGElement[]} */ (
+            [...this.imps.children, ...this.hosts.children, ...this.lines.children, ...this.frames.children]
+        );
     }
 }
 
@@ -380,7 +488,12 @@ const STROKES = /** @type {{[kind: string]: string}} */ ({
  * @param {string} kind
  */
 export function legendSign(kind) {
-    return s("svg", { viewBox: "-10 -10 20 20", class: `frame ${kind} key`, "aria-hidden": "true" }, s("path", { class: "sign", d: SIGNS[kind] }), s("path", { class: "stroke", d: STROKES[kind] ?? "" }));
+    return s(
+        "svg",
+        { viewBox: "-10 -10 20 20", class: `frame ${kind} key`, "aria-hidden": "true" },
+        s("path", { class: "sign", d: SIGNS[kind] }),
+        s("path", { class: "stroke", d: STROKES[kind] ?? "" }),
+    );
 }
 
 /**
@@ -430,5 +543,13 @@ function updateBadge(element, count) {
 }
 
 function hatch() {
-    return s("defs", {}, s("pattern", { id: "hatched", width: 6, height: 6, patternUnits: "userSpaceOnUse", patternTransform: "rotate(45)" }, s("line", { x1: 0, y1: 0, x2: 0, y2: 6, class: "hatching" })));
+    return s(
+        "defs",
+        {},
+        s(
+            "pattern",
+            { id: "hatched", width: 6, height: 6, patternUnits: "userSpaceOnUse", patternTransform: "rotate(45)" },
+            s("line", { x1: 0, y1: 0, x2: 0, y2: 6, class: "hatching" }),
+        ),
+    );
 }

@@ -46,7 +46,12 @@ export class Menu {
             ),
         );
         const close = h("button", { type: "button", class: "close", onclick: () => this.close(true) }, "Close");
-        this.element.replaceChildren(h("h2", {}, title), note ?? "", h("div", { role: "menu", "aria-label": title }, ...buttons), close);
+        this.element.replaceChildren(
+            h("h2", {}, title),
+            note ?? "",
+            h("div", { role: "menu", "aria-label": title }, ...buttons),
+            close,
+        );
         this.element.hidden = false;
         this.place(from);
         (buttons[0] ?? close).focus();
@@ -100,7 +105,10 @@ export class Toast {
      */
     show(text, undo) {
         window.clearTimeout(this.timer);
-        this.element.replaceChildren(h("span", {}, text), undo ? h("button", { type: "button", onclick: undo }, "Undo") : "");
+        this.element.replaceChildren(
+            h("span", {}, text),
+            undo ? h("button", { type: "button", onclick: undo }, "Undo") : "",
+        );
         this.element.hidden = false;
         this.timer = window.setTimeout(() => this.hide(), 9000);
     }

@@ -17,6 +17,14 @@ import { h, keep, s, say, sayWithCode, set } from "./dom.js";
 /** @typedef {import("../choices.js").Part} Part */
 
 /**
+ * @typedef {object} Deeds what is done when something in a table is pressed
+ * @property {(imp: number) => void} choose
+ * @property {(lines: string[], words: string) => void} add
+ * @property {(part: Part, element: Element) => void} tap
+ * @property {(flow: string) => void} follow
+ */
+
+/**
  * @typedef {object} View what the tables show
  * @property {History} history
  * @property {number} position
@@ -32,7 +40,7 @@ import { h, keep, s, say, sayWithCode, set } from "./dom.js";
 export class Panes {
     /**
      * @param {HTMLElement} element
-     * @param {{choose: (imp: number) => void, add: (lines: string[], words: string) => void, tap: (part: Part, element: Element) => void, follow: (flow: string) => void}} does
+     * @param {Deeds} does
      */
     constructor(element, does) {
         this.does = does;
@@ -59,12 +67,24 @@ export class Panes {
 
     /** @param {View} view */
     drawWaits({ state, waits }) {
-        say(this.intro, waits.length ? "What is not finished, where it is, and what it waits for." : "Nothing waits: every message has its answer.");
+        say(
+            this.intro,
+            waits.length
+                ? "What is not finished, where it is, and what it waits for."
+                : "Nothing waits: every message has its answer.",
+        );
         keep(
             this.body,
             grouped(state.network, waits),
             (it) => `${it.what}`,
-            () => h("div", { class: "wait" }, h("h3"), h("p", { class: "where" }), h("p", { class: "for" }), h("div", { class: "cures" })),
+            () => h(
+                "div",
+                { class: "wait" },
+                h("h3"),
+                h("p", { class: "where" }),
+                h("p", { class: "for" }),
+                h("div", { class: "cures" }),
+            ),
             (element, it) => {
                 const [what, where, why, cures] = element.children;
                 say(what, capital(it.what));
@@ -74,9 +94,24 @@ export class Panes {
                 element.classList.toggle("bad", it.bad);
                 keep(
                     cures,
-                    [...(it.cures.length && (it.bad || it.cures[0].startsWith("take")) ? it.cures : []), ...(it.flow && it.count === 1 ? [`follow ${it.flow}`] : [])],
+                    [
+                        ...(it.cures.length && (it.bad || it.cures[0].startsWith("take")) ? it.cures : []),
+                        ...(it.flow && it.count === 1 ? [`follow ${it.flow}`] : []),
+                    ],
                     (line) => line,
-                    (line) => (line.startsWith("follow ") ? h("button", { type: "button", onclick: () => this.does.follow(line.slice(7)) }, "Follow it") : h("button", { class: "cure", type: "button", onclick: () => this.does.add([line], line) }, h("code", {}, line))),
+                    (line) => (
+                        line.startsWith("follow ")
+                            ? h(
+                                "button",
+                                { type: "button", onclick: () => this.does.follow(line.slice(7)) },
+                                "Follow it",
+                            )
+                            : h(
+                                "button",
+                                { class: "cure", type: "button", onclick: () => this.does.add([line], line) },
+                                h("code", {}, line),
+                            )
+                    ),
                 );
             },
         );
@@ -85,9 +120,22 @@ export class Panes {
     /** @param {View} view */
     drawDistances({ history, state, before, to, position, hidden }) {
         const { network } = state;
-        if (network.plain || !history.replay.inside) return this.nothing(network.plain ? "Plain mailboxes have no IMPs, so there are no distances." : "What is inside isn't known for this script.");
-        const columns = network.sites.length <= 9 ? network.sites.map((site) => site.number) : [to || network.sites[0].number];
-        say(this.intro, network.sites.length <= 9 ? "The distances that each IMP computes. Choose a column to colour the map." : "The distances that each IMP computes. Tap an IMP on the map to choose another one.");
+        if (network.plain || !history.replay.inside) {
+            return this.nothing(
+                network.plain
+                    ? "Plain mailboxes have no IMPs, so there are no distances."
+                    : "What is inside isn't known for this script.",
+            );
+        }
+        const columns = network.sites.length <= 9
+            ? network.sites.map((site) => site.number)
+            : [to || network.sites[0].number];
+        say(
+            this.intro,
+            network.sites.length <= 9
+                ? "The distances that each IMP computes. Choose a column to colour the map."
+                : "The distances that each IMP computes. Tap an IMP on the map to choose another one.",
+        );
         const changed = before ? changedWays(before, state) : new Set();
         let table = this.body.querySelector("table.distances");
         if (!table) {
@@ -100,15 +148,42 @@ export class Panes {
                 head,
                 [0, ...columns],
                 (imp) => `to ${imp}`,
-                (imp) => (imp ? h("th", { scope: "col" }, h("button", { type: "button", class: "column", onclick: () => this.does.choose(imp) }, `→ ${siteName(network, imp)}`)) : h("th", { scope: "col" }, "at")),
-                (element, imp) => element.firstElementChild && set(element.firstElementChild, { "aria-pressed": imp === to ? "true" : "false" }),
+                (imp) => (
+                    imp
+                        ? h(
+                            "th",
+                            { scope: "col" },
+                            h(
+                                "button",
+                                { type: "button", class: "column", onclick: () => this.does.choose(imp) },
+                                `→ ${siteName(network, imp)}`,
+                            ),
+                        )
+                        : h("th", { scope: "col" }, "at")
+                ),
+                (element, imp) => element.firstElementChild
+                    && set(element.firstElementChild, { "aria-pressed": imp === to ? "true" : "false" }),
             );
             keep(
                 rows,
                 network.sites.map((site) => site.number),
                 (imp) => `at ${imp}`,
-                (imp) => h("tr", {}, h("th", { scope: "row" }, siteName(network, imp)), ...columns.map(() => h("td", {}, h("b"), h("small")))),
-                (element, imp) => columns.forEach((column, place) => this.distance(element.children[place + 1], state, imp, column, to, changed.has(`${imp} ${column}`))),
+                (imp) => h(
+                    "tr",
+                    {},
+                    h("th", { scope: "row" }, siteName(network, imp)),
+                    ...columns.map(() => h("td", {}, h("b"), h("small"))),
+                ),
+                (element, imp) => columns.forEach(
+                    (column, place) => this.distance(
+                        element.children[place + 1],
+                        state,
+                        imp,
+                        column,
+                        to,
+                        changed.has(`${imp} ${column}`),
+                    ),
+                ),
             );
         }
         const figure = this.body.querySelector(".staircase");
@@ -126,7 +201,9 @@ export class Panes {
     distance(cell, state, imp, to, chosen, isChanged) {
         const way = state.way(imp, to);
         const isUp = state.imp(imp) !== null;
-        cell.className = `${to === chosen ? "chosen " : ""}${isChanged ? "changed " : ""}${!isUp || way.distance === FAR ? "nowhere" : ""}`;
+        cell.classList.toggle("chosen", to === chosen);
+        cell.classList.toggle("changed", isChanged);
+        cell.classList.toggle("nowhere", !isUp || way.distance === FAR);
         say(cell.children[0], !isUp ? "down" : way.distance === FAR ? "no route" : String(way.distance));
         say(cell.children[1], isUp && way.line >= 0 && way.distance < FAR ? ` line ${way.line}` : "");
     }
@@ -142,15 +219,39 @@ export class Panes {
         const { network } = state;
         if (!history.replay.inside) return this.nothing("What is inside isn't known for this script.");
         if (network.plain) return this.drawBoxes(state);
-        say(this.intro, "What each IMP holds, and what is on the lines. In a channel a packet stays until the neighbour acknowledges it.");
+        say(
+            this.intro,
+            "What each IMP holds, and what is on the lines. A channel keeps a packet until it is acknowledged.",
+        );
         const parts = [
-            ...network.sites.map(({ number }) => ({ key: `imp ${number}`, title: siteName(network, number), part: /** @type {Part} */ ({ kind: "imp", imp: number }), items: impItems(state, number) })),
+            ...network.sites.map(
+                ({ number }) => (
+                    {
+                        key: `imp ${number}`,
+                        title: siteName(network, number),
+                        part: /** @type {Part} */ ({ kind: "imp", imp: number }),
+                        items: impItems(state, number),
+                    }
+                ),
+            ),
             ...network.lines.flatMap((_, line) =>
                 /** @type {const} */ (["+", "-"]).map((way) => ({
                     key: `line ${line} ${way}`,
-                    title: `${siteName(network, wayOf(network, line, way)[0])} → ${siteName(network, wayOf(network, line, way)[1])}`,
+                    title: wayOf(network, line, way).map((imp) => siteName(network, imp)).join(" → "),
                     part: /** @type {Part} */ ({ kind: "line", line }),
-                    items: state.line(line)[way].map((frame, place) => ({ kind: frame.packet ? frame.packet.kind : frame.routes ? "routes" : "ack", text: frame.packet ? `${packetName(network, frame.packet)}` : frame.routes ? "distances" : "acknowledgement", part: /** @type {Part} */ ({ kind: "frame", line, way, place }) })),
+                    items: state.line(line)[way].map(
+                        (frame, place) => (
+                            {
+                                kind: frame.packet ? frame.packet.kind : frame.routes ? "routes" : "ack",
+                                text: frame.packet
+                                    ? `${packetName(network, frame.packet)}`
+                                    : frame.routes
+                                    ? "distances"
+                                    : "acknowledgement",
+                                part: /** @type {Part} */ ({ kind: "frame", line, way, place }),
+                            }
+                        ),
+                    ),
                 })),
             ).filter((it) => it.items.length),
         ];
@@ -158,7 +259,27 @@ export class Panes {
             this.body,
             parts,
             (it) => it.key,
-            (it) => h("section", { class: "held" }, h("h3", {}, h("button", { type: "button", class: "plain", onclick: (/** @type {Event} */ event) => this.does.tap(it.part, /** @type {Element} */ (event.currentTarget)) }, it.title)), h("ul")),
+            (it) => h(
+                "section",
+                { class: "held" },
+                h(
+                    "h3",
+                    {},
+                    h(
+                        "button",
+                        {
+                            type: "button",
+                            class: "plain",
+                            onclick: (/** @type {Event} */ event) => this.does.tap(
+                                it.part,
+                                /** @type {Element} */ (event.currentTarget),
+                            ),
+                        },
+                        it.title,
+                    ),
+                ),
+                h("ul"),
+            ),
             (element, it) => this.items(element.querySelector("ul"), it.items),
         );
     }
@@ -174,7 +295,24 @@ export class Panes {
             (it) => `${it.place} ${it.kind} ${it.text}`,
             (it) => {
                 const { part } = it;
-                return h("li", { class: `kind ${it.kind}` }, part ? h("button", { type: "button", class: "plain", onclick: (/** @type {Event} */ event) => this.does.tap(part, /** @type {Element} */ (event.currentTarget)) }, it.text) : it.text);
+                return h(
+                    "li",
+                    { class: `kind ${it.kind}` },
+                    part
+                        ? h(
+                            "button",
+                            {
+                                type: "button",
+                                class: "plain",
+                                onclick: (/** @type {Event} */ event) => this.does.tap(
+                                    part,
+                                    /** @type {Element} */ (event.currentTarget),
+                                ),
+                            },
+                            it.text,
+                        )
+                        : it.text,
+                );
             },
         );
         if (items.length === 0) list.replaceChildren(h("li", { class: "none" }, "nothing"));
@@ -191,7 +329,12 @@ export class Panes {
             (host) => h("section", { class: "held" }, h("h3", {}, capital(hostName(network, host))), h("ul")),
             (element, host) => {
                 const box = state.box(host);
-                const items = [...(box?.answers ?? []).map((it) => ({ kind: it.kind, text: `${ANSWERS[it.kind]} for ${messageName(network, it.flow)}` })), ...(box?.messages ?? []).map((it) => ({ kind: "data", text: messageName(network, it.flow) }))];
+                const items = [
+                    ...(box?.answers ?? []).map(
+                        (it) => ({ kind: it.kind, text: `${ANSWERS[it.kind]} for ${messageName(network, it.flow)}` }),
+                    ),
+                    ...(box?.messages ?? []).map((it) => ({ kind: "data", text: messageName(network, it.flow) })),
+                ];
                 this.items(element.querySelector("ul"), items);
             },
         );
@@ -201,19 +344,58 @@ export class Panes {
     drawHosts({ history, state, talk }) {
         const { network } = state;
         const { inside } = history.replay;
-        say(this.intro, network.raw ? "Hosts, and messages without an answer." : "Hosts, their peers, and the ends of their connections as of this step.");
+        say(
+            this.intro,
+            network.raw
+                ? "Hosts, and messages without an answer."
+                : "Hosts, their peers, and the ends of their connections as of this step.",
+        );
         keep(
             this.body,
             network.hosts,
             (host) => host,
-            (host) => h("section", { class: "host-row" }, h("h3"), h("p", { class: "soft" }), h("table", { class: "ends" }, h("thead", {}, h("tr", {}, ...["socket", "with", "state", "granted", "handed over", "sent or taken"].map((it) => h("th", { scope: "col" }, it)))), h("tbody"))),
+            (host) => h(
+                "section",
+                { class: "host-row" },
+                h("h3"),
+                h("p", { class: "soft" }),
+                h(
+                    "table",
+                    { class: "ends" },
+                    h(
+                        "thead",
+                        {},
+                        h(
+                            "tr",
+                            {},
+                            ...["socket", "with", "state", "granted", "handed over", "sent or taken"].map(
+                                (it) => h("th", { scope: "col" }, it),
+                            ),
+                        ),
+                    ),
+                    h("tbody"),
+                ),
+            ),
             (element, host) => {
                 const isUp = inside ? state.isUp(host) : talk.up.get(host);
                 const [title, told, table] = element.children;
-                say(title, `${capital(hostName(network, host))}${hostName(network, host) === `host ${host}` ? "" : ` (${host})`}`);
-                const ready = talk.contacts.filter((it) => it.host === host && it.state === "ready").map((it) => hostName(network, it.peer));
+                say(
+                    title,
+                    `${capital(hostName(network, host))}${hostName(network, host) === `host ${host}` ? "" : ` (${host})`}`,
+                );
+                const ready = talk.contacts.filter((it) => it.host === host && it.state === "ready").map(
+                    (it) => hostName(network, it.peer),
+                );
                 const open = [...talk.messages.values()].filter((it) => it.flow.startsWith(`${host} `));
-                const parts = [isUp ? "up" : "down", ...(ready.length ? [`ready with ${ready.join(", ")}`] : []), ...open.map((it) => `${it.taken ? "no answer yet, though taken" : "no answer yet"}: to ${hostName(network, it.flow.split(" ")[1])} on link ${it.flow.split(" ")[2]}`)];
+                const parts = [
+                    isUp ? "up" : "down",
+                    ...(ready.length ? [`ready with ${ready.join(", ")}`] : []),
+                    ...open.map(({ flow, taken }) => {
+                        const [, to, link] = flow.split(" ");
+                        const state = taken ? "no answer yet, though taken" : "no answer yet";
+                        return `${state}: to ${hostName(network, to)} on link ${link}`;
+                    }),
+                ];
                 say(told, parts.join(" · "));
                 const ends = talk.ends.filter((end) => end.host === host && end.state !== "over");
                 table.hidden = ends.length === 0;
@@ -237,13 +419,17 @@ export class Panes {
  */
 function endCells(network, end) {
     const isSending = sends(end.socket);
-    const back = end.returnedBits || end.returnedMessages ? `, ${count(end.returnedMessages, "message")} and ${count(end.returnedBits, "bit")} back` : "";
+    const back = end.returnedBits || end.returnedMessages
+        ? `, ${count(end.returnedMessages, "message")} and ${count(end.returnedBits, "bit")} back`
+        : "";
     const byService = end.service && end.grantedBits === 0 && end.handed === 0 ? "by its service" : "";
     return [
         String(end.socket),
         end.peer ? `${end.foreign} of ${hostName(network, end.peer)}` : "anybody",
         end.state,
-        isSending ? "" : byService || `${count(end.grantedMessages, "message")}, ${count(end.grantedBits, "bit")}${back}`,
+        isSending
+            ? ""
+            : byService || `${count(end.grantedMessages, "message")}, ${count(end.grantedBits, "bit")}${back}`,
         isSending ? byService || count(end.handed, "bit") : "",
         `${count(end.bits, "bit")} ${isSending ? "sent" : "taken"}`,
     ];
@@ -258,9 +444,31 @@ function impItems(state, number) {
     if (!state.imp(number)) return [{ kind: "off", text: "down: it holds nothing" }];
     return state.heldBy(number).map(({ packet, flow, place }) => {
         const what = packet ? packetName(network, packet) : messageName(network, flow);
-        const where = { store: "in the store", channel: place.line < 0 ? "" : `channel ${place.channel} to ${siteName(network, farEnd(network, place.line, number))}`, slot: "in a slot", host: `waits for ${hostName(network, flow.split(" ")[1])}`, line: "" }[place.at];
-        return { kind: packet?.kind ?? "data", text: `${where}: ${what}` };
+        return { kind: packet?.kind ?? "data", text: `${placeWords(state, number, flow, place)}: ${what}` };
     });
+}
+
+/**
+ * Where something is in an IMP.
+ *
+ * @param {State} state
+ * @param {number} number
+ * @param {string} flow
+ * @param {import("../state.js").Place} place
+ */
+function placeWords({ network }, number, flow, place) {
+    switch (place.at) {
+        case "store":
+            return "in the store";
+        case "channel":
+            return `channel ${place.channel} to ${siteName(network, farEnd(network, place.line, number))}`;
+        case "slot":
+            return "in a slot";
+        case "host":
+            return `waits for ${hostName(network, flow.split(" ")[1])}`;
+        case "line":
+            return "on a line";
+    }
 }
 
 /**
@@ -282,17 +490,56 @@ function staircase(figure, history, to, position, hidden) {
     if (figure.getAttribute("data-of") !== key) {
         figure.setAttribute("data-of", key);
         const steps = distancesOverTime(history, to, others);
-        const most = Math.max(3, ...steps.flatMap((it) => it.steps.map((step) => step.distance).filter((it) => it < FAR)));
-        const y = (/** @type {number} */ distance) => (distance >= FAR ? top : bottom - ((bottom - top - 12) * distance) / most);
+        const most = Math.max(
+            3,
+            ...steps.flatMap((it) => it.steps.map((step) => step.distance).filter((it) => it < FAR)),
+        );
+        const y = (/** @type {number} */ distance) => (
+            distance >= FAR ? top : bottom - ((bottom - top - 12) * distance) / most
+        );
         const ticks = [0, Math.round(most / 2), most];
-        const svg = s("svg", { viewBox: `0 0 ${width} ${height}`, role: "img", "aria-label": `Distances to ${siteName(network, to)} over time` });
+        const svg = s(
+            "svg",
+            {
+                viewBox: `0 0 ${width} ${height}`,
+                role: "img",
+                "aria-label": `Distances to ${siteName(network, to)} over time`,
+            },
+        );
         svg.append(
-            ...[...ticks.map((tick) => ({ at: y(tick), text: String(tick) })), { at: top, text: "no route" }].flatMap(({ at, text }) => [s("line", { class: "grid", x1: left, x2: right, y1: at, y2: at }), s("text", { class: "tick", x: left - 6, y: at + 4 }, text)]),
-            ...steps.map(({ steps }, place) => s("path", { class: `stairs s${place}`, d: steps.map((step, at) => `${at ? "H" : "M"}${x(step.at).toFixed(1)}${at ? `V${y(step.distance).toFixed(1)}` : ` ${y(step.distance).toFixed(1)}`}`).join("") + `H${right}` })),
-            ...steps.map(({ imp }, place) => s("text", { class: `stairs-name s${place}`, x: left + ((right - left) * place) / Math.max(steps.length, 1), y: 12 }, `${["━", "╍", "┅", "┉", "─", "╌"][place]} ${siteName(network, imp)}`)),
+            ...[...ticks.map((tick) => ({ at: y(tick), text: String(tick) })), { at: top, text: "no route" }].flatMap(
+                ({ at, text }) => [
+                    s("line", { class: "grid", x1: left, x2: right, y1: at, y2: at }),
+                    s("text", { class: "tick", x: left - 6, y: at + 4 }, text),
+                ],
+            ),
+            ...steps.map(
+                ({ steps }, place) => s(
+                    "path",
+                    {
+                        class: `stairs s${place}`,
+                        d: steps.map((step, at) => stair(at, x(step.at), y(step.distance))).join("") + `H${right}`,
+                    },
+                ),
+            ),
+            ...steps.map(
+                ({ imp }, place) => s(
+                    "text",
+                    {
+                        class: `stairs-name s${place}`,
+                        x: left + ((right - left) * place) / Math.max(steps.length, 1),
+                        y: 12,
+                    },
+                    `${["━", "╍", "┅", "┉", "─", "╌"][place]} ${siteName(network, imp)}`,
+                ),
+            ),
             s("rect", { class: "veil", x: left, y: top - 6, width: 0, height: bottom - top + 12 }),
             s("line", { class: "now", x1: left, x2: left, y1: top - 6, y2: bottom + 4 }),
-            s("text", { class: "tick axis", x: right, y: height - 4 }, `distance to ${siteName(network, to)}, over time`),
+            s(
+                "text",
+                { class: "tick axis", x: right, y: height - 4 },
+                `distance to ${siteName(network, to)}, over time`,
+            ),
         );
         figure.replaceChildren(svg);
     }
@@ -300,6 +547,17 @@ function staircase(figure, history, to, position, hidden) {
     const veil = figure.querySelector(".veil");
     if (now) set(now, { x1: x(position), x2: x(position) });
     if (veil) set(veil, { x: x(position), width: hidden ? right - x(position) + 2 : 0 });
+}
+
+/**
+ * A step of a staircase in a path: to the right, and then up or down. The first one only begins.
+ *
+ * @param {number} place
+ * @param {number} x
+ * @param {number} y
+ */
+function stair(place, x, y) {
+    return place ? `H${x.toFixed(1)}V${y.toFixed(1)}` : `M${x.toFixed(1)} ${y.toFixed(1)}`;
 }
 
 /**

@@ -24,12 +24,29 @@ export class Printed {
     /** @param {Runner} runner */
     constructor(runner) {
         this.runner = runner;
-        this.select = /** @type {HTMLSelectElement} */ (h("select", { "aria-label": "what is printed" }, ...OPTIONS.map(([value, words]) => h("option", { value }, words))));
+        this.select = /** @type {HTMLSelectElement} */ (
+            h(
+                "select",
+                { "aria-label": "what is printed" },
+                ...OPTIONS.map(([value, words]) => h("option", { value }, words)),
+            )
+        );
         this.status = h("span", { class: "soft", role: "status" });
         this.output = h("pre", { class: "printed", tabindex: 0 });
         this.whole = "";
         this.shown = "";
-        this.element = h("div", {}, h("div", { class: "printed-head" }, this.select, h("button", { type: "button", onclick: () => this.save() }, "Save"), this.status), this.output);
+        this.element = h(
+            "div",
+            {},
+            h(
+                "div",
+                { class: "printed-head" },
+                this.select,
+                h("button", { type: "button", onclick: () => this.save() }, "Save"),
+                this.status,
+            ),
+            this.output,
+        );
         this.select.addEventListener("change", () => void this.run());
         this.text = "";
     }
@@ -54,17 +71,26 @@ export class Printed {
         this.shown = `${word} ${this.text}`;
         const limits = { seconds: LIMITS.seconds, octets: MOST_OCTETS };
         say(this.status, "runs…");
-        let outcome = await this.runner.run(word ? [word === "--audit" ? "--log" : word] : [], octetsOf(this.text), limits);
+        let outcome = await this.runner.run(
+            word ? [word === "--audit" ? "--log" : word] : [],
+            octetsOf(this.text),
+            limits,
+        );
         if (word === "--audit" && outcome.status === 0) outcome = await this.runner.run([word], outcome.stdout, limits);
         if (this.shown !== `${word} ${this.text}`) return;
         this.whole = textOf(outcome);
         say(this.output, this.whole.slice(0, MOST_SHOWN));
-        const rest = this.whole.length > MOST_SHOWN ? ` The first ${MOST_SHOWN} of ${this.whole.length} letters are shown; Save has all.` : "";
+        const rest = this.whole.length > MOST_SHOWN
+            ? ` The first ${MOST_SHOWN} of ${this.whole.length} letters are shown; Save has all.`
+            : "";
         say(this.status, `${whyCut(outcome, limits) || `status ${outcome.status}`}${rest}`);
     }
 
     save() {
-        const link = h("a", { href: URL.createObjectURL(new Blob([this.whole], { type: "text/plain" })), download: "output.txt" });
+        const link = h(
+            "a",
+            { href: URL.createObjectURL(new Blob([this.whole], { type: "text/plain" })), download: "output.txt" },
+        );
         link.click();
         URL.revokeObjectURL(link.getAttribute("href") ?? "");
     }

@@ -29,7 +29,12 @@ export class SheetView {
         this.rows = h("div", { class: "rows" });
         this.svg = s("svg", { class: "chart", "aria-hidden": "true" });
         this.body = h("div", { class: "sheet-body" }, this.rows, this.svg);
-        this.scroller = h("div", { class: "sheet-scroll", tabindex: 0, role: "region", "aria-label": "script and chart" }, this.heads, this.body);
+        this.scroller = h(
+            "div",
+            { class: "sheet-scroll", tabindex: 0, role: "region", "aria-label": "script and chart" },
+            this.heads,
+            this.body,
+        );
         element.replaceChildren(this.scroller);
         /** @type {Sheet | null} */
         this.sheet = null;
@@ -64,7 +69,17 @@ export class SheetView {
             (element, host) => {
                 if (!host) return;
                 const name = hostName(network, host);
-                element.replaceChildren(...(name === `host ${host}` ? [h("b", {}, host)] : [h("b", {}, network.sites.find((it) => it.number === impOf(host))?.name ?? ""), " ", h("small", {}, host)]));
+                element.replaceChildren(
+                    ...(
+                        name === `host ${host}`
+                            ? [h("b", {}, host)]
+                            : [
+                                h("b", {}, network.sites.find((it) => it.number === impOf(host))?.name ?? ""),
+                                " ",
+                                h("small", {}, host),
+                            ]
+                    ),
+                );
             },
         );
         set(this.scroller, { style: `--lanes: ${sheet.chart.lanes.length}` });
@@ -75,7 +90,9 @@ export class SheetView {
             ({ row }) => this.makeRow(row),
             (element, { row, place }) => {
                 element.dataset.place = String(place);
-                element.className = `row ${row.kind}${row.refused ? " refused" : ""}${row.kind === "event" && sheet.added.has(row.line) ? " added" : ""}`;
+                element.className = `row ${row.kind}`;
+                element.classList.toggle("refused", row.refused);
+                element.classList.toggle("added", row.kind === "event" && sheet.added.has(row.line));
                 const head = element.querySelector(".steps");
                 if (head) say(head, ` ▸ ${row.steps} ${row.steps === 1 ? "step" : "steps"}`);
             },
@@ -90,7 +107,12 @@ export class SheetView {
         const isGoal = row.kind === "event" || row.kind === "stop";
         const text = h("span", { class: "text" }, row.text);
         if (row.steps) text.append(h("small", { class: "steps" }));
-        const element = h(isGoal ? "button" : "div", { class: "row", tabindex: isGoal ? -1 : null }, h("span", { class: "number" }, row.number), text);
+        const element = h(
+            isGoal ? "button" : "div",
+            { class: "row", tabindex: isGoal ? -1 : null },
+            h("span", { class: "number" }, row.number),
+            text,
+        );
         if (isGoal) {
             element.addEventListener("click", () => {
                 const it = this.list[Number(element.dataset.place)];
@@ -109,13 +131,17 @@ export class SheetView {
     draw(position, hidden) {
         if (!this.sheet) return;
         const { stops } = this.sheet;
-        const current = this.list.findIndex((row) => row.stop >= 0 && stops[row.stop].from < position && position <= stops[row.stop].to);
+        const current = this.list.findIndex(
+            (row) => row.stop >= 0 && stops[row.stop].from < position && position <= stops[row.stop].to,
+        );
         const open = current >= 0 ? this.list[current].event : -1;
         const shown = seen(this.list, open);
         const elements = /** @type {HTMLElement[]} */ ([...this.rows.children]);
         elements.forEach((element, place) => {
             const row = this.list[place];
-            const isPast = row.kind === "comment" || row.kind === "question" ? row.at < position || row.at === 0 : row.at <= position && position > 0;
+            const isPast = row.kind === "comment" || row.kind === "question"
+                ? row.at < position || row.at === 0
+                : row.at <= position && position > 0;
             const isShown = shown[place] && !(hidden && !isPast);
             const looks = `${isShown} ${isPast} ${place === current}`;
             if (looks === this.looks[place]) return;
@@ -144,7 +170,9 @@ export class SheetView {
      * @param {Set<number>} stops
      */
     mark(stops) {
-        [...this.rows.children].forEach((element, place) => element.classList.toggle("of-flow", stops.has(this.list[place].stop)));
+        [...this.rows.children].forEach(
+            (element, place) => element.classList.toggle("of-flow", stops.has(this.list[place].stop)),
+        );
     }
 
     /** Whether rows are seen for which nothing is drawn. */
@@ -171,7 +199,11 @@ export class SheetView {
             if (row.stop >= 0) middles[row.stop] = middle;
             else if (row.kind === "event") ofEvent.set(row.event, middle);
         });
-        return stops.flatMap((stop, place) => Array(stop.to - stop.from).fill(middles[place] >= 0 ? middles[place] : (ofEvent.get(stop.event) ?? -1)));
+        return stops.flatMap(
+            (stop, place) => Array(stop.to - stop.from).fill(
+                middles[place] >= 0 ? middles[place] : (ofEvent.get(stop.event) ?? -1),
+            ),
+        );
     }
 
     /** Draws lanes, arrows and words near the rows that are seen. */
@@ -186,7 +218,8 @@ export class SheetView {
         const from = Math.max(0, scrollTop - 1500);
         const to = scrollTop + clientHeight + 1500;
         this.range = { from: from ? scrollTop - 900 : -1, to: to < height ? scrollTop + clientHeight + 900 : Infinity };
-        this.isNear = (/** @type {number} */ one, /** @type {number} */ other) => Math.max(one, other) >= from && Math.min(one, other) <= to;
+        this.isNear = (/** @type {number} */ one, /** @type {number} */ other) => Math.max(one, other) >= from
+            && Math.min(one, other) <= to;
         const width = this.svg.getBoundingClientRect().width;
         if (!width) return;
         set(this.svg, { viewBox: `0 0 ${width} ${Math.max(height, 1)}`, height });
@@ -194,7 +227,25 @@ export class SheetView {
         const room = width / Math.max(chart.lanes.length, 1);
         this.svg.replaceChildren(
             ...chart.lanes.map((_, lane) => s("line", { class: "lane", x1: x(lane), x2: x(lane), y1: 0, y2: height })),
-            ...chart.down.flatMap(({ lane, from, to }) => (y(from) < 0 ? [] : [s("line", { class: "isdown", "data-at": from, x1: x(lane), x2: x(lane), y1: y(from), y2: to >= 0 && y(to) >= 0 ? y(to) : height })])),
+            ...chart.down.flatMap(
+                ({ lane, from, to }) => (
+                    y(from) < 0
+                        ? []
+                        : [
+                            s(
+                                "line",
+                                {
+                                    class: "isdown",
+                                    "data-at": from,
+                                    x1: x(lane),
+                                    x2: x(lane),
+                                    y1: y(from),
+                                    y2: to >= 0 && y(to) >= 0 ? y(to) : height,
+                                },
+                            ),
+                        ]
+                ),
+            ),
             ...this.arrows(y, x, height),
             ...this.marks(y, x, room),
         );
@@ -215,10 +266,29 @@ export class SheetView {
             if (!this.isNear?.(start, stop < 0 ? start + 30 : stop)) return [];
             if (kind === "message") return this.message(arrow, y, x, height);
             if (stop < 0) return [];
-            if (lane !== end) return [s("g", { class: `arrow ${kind}`, "data-at": to }, s("line", { x1: x(lane), y1: start, x2: x(end), y2: stop }))];
+            if (lane !== end) {
+                return [
+                    s(
+                        "g",
+                        { class: `arrow ${kind}`, "data-at": to },
+                        s("line", { x1: x(lane), y1: start, x2: x(end), y2: stop }),
+                    ),
+                ];
+            }
             // an answer without a taking: a bow at the source's own lane, or only its end where it is long
             const top = Math.max(start, stop - 120);
-            return [s("g", { class: `arrow ${kind}`, "data-at": to }, s("path", { d: `M${x(lane)} ${top} C${x(lane) - 13} ${top + 6} ${x(lane) - 13} ${stop - 6} ${x(lane)} ${stop}` }))];
+            return [
+                s(
+                    "g",
+                    { class: `arrow ${kind}`, "data-at": to },
+                    s(
+                        "path",
+                        {
+                            d: `M${x(lane)} ${top} C${x(lane) - 13} ${top + 6} ${x(lane) - 13} ${stop - 6} ${x(lane)} ${stop}`,
+                        },
+                    ),
+                ),
+            ];
         });
     }
 
@@ -237,10 +307,38 @@ export class SheetView {
         const far = end === lane ? x(lane) + 18 : x(lane) + 0.72 * (x(end) - x(lane));
         const low = start + Math.min(22, Math.max(height - start - 5, 0));
         const line = () => s("line", { x1: x(lane), y1: start, x2: far, y2: low });
-        const ring = s("g", { class: "arrow message open", "data-at": from, "data-until": ended < 0 ? null : ended }, line(), s("circle", { cx: far, cy: low, r: 3.5 }));
-        if (to >= 0 && stop >= 0) return [ring, s("g", { class: "arrow message", "data-at": to }, s("line", { x1: x(lane), y1: start, x2: x(end), y2: stop }))];
+        const ring = s(
+            "g",
+            { class: "arrow message open", "data-at": from, "data-until": ended < 0 ? null : ended },
+            line(),
+            s("circle", { cx: far, cy: low, r: 3.5 }),
+        );
+        if (to >= 0 && stop >= 0) {
+            return [
+                ring,
+                s(
+                    "g",
+                    { class: "arrow message", "data-at": to },
+                    s("line", { x1: x(lane), y1: start, x2: x(end), y2: stop }),
+                ),
+            ];
+        }
         if (failed < 0) return [ring];
-        return [ring, s("g", { class: "arrow message", "data-at": failed }, line(), s("path", { class: "end", d: `M${far - 4} ${low - 4} L${far + 4} ${low + 4} M${far + 4} ${low - 4} L${far - 4} ${low + 4}` }))];
+        return [
+            ring,
+            s(
+                "g",
+                { class: "arrow message", "data-at": failed },
+                line(),
+                s(
+                    "path",
+                    {
+                        class: "end",
+                        d: `M${far - 4} ${low - 4} L${far + 4} ${low + 4} M${far + 4} ${low - 4} L${far - 4} ${low + 4}`,
+                    },
+                ),
+            ),
+        ];
     }
 
     /**
@@ -252,12 +350,24 @@ export class SheetView {
      */
     marks(y, x, room) {
         const last = (this.sheet?.chart.lanes.length ?? 1) - 1;
-        const letters = (/** @type {number} */ lane) => Math.max(4, Math.floor(((lane === last ? 0.82 : 1) * room - 14) / 6.9));
+        const letters = (/** @type {number} */ lane) => Math.max(
+            4,
+            Math.floor(((lane === last ? 0.82 : 1) * room - 14) / 6.9),
+        );
         return (this.sheet?.chart.marks ?? []).flatMap(({ at, lane, kind, words }) => {
             const middle = y(at);
             if (middle < 0 || !this.isNear?.(middle, middle)) return [];
             const text = shortened(words, letters(lane));
-            return [s("g", { class: `mark ${kind}`, "data-at": at }, s("title", {}, words), s("circle", { cx: x(lane), cy: middle, r: 3.5 }), s("text", { class: "plate", x: x(lane) + 8, y: middle + 4 }, text), s("text", { x: x(lane) + 8, y: middle + 4 }, text))];
+            return [
+                s(
+                    "g",
+                    { class: `mark ${kind}`, "data-at": at },
+                    s("title", {}, words),
+                    s("circle", { cx: x(lane), cy: middle, r: 3.5 }),
+                    s("text", { class: "plate", x: x(lane) + 8, y: middle + 4 }, text),
+                    s("text", { x: x(lane) + 8, y: middle + 4 }, text),
+                ),
+            ];
         });
     }
 
@@ -266,7 +376,10 @@ export class SheetView {
             const at = element.getAttribute("data-at");
             if (at === null) continue;
             const isFuture = Number(at) >= (this.position ?? 0);
-            element.classList.toggle("here", Number(at) >= (this.current?.from ?? 0) && Number(at) < (this.current?.to ?? 0));
+            element.classList.toggle(
+                "here",
+                Number(at) >= (this.current?.from ?? 0) && Number(at) < (this.current?.to ?? 0),
+            );
             element.classList.toggle("future", isFuture);
             element.classList.toggle("gone", isFuture && (this.hidden ?? false));
             const until = element.getAttribute("data-until");
