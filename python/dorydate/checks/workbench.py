@@ -1,10 +1,10 @@
 """The workbench: its modules by Node on every example and by the independent model, and with --browser its page in browsers (2 minutes).
 
-With Node (Debian's package `nodejs`), over the native program:
-- each example's moments print what is stored, each stop stands once, and going on from random positions is exact;
+With Node (Debian's package `nodejs`), over the native program (over its module, which is faster, while it is not proved and has one):
+- each example's moments print what is stored, each stop is there once, and a change at a random position is exact;
 - what each event leaves inside is what the independent model in Python has then, part for part;
-- packets that are thrown away are told as repeats or as lost, as rows written by hand say;
-- what waits is told at every stop, each message has its lane, each sentence is whole, and faults, texts and addresses are as by hand;
+- packets that are thrown away are called repeats or lost, as rows written by hand say;
+- nothing that waits is left out at any stop, each message has its lane, each sentence is whole, and faults, texts and addresses are as by hand;
 - random lines have a fault here exactly where the reader in Python finds one;
 - planted faults in all of these are found.
 
@@ -103,6 +103,12 @@ def check_types() -> None:
     print("check workbench: the types are right")
 
 
+def fastest(program: str) -> str:
+    """A program that was built without proofs isn't optimised, and the module that is made of it is."""
+    module = f"{program}.wasm"
+    return module if program.endswith("-unproved") and os.path.exists(module) else program
+
+
 def check_modules(command: str, program: str) -> None:
     """The tests in Node, with the states of the independent model in a file."""
     with tempfile.NamedTemporaryFile("w", suffix=".json") as states:
@@ -147,7 +153,7 @@ def main() -> int:
         return 1
     try:
         check_types()
-        check_modules(command, program)
+        check_modules(command, fastest(program))
         if sys.argv[1:]:
             check_browsers(command)
     except Wrong as what:
