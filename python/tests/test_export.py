@@ -12,16 +12,18 @@ import unittest
 from collections.abc import Callable, Iterator, Sequence
 from functools import lru_cache
 from pathlib import Path
+from typing import Any
+from xml.etree import ElementTree
 
 from dorydate import Network
-from dorydate.export import pcapng, shiviz
-from dorydate.export.command import DISSECTOR
+from dorydate.export import chart, pcapng, perfetto, shiviz
+from dorydate.export.command import DISSECTOR, written
 from dorydate.export.leaders import body, leader, packet_of
 from dorydate.export.replayed import Happened, Line, Replayed, as_printed, output, replayed
 from dorydate.model import decode
 from dorydate.network import Host
 from dorydate.program import found
-from dorydate.script import Calm, Script, Text
+from dorydate.script import Calm, Flow, Script, Text
 
 ROOT = Path(__file__).resolve().parents[2]
 REFUSED = {"a-bad-line", "an-unknown-event"}  # examples of scripts that the program refuses
@@ -165,6 +167,59 @@ class Dissected(unittest.TestCase):
         rows = self.dissected([made], "dorydate.type", "dorydate.line", "_ws.expert.message")
         self.assertEqual([row[2] for row in rows], ["a leader has four octets", "no bit 1 marks the end of the text", "no bit 1 marks the end of the text", "", ""])
         self.assertEqual([row[1] for row in rows], [""] * 5)
+
+
+TRACED = ("first-message", "rerouted-over-a-triangle", "a-cut-line-and-the-way-round", "arpanet-of-december-1969", "lo-of-login")
+
+
+class Timelines(unittest.TestCase):
+    """What the document *Trace Event Format* asks for."""
+
+    def events(self, name: str) -> tuple[Replayed, list[dict[str, Any]]]:
+        what = replayed(examples()[name], None, True)
+        return what, json.loads(perfetto.trace(what))["traceEvents"]
+
+    def test_fields_of_each_kind(self) -> None:
+        wanted = {"X": {"ts", "dur", "tid"}, "i": {"ts", "s", "tid"}, "C": {"ts", "args"}, "M": {"args"}}
+        for name in TRACED:
+            for it in self.events(name)[1]:
+                self.assertTrue({"ph", "name", "pid"} | wanted[it["ph"]] <= it.keys(), it)
+                self.assertTrue(it["ph"] != "C" or all(isinstance(value, int) for value in it["args"].values()), it)
+
+    def test_spans_of_a_track_follow_one_another(self) -> None:
+        for name in TRACED:
+            ends: dict[tuple[int, int], int] = {}
+            for it in self.events(name)[1]:
+                if it["ph"] == "X":
+                    self.assertTrue(it["dur"] >= 0 and ends.get((it["pid"], it["tid"]), 0) <= it["ts"], it)
+                    ends[it["pid"], it["tid"]] = it["ts"] + it["dur"]
+
+    def test_messages_have_their_answers(self) -> None:
+        for name in TRACED:
+            what, events = self.events(name)
+            words = [line.words for _, line in what.lines()]
+            flows = [it for it in events if it["ph"] == "X" and it["pid"] == perfetto.FLOWS]
+            self.assertEqual(len(flows), sum(it[0] == "out" for it in words), name)
+            answers = sorted(it["args"]["answer"] for it in flows if "answer" in it["args"])
+            self.assertEqual(answers, sorted(it[1] for it in words if it[0] == "answer"), name)
+
+
+class Slides(unittest.TestCase):
+    def test_each_is_xml_with_its_event(self) -> None:
+        for name in ("rerouted-over-a-triangle", "lo-of-login", "first-message"):
+            what = replays()[name]
+            for step in (0, 1, len(what.events)):
+                root = ElementTree.fromstring(written("svg", examples()[name], step))
+                said = [it.text for it in root.iter("{http://www.w3.org/2000/svg}text")]
+                self.assertIn(f"Event {step} of {len(what.events)}, {what.events[step - 1].said}" if step else "Before the first event", said)
+
+    def test_rows(self) -> None:
+        lines = [Line(tuple(it.split(" ")), 0) for it in ("out 0/1 0/2 5 8 41", "in 0/1 0/2 5 8 41", "answer rfnm 0/1 0/2 5", "out 0/1 0/2 5 8 42", "down 0/2", "answer dead 0/1 0/2 5")]
+        told = [(it.words, it.source, it.destination, it.share) for it in chart.rows_of(lines, True)]
+        wanted = [("8 bits, link 5", "0/1", "0/2", (0.0, 1.0)), ("rfnm, link 5", "0/2", "0/1", (0.0, 1.0)), ("8 bits, link 5", "0/1", "0/2", (0.0, 0.7)), ("down", "0/2", "", (0.0, 1.0)), ("dead, link 5", "0/2", "0/1", (0.5, 1.0))]
+        self.assertEqual(told, wanted)
+        self.assertEqual(chart.unanswered(lines[:4]), [Flow.read("0/1", "0/2", "5")])
+        self.assertEqual(chart.unanswered(lines), [])
 
 
 class Clocks(unittest.TestCase):

@@ -4,31 +4,61 @@ from __future__ import annotations
 
 import argparse
 import sys
-from collections.abc import Callable, Sequence
+from collections.abc import Sequence
 from pathlib import Path
 
 from dorydate import ending
-from dorydate.export import pcapng, shiviz
+from dorydate.export import chart, pcapng, perfetto, shiviz
 from dorydate.export.replayed import Replayed, replayed
+from dorydate.inside import CannotFollow, state_of
 from dorydate.network import BadNetwork
-from dorydate.program import MOST_OCTETS, NoProgram, TookTooLong
+from dorydate.printed import refusal
+from dorydate.program import MOST_OCTETS, NoProgram, Program, TookTooLong, found
 from dorydate.replay import Stopped
 from dorydate.script import BadLine, Script
+from dorydate.state import State
+from dorydate.trace import BadTrace
 
 DISSECTOR = Path(__file__).with_name("dorydate.lua")
-FORMATS: dict[str, tuple[Callable[[Replayed], bytes], str]] = {
-    "pcapng": (pcapng.capture, "a capture of what crosses the interfaces of hosts, for Wireshark"),
-    "shiviz": (lambda what: shiviz.log(what).encode("latin-1"), "a log with vector clocks, for ShiViz"),
+FORMATS = {
+    "pcapng": "a capture of what crosses the interfaces of hosts, for Wireshark",
+    "perfetto": "a trace for Perfetto and Chrome: messages, connections and frames on tracks, and counters",
+    "shiviz": "a log with vector clocks, for ShiViz",
+    "svg": "a slide: the map after an event, and the chart of what crossed",
 }
 
 
 def parser() -> argparse.ArgumentParser:
     made = argparse.ArgumentParser(prog="export", description="Writes the replay of an input in the format of another tool: ./export --pcapng < INPUT > FILE (docs/export.md)")
     which = made.add_mutually_exclusive_group(required=True)
-    for name, (_, what) in FORMATS.items():
+    for name, what in FORMATS.items():
         which.add_argument(f"--{name}", action="store_const", const=name, dest="format", help=what)
     which.add_argument("--dissector", action="store_true", help="print the path of the dissector for Wireshark, which reads what --pcapng writes")
+    made.add_argument("--after", type=int, metavar="N", help="of a slide: after this many events (all of them)")
     return made
+
+
+def written(format: str, script: Script, after: int | None) -> bytes:
+    """The replay of a script in a format."""
+    program = found()
+    if format == "pcapng":
+        return pcapng.capture(replayed(script, program))
+    if format == "shiviz":
+        return shiviz.log(replayed(script, program)).encode("latin-1")
+    if format == "perfetto":
+        return perfetto.trace(replayed(script, program, True)).encode("latin-1")
+    what = replayed(script, program)
+    step = len(what.events) if after is None else max(0, min(after, len(what.events)))
+    return chart.slide(what, state_after(what, program, step), step).encode("utf-8")
+
+
+def state_after(what: Replayed, program: Program, step: int) -> State:
+    """The state after so many events, of which those that were refused changed nothing; an empty one where it can't be known."""
+    kept = [it.event for it in what.events[:step] if refusal(list(map(str, it.lines))) is None]
+    try:
+        return state_of(program, what.network, kept)
+    except CannotFollow:
+        return State(what.network, {})
 
 
 def main(words: Sequence[str] | None = None) -> int:
@@ -38,10 +68,9 @@ def main(words: Sequence[str] | None = None) -> int:
         return 0
     if sys.stdin.isatty():
         print("export: reading from the terminal; Ctrl-D ends the input", file=sys.stderr)
-    write, _ = FORMATS[chosen.format]
     try:
-        octets = write(replayed(Script.read(sys.stdin.buffer.read(MOST_OCTETS + 1).decode("latin-1"))))
-    except (BadLine, BadNetwork, Stopped, NoProgram, TookTooLong) as why:
+        octets = written(chosen.format, Script.read(sys.stdin.buffer.read(MOST_OCTETS + 1).decode("latin-1")), chosen.after)
+    except (BadLine, BadNetwork, BadTrace, Stopped, NoProgram, TookTooLong) as why:
         print(f"export: {why}", file=sys.stderr)
         return 1
     sys.stdout.buffer.write(octets)

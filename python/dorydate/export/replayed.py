@@ -2,14 +2,17 @@
 
 from __future__ import annotations
 
-from collections.abc import Iterator, Sequence
-from dataclasses import dataclass
+import json
+from collections.abc import Iterator, Mapping, Sequence
+from dataclasses import dataclass, field
+from typing import Any
 
 from dorydate.network import MOST_HOSTS, MOST_IMPS, Host, Network
 from dorydate.printed import CROSSINGS
 from dorydate.program import Program, found
 from dorydate.replay import Replay, Stopped
 from dorydate.script import Event, HostDown, Script
+from dorydate.trace import FORMAT, opening, records
 
 MICROSECONDS = 1_000_000  # of a second, which is the time of an event
 NO_SUCH = "refused NoSuch"
@@ -47,11 +50,24 @@ class Happened:
 
 
 @dataclass(frozen=True)
+class Moment:
+    """An elementary event: when it happened, what it printed, what became of its frame, and the parts that it left."""
+
+    time: int  # in microseconds
+    happened: Happened
+    event: str
+    lines: tuple[Line, ...]
+    fate: str = ""
+    parts: Mapping[str, Any] = field(default_factory=dict)
+
+
+@dataclass(frozen=True)
 class Replayed:
-    """A replay to its end."""
+    """A replay to its end. The trace is empty where it wasn't asked for, or the program has none of such a network."""
 
     network: Network
     events: tuple[Happened, ...]
+    trace: str = ""
 
     def lines(self) -> Iterator[tuple[Happened, Line]]:
         """All lines, each with its event."""
@@ -59,8 +75,25 @@ class Replayed:
             for line in happened.lines:
                 yield happened, line
 
+    def opening(self) -> Mapping[str, Any]:
+        """All parts before the first event, none without a trace."""
+        return dict(opening(self.trace)["parts"]) if self.trace else {}
 
-def replayed(script: Script, program: Program | None = None) -> Replayed:
+    def moments(self) -> Iterator[Moment]:
+        """The elementary events of the trace, one microsecond after another; without a trace the events themselves."""
+        if not self.trace:
+            yield from (Moment(it.second * MICROSECONDS, it, str(it.event), it.lines) for it in self.events)
+            return
+        lines, number, place = iter([line for _, line in self.lines()]), 0, 0
+        for record in map(json.loads, records(self.trace)):
+            place = place + 1 if record["number"] == number else 0
+            number = record["number"]
+            happened = self.events[number - 1]
+            printed = tuple(next(lines) for _ in record["printed"])
+            yield Moment(happened.second * MICROSECONDS + place, happened, record["event"], printed, record.get("fate", ""), record["parts"])
+
+
+def replayed(script: Script, program: Program | None = None, with_trace: bool = False) -> Replayed:
     """The replay of a script. What crossed is worded as in the log, which keeps `nottaken` apart from `incomplete`."""
     program = program or found()
     log = output(program, script, "--log")
@@ -72,7 +105,15 @@ def replayed(script: Script, program: Program | None = None) -> Replayed:
             raise Stopped(f"line {entry.number}: the log says something else than what is printed")
         lines = tuple(Line(tuple(it.split(" ")), second * MICROSECONDS + place) for place, it in enumerate(said))
         events.append(Happened(second, entry.number, entry.event, lines))
-    return Replayed(script.network, tuple(events))
+    return Replayed(script.network, tuple(events), traced(program, script) if with_trace else "")
+
+
+def traced(program: Program, script: Script) -> str:
+    """The trace of a script, empty where the program has none of such a network, or one of an older format."""
+    ran = program.run(script.text().encode("latin-1"), "--trace")
+    if ran.status and "no trace" not in ran.said:
+        raise Stopped(f"the program says: {ran.said.strip()} (status {ran.status})")
+    return ran.output if ran.output.startswith(f'{{"trace":{FORMAT},') else ""
 
 
 def as_printed(line: str) -> str:
