@@ -80,8 +80,8 @@ def mark_in(module: bytes) -> str:
 
 
 def makers() -> str:
-    """The hash of what makes the modules: this folder's files of C and Python."""
-    names = sorted(it for it in os.listdir(HERE) if it.endswith((".c", ".h", ".py")))
+    """The hash of what makes the modules: this folder's files of C and Python, without what only packs pages."""
+    names = sorted(it for it in os.listdir(HERE) if it.endswith((".c", ".h", ".py")) and it != "pack.py")
     together = hashlib.sha256()
     for name in names:
         with open(f"{HERE}/{name}", "rb") as file:
