@@ -1,5 +1,6 @@
 /**
- * Drives a browser without a library: Chromium by its pipe of DevTools messages, Firefox by Marionette, a socket of its own.
+ * Drives a browser without a library: Chromium by its pipe of DevTools messages, Firefox by Marionette, a socket of its
+ * own.
  *
  * Both give a `Browser`. Each runs without a window, with a profile of its own, which is removed afterwards.
  */
@@ -66,14 +67,25 @@ function questions(send) {
  */
 export async function chromium(program) {
     const profile = mkdtempSync(`${tmpdir()}/chromium-`);
-    const words = ["--headless", "--no-sandbox", "--disable-gpu", "--no-first-run", "--remote-debugging-pipe", `--user-data-dir=${profile}`];
+    const words = [
+        "--headless",
+        "--no-sandbox",
+        "--disable-gpu",
+        "--no-first-run",
+        "--remote-debugging-pipe",
+        `--user-data-dir=${profile}`,
+    ];
     const child = spawn(program, words, { stdio: ["ignore", "ignore", "ignore", "pipe", "pipe"] });
     const ended = new Promise((resolve) => child.on("exit", resolve));
     const [, , , to, from] = child.stdio;
     /** @type {string[]} */
     const requests = [];
     let session = "";
-    const { ask, answer } = questions((id, method, params) => to.write(JSON.stringify({ id, method, params, ...(session && { sessionId: session }) }) + "\0"));
+    const { ask, answer } = questions(
+        (id, method, params) => to.write(
+            JSON.stringify({ id, method, params, ...(session && { sessionId: session }) }) + "\0",
+        ),
+    );
     /** @type {Map<string, () => void>} */
     const awaited = new Map();
     const decoder = new TextDecoder();
@@ -98,12 +110,20 @@ export async function chromium(program) {
             await loaded;
         },
         async evaluate(body) {
-            const ran = await ask("Runtime.evaluate", { expression: `(async () => {${body}})()`, awaitPromise: true, returnByValue: true });
-            if (ran.exceptionDetails) throw new Error(JSON.stringify(ran.exceptionDetails.exception ?? ran.exceptionDetails.text));
+            const ran = await ask(
+                "Runtime.evaluate",
+                { expression: `(async () => {${body}})()`, awaitPromise: true, returnByValue: true },
+            );
+            if (ran.exceptionDetails) {
+                throw new Error(JSON.stringify(ran.exceptionDetails.exception ?? ran.exceptionDetails.text));
+            }
             return ran.result.value;
         },
         async resize(width, height) {
-            await ask("Emulation.setDeviceMetricsOverride", { width, height, deviceScaleFactor: 1, mobile: width < 600 });
+            await ask(
+                "Emulation.setDeviceMetricsOverride",
+                { width, height, deviceScaleFactor: 1, mobile: width < 600 },
+            );
         },
         async look({ paper, dark }) {
             const features = [{ name: "prefers-color-scheme", value: dark ? "dark" : "light" }];
@@ -114,7 +134,11 @@ export async function chromium(program) {
             writeFileSync(file, (await ask("Page.captureScreenshot", {})).data, "base64");
         },
         async print(file) {
-            writeFileSync(file, (await ask("Page.printToPDF", { paperWidth: 8.27, paperHeight: 11.69 })).data, "base64");
+            writeFileSync(
+                file,
+                (await ask("Page.printToPDF", { paperWidth: 8.27, paperHeight: 11.69 })).data,
+                "base64",
+            );
         },
         requests: () => requests,
         async close() {
@@ -141,8 +165,15 @@ async function portOf(/** @type {string} */ profile) {
  */
 export async function firefox(program) {
     const profile = mkdtempSync(`${tmpdir()}/firefox-`);
-    writeFileSync(`${profile}/user.js`, 'user_pref("marionette.port", 0);\nuser_pref("datareporting.policy.dataSubmissionEnabled", false);\n');
-    const child = spawn(program, ["--headless", "--marionette", "--no-remote", "--profile", profile], { stdio: ["ignore", "ignore", "ignore"] });
+    writeFileSync(
+        `${profile}/user.js`,
+        'user_pref("marionette.port", 0);\nuser_pref("datareporting.policy.dataSubmissionEnabled", false);\n',
+    );
+    const child = spawn(
+        program,
+        ["--headless", "--marionette", "--no-remote", "--profile", profile],
+        { stdio: ["ignore", "ignore", "ignore"] },
+    );
     const ended = new Promise((resolve) => child.on("exit", resolve));
     const socket = connect(await portOf(profile), "127.0.0.1");
     const { ask, answer } = questions((number, method, given) => {

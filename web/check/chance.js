@@ -1,7 +1,8 @@
 /** Random numbers that a seed determines, so that what they found can be found again. */
 
 /**
- * Makes a source of numbers: each call gives one from 0 to `below - 1`. (The generator is Marsaglia's xorshift of 32 bits.)
+ * Makes a source of numbers: each call gives one from 0 to `below - 1`. (The generator is Marsaglia's xorshift of 32
+ * bits.)
  *
  * @param {number} seed any integer
  * @returns {(below: number) => number}

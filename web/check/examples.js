@@ -1,8 +1,9 @@
 /**
  * Holds the module up to the native program: node web/check/examples.js MODULE PROGRAM RUNS
  *
- * RUNS is a file of JSON that names inputs, and for each the lists of words that it is run with: standard output, standard error and exit
- * status have to be the native program's, octet for octet. With the words `--audit` it is the log of the input that is audited.
+ * RUNS is a file of JSON that names inputs, and for each the lists of words that it is run with: standard output,
+ * standard error and exit status have to be the native program's, octet for octet. With the words `--audit` it is the
+ * log of the input that is audited.
  */
 
 import { spawnSync } from "node:child_process";
@@ -51,7 +52,9 @@ function endedNatively(program, words, input) {
  */
 function difference(one, other) {
     if (one.status !== other.status) return `status ${one.status}, natively ${other.status}`;
-    if (Buffer.compare(one.stdout, other.stdout) !== 0) return `${one.stdout.length} octets of output, natively ${other.stdout.length}`;
+    if (Buffer.compare(one.stdout, other.stdout) !== 0) {
+        return `${one.stdout.length} octets of output, natively ${other.stdout.length}`;
+    }
     return Buffer.compare(one.stderr, other.stderr) === 0 ? "" : "standard error";
 }
 

@@ -1,8 +1,9 @@
 /**
  * Runs inputs with every limit of memory: node web/check/memory.js FOLDER PROGRAM FILE..
  *
- * FOLDER has the module once for each limit, in the order of their names. An input is run with one after the other until it ends as the
- * native program does. Before that each run has to say that it stopped, with status 3 and a prefix of the output.
+ * FOLDER has the module once for each limit, in the order of their names. An input is run with one after the other
+ * until it ends as the native program does. Before that each run has to say that it stopped, with status 3 and a prefix
+ * of the output.
  */
 
 import { spawnSync } from "node:child_process";
@@ -34,14 +35,18 @@ for (const file of files) {
         const isPrefix = Buffer.compare(stdout, whole.subarray(0, stdout.length)) === 0;
         isWhole = status === 0 && stderr === "" && isPrefix && stdout.length === whole.length;
         if (!isWhole && !(status === 3 && stderr === "arpasim: stopped\n" && isPrefix)) {
-            fail(`${file} with ${limits[at]}: status ${status}, ${stdout.length} octets${isPrefix ? "" : " that are no prefix"}, ${stderr}`);
+            fail(
+                `${file} with ${limits[at]}: status ${status}, ${stdout.length} octets${isPrefix ? "" : " that are no prefix"}, ${stderr}`,
+            );
         }
         stopped += isWhole ? 0 : 1;
         partly += !isWhole && stdout.length > 0 ? 1 : 0;
     }
 }
 if (partly === 0) fail("no run ran out of memory after some output");
-console.log(`memory: ${stopped} runs of ${files.length} inputs ran out of memory and said so, ${partly} of them after some output`);
+console.log(
+    `memory: ${stopped} runs of ${files.length} inputs ran out of memory and said so, ${partly} of them after some output`,
+);
 
 /** @param {string} why */
 function fail(why) {

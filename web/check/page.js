@@ -1,9 +1,10 @@
 /**
  * Tries the plain page in browsers: node web/check/page.js PAGE EXAMPLES [SHOTS]
  *
- * PAGE is opened from its file in Chromium and in Firefox, as many of them as there are. Each file of EXAMPLES is run with its stored words
- * and has to end as stored; a bad line is marked, an endless replay is ended by its limits and by Stop, nothing is cut at any width,
- * and the page asks for nothing. With SHOTS, a folder, pictures are left there. It ends with status 1 where something is wrong.
+ * PAGE is opened from its file in Chromium and in Firefox, as many of them as there are. Each file of EXAMPLES is run
+ * with its stored words and has to end as stored; a bad line is marked, an endless replay is ended by its limits and by
+ * Stop, nothing is cut at any width, and the page asks for nothing. With SHOTS, a folder, pictures are left there. It
+ * ends with status 1 where something is wrong.
  */
 
 import { existsSync, readdirSync, readFileSync } from "node:fs";
@@ -50,11 +51,18 @@ function want(holds, what) {
 async function tryExamples(browser, folder) {
     const names = readdirSync(folder).filter((name) => !ENDINGS.some((ending) => name.endsWith(ending)));
     for (const name of names) {
-        const read = (/** @type {string} */ ending) => (existsSync(`${folder}/${name}${ending}`) ? readFileSync(`${folder}/${name}${ending}`, "utf8") : "");
+        const read = (/** @type {string} */ ending) => (
+            existsSync(`${folder}/${name}${ending}`) ? readFileSync(`${folder}/${name}${ending}`, "utf8") : ""
+        );
         const words = read(".args").split("\n").filter(Boolean);
         const task = words.find((word) => !["--texts", "--book"].includes(word)) ?? "";
-        const { printed, said } = await browser.evaluate(`${HELPERS} return run(${JSON.stringify(read(""))}, ${JSON.stringify(task)}, ${JSON.stringify(words)});`);
-        want(printed === read(".stdout"), `${name}: ${printed.length} letters are printed, stored are ${read(".stdout").length}`);
+        const { printed, said } = await browser.evaluate(
+            `${HELPERS} return run(${JSON.stringify(read(""))}, ${JSON.stringify(task)}, ${JSON.stringify(words)});`,
+        );
+        want(
+            printed === read(".stdout"),
+            `${name}: ${printed.length} letters are printed, stored are ${read(".stdout").length}`,
+        );
         const status = read(".status").trim() || "0";
         want(said.includes(read(".stderr").trim()) && said.endsWith(`status ${status}.`), `${name}: ${said}`);
     }
@@ -70,8 +78,13 @@ async function tryExamples(browser, folder) {
 async function tryNote(browser, page) {
     const packed = /id="program">([^<]*)</.exec(readFileSync(page, "utf8"))?.[1] ?? "";
     const { proved, sources } = noteOf(await WebAssembly.compile(await unpacked(packed)));
-    const [said, note] = await browser.evaluate("return ['proved', 'note'].map((it) => document.getElementById(it).textContent);");
-    want(said.startsWith(proved ? "This is the proved program" : "NOT PROVED") && note.includes(sources), `the page says: ${said} ${note}`);
+    const [said, note] = await browser.evaluate(
+        "return ['proved', 'note'].map((it) => document.getElementById(it).textContent);",
+    );
+    want(
+        said.startsWith(proved ? "This is the proved program" : "NOT PROVED") && note.includes(sources),
+        `the page says: ${said} ${note}`,
+    );
 }
 
 /**
@@ -83,9 +96,13 @@ async function tryFaults(browser, example) {
     const { said } = await browser.evaluate(`${HELPERS} return run(${JSON.stringify(bad)});`);
     const line = bad.split("\n").indexOf("tak 0/2") + 1;
     want(said.includes(`(line ${line} of the box)`), `a bad line: ${said}`);
-    const marked = await browser.evaluate("const box = document.getElementById('script'); return box.value.slice(box.selectionStart, box.selectionEnd);");
+    const marked = await browser.evaluate(
+        "const box = document.getElementById('script'); return box.value.slice(box.selectionStart, box.selectionEnd);",
+    );
     want(marked === "tak 0/2", `a bad line: ${marked} is marked`);
-    const drawn = await browser.evaluate(`${HELPERS} return (await run(${JSON.stringify(example)})).isDrawn && document.querySelectorAll("#drawing line.arrow").length;`);
+    const drawn = await browser.evaluate(
+        `${HELPERS} return (await run(${JSON.stringify(example)})).isDrawn && document.querySelectorAll("#drawing line.arrow").length;`,
+    );
     want(drawn === 2, `first-message has ${drawn} arrows`);
 }
 
@@ -119,7 +136,9 @@ async function tryWidths(browser, page, shots) {
         await browser.open("about:blank");
         await browser.open(`file://${page}#from-a-terminal-to-a-server`);
         const [whole, seen, cut] = await browser.evaluate(`${HELPERS} await ended();
-            const cut = [...document.querySelectorAll("button, select, textarea, pre, label, p, h1, h2")].filter((it) => it.getBoundingClientRect().right > innerWidth + 1);
+            const cut = [...document.querySelectorAll("button, select, textarea, pre, label, p, h1, h2")].filter(
+                (it) => it.getBoundingClientRect().right > innerWidth + 1,
+            );
             return [document.documentElement.scrollWidth, innerWidth, cut.map((it) => it.id || it.textContent).join()];`);
         want(whole <= seen && cut === "", `at ${width} the page is ${whole} wide, ${seen} are seen, cut: ${cut}`);
         if (shots) await browser.shoot(`${shots}/${browser.name}-${width}.png`);
@@ -144,7 +163,9 @@ async function tryPage(browser, page, examples, shots) {
     await tryWidths(browser, page, shots);
     const asked = browser.requests().filter((it) => !/^(?:file|blob|about|data):/.test(it));
     want(asked.length === 0, `the page asked for ${asked.join(", ")}`);
-    console.log(`${browser.name}: ${count} examples end as stored, faults, limits and widths are as they should be; the first result after ${first} ms`);
+    console.log(
+        `${browser.name}: ${count} examples end as stored, faults, limits and widths are as they should be; the first result after ${first} ms`,
+    );
 }
 
 const [page, examples, shots] = process.argv.slice(2);

@@ -1,9 +1,9 @@
 /**
  * Tries what the program has in place of a C library, against models: node web/check/shims.js SHIMS SMALL
  *
- * SHIMS is a module of tools/wasm/*.c alone, with all their functions exported, and SMALL the same with little memory. The heap is held up
- * to a list of its blocks and of what was written there, products, shifts and quotients to JavaScript's integers of any size, and reads, writes and
- * words to what the page gave.
+ * SHIMS is a module of tools/wasm/*.c alone, with all their functions exported, and SMALL the same with little memory.
+ * The heap is held up to a list of its blocks and of what was written there, products, shifts and quotients to
+ * JavaScript's integers of any size, and reads, writes and words to what the page gave.
  */
 
 import assert from "node:assert/strict";
@@ -21,8 +21,12 @@ const MOST_BLOCKS = 150;
 
 /** What the page gives in these tries. */
 const page = {
-    read: (/** @type {number} */ descriptor, /** @type {bigint} */ address, /** @type {bigint} */ count) => (descriptor === 0 ? count - 1n : -1n),
-    write: (/** @type {number} */ descriptor, /** @type {bigint} */ address, /** @type {bigint} */ count) => (descriptor === 1 ? count - 2n : -1n),
+    read: (/** @type {number} */ descriptor, /** @type {bigint} */ address, /** @type {bigint} */ count) => (
+        descriptor === 0 ? count - 1n : -1n
+    ),
+    write: (/** @type {number} */ descriptor, /** @type {bigint} */ address, /** @type {bigint} */ count) => (
+        descriptor === 1 ? count - 2n : -1n
+    ),
     arg: (/** @type {bigint} */ index) => (index === 0n ? 7n : -1n),
 };
 
@@ -72,7 +76,9 @@ class Heap {
     check(/** @type {Block} */ block, size = block.size) {
         const memory = this.memory(block.at, size);
         for (let place = 0; place < size; place++) {
-            if (memory[place] !== octet(block, place)) assert.fail(`octet ${place} of a block of ${block.size} at ${block.at} was overwritten`);
+            if (memory[place] !== octet(block, place)) {
+                assert.fail(`octet ${place} of a block of ${block.size} at ${block.at} was overwritten`);
+            }
         }
     }
 
@@ -236,5 +242,9 @@ trySystem(opened(shims));
 tryWide(opened(shims));
 tryGreatSizes(shims);
 for (let seed = 1; seed <= SEEDS; seed++) assert(tryHeap(small, seed) > 0, "the heap never ran out of memory");
-for (let seed = 1; seed <= SEEDS; seed++) assert.equal(tryHeap(shims, seed), 0, "the heap refused a call though there is memory");
-console.log(`shims: ${2 * SEEDS * CALLS} calls of the heap, 80000 products, shifts and quotients, reads, writes and words: as the models`);
+for (let seed = 1; seed <= SEEDS; seed++) {
+    assert.equal(tryHeap(shims, seed), 0, "the heap refused a call though there is memory");
+}
+console.log(
+    `shims: ${2 * SEEDS * CALLS} calls of the heap, 80000 products, shifts and quotients, reads, writes and words: as the models`,
+);

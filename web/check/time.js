@@ -1,8 +1,9 @@
 /**
  * Measures runs of the module: node web/check/time.js MODULE ROUNDS FILE..
  *
- * It prints a line for each file: the least processor time of the rounds in milliseconds, and how many
- * octets were printed. Compiling is part of a first round, and what the engine makes faster meanwhile serves the later ones, as in a page.
+ * It prints a line for each file: the least processor time of the rounds in milliseconds, and how many octets were
+ * printed. Compiling is part of a first round, and what the engine makes faster meanwhile serves the later ones, as in
+ * a page.
  */
 
 import { readFileSync } from "node:fs";

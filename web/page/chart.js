@@ -22,8 +22,8 @@ function element(name, attributes, text) {
 }
 
 /**
- * The head of an arrow that goes from one place to another: closed for a message, open for an answer, a cross where a message ends that was
- * not taken.
+ * The head of an arrow that goes from one place to another: closed for a message, open for an answer, a cross where a
+ * message ends that was not taken.
  *
  * @param {"message" | "answer" | "lost"} kind
  * @param {{x: number, y: number}} from
@@ -32,7 +32,10 @@ function element(name, attributes, text) {
 function head(kind, from, to) {
     const turn = (Math.atan2(to.y - from.y, to.x - from.x) * 180) / Math.PI;
     const shapes = { message: "M0 0L-9 -4L-9 4Z", answer: "M-8 -4L0 0L-8 4", lost: "M-5 -5L5 5M-5 5L5 -5" };
-    return element("path", { class: `head ${kind}`, d: shapes[kind], transform: `translate(${to.x} ${to.y}) rotate(${turn})` });
+    return element(
+        "path",
+        { class: `head ${kind}`, d: shapes[kind], transform: `translate(${to.x} ${to.y}) rotate(${turn})` },
+    );
 }
 
 /**
@@ -44,7 +47,9 @@ export function drawn(chart) {
     const height = HEAD + (chart.rows + 1) * ROW;
     const x = (/** @type {string} */ host) => MARGIN + BETWEEN / 2 + chart.hosts.indexOf(host) * BETWEEN;
     const y = (/** @type {number} */ row) => HEAD + (row + 0.8) * ROW;
-    const svg = /** @type {SVGElement} */ (element("svg", { viewBox: `0 0 ${width} ${height}`, width, height, role: "img" }));
+    const svg = /** @type {SVGElement} */ (
+        element("svg", { viewBox: `0 0 ${width} ${height}`, width, height, role: "img" })
+    );
     svg.append(element("title", {}, "What crossed between the hosts and the network, from above to below"));
 
     for (const host of chart.hosts) {
@@ -72,6 +77,15 @@ function arrowOf(arrow, x, y) {
     if (isLost) to.x = from.x + (to.x - from.x) * 0.6;
     const kind = isLost ? "lost" : arrow.kind;
     const goesRight = to.x > from.x;
-    const label = { class: "label", x: from.x + (goesRight ? 8 : -8), y: from.y - 4, "text-anchor": goesRight ? "start" : "end" };
-    return [element("line", { class: `arrow ${kind}`, x1: from.x, y1: from.y, x2: to.x, y2: to.y }), head(kind, from, to), element("text", label, arrow.text)];
+    const label = {
+        class: "label",
+        x: from.x + (goesRight ? 8 : -8),
+        y: from.y - 4,
+        "text-anchor": goesRight ? "start" : "end",
+    };
+    return [
+        element("line", { class: `arrow ${kind}`, x1: from.x, y1: from.y, x2: to.x, y2: to.y }),
+        head(kind, from, to),
+        element("text", label, arrow.text),
+    ];
 }

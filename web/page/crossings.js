@@ -1,8 +1,8 @@
 /** What a replay printed, as what a chart draws: messages and answers that crossed, and notes. */
 
 /**
- * An arrow of a chart. A message that was taken goes from the row where it was sent to the row where it was taken. One that was not
- * taken has no `toRow`. An answer is drawn in the row where it was taken.
+ * An arrow of a chart. A message that was taken goes from the row where it was sent to the row where it was taken. One
+ * that was not taken has no `toRow`. An answer is drawn in the row where it was taken.
  *
  * @typedef {object} Arrow
  * @property {"message" | "answer"} kind
@@ -81,7 +81,14 @@ export function chartOf(lines) {
             waiting.delete(`${from} ${to} ${link}`);
         } else if (kind === "answer") {
             const [answer, to, from, link] = words;
-            arrows.push({ kind: "answer", from, to, fromRow: row, toRow: row, text: `${ANSWERS.get(answer) ?? answer}, link ${link}` });
+            arrows.push({
+                kind: "answer",
+                from,
+                to,
+                fromRow: row,
+                toRow: row,
+                text: `${ANSWERS.get(answer) ?? answer}, link ${link}`,
+            });
             hosts.add(from).add(to);
         } else {
             const host = words.find((word) => HOST.test(word));

@@ -1,8 +1,8 @@
 /** What a fault of the program means for the text in the box. */
 
 /**
- * The line of the box, counted from 1, that a fault names, if it names one: `bad script line 4` is the fourth line after the marker `%`,
- * and `bad log line 4` the fourth of all.
+ * The line of the box, counted from 1, that a fault names, if it names one: `bad script line 4` is the fourth line
+ * after the marker `%`, and `bad log line 4` the fourth of all.
  *
  * @param {string} stderr what the program wrote on standard error
  * @param {string} text what is in the box

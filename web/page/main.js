@@ -56,7 +56,9 @@ function show(/** @type {Outcome} */ outcome) {
     output = outcome.stdout;
     const whole = new TextDecoder().decode(output);
     printed.textContent = whole.slice(0, MOST_SHOWN);
-    rest.textContent = whole.length > MOST_SHOWN ? `The first ${MOST_SHOWN} of ${whole.length} letters are shown. Save output has them all.` : "";
+    rest.textContent = whole.length > MOST_SHOWN
+        ? `The first ${MOST_SHOWN} of ${whole.length} letters are shown. Save output has them all.`
+        : "";
     const lines = task.value ? [] : whole.split("\n");
     const made = chartOf(lines.slice(0, MOST_ROWS));
     chart.hidden = made.arrows.length === 0;
@@ -106,7 +108,9 @@ function save(/** @type {string} */ name, /** @type {BlobPart} */ octets) {
 /** Says what the page's program is. */
 function tell(/** @type {Note} */ note) {
     const proved = part("proved", HTMLElement);
-    proved.textContent = note.proved ? "This is the proved program." : "NOT PROVED: this page holds a program that was built without proofs.";
+    proved.textContent = note.proved
+        ? "This is the proved program."
+        : "NOT PROVED: this page holds a program that was built without proofs.";
     proved.classList.toggle("fault", !note.proved);
     part("note", HTMLElement).textContent = `Sources ${note.sources}, ${note.toolchain}; mark of the compiler: ${note.mark}.`;
 }

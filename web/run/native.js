@@ -1,4 +1,6 @@
-/** Runs the native program arpasim under Node, as a `Runner` of runner.js. It serves the tests of what takes a runner. */
+/**
+ * Runs the native program arpasim under Node, as a `Runner` of runner.js. It serves the tests of what takes a runner.
+ */
 
 import { spawn } from "node:child_process";
 

@@ -1,8 +1,9 @@
 /**
  * Runs a compiled module of the program once: the surroundings that arpasim has in place of an operating system.
  *
- * The module asks for three functions of `env`: `read(descriptor, address, count)`, `write(descriptor, address, count)` and
- * `arg(index, address, room)`, and gives its `memory` and `main`. Addresses and counts have 64 bits. Answers are counts, or -1 for a failure.
+ * The module asks for three functions of `env`: `read(descriptor, address, count)`, `write(descriptor, address, count)`
+ * and `arg(index, address, room)`, and gives its `memory` and `main`. Addresses and counts have 64 bits. Answers are
+ * counts, or -1 for a failure.
  */
 
 /** Thrown out of a run whose `write` doesn't want more octets. */
@@ -11,7 +12,8 @@ export class Full extends Error {}
 /**
  * Runs the module over the words of a command line and an input, and answers the exit status.
  *
- * `write` is given each piece of output, as an array of its own, and the descriptor (1 or 2). What it throws ends the run.
+ * `write` is given each piece of output, as an array of its own, and the descriptor (1 or 2). What it throws ends the
+ * run.
  *
  * @param {WebAssembly.Module} module
  * @param {string[]} words
@@ -59,6 +61,8 @@ export function runModule(module, words, input, write) {
         },
     };
     const { exports } = new WebAssembly.Instance(module, { env });
-    const exported = /** @type {{memory: WebAssembly.Memory, main: (words: number, none: bigint) => number}} */ (/** @type {unknown} */ (exports));
+    const exported = /** @type {{memory: WebAssembly.Memory, main: (words: number, none: bigint) => number}} */ (
+        /** @type {unknown} */ (exports)
+    );
     return exported.main(line.length, 0n) & 255;
 }

@@ -15,9 +15,9 @@
 /**
  * How a run ended.
  *
- * `ended` is `exit` where the program came to its own end, `time` or `output` where a limit was reached, `stopped` where `stop` was
- * called. Except after `exit`, `status` is -1, and `stdout` is a prefix of what the program would have written. After `output` it and
- * `stderr` have `limits.octets` octets together.
+ * `ended` is `exit` where the program came to its own end, `time` or `output` where a limit was reached, `stopped`
+ * where `stop` was called. Except after `exit`, `status` is -1, and `stdout` is a prefix of what the program would have
+ * written. After `output` it and `stderr` have `limits.octets` octets together.
  *
  * @typedef {object} Outcome
  * @property {number} status the exit status: 0 to 255, or -1
@@ -29,8 +29,9 @@
 /**
  * Runs the program. Runs may overlap. Each begins with an empty memory, and none sees anything of another.
  *
- * `run` takes the words of the command line, without the program's name, and what stands on standard input. Its promise is rejected
- * only where the program can't be started, or where it breaks off without a status, which no input should bring about.
+ * `run` takes the words of the command line, without the program's name, and what stands on standard input. Its promise
+ * is rejected only where the program can't be started, or where it breaks off without a status, which no input should
+ * bring about.
  *
  * `stop` ends every run of this runner that is under way, as `stopped`.
  *
@@ -40,8 +41,8 @@
  */
 
 /**
- * What a worker says: octets that were written to a descriptor (1 or 2), that it has reached the limit of octets, its exit status, or
- * why it broke off.
+ * What a worker says: octets that were written to a descriptor (1 or 2), that it has reached the limit of octets, its
+ * exit status, or why it broke off.
  *
  * @typedef {{descriptor: number, octets: Uint8Array} | {full: true} | {status: number} | {broken: string}} Said
  */
@@ -63,7 +64,8 @@ export function joined(pieces) {
 }
 
 /**
- * Makes a runner of the compiled program. `spawn` starts a worker of `worker.js`; one is always kept ready, so that a run starts at once.
+ * Makes a runner of the compiled program. `spawn` starts a worker of `worker.js`; one is always kept ready, so that a
+ * run starts at once.
  *
  * @param {WebAssembly.Module} module
  * @param {() => Worker} spawn
@@ -94,7 +96,12 @@ export function makeRunner(module, spawn) {
             /** @param {Outcome["ended"]} ended */
             function end(ended, status = -1) {
                 leave();
-                resolve({ status, stdout: joined(written[1]), stderr: new TextDecoder().decode(joined(written[2])), ended });
+                resolve({
+                    status,
+                    stdout: joined(written[1]),
+                    stderr: new TextDecoder().decode(joined(written[2])),
+                    ended,
+                });
             }
 
             /** @param {string} why */

@@ -1,4 +1,6 @@
-/** The worker of a run: it is sent one task, runs the program once, and says what the program writes and how it ends. */
+/**
+ * The worker of a run: it is sent one task, runs the program once, and says what the program writes and how it ends.
+ */
 
 import { Full, runModule } from "./program.js";
 

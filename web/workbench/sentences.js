@@ -64,7 +64,9 @@ export function sentenceOf(history, at) {
  * @param {import("./stops.js").Stop} stop
  */
 export function quietSentence(history, stop) {
-    const rounds = stop.round === stop.last ? `Round ${stop.round} passes` : `Rounds ${stop.round} to ${stop.last} pass`;
+    const rounds = stop.round === stop.last
+        ? `Round ${stop.round} passes`
+        : `Rounds ${stop.round} to ${stop.last} pass`;
     return `${rounds}, and nothing is new.`;
 }
 
@@ -87,7 +89,8 @@ function printedSentence(it, line) {
  */
 function says(it, words) {
     const text = textOf(it.moment, it.before, words);
-    return (text === null ? "" : saying(it.network.raw, Number(words[2]), Number(words[3]), text)) || count(Number(words[3]), "bit");
+    return (text === null ? "" : saying(it.network.raw, Number(words[2]), Number(words[3]), text))
+        || count(Number(words[3]), "bit");
 }
 
 /**
@@ -136,9 +139,24 @@ const HOSTS = ["source", "destination", "host", "peer"];
 function lineSentence(network, kind, words, further = {}) {
     if (!Object.hasOwn(LINES, kind)) return "";
     const [names, sentence] = LINES[kind];
-    const holes = Object.fromEntries(names.split(" ").map((name, place) => [name, HOSTS.includes(name) ? hostName(network, words[place] ?? "") : words[place] ?? ""]));
-    const meaning = kind === "error" ? ERRORS[Number(holes.code)] ?? "a code of its own" : REASONS[holes.reason] ?? holes.reason ?? "";
-    return filled(sentence, { ...holes, way: Number(holes.socket) % 2 ? "sends" : "receives", meaning, text: words.slice(1).join(" "), ...further });
+    const holes = Object.fromEntries(
+        names.split(" ").map(
+            (name, place) => [name, HOSTS.includes(name) ? hostName(network, words[place] ?? "") : words[place] ?? ""],
+        ),
+    );
+    const meaning = kind === "error"
+        ? ERRORS[Number(holes.code)] ?? "a code of its own"
+        : REASONS[holes.reason] ?? holes.reason ?? "";
+    return filled(
+        sentence,
+        {
+            ...holes,
+            way: Number(holes.socket) % 2 ? "sends" : "receives",
+            meaning,
+            text: words.slice(1).join(" "),
+            ...further,
+        },
+    );
 }
 
 /**
@@ -200,7 +218,9 @@ export function frameName(network, frame) {
  * @param {"sends" | "sends again"} [how]
  */
 function sendings(it, imp, how = "sends") {
-    const sent = it.note.sent.filter((sent) => sent.frame.packet).map((sent) => `${frameName(it.network, sent.frame)} to ${siteName(it.network, sent.to)}`);
+    const sent = it.note.sent.filter((sent) => sent.frame.packet).map(
+        (sent) => `${frameName(it.network, sent.frame)} to ${siteName(it.network, sent.to)}`,
+    );
     return sent.length ? filled(INSIDE[how], { imp, frames: listed([...new Set(sent)]) }) : "";
 }
 
@@ -215,17 +235,26 @@ function inner(it) {
     const [kind, ...words] = moment.printed[0].split(" ");
     if (kind === "in" && !it.note.sent.length && impOf(words[0]) !== impOf(words[1])) {
         const way = after.way(impOf(words[1]), impOf(words[0]));
-        return way.line < 0 ? filled(INSIDE["no rfnm"], { imp: it.imp(impOf(words[1])), to: it.imp(impOf(words[0])) }) : "";
+        return way.line < 0
+            ? filled(INSIDE["no rfnm"], { imp: it.imp(impOf(words[1])), to: it.imp(impOf(words[0])) })
+            : "";
     }
     if (kind !== "out") return "";
     const flow = words.slice(0, 3).join(" ");
     const imp = impOf(words[0]);
-    if (after.box(words[0])?.answers.some((answer) => answer.kind === "dead" && answer.flow === flow)) return deadAtOnce(it, imp, words[1]);
-    const pieces = [...(after.imp(imp)?.store ?? []), ...it.note.sent.flatMap((sent) => sent.frame.packet ?? [])].filter((packet) => packet.flow === flow && packet.kind === "data");
+    if (after.box(words[0])?.answers.some((answer) => answer.kind === "dead" && answer.flow === flow)) {
+        return deadAtOnce(it, imp, words[1]);
+    }
+    const pieces = [...(after.imp(imp)?.store ?? []), ...it.note.sent.flatMap((sent) => sent.frame.packet ?? [])].filter(
+        (packet) => packet.flow === flow && packet.kind === "data",
+    );
     const waiting = after.imp(imp)?.store.filter((packet) => packet.flow === flow).length ?? 0;
     if (impOf(words[1]) === imp) return filled(INSIDE["one imp"], { imp: it.imp(imp), host: it.host(words[1]) });
     const parts = pieces.length > 1 ? `It is cut into ${pieces.length} packets.` : "";
-    return joinedWords([parts, waiting ? `${waiting === 1 ? "One waits" : `${waiting} wait`} for a free channel.` : ""]);
+    return joinedWords([
+        parts,
+        waiting ? `${waiting === 1 ? "One waits" : `${waiting} wait`} for a free channel.` : "",
+    ]);
 }
 
 /**
@@ -239,7 +268,9 @@ function deadAtOnce(it, imp, destination) {
     if (far === imp) return filled(INSIDE["no host, dead"], { host: it.host(destination) });
     const hops = hopsBetween(it.after, imp, far);
     const ends = { imp: it.imp(imp), to: it.imp(far) };
-    return hops < 0 ? filled(INSIDE["no way, dead"], ends) : filled(INSIDE["no route yet, dead"], { ...ends, rounds: hops });
+    return hops < 0
+        ? filled(INSIDE["no way, dead"], ends)
+        : filled(INSIDE["no route yet, dead"], { ...ends, rounds: hops });
 }
 
 /**
@@ -273,8 +304,14 @@ export function hopsBetween(state, from, to) {
 function silent(it) {
     const { words, parts } = it.moment;
     const [kind, what, other] = words;
-    if (Object.hasOwn(TABLE["forms of programs"], kind) || kind === "take") return filled(SILENT[kind === "take" || kind === "offer" ? kind : "asked"], { host: it.host(what) });
-    if (kind === "calm") return other === "0" || what === "0" ? SILENT["no round"] : filled(SILENT.round, { round: it.moment.round || 1 });
+    if (Object.hasOwn(TABLE["forms of programs"], kind) || kind === "take") {
+        return filled(SILENT[kind === "take" || kind === "offer" ? kind : "asked"], { host: it.host(what) });
+    }
+    if (kind === "calm") {
+        return other === "0" || what === "0"
+            ? SILENT["no round"]
+            : filled(SILENT.round, { round: it.moment.round || 1 });
+    }
     if (!parts.length && !it.network.plain) return outside(it);
     return (INNER[kind] ?? outside)(it);
 }
@@ -290,7 +327,9 @@ const INSIDE = TABLE.inside;
 function outside(it) {
     const { words } = it.moment;
     const flow = words.slice(1, 4).join(" ");
-    if (words[0] === "giveup") return filled(SILENT.giveup, { message: messageName(it.network, flow), source: it.host(words[1]) });
+    if (words[0] === "giveup") {
+        return filled(SILENT.giveup, { message: messageName(it.network, flow), source: it.host(words[1]) });
+    }
     return SILENT.other;
 }
 
@@ -301,15 +340,23 @@ const INNER = {
     route: (it) => {
         const imp = Number(it.moment.words[1]);
         const over = it.note.sent.map((sent) => siteName(it.network, sent.to));
-        return over.length ? `${capital(it.imp(imp))} sends its distances to ${listed(over)}.` : filled(INSIDE["sends to nobody"], { imp: it.imp(imp) });
+        return over.length
+            ? `${capital(it.imp(imp))} sends its distances to ${listed(over)}.`
+            : filled(INSIDE["sends to nobody"], { imp: it.imp(imp) });
     },
-    resend: (it) => sendings(it, it.imp(it.moment.words[1]), "sends again") || filled(INSIDE["nothing to send"], { imp: it.imp(it.moment.words[1]) }),
+    resend: (it) => sendings(it, it.imp(it.moment.words[1]), "sends again")
+        || filled(INSIDE["nothing to send"], { imp: it.imp(it.moment.words[1]) }),
     enddown: (it) => {
         const [, imp, line] = it.moment.words;
         const held = it.before.port(Number(imp), Number(line))?.sending.flatMap((channel) => channel.packet ?? []) ?? [];
         const left = new Set(it.after.heldBy(Number(imp)).map((held) => held.packet?.key));
         const gone = held.filter((packet) => !left.has(packet.key)).map((packet) => packetName(it.network, packet));
-        return joinedWords([filled(INSIDE["end down"], { line, imp: it.imp(imp) }), lostRoutes(it, Number(imp)), sendings(it, "it"), gone.length ? filled(INSIDE["no route left"], { packets: listed(gone) }) : ""]);
+        return joinedWords([
+            filled(INSIDE["end down"], { line, imp: it.imp(imp) }),
+            lostRoutes(it, Number(imp)),
+            sendings(it, "it"),
+            gone.length ? filled(INSIDE["no route left"], { packets: listed(gone) }) : "",
+        ]);
     },
     endup: (it) => {
         const [, imp, line] = it.moment.words;
@@ -327,7 +374,10 @@ const INNER = {
         const flow = it.moment.words.slice(1, 4);
         const [near, far] = [impOf(flow[0]), impOf(flow[1])];
         const ends = { imp: it.imp(near), to: it.imp(far), message: messageName(it.network, flow.join(" ")) };
-        return filled(INSIDE[near === far ? "nobody to ask" : it.before.way(near, far).line < 0 ? "nothing asked" : "asks"], ends);
+        return filled(
+            INSIDE[near === far ? "nobody to ask" : it.before.way(near, far).line < 0 ? "nothing asked" : "asks"],
+            ends,
+        );
     },
     abandon: (it) => {
         const flow = it.moment.words.slice(1, 4).join(" ");
@@ -345,7 +395,10 @@ const INNER = {
  * @param {string} host
  */
 function answerWaits(it, kind, host) {
-    return filled(INSIDE[it.after.isUp(host) ? "waits" : "nobody waits"], { answer: ANSWERS[kind], host: it.host(host) });
+    return filled(
+        INSIDE[it.after.isUp(host) ? "waits" : "nobody waits"],
+        { answer: ANSWERS[kind], host: it.host(host) },
+    );
 }
 
 /**
@@ -360,15 +413,23 @@ function lostRoutes(it, imp) {
     const is = (/** @type {number} */ to) => isReachable(it.after.way(imp, to).distance);
     const found = others.filter((to) => is(to) && !was(to)).map((to) => siteName(it.network, to));
     const lost = others.filter((to) => was(to) && !is(to)).map((to) => siteName(it.network, to));
-    return joinedWords([found.length ? `It now knows a way to ${listed(found)}.` : "", lost.length ? `It knows no way to ${listed(lost)} any more.` : ""]);
+    return joinedWords([
+        found.length ? `It now knows a route to ${listed(found)}.` : "",
+        lost.length ? `It knows no route to ${listed(lost)} any more.` : "",
+    ]);
 }
 
 /** @param {Telling} it */
 function delivered(it) {
     const { note, network } = it;
     if (!note.frame) return outside(it);
-    const start = filled(INSIDE.arrives, { frame: frameName(network, note.frame), imp: it.imp(note.to), from: it.imp(note.from), line: note.line });
-    const freed = note.freed.length ? filled(INSIDE.acknowledges, { packets: listed(note.freed.map((packet) => packetName(network, packet))) }) : "";
+    const start = filled(
+        INSIDE.arrives,
+        { frame: frameName(network, note.frame), imp: it.imp(note.to), from: it.imp(note.from), line: note.line },
+    );
+    const freed = note.freed.length
+        ? filled(INSIDE.acknowledges, { packets: listed(note.freed.map((packet) => packetName(network, packet))) })
+        : "";
     return joinedWords([start, fateSentence(it), freed]);
 }
 
@@ -401,13 +462,14 @@ function fateSentence(it) {
 
 /** @param {Telling} it */
 function changedRoutes(it) {
-    const told = lostRoutes(it, it.note.to);
-    if (told) return told;
-    const changed = it.network.sites.flatMap(({ number }) => {
-        const is = it.after.way(it.note.to, number);
-        return it.before.way(it.note.to, number).distance === is.distance ? [] : [`${siteName(it.network, number)} at ${is.distance}`];
-    });
-    return changed.length ? `It now has ${listed(changed)}.` : "It now sends over another line.";
+    const routes = lostRoutes(it, it.note.to);
+    if (routes) return routes;
+    const [was, is] = [it.before, it.after].map(
+        (state) => (/** @type {number} */ to) => state.way(it.note.to, to).distance,
+    );
+    const sites = it.network.sites.filter(({ number }) => was(number) !== is(number));
+    const changed = sites.map(({ number }) => `${is(number)} to ${siteName(it.network, number)}`);
+    return changed.length ? `Its distance is now ${listed(changed)}.` : "It now sends over another line.";
 }
 
 /** @param {Telling} it */
@@ -417,11 +479,17 @@ function taken(it) {
     if (!packet) return "";
     const target = impOf(packet.kind === "data" || packet.kind === "ask" ? packet.destination : packet.source);
     if (target !== note.to) {
-        if (before.way(note.to, target).line < 0) return filled(INSIDE["no route"], { imp: it.imp(note.to), to: it.imp(target) });
+        if (before.way(note.to, target).line < 0) {
+            return filled(INSIDE["no route"], { imp: it.imp(note.to), to: it.imp(target) });
+        }
         const on = note.sent.find((sent) => sent.frame.packet?.key === packet.key);
-        return on ? `It is sent on to ${siteName(network, on.to)}.` : filled(INSIDE.stored, { imp: it.imp(note.to), to: it.imp(target) });
+        return on
+            ? `It is sent on to ${siteName(network, on.to)}.`
+            : filled(INSIDE.stored, { imp: it.imp(note.to), to: it.imp(target) });
     }
-    if (packet.kind === "ask") return sendings(it, "it") || "No answer goes back, since none would be sure to stay true.";
+    if (packet.kind === "ask") {
+        return sendings(it, "it") || "No answer goes back, since none would be sure to stay true.";
+    }
     if (packet.kind !== "data") return answerTaken(it, packet);
     return dataTaken(it, packet, before, after);
 }
@@ -445,10 +513,14 @@ function answerTaken(it, packet) {
  */
 function dataTaken(it, packet, before, after) {
     const host = it.host(packet.destination);
-    if ((after.box(packet.destination)?.messages.length ?? 0) > (before.box(packet.destination)?.messages.length ?? 0)) return filled(INSIDE.whole, { host });
+    if ((after.box(packet.destination)?.messages.length ?? 0) > (before.box(packet.destination)?.messages.length ?? 0)) {
+        return filled(INSIDE.whole, { host });
+    }
     const kept = after.imp(it.note.to)?.kept.find((note) => note.flow === packet.flow);
     const was = before.imp(it.note.to)?.kept.find((note) => note.flow === packet.flow);
-    if (kept && kept.number === packet.number && was?.number !== packet.number && kept.fate === "dead") return `${filled(INSIDE["host down"], { host })} ${sendings(it, it.imp(it.note.to)) || INSIDE["no answer"]}`;
+    if (kept && kept.number === packet.number && was?.number !== packet.number && kept.fate === "dead") {
+        return `${filled(INSIDE["host down"], { host })} ${sendings(it, it.imp(it.note.to)) || INSIDE["no answer"]}`;
+    }
     const slot = after.imp(it.note.to)?.slots.find((pieces) => pieces[0].flow === packet.flow);
     const had = before.imp(it.note.to)?.slots.find((pieces) => pieces[0].flow === packet.flow);
     if (slot && slot.length !== had?.length) return filled(INSIDE["not whole"], { count: slot.length });
@@ -459,7 +531,10 @@ function dataTaken(it, packet, before, after) {
 function dropped(it) {
     const { note, network } = it;
     if (!note.frame) return outside(it);
-    const start = filled(INSIDE.gone, { frame: frameName(network, note.frame), line: note.line, from: it.imp(note.from), to: it.imp(note.to) });
+    const start = filled(
+        INSIDE.gone,
+        { frame: frameName(network, note.frame), line: note.line, from: it.imp(note.from), to: it.imp(note.to) },
+    );
     if (!note.frame.packet) return start;
     const { packet, channel } = note.frame;
     const held = it.after.port(note.from, note.line)?.sending[channel]?.packet?.key === packet.key;

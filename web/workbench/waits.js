@@ -312,7 +312,7 @@ function connectionWaits(state, talk) {
         const what = `The initial connection of ${hostName(network, host)} with ${hostName(network, peer)}`;
         found.push({
             ...wait(what),
-            for: `the server at socket ${socket} of ${hostName(network, peer)}`,
+            for: `its server on socket ${socket} of ${hostName(network, peer)}`,
             bad: !talk.up.get(peer),
         });
     }

@@ -44,8 +44,8 @@ function rounds(text) {
 }
 
 /**
- * What is wrong with an edit: the state and the printed lines before the added ones have to be those of the position, and no round is
- * lost.
+ * What is wrong with an edit: the state and the printed lines before the added ones have to be those of the position,
+ * and no round is lost.
  *
  * @param {History} history
  * @param {number} position
@@ -54,8 +54,12 @@ function rounds(text) {
 async function wrongWith(history, position, edit) {
     const after = await historyOfText(edit.text);
     const found = [];
-    if (JSON.stringify(after.at(edit.position).parts) !== JSON.stringify(history.at(edit.position).parts)) found.push("state");
-    if (JSON.stringify(printedBefore(after, edit.position)) !== JSON.stringify(printedBefore(history, edit.position))) found.push("printed");
+    if (JSON.stringify(after.at(edit.position).parts) !== JSON.stringify(history.at(edit.position).parts)) {
+        found.push("state");
+    }
+    if (JSON.stringify(printedBefore(after, edit.position)) !== JSON.stringify(printedBefore(history, edit.position))) {
+        found.push("printed");
+    }
     if (rounds(edit.text) !== rounds(history.replay.input.text)) found.push("rounds");
     if (after.replay.inside !== history.replay.inside) found.push("inside");
     const script = edit.text.split("\n%\n")[1].split("\n");
@@ -73,7 +77,11 @@ for (const name of NAMES) {
             for (let turn = 0; turn < 2; turn += 1) {
                 const place = next(stops.length + 1);
                 const position = place ? stops[place - 1].to : 0;
-                assert.deepEqual(await wrongWith(history, position, goOn(history, position, ["calm 0"])), [], `${grain}, position ${position}`);
+                assert.deepEqual(
+                    await wrongWith(history, position, goOn(history, position, ["calm 0"])),
+                    [],
+                    `${grain}, position ${position}`,
+                );
             }
         }
     });
@@ -83,17 +91,28 @@ test("planted faults of going on are found", async () => {
     const history = await historyOf("arpanet-of-december-1969");
     assert(history);
     const stops = stopsOf(history, "event");
-    const within = stops.map((stop) => stop.to).filter((at) => history.replay.moments[at]?.round > 1 && history.replay.moments[at - 1]?.round === history.replay.moments[at].round && history.replay.moments[at - 1].words[0] === "deliver");
-    const edits = within.filter((_, place) => place % 61 === 7).slice(0, 12).map((position) => ({ position, edit: goOn(history, position, ["calm 0"]) }));
+    const within = stops.map((stop) => stop.to).filter(
+        (at) => history.replay.moments[at]?.round > 1
+            && history.replay.moments[at - 1]?.round === history.replay.moments[at].round
+            && history.replay.moments[at - 1].words[0] === "deliver",
+    );
+    const edits = within.filter((_, place) => place % 61 === 7).slice(0, 12).map(
+        (position) => ({ position, edit: goOn(history, position, ["calm 0"]) }),
+    );
     /** @type {[string, (text: string) => string][]} */
     const planted = [
-        ["a round is lost", (text) => text.replace(/(calm 0\ncalm )(\d+)/, (_, start, count) => `${start}${Number(count) - 1}`)],
+        [
+            "a round is lost",
+            (text) => text.replace(/(calm 0\ncalm )(\d+)/, (_, start, count) => `${start}${Number(count) - 1}`),
+        ],
         ["the last event of the round is left out", (text) => text.replace(/\n[^\n]*\ncalm 0\n/, "\ncalm 0\n")],
         ["drop before deliver", (text) => text.replace(/\n(deliver [^\n]*)\n(drop [^\n]*)\n/, "\n$2\n$1\n")],
     ];
     for (const [what, fault] of planted) {
         let found = 0;
-        for (const { position, edit } of edits) found += (await wrongWith(history, position, { ...edit, text: fault(edit.text) })).length;
+        for (const { position, edit } of edits) {
+            found += (await wrongWith(history, position, { ...edit, text: fault(edit.text) })).length;
+        }
         assert(found > 0, what);
     }
 });

@@ -31,10 +31,20 @@ function leftOut(history, position, talk, waits) {
     const found = [];
     const flows = new Set(waits.map((it) => it.flow));
     if (history.replay.inside && !history.network.plain) {
-        for (const { number } of history.network.sites) for (const it of state.imp(number)?.sources ?? []) if (it.state !== "idle" && !flows.has(it.flow)) found.push(it.flow);
+        for (const { number } of history.network.sites) {
+            for (const it of state.imp(number)?.sources ?? []) {
+                if (it.state !== "idle" && !flows.has(it.flow)) found.push(it.flow);
+            }
+        }
     } else if (!history.replay.inside) for (const flow of talk.messages.keys()) if (!flows.has(flow)) found.push(flow);
-    for (const end of talk.ends) if (sends(end.socket) && end.state === "open" && end.handed > end.bits && !waits.some((it) => it.what.includes(`socket ${end.socket} `))) found.push(`bits on ${end.socket}`);
-    for (const it of talk.contacts) if (it.state === "asked" && !waits.some((wait) => wait.what.includes("contact"))) found.push("contact");
+    for (const end of talk.ends) {
+        if (sends(end.socket) && end.state === "open" && end.handed > end.bits && !waits.some((it) => it.what.includes(`socket ${end.socket} `))) {
+            found.push(`bits on ${end.socket}`);
+        }
+    }
+    for (const it of talk.contacts) {
+        if (it.state === "asked" && !waits.some((wait) => wait.what.includes("contact"))) found.push("contact");
+    }
     return found;
 }
 
@@ -56,11 +66,23 @@ for (const name of NAMES) {
             const state = history.at(stop.to);
             const waits = waitsOf(state, talk.goTo(stop.to), history.replay.inside);
             assert.deepEqual(leftOut(history, stop.to, talk, waits), [], `step ${place + 1}`);
-            for (const end of talk.ends) assert(end.service || !sends(end.socket) || end.handed >= end.bits, `${end.host} socket ${end.socket} sent more than was handed over`);
-            for (const wait of waits) assert(wait.what && wait.for && !/undefined|NaN/.test(wait.what + wait.where + wait.for), JSON.stringify(wait));
+            for (const end of talk.ends) {
+                assert(
+                    end.service || !sends(end.socket) || end.handed >= end.bits,
+                    `${end.host} socket ${end.socket} sent more than was handed over`,
+                );
+            }
+            for (const wait of waits) {
+                assert(
+                    wait.what && wait.for && !/undefined|NaN/.test(wait.what + wait.where + wait.for),
+                    JSON.stringify(wait),
+                );
+            }
         });
         const state = history.at(history.length);
-        for (const host of history.network.hosts) assert(choicesFor(state, talk.goTo(history.length), { kind: "host", host }).length > 0);
+        for (const host of history.network.hosts) {
+            assert(choicesFor(state, talk.goTo(history.length), { kind: "host", host }).length > 0);
+        }
         const rows = rowsOf(history, stops);
         assert.deepEqual(rows.filter((row) => row.stop >= 0).map((row) => row.stop), stops.map((_, place) => place));
         assert(seen(rows, -1).length === rows.length);
@@ -74,7 +96,11 @@ for (const name of NAMES) {
         assert.deepEqual(withoutLane(history, chart.lanes), []);
         const { imps, boxes, hosts } = placed(history.network);
         const points = [...imps].map(([imp, point]) => ({ ...point, ...(boxes.get(imp) ?? { w: 0, h: 0 }) }));
-        points.forEach((a, at) => points.slice(at + 1).forEach((b) => assert(Math.abs(a.x - b.x) >= a.w + b.w || Math.abs(a.y - b.y) >= a.h + b.h)));
+        points.forEach(
+            (a, at) => points.slice(at + 1).forEach(
+                (b) => assert(Math.abs(a.x - b.x) >= a.w + b.w || Math.abs(a.y - b.y) >= a.h + b.h),
+            ),
+        );
         assert.equal(hosts.size, history.network.hosts.length);
     });
 }
@@ -86,14 +112,24 @@ for (const name of NAMES) {
  * @param {string[]} lanes
  */
 function withoutLane(history, lanes) {
-    const hosts = history.replay.moments.flatMap((moment) => moment.printed.filter((line) => line.startsWith("out ")).flatMap((line) => line.split(" ").slice(1, 3)));
+    const hosts = history.replay.moments.flatMap(
+        (moment) => moment.printed.filter((line) => line.startsWith("out ")).flatMap(
+            (line) => line.split(" ").slice(1, 3),
+        ),
+    );
     return [...new Set(hosts)].filter((host) => history.network.hosts.includes(host) && !lanes.includes(host));
 }
 
 test("a lane that is left out is found: 0/4 of the lockup takes nothing", async () => {
     const history = await historyOf("reassembly-lockup");
     assert(history);
-    const crossing = new Set(history.replay.moments.flatMap((moment) => moment.printed.map((line) => line.split(" ")).map((words) => (words[0] === "out" ? words[1] : words[2]))));
+    const crossing = new Set(
+        history.replay.moments.flatMap(
+            (moment) => moment.printed.map((line) => line.split(" ")).map(
+                (words) => (words[0] === "out" ? words[1] : words[2]),
+            ),
+        ),
+    );
     assert.deepEqual(withoutLane(history, [...crossing]), ["0/4"]);
     assert.deepEqual(chartOf(history).lanes, ["0/1", "0/3", "0/4"]);
 });

@@ -37,11 +37,26 @@ function programs(script) {
 }
 
 test("a message that was lost for a reset of one end waits for nobody, and is told so", async () => {
-    const history = await historyOfText(twoImps(["calm 2", "out 0/1 0/2 5 8 41", "calm 4", "enddown 1 0", "endup 1 0", "calm 2", "out 0/1 0/2 5 8 42", "deliver 0 + 0", "calm 20"]));
+    const history = await historyOfText(
+        twoImps([
+            "calm 2",
+            "out 0/1 0/2 5 8 41",
+            "calm 4",
+            "enddown 1 0",
+            "endup 1 0",
+            "calm 2",
+            "out 0/1 0/2 5 8 42",
+            "deliver 0 + 0",
+            "calm 20",
+        ]),
+    );
     const at = history.replay.moments.findIndex((_, place) => history.notes[place].fate === "lost");
     const sentence = sentenceOf(history, at);
     assert(sentence.includes("It never came before"), sentence);
-    assert(sentence.includes("LOST") && sentence.includes("`enddown 1 0`, `enddown 2 0`, `endup 1 0`, `endup 2 0`"), sentence);
+    assert(
+        sentence.includes("LOST") && sentence.includes("`enddown 1 0`, `enddown 2 0`, `endup 1 0`, `endup 2 0`"),
+        sentence,
+    );
     const [wait, ...more] = waitsAtEnd(history);
     assert.deepEqual(more, []);
     assert(wait.bad && wait.for.startsWith("nothing of it is alive"));
@@ -83,7 +98,7 @@ test("an initial connection is waited for until it is complete or has failed", a
     const contact = ["calm 2", "contact 0/1 0/2", "calm 20", "user 0/1 0/2 7 16"];
     const asked = waitsAtEnd(await historyOfText(programs(contact)));
     assert.deepEqual(asked.map((it) => [it.what, it.for, it.bad]), [
-        ["The initial connection of host 0/1 with host 0/2", "the server at socket 7 of host 0/2", false],
+        ["The initial connection of host 0/1 with host 0/2", "its server on socket 7 of host 0/2", false],
     ]);
     assert.deepEqual(waitsAtEnd(await historyOfText(programs([...contact, "calm 20"]))), []);
 });
@@ -92,15 +107,34 @@ test("what an echo service took waits for its host to offer, and then no longer"
     const begun = ["calm 2", "server 0/2 7 100", "contact 0/1 0/2", "calm 20", "user 0/1 0/2 7 16", "calm 80"];
     const history = await historyOfText(programs([...begun, "type 0/1 HELLO", "calm 12"]));
     const talk = new Talk(history.replay);
-    const at = history.replay.moments.findIndex((moment) => moment.printed.some((line) => line.startsWith("arrived 0/2 100")));
+    const at = history.replay.moments.findIndex(
+        (moment) => moment.printed.some((line) => line.startsWith("arrived 0/2 100")),
+    );
     const waits = waitsOf(history.at(at + 1), talk.goTo(at + 1), history.replay.inside);
     const echo = waits.find((it) => it.what.startsWith("56 bits on socket 101"));
-    assert(echo && echo.for === "host 0/2 to offer" && echo.where.includes("service; 4 messages and 4096 bits"), JSON.stringify(waits));
+    assert(
+        echo && echo.for === "host 0/2 to offer" && echo.where.includes("service; 4 messages and 4096 bits"),
+        JSON.stringify(waits),
+    );
     assert.deepEqual(waitsAtEnd(history), []);
 });
 
 test("a contact that never ends is told, and that nothing of its message is alive", async () => {
-    const history = await historyOfText(programs(["calm 2", "contact 0/1 0/2", "calm 10", "impdown 2", "calm 3", "forget 1 2", "impup 2", "hostup 0/2", "calm 10", "contact 0/1 0/2", "calm 20"]));
+    const history = await historyOfText(
+        programs([
+            "calm 2",
+            "contact 0/1 0/2",
+            "calm 10",
+            "impdown 2",
+            "calm 3",
+            "forget 1 2",
+            "impup 2",
+            "hostup 0/2",
+            "calm 10",
+            "contact 0/1 0/2",
+            "calm 20",
+        ]),
+    );
     assert(history.replay.inside);
     const waits = waitsAtEnd(history);
     assert(waits.some((it) => it.what.includes("contact")), JSON.stringify(waits));
@@ -117,7 +151,9 @@ test("an IMP that is down while its neighbours' ends are up is told", async () =
 test("the sixteen messages of the lockup are two rows", async () => {
     const history = await historyOf("reassembly-lockup");
     assert(history);
-    const at = history.replay.moments.findIndex((moment) => moment.words.join(" ") === "enddown 1 0" || moment.words[0] === "enddown");
+    const at = history.replay.moments.findIndex(
+        (moment) => moment.words.join(" ") === "enddown 1 0" || moment.words[0] === "enddown",
+    );
     const waits = waitsOf(history.at(at), new Talk(history.replay).goTo(at), true);
     assert.deepEqual(grouped(history.network, waits).map((it) => it.count), [8, 8]);
 });
@@ -203,7 +239,10 @@ test("each bad network has its cause and its line", async () => {
 
 test("the holes of a sentence are filled", () => {
     const holes = { host: "host 0/1", ours: "Sites", bits: 1, octets: 2 };
-    assert.equal(filled("{Host} has {bits bit} in {octets octet} of {host's} {bits}.", holes), "Host 0/1 has 1 bit in 2 octets of host 0/1's 1.");
+    assert.equal(
+        filled("{Host} has {bits bit} in {octets octet} of {host's} {bits}.", holes),
+        "Host 0/1 has 1 bit in 2 octets of host 0/1's 1.",
+    );
     assert.equal(filled("{Ours's} and {ours's}", holes), "Sites' and Sites'");
     assert.throws(() => filled("{who} is it?", holes), RangeError);
 });
@@ -232,7 +271,10 @@ test("an address brings the same text, step and view elsewhere", async () => {
     const text = twoImps(["calm 2", "# ä comment", "out 0/1 0/2 5 8 41"]);
     const place = { at: 3, grain: "round", hidden: true, to: 2 };
     assert.deepEqual(await placeIn(await fragment({ ...place, text })), { ...place, text });
-    assert.deepEqual(await placeIn(await fragment({ ...place, example: "lo-of-login" })), { ...place, example: "lo-of-login" });
+    assert.deepEqual(
+        await placeIn(await fragment({ ...place, example: "lo-of-login" })),
+        { ...place, example: "lo-of-login" },
+    );
     assert.equal(await unpacked(await packed(text)), text);
     assert.equal(await placeIn("#s=not-deflated"), null);
     assert.equal(await placeIn("#step-24"), null);
@@ -246,6 +288,10 @@ test("a file's own words are those at its head, and no comment of its script", (
 test("an endless calm is cut, and what was printed till then is there", async () => {
     const history = await historyOf("resets-in-step");
     assert(history);
-    const outcome = await replay(run, history.replay.input.text.replace(/^calm 7$/m, "calm 4294967295"), { seconds: 20, octets: 20_000_000 });
+    const outcome = await replay(
+        run,
+        history.replay.input.text.replace(/^calm 7$/m, "calm 4294967295"),
+        { seconds: 20, octets: 20_000_000 },
+    );
     assert(isReplay(outcome) && outcome.cut !== "" && outcome.moments.length > 1000);
 });
