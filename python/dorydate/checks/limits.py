@@ -3,7 +3,7 @@
 Whatever grows can be refused for want of memory, and no contract can say whether memory really ran out. So a limit that somebody put into
 the code and told as running out of memory would pass each proof. Here is one input for each thing that grows, as large as an input can ask for
 or past every limit that one might think of. How the program ends on it has to be what an independent model in Python says of it: of a script
-python/dorydate/model/script.py, of a log python/dorydate/model/log.py, of a trace tools/trace_rules.py.
+python/dorydate/model/script.py, of a log python/dorydate/model/log.py, of a trace python/dorydate/model/trace.py.
 """
 
 import os
@@ -14,9 +14,10 @@ from concurrent.futures import ThreadPoolExecutor
 from typing import NamedTuple
 
 from dorydate.model.log import ends_audit
-from dorydate.model.topology import spelled_input
-from dorydate.parts import ROOT, any_program
 from dorydate.model.script import expected
+from dorydate.model.topology import spelled_input
+from dorydate.model.trace import ends_trace
+from dorydate.parts import any_program
 
 Network = tuple[str, bool, list[tuple[int, int]], list[tuple[int, int]]]
 End = tuple[int, str, str]
@@ -85,10 +86,9 @@ def of_log(program: str, name: str) -> str | None:
 
 def of_trace(program: str, name: str) -> str | None:
     """The same of a trace of 12,000 events."""
-    octets = spelled_input(("plain", True, [(1, 2), (2, 1)], []), ["take 0/1"] * 12_000)
-    found = ends(program, ["--trace"], octets)
-    model = subprocess.run([sys.executable, f"{ROOT}/tools/trace_rules.py"], input=octets, capture_output=True, check=False, env={**os.environ, "PYTHONPATH": f"{ROOT}/python"})
-    wanted = model.returncode, model.stdout.decode("latin-1"), model.stderr.decode("latin-1")
+    network: Network = ("plain", True, [(1, 2), (2, 1)], [])
+    lines = ["take 0/1"] * 12_000
+    found, wanted = ends(program, ["--trace"], spelled_input(network, lines)), ends_trace(network, lines)
     return None if found == wanted and found[0] == 0 else failed(name, found, wanted)
 
 

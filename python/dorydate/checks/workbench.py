@@ -27,7 +27,7 @@ from dorydate.explain import topology
 from dorydate.explain import faults
 from dorydate.parts import ROOT, any_program
 from dorydate.model.subnet import Subnet
-from trace_subnet import every_name, part
+from dorydate.model.trace_subnet import every_name, part
 
 MOST_ROUNDS = 400  # of calm in an example that the model follows
 

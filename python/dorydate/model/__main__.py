@@ -1,6 +1,6 @@
 """Runs an input by the independent model of the rules alone, without the program: tools/model [--book] [--check] [--texts] < FILE
 
-With --log it prints the log, and with --audit it judges one.
+With --log it prints the log, with --trace the trace, and with --audit it judges a log.
 
 With --cases FOLDER it runs each file of a folder, with the options of NAME.args, and compares what it prints with
 NAME.stdout. Of TOML it reads the plain spelling that the examples have, one key a line.
@@ -13,6 +13,7 @@ import sys
 from dorydate.model.log import ends_audit, ends_log
 from dorydate.model.script import expected, network_is_good
 from dorydate.model.topology import network_of
+from dorydate.model.trace import ends_trace
 
 
 def ends(octets, options):
@@ -24,6 +25,8 @@ def ends(octets, options):
     network, script = network_of("\n".join(lines[:marker])), lines[marker + 1 :]
     if options == ["--log"] and network_is_good(network, ["worlds"]):
         return ends_log(network, script)
+    if options == ["--trace"] and network_is_good(network, ["worlds"]):
+        return ends_trace(network, script)
     return expected(options, network, script)
 
 

@@ -1,20 +1,17 @@
-#!/usr/bin/env python3
-"""Traces of raw networks, independently implemented: tools/trace_rules.py < FILE prints the trace of an input.
+"""Traces of raw networks, independently implemented: tools/model --trace < FILE prints the trace of an input.
 
 It was written from docs/trace.md, in another language and another form than the definitions: mailboxes and subnets are those
-of python/dorydate/model/boxes.py and python/dorydate/model/subnet.py, and a trace is told from what they are after each event. The parts of a subnet
-are in tools/trace_subnet.py. `check trace` uses it.
+of dorydate.model.boxes and dorydate.model.subnet, and a trace is told from what they are after each event. The parts of a
+subnet are in dorydate.model.trace_subnet. `check trace` uses it.
 """
 
 import json
-import sys
 
-import trace_subnet
+from dorydate.model import trace_subnet
 from dorydate.model.boxes import TAKES, Boxes
 from dorydate.model.imp import spell_flow, spell_host
-from dorydate.model.topology import network_of
 from dorydate.model.script import opened, read_line, spelled_text
-from trace_subnet import subnet_of
+from dorydate.model.trace_subnet import subnet_of
 
 
 def spelled(event):
@@ -199,15 +196,8 @@ def boxes_of(imps, parts):
     return boxes
 
 
-def main():
-    lines = sys.stdin.buffer.read().decode("latin-1").split("\n")
-    marker = lines.index("%")
-    network = network_of("\n".join(lines[:marker]))
+def ends_trace(network, lines):
+    """How the program ends when it is asked for the trace of a network and a script."""
     if not network[1]:
-        sys.exit("trace: only raw networks can be traced")
-    for record in traced(opened(network), lines[marker + 1 :]):
-        print(text(record))
-
-
-if __name__ == "__main__":
-    main()
+        return 1, "", "arpasim: no trace of such a network\n"
+    return 0, "".join(f"{text(it)}\n" for it in traced(opened(network), lines)), ""

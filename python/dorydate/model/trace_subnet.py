@@ -1,6 +1,6 @@
 """The parts of a subnet as a trace tells them, and a subnet made from its parts.
 
-It was written from docs/trace.md over the independent model of the subnet. `trace_rules` stands on it.
+It was written from docs/trace.md over the independent model of the subnet. `trace` uses it.
 """
 
 from functools import cache
