@@ -9,7 +9,7 @@ import struct
 import subprocess
 import tempfile
 import unittest
-from collections.abc import Callable, Iterator, Sequence
+from collections.abc import Iterator, Sequence
 from functools import lru_cache
 from pathlib import Path
 from typing import Any
@@ -20,7 +20,7 @@ from dorydate.export import chart, pcapng, perfetto, shiviz
 from dorydate.export.command import DISSECTOR, written
 from dorydate.export.leaders import body, leader, packet_of
 from dorydate.export.replayed import Happened, Line, Replayed, as_printed, output, replayed
-from dorydate.model import decode
+from dorydate.model.decode import text_in_words
 from dorydate.network import Host
 from dorydate.program import found
 from dorydate.script import Calm, Flow, Script, Text
@@ -151,9 +151,8 @@ class Dissected(unittest.TestCase):
 
     def test_texts_in_words(self) -> None:
         """What texts say is what the independent model's reader says."""
-        in_words: Callable[[int, bytes, int], str] = decode.text_in_words
         what = happened(*(f"out 0/1 0/2 {it}" for it in texts()))
-        wanted = [in_words(int(link), bytes.fromhex(octets.replace("-", "")), int(bits)) for link, bits, octets in (it.split(" ") for it in texts())]
+        wanted = [text_in_words(int(link), bytes.fromhex(octets.replace("-", "")), int(bits)) for link, bits, octets in (it.split(" ") for it in texts())]
         told = [row[0].split(": ", 1)[1] for row in self.dissected([pcapng.capture(what)], "_ws.col.Info")]
         self.assertEqual(told, wanted)
 

@@ -10,41 +10,49 @@ is 3 wide, so that numbers wrap around within a script. Not each of the rules is
 the exact contracts alone are not among them.
 """
 
+from __future__ import annotations
+
 import sys
 from collections import Counter
+from functools import partial
 
-from dorydate.model import imp as imp_rules
-from dorydate.model.chance.questions import Counting, Questions
-from dorydate.model.imp import DEAD, NEVER, RFNM, TELLS, Imp
+from dorydate.model.chance.questions import Counting, MakesSubnet, Questions
+from dorydate.model.crossings import Answer, Answered, Crossing, Passed, Reply, Turned
+from dorydate.model.imp import TELLS, Deed, Imp
+from dorydate.model.imp_state import NUMBERS, Fate, Numbers
 from dorydate.model.mailboxes import first_break, never_taken
+from dorydate.model.names import Flow, HostName
+from dorydate.model.packets import DEAD, NEVER, RFNM
 from dorydate.model.subnet import Subnet
-from dorydate.model.without import AskedUnnoted, BeginsKept, Impatient, of_imps
+from dorydate.model.without.network import AskedUnnoted, BeginsKept, Impatient
 
 RUNS = 1000
 MOST_TRIED = 4000  # this many scripts are run to find that a rule is lacking
+FEW = Numbers(8, 3)
 
 # ---- logs by hand
 
-HOSTS = [(0, 1), (0, 2)]
-FLOW, BACK = ((0, 1), (0, 2), 9), ((0, 2), (0, 1), 9)
-OUT, TAKEN, NEXT = ("out", FLOW, "1"), ("in", FLOW, "1"), ("out", FLOW, "0")
-DOWN, UP = ("down", (0, 1)), ("up", (0, 1))
+ONE, OTHER = HOSTS = [HostName(0, 1), HostName(0, 2)]
+FLOW, BACK = Flow(ONE, OTHER, 9), Flow(OTHER, ONE, 9)
+OUT, TAKEN, NEXT = Passed("out", FLOW, "1"), Passed("in", FLOW, "1"), Passed("out", FLOW, "0")
+DOWN, UP = Turned("down", ONE), Turned("up", ONE)
 
 
-def told(kind, flow=FLOW):
-    return "answer", kind, flow
+def told(kind: Answer, flow: Flow = FLOW) -> Answered:
+    """A crossing of an answer."""
+    return Answered("answer", kind, flow)
 
 
 # logs, and the place of the first crossing that finds no box as it needs it
-LOGS = [
+LOGS: list[tuple[list[Crossing], int | None]] = [
     ([OUT, told("nottaken")], None),
-    ([OUT, told("nottaken"), NEXT, ("in", FLOW, "0"), told("rfnm")], None),
+    ([OUT, told("nottaken"), NEXT, Passed("in", FLOW, "0"), told("rfnm")], None),
     ([OUT, TAKEN, told("rfnm")], None),
     ([OUT, TAKEN, told("incomplete")], None),
     ([OUT, told("incomplete")], None),
     ([OUT, told("dead")], None),
     ([OUT, DOWN, TAKEN, UP, NEXT], None),
-    ([OUT, ("out", BACK, ""), ("in", BACK, ""), TAKEN, told("rfnm", BACK), told("rfnm")], None),
+    ([OUT, Passed("out", BACK, ""), Passed("in", BACK, ""), TAKEN, told("rfnm", BACK), told("rfnm")], None),
     ([OUT, TAKEN, told("nottaken")], 2),
     ([OUT, told("nottaken"), TAKEN], 2),
     ([OUT, told("nottaken"), told("nottaken")], 2),
@@ -54,26 +62,26 @@ LOGS = [
     ([OUT, TAKEN, told("dead")], 2),
     ([OUT, told("rfnm")], 1),
     ([OUT, NEXT], 1),
-    ([OUT, ("in", FLOW, "0")], 1),
+    ([OUT, Passed("in", FLOW, "0")], 1),
     ([OUT, TAKEN, TAKEN], 2),
-    ([OUT, ("down", (0, 2)), TAKEN], 2),
+    ([OUT, Turned("down", OTHER), TAKEN], 2),
     ([UP], 0),
     ([DOWN, DOWN], 1),
     ([DOWN, OUT], 1),
-    ([("down", (0, 3))], 0),
+    ([Turned("down", HostName(0, 3))], 0),
 ]
 
 # logs, and whether no message is taken whose source was told "not taken"
-TOLD = [
-    ([OUT, told("nottaken"), NEXT, ("in", FLOW, "0")], True),
+TOLD: list[tuple[list[Crossing], bool]] = [
+    ([OUT, told("nottaken"), NEXT, Passed("in", FLOW, "0")], True),
     ([OUT, TAKEN, told("rfnm"), NEXT, told("nottaken")], True),
-    ([OUT, ("in", BACK, "1"), told("nottaken")], True),
+    ([OUT, Passed("in", BACK, "1"), told("nottaken")], True),
     ([OUT, told("nottaken"), TAKEN], False),
     ([OUT, TAKEN, told("nottaken")], False),
     ([OUT, told("nottaken"), DOWN, UP, TAKEN], False),
 ]
 
-# ---- rules that are left out or broken, beside those of python/dorydate/model/without.py
+# ---- rules that are left out or broken, beside those of python/dorydate/model/without
 
 
 class TakenIsNever(Imp):
@@ -81,7 +89,7 @@ class TakenIsNever(Imp):
 
     told = NEVER
 
-    def answer_to(self, flow, number):
+    def answer_to(self, flow: Flow, number: int) -> Deed | None:
         taken = self.kept.get(flow) == number and self.fates[flow] == "taken"
         return self.with_reply(self.told, flow, number) if taken else super().answer_to(flow, number)
 
@@ -93,21 +101,21 @@ class TakenIsDead(TakenIsNever):
 class NeverIsTaken(Imp):
     """A number that is new is answered by an RFNM."""
 
-    def answer_to(self, flow, number):
+    def answer_to(self, flow: Flow, number: int) -> Deed | None:
         return self.with_reply(RFNM, flow, number) if self.is_new(flow, number) else super().answer_to(flow, number)
 
 
 class OldFates(Imp):
     """A number that is noted keeps the fate of the one before it."""
 
-    def note(self, flow, number, fate):
+    def note(self, flow: Flow, number: int, fate: Fate) -> None:
         super().note(flow, number, self.fates.get(flow, fate))
 
 
 class AnyNumber(Imp):
     """A question is answered by the fate of whatever number was noted last."""
 
-    def answer_to(self, flow, number):
+    def answer_to(self, flow: Flow, number: int) -> Deed | None:
         if self.is_new(flow, number) or self.fates[flow] == "waits":
             return super().answer_to(flow, number)
         return self.with_reply(TELLS[self.fates[flow]], flow, number)
@@ -116,9 +124,9 @@ class AnyNumber(Imp):
 class ToldWhenDown(Imp):
     """NotTaken waits for a host that is down."""
 
-    def tell(self, kind, flow):
-        if kind == "nottaken" and flow[0][0] < len(self.hosts):
-            self.hosts[flow[0][0]].answers.append((kind, flow))
+    def tell(self, kind: Answer, flow: Flow) -> None:
+        if kind == "nottaken" and flow.source.number < len(self.hosts):
+            self.hosts[flow.source.number].answers.append(Reply(kind, flow))
         else:
             super().tell(kind, flow)
 
@@ -126,18 +134,23 @@ class ToldWhenDown(Imp):
 class AwaitedIsForgotten(Subnet):
     """An IMP forgets the flows of another one though that may ask about a message."""
 
-    def is_awaiting(self, other, at):
+    def is_awaiting(self, other: int, at: int) -> bool:
         return False
 
 
 class StartsAwaited(Subnet):
     """An IMP starts though another one may ask it about a message."""
 
-    def is_awaited(self, at):
+    def is_awaited(self, at: int) -> bool:
         return False
 
 
-WRONG = {
+def of_imps(kind: type[Imp]) -> MakesSubnet:
+    """Subnets with IMPs of another kind, and few numbers."""
+    return partial(Subnet, numbers=FEW, make_imp=kind)
+
+
+WRONG: dict[str, MakesSubnet] = {
     "Never is told of a message that waits": of_imps(Impatient),
     "a new number that is asked about isn't noted": of_imps(AskedUnnoted),
     "Never is told of a message that was taken": of_imps(TakenIsNever),
@@ -146,43 +159,58 @@ WRONG = {
     "a number that is noted keeps the fate of the one before it": of_imps(OldFates),
     "a question is answered by the fate of another number": of_imps(AnyNumber),
     "NotTaken waits for a host that is down": of_imps(ToldWhenDown),
-    "a number is begun though the destination's IMP keeps it": BeginsKept,
-    "an IMP forgets flows though a message is outstanding": AwaitedIsForgotten,
-    "an IMP starts though a message to it is outstanding": StartsAwaited,
+    "a number is begun though the destination's IMP keeps it": partial(BeginsKept, numbers=FEW),
+    "an IMP forgets flows though a message is outstanding": partial(AwaitedIsForgotten, numbers=FEW),
+    "an IMP starts though a message to it is outstanding": partial(StartsAwaited, numbers=FEW),
 }
 
 
-def is_kept(subnet):
+def is_kept(subnet: Subnet) -> bool:
+    """Whether the log of a subnet is a run of the mailboxes in which "not taken" is true."""
     return first_break(subnet.hosts(), subnet.log) is None and never_taken(subnet.log)
 
 
-def scripts_until_broken(place):
+def scripts_until_broken(make: MakesSubnet) -> int | None:
     """How many scripts it takes until one comes to a log that is no run; None where none does."""
-    return next((seed + 1 for seed in range(MOST_TRIED) if not is_kept(Questions(seed, 200, place).subnet)), None)
+    return next((seed + 1 for seed in range(MOST_TRIED) if not is_kept(Questions(seed, 200, make).subnet)), None)
 
 
-def main():
+def wrong_by_hand() -> str | None:
+    """What is wrong with how logs by hand are judged."""
     for log, wanted in LOGS:
-        if first_break(HOSTS, log) != wanted:
-            print(f"check asking: the mailboxes break at {first_break(HOSTS, log)}, and should at {wanted}: {log}")
-            return 1
-    for log, wanted in TOLD:
-        if never_taken(log) != wanted:
-            print(f"check asking: whether none is taken of which NotTaken is told is {never_taken(log)}, and should be {wanted}: {log}")
-            return 1
-    runs, seen = int(sys.argv[1]) if len(sys.argv) > 1 else RUNS, Counter()
-    for numbers, window in (imp_rules.NUMBERS, imp_rules.WINDOW), (8, 3):
-        imp_rules.NUMBERS, imp_rules.WINDOW = numbers, window
-        for seed in range(runs):
-            questions = Questions(seed, 200, Counting)
-            if not is_kept(questions.subnet):
-                print(f"check asking: run {seed} with {numbers} numbers is no run of the mailboxes: {questions.network}", *questions.lines, sep="\n")
-                return 1
-            seen += questions.subnet.came_to()
+        if (found := first_break(HOSTS, log)) != wanted:
+            return f"the mailboxes break at {found}, and should at {wanted}: {log}"
+    for log, is_right in TOLD:
+        if never_taken(log) != is_right:
+            return f"whether none is taken of which NotTaken is told is {never_taken(log)}, and should be {is_right}: {log}"
+    return None
+
+
+def runs_of(numbers: Numbers, runs: int, seen: Counter[str]) -> bool:
+    """Whether each log of random scripts is a run of the mailboxes. What they came to is counted."""
+    for seed in range(runs):
+        questions = Questions(seed, 200, partial(Counting, numbers=numbers))
+        subnet = questions.subnet
+        assert isinstance(subnet, Counting)
+        if not is_kept(subnet):
+            print(f"check asking: run {seed} with {numbers.count} numbers is no run of the mailboxes: {questions.network}", *questions.lines, sep="\n")
+            return False
+        seen += subnet.came_to()
+    return True
+
+
+def main() -> int:
+    """The exit status."""
+    if wrong := wrong_by_hand():
+        print(f"check asking: {wrong}")
+        return 1
+    runs, seen = int(sys.argv[1]) if len(sys.argv) > 1 else RUNS, Counter[str]()
+    if not all(runs_of(numbers, runs, seen) for numbers in (NUMBERS, FEW)):
+        return 1
     print(f"check asking: {len(LOGS) + len(TOLD)} logs by hand, each judged rightly; {2 * runs} scripts, each log a run of the mailboxes")
     print("check asking: they came to", ", ".join(f"{count} {name}" for name, count in sorted(seen.items())))
-    for name, place in WRONG.items():
-        found = scripts_until_broken(place)
+    for name, make in WRONG.items():
+        found = scripts_until_broken(make)
         if found is None:
             print(f"check asking: no script of {MOST_TRIED} tells that {name}")
             return 1

@@ -14,19 +14,25 @@ Tries what the program says of logs and prints as logs, against an independent r
 It takes the proved program, or where ./build has not made that the one that was built without proofs.
 """
 
+from __future__ import annotations
+
 import glob
 import multiprocessing
 import os
 import subprocess
 import sys
 from collections import Counter
+from collections.abc import Iterator
 from concurrent.futures import ProcessPoolExecutor, ThreadPoolExecutor
 
 from dorydate.checks import log_rows
 from dorydate.model.audit import PARTS
-from dorydate.model.chance.books import WAYS, of_world, small
+from dorydate.model.chance.books import of_world, small
+from dorydate.model.chance.breaking import WAYS
 from dorydate.checks.cases import cases_below
-from dorydate.model.log import book_of, ended, ends_audit, ends_log, read_log, says, spelled_log
+from dorydate.model.log import book_of, ends_log, read_log, spelled_log
+from dorydate.model.misread_logs import MISREADINGS
+from dorydate.model.verdict import Judge, ended, ends_audit, says
 from dorydate.model.topology import network_of, spelled_input
 from dorydate.checks import headline
 from dorydate.parts import ROOT, any_program
@@ -34,35 +40,6 @@ from dorydate.parts import ROOT, any_program
 COUNT = 10_000
 LOGGED = 10  # of so many worlds one is logged by the program too
 CORES = os.cpu_count() or 1
-
-# readings of the rules that are wrong in one place: what is read otherwise, as the text of python/dorydate/model/log.py and what takes its place
-WRONG_READINGS = [
-    ("lines may stand behind the end", "if lines[number:] or rest:", "if False:"),
-    ("the end needs no line feed", '*lines, rest = octets.decode("latin-1").split("\\n")', 'lines, rest = octets.decode("latin-1").splitlines(), ""'),
-    ("no end is needed", "    raise BadLog(len(lines) + 1)", "    return book"),
-    ("a missing end is told of the last line", "    raise BadLog(len(lines) + 1)", "    raise BadLog(len(lines))"),
-    ("lines stand in any order", "if kind < part:", "if False:"),
-    ("a text has any length", "if len(text) <= MOST_TEXT:", "if True:"),
-    ("a socket has any size", "read_number(words[2]), read_number(words[5])", "int(words[2]), int(words[5])"),
-    ("a stamp has any size", "read_number(word, 64)", "int(word)"),
-    ("a stamp has 32 bits", "read_number(word, 64)", "read_number(word)"),
-    ("an amount has any size", "read_number(word, 128)", "int(word)"),
-    ("an amount has 64 bits", "read_number(word, 128)", "read_number(word, 64)"),
-    ("the kind is not looked at", 'if life.receives() != (kind == "receive"):', "if False:"),
-    ("lists may be fewer", "if len(lives) > len(handed):", "if False:"),
-    ("lists may be more", " if len(handed) > len(lives) else None", " if False else None"),
-    ("a life too many is told of its list", "        return len(handed) + 1", "        return len(lives) + len(handed)"),
-    ("the line of a life is that of its number", "lines(len(log) + place for place", "lines(place for place"),
-    ("a break is told of the crossing before it", "for count in range(1, len(entries) + 1) if not are_kept(entries[:count])", "for count in range(len(entries)) if not are_kept(entries[: count + 1])"),
-    ("the last life is told that is malformed", "enumerate(lives, 1)", "[*enumerate(lives, 1)][::-1]"),
-    ("of two lives the first that is at odds with a later one is told", "second = first_break(lives, lambda lives: partners_are_kept(log, lives))", "second = len(lives) + 1 - first_break(lives[::-1], lambda lives: partners_are_kept(log, lives))"),
-    ("two lives are told the wrong way round", "return first(lives, lambda life: not partners_are_kept(log, [life, lives[second - 1]])), second", "return second, first(lives, lambda life: not partners_are_kept(log, [life, lives[second - 1]]))"),
-    ("the first of two lives is the first of all", "return first(lives, lambda life: not partners_are_kept(log, [life, lives[second - 1]])), second", "return 1, second"),
-    ("the match is not told", "return place, *matching[:1]", "return (place,)"),
-    ("the match is told first", "return place, *matching[:1]", "return *matching[:1], place"),
-    ("what is wrong with a stream is told of its sender too", "return not life.handed.startswith(life.bits)", "return True"),
-    ("what is not granted is told of the sender too", "if life.receives() else []\n    return not all", "if life.receives() else []\n    return not life.receives() or not all"),
-]
 
 
 # ---- the program
@@ -84,26 +61,19 @@ def compared(what, octets, owed):
 # ---- logs by hand
 
 
-def unnoticed():
+def unnoticed() -> Iterator[str]:
     """The wrong readings that judge each log by hand as it should be judged."""
-    with open(f"{ROOT}/python/dorydate/model/log.py", encoding="utf-8") as file:
-        source = file.read()
-    for name, text, other in WRONG_READINGS:
-        if source.count(text) != 1:
-            yield f"{name} (the text is there {source.count(text)} times)"
-            continue
-        names = {}
-        exec(source.replace(text, other), names)
-        if all(judged(names["says"], octets) == wanted for octets, wanted in log_rows.rows()):
+    for name, judge in MISREADINGS.items():
+        if all(judged(judge, octets) == wanted for octets, wanted in log_rows.rows()):
             yield name
 
 
-def judged(wrong_audit, octets):
+def judged(judge: Judge, octets: bytes) -> str | None:
     """What a wrong reading says of a log, if it comes to say anything."""
     try:
-        return wrong_audit(octets)
-    except (IndexError, StopIteration) as fault:
-        return fault
+        return judge.says(octets)
+    except (IndexError, StopIteration):
+        return None
 
 
 def said(owed):
@@ -130,7 +100,7 @@ def check_logs():
         found = threads.map(lambda row: compared("a log by hand", *row), [*rows, *around])
         wrong += filter(None, found)
     ends = Counter(said(owed) for _, owed in rows)
-    print(f"check audit: {len(rows)} logs by hand ({listed(ends)}), by {len(WRONG_READINGS)} wrong readings of the rules not all judged rightly; {len(around)} logs around one")
+    print(f"check audit: {len(rows)} logs by hand ({listed(ends)}), by {len(MISREADINGS)} wrong readings of the rules not all judged rightly; {len(around)} logs around one")
     return wrong
 
 

@@ -36,9 +36,11 @@ from dorydate.checks import subnet as subnets
 from dorydate.explain import faults, topologies
 from dorydate.model.decode import text_in_words
 from dorydate.model.chance.worlds import some_script as some_script_of_world
-from dorydate.model.imp import Imp, spell_flow
+from dorydate.model.imp import Imp
+from dorydate.model.names import spell_flow
 from dorydate.explain.inside import Inside
-from dorydate.model.script import BadLine, network_is_good, opened, read_line
+from dorydate.model.runs import network_is_good, opened
+from dorydate.model.script import BadLine, read_line
 from dorydate.model.subnet import Subnet
 from dorydate.model.topology import spelled
 

@@ -13,44 +13,55 @@ The calls are made by tools/calls, built without proofs (dorydate.builds.drivers
 A folder of calls with what they owe can be tried too: ./check hosts FOLDER
 """
 
+from __future__ import annotations
+
 import os
 import random
 import shutil
 import sys
 import tempfile
 from collections import Counter
-
+from collections.abc import Iterator, Sequence
+from typing import Any, TypeVar
 
 from dorydate.builds.drivers import run_cases, write_case
-from dorydate.model.host import GONE, READY, Host, Refused, bits_of, control_message, header, number, spell_bits
-from dorydate.model.imp import spell_flow, spell_host
+from dorydate.model.bits import Bits, bits_of, spell_bits
+from dorydate.model.commands import control_message, header, number
+from dorydate.model.connections import GONE, READY
+from dorydate.model.crossings import Answer, Message, Reply
+from dorydate.model.host import Host
+from dorydate.model.names import Flow, HostName, Refused, spell_flow, spell_host
+
+T = TypeVar("T")
 
 RUNS = 250
 CALLS = 400
 
-HOSTS = [(0, 1), (0, 2), (1, 2), (3, 63)]
+HOSTS = [HostName(0, 1), HostName(0, 2), HostName(1, 2), HostName(3, 63)]
 RECEIVERS = [16, 18, 20, 4294967294]
 SENDERS = [33, 35, 1, 4294967295]
 SIZES = [8, 8, 8, 1, 7, 32, 255]
 LINKS = [2, 2, 3, 4, 5, 31, 1, 32, 255]
 OPENED = [(16, 33), (18, 35)]
+FAILURES: list[Answer] = ["incomplete", "dead", "nottaken"]
+ANSWERS: list[Answer] = ["rfnm", *FAILURES]
 
 
 # ---- calls, on the independent model and for the driver
 
 
-def spell_part(part):
+def spell_part(part: Any) -> str:
+    """A part of a call: what comes in, bits, or a number."""
     match part:
-        case (kind, flow):
-            return f"{kind} {spell_flow(flow)}"
-        case (kind, flow, text):
-            return f"{kind} {spell_flow(flow)} {spell_bits(text)}"
+        case Message() | Reply():
+            return f"{part.kind} {spell_flow(part.flow)}{f' {spell_bits(part.text)}' if isinstance(part, Message) else ''}"
         case str():
             return spell_bits(part)
     return str(part)
 
 
-def spell_call(name, parts):
+def spell_call(name: str, parts: Sequence[Any]) -> str:
+    """The words of a call."""
     match name:
         case "accept":
             inbound, stamp = parts
@@ -61,26 +72,28 @@ def spell_call(name, parts):
     return " ".join([name, *map(spell_part, parts)])
 
 
-def spell_next(host):
+def spell_next(host: Host) -> str:
+    """What goes out next."""
     found = host.next_out()
-    return f"next {spell_flow((found[0]))} {spell_bits(found[1])}" if found else "next nothing"
+    return f"next {spell_flow(found[0])} {spell_bits(found[1])}" if found else "next nothing"
 
 
 class Calls:
     """Hosts, the calls on them and what these owe."""
 
-    def __init__(self, names):
+    def __init__(self, names: Sequence[HostName]) -> None:
         self.hosts = [Host(name) for name in names]
         self.lines = [" ".join(map(spell_host, names))]
-        self.owed = []
+        self.owed: list[str] = []
         self.stamp = 0
-        self.seen = Counter()
+        self.seen: Counter[str] = Counter()
 
-    def call(self, place, name, *parts, asked=False):
+    def call(self, place: int, name: str, *parts: Any, asked: bool = False) -> None:
+        """A call on a host."""
         host = self.hosts[place]
         self.lines.append(f"{place} {'ask ' if asked else ''}{spell_call(name, parts)}")
         try:
-            notices = getattr(host, name)(*parts)
+            notices: list[str] = getattr(host, name)(*parts)
             self.seen[f"{name}: done"] += 1
             self.seen.update(f"told: {notice.split()[0]}" for notice in notices)
             answer = ";".join(["ok", *notices])
@@ -89,7 +102,7 @@ class Calls:
             answer = f"refused {refused}"
         self.owed.append(f"{answer} {spell_next(host)}")
 
-    def stamped(self, place, name, *parts):
+    def stamped(self, place: int, name: str, *parts: Any) -> None:
         """A call that takes its place in the log."""
         self.stamp += 1
         self.call(place, name, *parts, self.stamp)
@@ -101,15 +114,15 @@ class Calls:
 class Chance(Calls):
     """Random calls on hosts, and boxes between them."""
 
-    def __init__(self, seed):
+    def __init__(self, seed: int) -> None:
         self.random = random.Random(seed)
         self.single = self.random.random() < 0.5
         names = self.random.sample(HOSTS, 1 if self.single else self.random.choice([1, 2, 2, 2, 3]))
         super().__init__(names)
         self.names = names
         self.peers = (self.random.sample(HOSTS, 2) if self.single else names * 8 + [self.random.choice(HOSTS)])
-        self.messages = []
-        self.answers = []
+        self.messages: list[Message] = []
+        self.answers: list[Reply] = []
         # runs differ: some lose much, some reset much, some ask for wrong things, some use up the links
         self.receivers = RECEIVERS + [*range(100, 180, 2)] * (self.random.random() < 0.1)
         self.losses = self.random.choice([0, 0, 0.01, 0.1])
@@ -118,17 +131,20 @@ class Chance(Calls):
         self.users = self.random.choice([0.1, 0.3, 0.5])
         self.strangers = 0.4 if self.single else self.random.choice([0, 0, 0.03])
 
-    def one(self, *choices):
+    def one(self, *choices: T) -> T:
+        """One of these."""
         return self.random.choice(choices)
 
-    def peer(self):
+    def peer(self) -> HostName:
+        """A peer."""
         return self.random.choice(self.peers)
 
-    def text(self, size):
+    def text(self, size: int) -> Bits:
+        """Bits to be sent in bytes of a size, or now and then one bit more."""
         count = self.one(0, 1, 2, 5, 13, 100, 1003, self.random.randrange(40))
         return "".join(self.random.choices("01", k=min(size * count, 9000) + (self.random.random() < self.wrong)))
 
-    def socket(self, place, sends):
+    def socket(self, place: int, sends: bool) -> int:
         """Mostly a socket that this host uses."""
         ends = [end for pair in self.hosts[place].pairs.values() for end in pair.ends if end.mine]
         used = [end.own for end in ends if end.own % 2 == sends]
@@ -136,7 +152,7 @@ class Chance(Calls):
             return self.random.choice(used)
         return self.random.choice(SENDERS if sends != (self.random.random() < self.wrong) else RECEIVERS)
 
-    def user_call(self, place):
+    def user_call(self, place: int) -> tuple[Any, ...]:
         """A call of the user, with its arguments."""
         host = self.hosts[place]
         ready = any(pair.phase == READY for pair in host.pairs.values())
@@ -154,23 +170,23 @@ class Chance(Calls):
             case "open":
                 return self.open_call(place, sends)
             case "send":
-                own = self.socket(place, 1)
+                own = self.socket(place, True)
                 found = host.mine(own)
                 return "send", own, self.text(found[2].size if found and found[2].size else 8)
             case "grant":
                 few, much = self.random.random() < 0.9, self.one(8, 64, 100, 500, 8000)
                 messages, bits = (self.one(1, 2, 2, 3), much) if few else (self.one(0, 65534), self.one(0, 4294967294))
-                return "grant", self.socket(place, 0), messages, bits
+                return "grant", self.socket(place, False), messages, bits
             case "ask_back":
                 fractions = 0, 1, 64, 127, 128, 129, 255
-                return "ask_back", self.socket(place, 0), self.one(*fractions), self.one(*fractions)
+                return "ask_back", self.socket(place, False), self.one(*fractions), self.one(*fractions)
             case "interrupt":
                 return "interrupt", self.socket(place, sends)
             case "close":
                 return "close", self.socket(place, sends)
         return "echo", self.peer(), self.random.randrange(256)
 
-    def open_call(self, place, sends):
+    def open_call(self, place: int, sends: bool) -> tuple[Any, ...]:
         """A call that opens an end: as a rule one that another host waits for, or hears of."""
         own, foreign = (SENDERS, self.receivers) if sends else (self.receivers, SENDERS)
         if self.random.random() < self.wrong:
@@ -180,9 +196,10 @@ class Chance(Calls):
         size = 0 if self.random.random() < self.wrong else self.random.choice(SIZES)
         return ("open_send", *chosen, size) if sends else ("open_receive", *chosen)
 
-    def waited_for(self, place, sends):
+    def waited_for(self, place: int, sends: bool) -> list[tuple[HostName, int, int]]:
         """What an end here could be opened with: ends at other hosts that have no partner, and sockets that listen."""
-        own, found = self.names[place], []
+        own = self.names[place]
+        found: list[tuple[HostName, int, int]] = []
         for host in self.hosts:
             ends = host.pairs[own].ends if own in host.pairs else []
             found += [(host.own, end.foreign, end.own) for end in ends if end.receives() == sends and not end.asked]
@@ -192,40 +209,42 @@ class Chance(Calls):
 
     # what is between the hosts
 
-    def offer(self):
+    def offer(self) -> None:
+        """A host's next message goes out."""
         place = self.random.choice([at for at, host in enumerate(self.hosts) if host.next_out()])
         if self.random.random() < 0.02:
             place = self.random.randrange(len(self.hosts))
         found = self.hosts[place].next_out()
         if found:
-            self.messages.append((found[0], found[1]))
+            self.messages.append(Message("message", *found))
         self.stamped(place, "offered")
 
-    def take(self):
+    def take(self) -> None:
         """A message comes to its host, or gets lost."""
-        flow, text = self.messages.pop(self.random.randrange(len(self.messages)))
+        message = self.messages.pop(self.random.randrange(len(self.messages)))
         lost = self.random.random() < self.losses
-        if flow[1] in self.names and not (lost and self.random.random() < 0.7):
-            self.stamped(self.names.index(flow[1]), "accept", ("message", flow, text))
+        if message.flow.destination in self.names and not (lost and self.random.random() < 0.7):
+            self.stamped(self.names.index(message.flow.destination), "accept", message)
         elif not lost and not self.single:
             lost = True
-        self.answers.append((self.one("incomplete", "dead", "nottaken") if lost else "rfnm", flow))
+        self.answers.append(Reply(self.random.choice(FAILURES) if lost else "rfnm", message.flow))
 
-    def answer(self):
-        kind, flow = self.answers.pop(self.random.randrange(len(self.answers)))
-        self.stamped(self.names.index(flow[0]), "accept", (kind, flow))
+    def answer(self) -> None:
+        """An answer comes to its host."""
+        answer = self.answers.pop(self.random.randrange(len(self.answers)))
+        self.stamped(self.names.index(answer.flow.source), "accept", answer)
 
-    def stray(self, place):
+    def stray(self, place: int) -> None:
         """What isn't for this host, or answers nothing, as a rule."""
-        flow = self.random.choice(HOSTS), self.random.choice(HOSTS), self.one(0, 2, 5, 255)
+        flow = Flow(self.random.choice(HOSTS), self.random.choice(HOSTS), self.one(0, 2, 5, 255))
         if self.random.random() < 0.3:
-            self.stamped(place, "accept", ("message", flow, control_message([bytes([12])])))
+            self.stamped(place, "accept", Message("message", flow, control_message([bytes([12])])))
         else:
-            self.stamped(place, "accept", (self.one("rfnm", "incomplete", "dead", "nottaken"), flow))
+            self.stamped(place, "accept", Reply(self.random.choice(ANSWERS), flow))
 
     # what a stranger sends
 
-    def command(self, place, peer):
+    def command(self, place: int, peer: HostName) -> bytes:
         """A command that means something to this host, as a rule."""
         pair = self.hosts[place].pair(peer)
         ends = [end for end in pair.ends if self.random.random() > self.wrong]
@@ -256,7 +275,7 @@ class Chance(Calls):
         }
         return bytes([code]) + fields.get(code, b"")
 
-    def strange_message(self, place):
+    def strange_message(self, place: int) -> None:
         """A message that a peer of any kind may send."""
         peer = self.peer()
         pair = self.hosts[place].pair(peer)
@@ -265,7 +284,7 @@ class Chance(Calls):
             end = self.random.choice(found) if found else None
             size, count = (end.size or 8 if end else self.random.choice(SIZES)), self.one(0, 1, 2, 12)
             text = header(size, count) + "".join(self.random.choices("01", k=size * count + self.one(0, 0, 3)))
-            link = end.link if end else self.one(*LINKS)
+            link = end.known_link() if end else self.one(*LINKS)
         elif pair.phase == GONE and self.random.random() < 0.4 or pair.phase != READY and self.random.random() < 0.6:
             link, text = 0, control_message([bytes([self.one(12, 13)])])
         else:
@@ -273,16 +292,17 @@ class Chance(Calls):
             link, text = 0, control_message(commands)
         if self.random.random() < self.wrong:
             text = self.spoiled(text)
-        self.stamped(place, "accept", ("message", (peer, self.names[place], link), text[:8063]))
+        self.stamped(place, "accept", Message("message", Flow(peer, self.names[place], link), text[:8063]))
 
-    def spoiled(self, text):
+    def spoiled(self, text: Bits) -> Bits:
         """A text that was cut, or of which an octet was changed."""
         if self.random.random() < 0.4:
             return text[: self.random.randrange(len(text) + 1)]
         at = self.random.randrange(len(text) // 8)
         return text[: 8 * at] + bits_of(bytes([self.one(0x00, 0x7F, 0xFF, self.random.randrange(256))])) + text[8 * at + 8 :]
 
-    def something(self):
+    def something(self) -> None:
+        """One call."""
         place = self.random.randrange(len(self.hosts))
         chance = self.random.random()
         if chance < self.strangers:
@@ -295,7 +315,8 @@ class Chance(Calls):
             return self.call(place, *self.user_call(place), asked=self.random.random() < 0.3)
         return self.random.choice(ways)()
 
-    def run(self):
+    def run(self) -> Chance:
+        """All calls."""
         while len(self.owed) < CALLS:
             self.something()
         return self
@@ -307,25 +328,28 @@ class Chance(Calls):
 class Worked(Calls):
     """Hosts of one name, each opened with a peer, and sending on link 5 to it and receiving on link 2 from it."""
 
-    OWN, PEER = (0, 1), (0, 2)
+    OWN, PEER = HostName(0, 1), HostName(0, 2)
 
-    def __init__(self, link, texts):
+    def __init__(self, link: int, texts: Sequence[Bits]) -> None:
         super().__init__([self.OWN] * len(texts))
         for place, text in enumerate(texts):
             self.open(place)
-            self.stamped(place, "accept", ("message", (self.PEER, self.OWN, link), text))
+            self.stamped(place, "accept", Message("message", Flow(self.PEER, self.OWN, link), text))
             for _ in range(2):
                 self.goes(place)
 
-    def comes(self, place, *commands):
+    def comes(self, place: int, *commands: str) -> None:
+        """Commands of the peer come in."""
         message = control_message(map(bytes.fromhex, commands))
-        self.stamped(place, "accept", ("message", (self.PEER, self.OWN, 0), message))
+        self.stamped(place, "accept", Message("message", Flow(self.PEER, self.OWN, 0), message))
 
-    def goes(self, place):
+    def goes(self, place: int) -> None:
+        """What is next goes out, and is answered."""
         self.stamped(place, "offered")
-        self.stamped(place, "accept", ("rfnm", (self.OWN, self.PEER, 0)))
+        self.stamped(place, "accept", Reply("rfnm", Flow(self.OWN, self.PEER, 0)))
 
-    def open(self, place):
+    def open(self, place: int) -> None:
+        """A connection each way opens."""
         self.comes(place, "0C")
         self.goes(place)
         self.call(place, "open_send", self.PEER, 33, 16, 8)
@@ -340,7 +364,7 @@ class Worked(Calls):
 class AllLinks(Worked):
     """A host that uses up the links of its receiving ends."""
 
-    def __init__(self):
+    def __init__(self) -> None:
         Calls.__init__(self, [self.OWN])
         self.comes(0, "0C")
         self.goes(0)
@@ -376,14 +400,14 @@ WORKED = [
 ]
 
 
-def changed(text, step=8):
+def changed(text: Bits, step: int = 8) -> list[Bits]:
     """The text cut at every length, and with each octet changed."""
     cut = [text[:length] for length in range(0, len(text) + 1, step)]
     octets = [(at, bits_of(octet)) for at in range(0, len(text), 8) for octet in (b"\x00", b"\x7f", b"\xff")]
     return cut + [text[:at] + octet + text[at + 8 :] for at, octet in octets]
 
 
-def worked_runs():
+def worked_runs() -> Iterator[Calls]:
     """What is made of each command with an ECO after it, of data, and of control texts of every length."""
     yield Worked(0, changed(control_message([bytes([0])]), 1))
     for name in WORKED:
@@ -396,10 +420,10 @@ def worked_runs():
 # ---- the runs
 
 
-def with_runs(folder, runs):
+def with_runs(folder: str, runs: int) -> Counter[str]:
     """Puts the calls of each run into a folder, and what is owed for them. Counts the calls by what they came to."""
-    seen = Counter()
-    made = [(f"{run:05}", Chance(run).run()) for run in range(runs)]
+    seen: Counter[str] = Counter()
+    made: list[tuple[str, Calls]] = [(f"{run:05}", Chance(run).run()) for run in range(runs)]
     made += [(f"worked{at:02}", worked) for at, worked in enumerate(worked_runs())]
     for name, calls in made:
         write_case(folder, name, calls.lines, calls.owed)
@@ -408,7 +432,8 @@ def with_runs(folder, runs):
     return seen
 
 
-def main():
+def main() -> int:
+    """The exit status."""
     word = sys.argv[1] if len(sys.argv) > 1 else str(RUNS)
     with tempfile.TemporaryDirectory() as folder:
         if os.path.isdir(word):

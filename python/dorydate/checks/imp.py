@@ -10,14 +10,24 @@ queries tell have to be the same. The same calls are made each time.
 The calls are made by tools/calls, built without proofs (dorydate.builds.drivers): ./check imp [RUNS]
 """
 
+from __future__ import annotations
+
 import random
 import sys
 import tempfile
 from collections import Counter
-
+from collections.abc import Callable
 
 from dorydate.builds.drivers import run_cases, write_case
-from dorydate.model.imp import ASK, CHANNELS, DATA, DEAD, INFINITE, MOST_IMPS, NEVER, NUMBERS, PIECE, REQUESTS, RFNM, WINDOW, Imp, Refused, body, octets, spell_flow, spell_frame
+from dorydate.model.bits import Bits, spell_bits
+from dorydate.model.channels import Channels
+from dorydate.model.crossings import Given, Message
+from dorydate.model.imp import Imp
+from dorydate.model.imp_state import NUMBERS
+from dorydate.model.names import Flow, HostName, Refused, spell_flow
+from dorydate.model.packets import (
+    ASK, CHANNELS, DATA, DEAD, INFINITE, MOST_IMPS, NEVER, PIECE, REQUESTS, RFNM, Carried, Content, Packet, Routes, answer, body, spell_frame,
+)  # fmt: skip
 
 RUNS = 1000
 CALLS = 100
@@ -25,19 +35,16 @@ CALLS = 100
 # ---- what the driver prints
 
 
-def spell_given(given):
+def spell_given(given: Given | None) -> str:
     """What a host takes."""
     if given is None:
         return "nothing"
-    if given[0] != "message":
-        return f"{given[0]} {spell_flow(given[1])}"
-    _, flow, text = given
-    return f"message {spell_flow(flow)} {len(text)} {octets(text).hex().upper() or '-'}"
+    return f"{given.kind} {spell_flow(given.flow)}{f' {spell_bits(given.text)}' if isinstance(given, Message) else ''}"
 
 
-def told_of(imp, flow):
+def told_of(imp: Imp, flow: Flow) -> str:
     """What an IMP's queries tell of a flow."""
-    source, destination = flow[0][1], flow[1][1]
+    source, destination = flow.source.imp, flow.destination.imp
     held = imp.everything()
     last = imp.last.get(flow)
     return " ".join(
@@ -47,10 +54,10 @@ def told_of(imp, flow):
             imp.outstanding.get(flow, "-"),
             "-" if last is None else last,
             imp.kept.get(flow, "-"),
-            int(any(source == kept[0][1] for kept in imp.kept)),
+            int(any(source == kept.source.imp for kept in imp.kept)),
             int(any(entry[:2] == (flow, last or 0) for entry in held)),
-            int(any(entry[2] and (entry[0][0][1], entry[0][1][1]) == (source, destination) for entry in held)),
-            int(any(source in (entry[0][0][1], entry[0][1][1]) for entry in held)),
+            int(any(is_request and (it.source.imp, it.destination.imp) == (source, destination) for it, _, is_request in held)),
+            int(any(source in (it.source.imp, it.destination.imp) for it, _, _ in held)),
             int(imp.awaits(destination)),
         )
     )
@@ -62,13 +69,13 @@ def told_of(imp, flow):
 class Chance:
     """Random calls for one IMP, its hosts and its neighbours."""
 
-    def __init__(self, seed):
+    def __init__(self, seed: int) -> None:
         self.random = random.Random(seed)
         self.five = self.random.sample(range(1, MOST_IMPS + 1), 5)
         number = self.five[0]
         self.imp = Imp(number, self.random.choice((1, 2, 2, 3, 4, 4, 0)), self.random.choice((1, 1, 2, 2, 3, 5, 0)))
         self.lines = [f"new {number} {len(self.imp.hosts)} {len(self.imp.ports)}"]
-        self.bodies = {}
+        self.bodies: dict[tuple[Flow, int], Bits] = {}
         # runs differ: some free channels seldom, take seldom, stop nothing, know all routes, use many links or long
         # texts
         self.frees = self.random.choice((0.02, 0.3, 0.9))
@@ -78,29 +85,35 @@ class Chance:
         self.links = self.random.choice((3, 40))
         self.lengths = self.random.choice(((0, 8, 24), (0, 24, 1007, 1008, 2100), (0, 2100, 8063)))
 
-    def host(self, own=0.5):
+    def host(self, own: float = 0.5) -> HostName:
+        """A host, as a rule one of this IMP."""
         imp = self.imp.number if self.random.random() < own else self.random.choice(self.five)
-        return self.number_below(len(self.imp.hosts) if imp == self.imp.number else 2, 3), imp
+        return HostName(self.number_below(len(self.imp.hosts) if imp == self.imp.number else 2, 3), imp)
 
-    def number_below(self, count, most):
+    def number_below(self, count: int, most: int) -> int:
         """Mostly a number that is there."""
         if count > 0 and self.random.random() < 0.93:
             return self.random.randrange(count)
         return self.random.randint(0, most)
 
-    def flow(self, own=0.5):
-        return self.host(own), self.host(1 - own if own in (0, 1) else own), self.random.randint(2, 1 + self.links)
+    def flow(self, own: float = 0.5) -> Flow:
+        """A flow."""
+        return Flow(self.host(own), self.host(1 - own if own in (0, 1) else own), self.random.randint(2, 1 + self.links))
 
-    def text(self):
+    def text(self) -> Bits:
+        """A text."""
         most = self.random.choice(self.lengths)
         length = self.random.choice((most, self.random.randint(0, most)))
         return "".join(self.random.choice("01") for _ in range(length))
 
-    def near(self, number):
-        steps = 0, 1, 1, 1, 2, 255, 256, WINDOW - 1, WINDOW, WINDOW + 1, NUMBERS - 1
-        return 0 if number is None else (number + self.random.choice(steps)) % NUMBERS
+    def near(self, number: int | None) -> int:
+        """A number that is near another one, or on the other side of the window."""
+        window = NUMBERS.window
+        steps = 0, 1, 1, 1, 2, 255, 256, window - 1, window, window + 1, NUMBERS.count - 1
+        return 0 if number is None else (number + self.random.choice(steps)) % NUMBERS.count
 
-    def packet(self):
+    def packet(self) -> Packet:
+        """A packet from a neighbour."""
         kind = self.random.choice((DATA, DATA, DATA, DATA, RFNM, DEAD, ASK, ASK, NEVER))
         flow = self.flow(self.random.choice((0, 0, 0.4)) if kind in REQUESTS else self.random.choice((1, 1, 0.4)))
         if kind != DATA:
@@ -109,42 +122,43 @@ class Chance:
                 flow = self.random.choice([*known])
             number = known.get(flow)
             chosen = number if number is not None and self.random.random() < 0.7 else self.near(number)
-            return kind, flow, chosen, 0, True, ""
+            return answer(kind, flow, chosen)
         held = self.imp.slots.get(flow)
-        number = held[0] if held and self.random.random() < 0.8 else self.near(self.imp.kept.get(flow))
+        message = held[0] if held and self.random.random() < 0.8 else self.near(self.imp.kept.get(flow))
         if self.random.random() < 0.05:
             place = self.random.randint(0, 7)
             last = place == 7 or self.random.random() < 0.5
-            return kind, flow, number, place, last, "0" * (16 * self.random.randint(1, 63) if last else PIECE)
-        whole = self.bodies.setdefault((flow, number), body(self.text()))
+            return Packet(kind, flow, message, place, last, "0" * (16 * self.random.randint(1, 63) if last else PIECE))
+        whole = self.bodies.setdefault((flow, message), body(self.text()))
         count = -(-len(whole) // PIECE)
         place = self.random.randrange(count)
-        return kind, flow, number, place, place == count - 1, whole[place * PIECE : (place + 1) * PIECE]
+        return Packet(kind, flow, message, place, place == count - 1, whole[place * PIECE : (place + 1) * PIECE])
 
-    def acknowledged(self, line):
+    def acknowledged(self, line: Channels) -> int:
+        """Acknowledgement bits: as a rule those that free all channels."""
         good = sum((1 - bit) << channel for channel, bit in enumerate(line.next_bit))
         return self.random.choice((good, good, good ^ 255, self.random.randint(0, 255)))
 
-    def frame(self):
+    def frame(self) -> tuple[int, int, Content]:
+        """A frame from a neighbour: the port, the acknowledgement bits and the content."""
         port = self.random.randrange(len(self.imp.ports))
         line = self.imp.ports[port].line
         kind = self.random.random()
-        if kind < 0.1:
-            content = None
-        elif kind < 0.25:
+        content: Content = None
+        if 0.1 <= kind < 0.25:
             distances = (0, 1, 2) if self.near_all else (0, 1, 2, 16, INFINITE - 2, INFINITE - 1, INFINITE)
-            content = "routes", [self.random.choice(distances) for _ in range(MOST_IMPS)]
-        else:
+            content = Routes([self.random.choice(distances) for _ in range(MOST_IMPS)])
+        elif kind >= 0.25:
             channel = self.random.randrange(CHANNELS)
             bit = line.expected[channel] ^ (self.random.random() < 0.15)
-            content = "packet", channel, bit, self.packet()
+            content = Carried(channel, bit, self.packet())
         acknowledged = self.acknowledged(line) if self.random.random() < self.frees else sum(
             bit << channel for channel, bit in enumerate(line.next_bit)
         )
         return port, acknowledged, content
 
-    def call(self):
-        """A call: its line, and the same call on the independent model."""
+    def call(self) -> tuple[str, Callable[[], str | None]]:
+        """A call: its line, and the same call on the independent model, with what it gives."""
         imp = self.imp
         choice = self.random.random()
         if choice < 0.5 and imp.ports:
@@ -153,29 +167,32 @@ class Chance:
             return line, lambda: imp.from_line(port, acknowledged, content)
         if choice < 0.7:
             flow, text = self.flow(self.random.choice((1, 1, 0.6))), self.text()
-            spelled = octets(text).hex().upper() or "-"
-            return f"from_host {spell_flow(flow)} {len(text)} {spelled}", lambda: imp.from_host(flow, text)
+            return f"from_host {spell_flow(flow)} {spell_bits(text)}", lambda: imp.from_host(flow, text)
         if choice < 0.7 + self.takes:
             number = self.number_below(len(imp.hosts), 3)
             return f"to_host {number}", lambda: spell_given(imp.to_host(number))
+        return self.seldom_call()
+
+    def seldom_call(self) -> tuple[str, Callable[[], None]]:
+        """One of the other calls."""
+        imp = self.imp
         names = "end_up host_up resend route give_up ask forget abandon".split()
         name = self.random.choice(names + 2 * ["end_down", "host_down", "end_up", "host_up"] * self.stops)
         if name in ("resend", "route"):
             return name, imp.resend if name == "resend" else imp.tell_routes
-        if name in ("end_down", "end_up"):
-            port = self.number_below(len(imp.ports), 5)
-            return f"{name} {port}", lambda: getattr(imp, name)(port)
-        if name in ("host_down", "host_up"):
-            number = self.number_below(len(imp.hosts), 3)
-            return f"{name} {number}", lambda: getattr(imp, name)(number)
+        if name in ("end_down", "end_up", "host_down", "host_up"):
+            number = self.number_below(len(imp.ports), 5) if name.startswith("end") else self.number_below(len(imp.hosts), 3)
+            calls = {"end_down": imp.end_down, "end_up": imp.end_up, "host_down": imp.host_down, "host_up": imp.host_up}
+            return f"{name} {number}", lambda: calls[name](number)
         if name == "forget":
             other = self.random.choice(self.five)
             return f"{name} {other}", lambda: imp.forget(other)
-        pool = list(imp.slots if name == "abandon" else imp.outstanding)
+        pool = [*imp.slots] if name == "abandon" else [*imp.outstanding]
         flow = self.random.choice(pool) if pool and self.random.random() < 0.7 else self.flow()
-        return f"{name} {spell_flow(flow)}", lambda: getattr(imp, name)(flow)
+        of_flow = {"give_up": imp.give_up, "ask": imp.ask, "abandon": imp.abandon}
+        return f"{name} {spell_flow(flow)}", lambda: of_flow[name](flow)
 
-    def run(self):
+    def run(self) -> tuple[list[str], list[str]]:
         """The lines for the driver, and the lines that it owes."""
         owed = ["ok"]
         for _ in range(CALLS):
@@ -194,9 +211,9 @@ class Chance:
         return self.lines, owed
 
 
-def with_cases(folder, runs):
+def with_cases(folder: str, runs: int) -> Counter[str]:
     """Puts the calls of each run into a folder, and what is owed for them. Counts the calls by what they came to."""
-    seen = Counter()
+    seen: Counter[str] = Counter()
     for run in range(runs):
         chance = Chance(run)
         lines, owed = chance.run()
@@ -209,7 +226,8 @@ def with_cases(folder, runs):
     return seen
 
 
-def main():
+def main() -> int:
+    """The exit status."""
     runs = int(sys.argv[1]) if len(sys.argv) > 1 else RUNS
     with tempfile.TemporaryDirectory() as folder:
         seen = with_cases(folder, runs)

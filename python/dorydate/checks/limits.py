@@ -13,10 +13,10 @@ from collections.abc import Callable
 from concurrent.futures import ThreadPoolExecutor
 from typing import NamedTuple
 
-from dorydate.model.log import ends_audit
-from dorydate.model.script import expected
+from dorydate.model.runs import expected
 from dorydate.model.topology import spelled_input
 from dorydate.model.trace import ends_trace
+from dorydate.model.verdict import ends_audit
 from dorydate.parts import any_program
 
 Network = tuple[str, bool, list[tuple[int, int]], list[tuple[int, int]]]

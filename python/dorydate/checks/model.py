@@ -3,7 +3,7 @@
 Compares the program with an independent model of its rules, on random inputs.
 
 The proofs say that the program does what the definitions say. Whether the definitions say what docs/program.md and
-docs/mailboxes.md say is for readers to judge; this script tries it as well. python/dorydate/model/script.py, and what it uses,
+docs/mailboxes.md say is for readers to judge; this script tries it as well. python/dorydate/model/runs.py, and what it uses,
 was written from those rules, in another language and another form. Both run every input, and status, output and standard
 error have to be the same. The same inputs are made each time. TOML itself is not tried: documents are written in its
 plainest spelling.
@@ -31,7 +31,7 @@ from dorydate.model.chance.questions import Counting, Questions
 from dorydate.model.log import ends_log
 from dorydate.model.topology import spelled_input
 from dorydate.parts import ROOT, any_program
-from dorydate.model.script import expected
+from dorydate.model.runs import expected
 from dorydate.model.chance.worlds import reached
 from dorydate.model.chance.worlds import some_script as some_script_of_world
 
@@ -176,7 +176,7 @@ def some_world_input(seed, runs):
 
 def some_questions(seed, seen):
     """A network and the lines of a script in which IMPs ask. What its questions come to is counted."""
-    questions = Questions(seed, place=Counting)
+    questions = Questions(seed, make=Counting)
     seen += questions.subnet.came_to()
     return questions.network, questions.lines
 

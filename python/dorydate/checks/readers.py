@@ -22,8 +22,8 @@ from concurrent.futures import ThreadPoolExecutor
 
 from dorydate.model import formats as format_rules
 from dorydate.builds.drivers import run_cases, write_case
-from dorydate.model.formats import bits_in_digits, told
-from dorydate.model.host import bits_of
+from dorydate.model.formats import told
+from dorydate.model.bits import bits_of, spell_bits
 from dorydate.model.inputs import ends
 from dorydate.parts import any_program
 
@@ -170,7 +170,7 @@ def lines_of(reader, spelled):
     octets = bytes.fromhex(digits)
     if reader in OF_BITS:
         around = bits_around(int(bits[0]), octets)
-        return [f"{reader} {bits_in_digits(it)}" for it in around], [told(READERS[reader], it) for it in around]
+        return [f"{reader} {spell_bits(it)}" for it in around], [told(READERS[reader], it) for it in around]
     around = octets_around(octets)
     return [f"{reader} {it.hex().upper() or '-'}" for it in around], [told(READERS[reader], it) for it in around]
 

@@ -10,76 +10,91 @@ for and come to has to be the same.
 The calls are made by tools/calls, built without proofs (dorydate.builds.drivers): ./check services [RUNS]
 """
 
+from __future__ import annotations
+
 import random
 import sys
 import tempfile
 from collections import Counter
-
+from collections.abc import Callable, Iterable
+from typing import Any, TypeVar
 
 from dorydate.builds.drivers import run_cases, write_case
-from dorydate.model.host import bits_of, spell_bits
-from dorydate.model.imp import spell_host
-from dorydate.model.services import MOST_SOCKET, Echo, Server, Terminal, User
+from dorydate.model.bits import Bits, bits_of, spell_bits
+from dorydate.model.names import HostName, spell_host
+from dorydate.model.services import MOST_SOCKET, Echo, Request, Running, Server, Service, Terminal, User
+
+T = TypeVar("T")
 
 RUNS = 400
 NOTICES = 30
-PEERS = [(0, 1), (0, 2), (3, 63)]
+PEERS = [HostName(0, 1), HostName(0, 2), HostName(3, 63)]
 
 
 class Chance:
     """A machine, and what it is told at random."""
 
-    def __init__(self, seed):
+    def __init__(self, seed: int) -> None:
         self.random = random.Random(seed)
         self.peer = self.one(*PEERS)
         kind = self.one("server", "user", "user", "echo", "terminal")
-        self.lines, self.owed = [], []
-        self.story = []  # what a machine is told where all goes well
-        getattr(self, f"make_{kind}")()
+        self.lines: list[str] = []
+        self.owed: list[str] = []
+        self.story: list[str] = []  # what a machine is told where all goes well
+        self.pairs: list[tuple[int, int]] = []
+        self.machine = self.made(kind)
         self.answer(self.machine.start())
         for _ in range(NOTICES):
             self.tell()
 
-    def one(self, *choices):
+    def one(self, *choices: T) -> T:
+        """One of these."""
         return self.random.choice(choices)
 
-    def make_server(self):
+    def made(self, kind: str) -> Running:
+        """A machine of a kind."""
+        if kind == "server":
+            return self.make_server()
+        if kind == "user":
+            return self.make_user()
+        return self.make_service(kind, Echo if kind == "echo" else Terminal)
+
+    def make_server(self) -> Server:
+        """A server."""
         listens, base = self.one((7, 100), (7, 100), (4294967295, 0), (1, 4294967294), (8, 100), (7, 101))
-        self.machine = Server(listens, base)
         self.lines.append(f"server {listens} {base}")
         user = self.one(16, 4294967292)
         # what may be opened, with a fitting socket of the user and with others
         self.pairs = [(listens, user), (base, user + 3), (base + 1, user + 2), (base, user + 3), (base + 1, user + 2), (listens, 40)]
         self.story = [f"opened {own} {spell_host(self.peer)} {foreign} 3 4" for own, foreign in self.pairs[:3]]
+        return Server(listens, base)
 
-    def make_user(self):
+    def make_user(self) -> User:
+        """A user."""
         server, own = self.one((7, 16), (7, 16), (7, 4294967292), (7, 4294967294), (8, 16), (7, 17))
-        self.machine = User(self.peer, server, own)
         self.lines.append(f"user {spell_host(self.peer)} {server} {own}")
         self.pairs = [(own, server), (own, server), (own + 2, 101), (own + 3, 100)]
         if own + 3 <= MOST_SOCKET:
             opened = [f"opened {at} {spell_host(self.peer)} {foreign} 3 4" for at, foreign in self.pairs[1:]]
             self.story = [opened[0], f"arrived {own} 32 00000064", *self.random.sample(opened[1:], 2)]
+        return User(self.peer, server, own)
 
-    def make_echo(self):
-        self.make_service("echo", Echo)
-
-    def make_terminal(self):
-        self.make_service("terminal", Terminal)
-
-    def make_service(self, name, make):
+    def make_service(self, name: str, make: Callable[[int, int], Service]) -> Service:
+        """An echo service or a terminal."""
         receives, sends = self.one((18, 19), (100, 101), (0, 4294967295))
-        self.machine = make(receives, sends)
         self.lines.append(f"{name} {receives} {sends}")
         self.pairs = [(receives, 33), (receives, 33), (sends, 16)]
+        return make(receives, sends)
 
-    def socket(self):
+    def socket(self) -> tuple[int, int]:
+        """An own socket and a foreign one, as a rule of the machine's."""
         own, foreign = self.one(*self.pairs)
         wrong = self.random.random()
         own = own % (MOST_SOCKET + 1) if wrong > 0.05 else self.one(5, 6)
         return own, (foreign if wrong < 0.95 else self.one(5, 6)) % (MOST_SOCKET + 1)
 
-    def bits(self):
+    def bits(self) -> Bits:
+        """Bits that arrive."""
         if isinstance(self.machine, User):
             said = self.one(100, 100, 100, 101, 4294967294)
             whole = f"{said:032b}"
@@ -89,7 +104,8 @@ class Chance:
         bits = bits_of(octets)
         return bits[: len(bits) - self.one(0, 0, 0, 1, 7)] if bits else self.one("", "1", "0101")
 
-    def tell(self):
+    def tell(self) -> None:
+        """Tells a notice, or that a request was refused."""
         if self.random.random() < 0.03:
             self.lines.append("refused")
             self.machine.refused("InUse")
@@ -108,21 +124,23 @@ class Chance:
         }
         self.hear(f"{kind} {own} {spell_bits(self.bits())}" if kind == "arrived" else f"{kind} {words.get(kind, peer)}")
 
-    def hear(self, said):
+    def hear(self, said: str) -> None:
+        """Tells a notice."""
         self.lines.append(said)
         self.answer(self.machine.notice(*said.split(" ")))
 
-    def answer(self, requests):
+    def answer(self, requests: Iterable[Request]) -> None:
         """Notes what is owed for a line: the requests, and what the machine has come to."""
         said = [" ".join([kind, *(self.spell(part) for part in parts)]) for kind, *parts in requests]
         if isinstance(self.machine, Terminal):
             said += [f"line {line.hex().upper()}" for line in self.machine.lines]
             self.machine.lines = []
-        for kind, *words in self.machine.reports():
-            said.append(" ".join([kind.split(" ")[0], *words]))
+        for report in self.machine.reports():
+            said.append(" ".join([report[0].split(" ")[0], *report[1:]]))
         self.owed.append("".join(f"{it};" for it in said))
 
-    def spell(self, part):
+    def spell(self, part: Any) -> str:
+        """A part of a request."""
         match part:
             case (_, _):
                 return spell_host(part)
@@ -131,8 +149,10 @@ class Chance:
         return str(part)
 
 
-def main():
-    runs, seen = int(sys.argv[1]) if len(sys.argv) > 1 else RUNS, Counter()
+def main() -> int:
+    """The exit status."""
+    runs = int(sys.argv[1]) if len(sys.argv) > 1 else RUNS
+    seen: Counter[str] = Counter()
     with tempfile.TemporaryDirectory() as folder:
         for run in range(runs):
             made = Chance(run)

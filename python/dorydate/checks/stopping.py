@@ -7,9 +7,10 @@ up again is read off each refusal and cleared (`in_the_way`). `check stops` runs
 import pickle
 from collections import Counter
 
-from dorydate.model.imp import spell_flow, spell_host
+from dorydate.model.names import spell_flow, spell_host
 from dorydate.explain.in_the_way import InTheWay
-from dorydate.model.script import opened, read_line
+from dorydate.model.runs import opened
+from dorydate.model.script import read_line
 from dorydate.model.services import Echo, Server, Terminal
 from dorydate.model.world import OFFERS, TAKES
 

@@ -22,13 +22,17 @@ from concurrent.futures import ProcessPoolExecutor
 from dataclasses import replace
 
 from dorydate.model.audit import audit, match
-from dorydate.model.log import Book, ends_audit, spelled_log
+from dorydate.model.log import Book, spelled_log
+from dorydate.model.verdict import ends_audit
 from dorydate.model.topology import network_of
 from dorydate.parts import ROOT, any_program
-from dorydate.model.script import read_bits, read_flow, with_texts
-from dorydate.model.services import read_host
+from dorydate.model.bits import read_bits
+from dorydate.model.crossings import Answered, Passed, Turned
+from dorydate.model.runs import with_texts
+from dorydate.model.script import read_flow
+from dorydate.model.names import read_host
 from dorydate.checks.stopping import Dialogue, Stop, Stuck
-from dorydate.model.world import Life
+from dorydate.model.book import Life
 
 EXAMPLE = f"{ROOT}/examples/from-a-terminal-to-a-server"
 NAMES = {"imp": "an IMP", "host": "a host", "end": "an end of the line"}
@@ -59,11 +63,11 @@ def crossing_of(line):
     kind, *words = line.split(" ")
     match kind:
         case "out" | "in":
-            return kind, read_flow(hosts_and_link(words[:3])), read_bits(*words[3:])
+            return Passed(kind, read_flow(hosts_and_link(words[:3])), read_bits(*words[3:]))
         case "answer":
-            return kind, words[0], read_flow(hosts_and_link(words[1:]))
+            return Answered(kind, words[0], read_flow(hosts_and_link(words[1:])))
         case "down" | "up":
-            return kind, read_host(words[0])
+            return Turned(kind, read_host(words[0]))
     return None
 
 
@@ -73,7 +77,7 @@ def carried(lines):
     for line in lines:
         kind, *words = line.split(" ")
         if kind in ("out", "in"):
-            text = crossing_of(line)[2]
+            text = crossing_of(line).text
         elif kind == "opened":
             last[tuple(words[:2])] = len(bits)
             bits.append("")
@@ -111,7 +115,7 @@ def difference(stop, lines):
 
 def wrong_with(stop, lines, log, lives):
     """What is wrong with a run that prints what the model prints, None where nothing is."""
-    if any([it[1] for it in log if it[0] == kind] != stop.stopped for kind in ("down", "up")):
+    if any([it.host for it in log if it.kind == kind] != stop.stopped for kind in ("down", "up")):
         return "other hosts stop, or come up, than should"
     if [it.spell() for it in lives] != [it for it in lines if it.startswith("life ")]:
         return "its lives are not made of the printed messages"

@@ -12,16 +12,24 @@ Networks of the greatest size, 63 IMPs and 157 lines, five at each IMP but one, 
 A folder of networks and scripts with their outputs can be tried too: ./check subnet FOLDER
 """
 
+from __future__ import annotations
+
 import os
 import random
 import sys
 import tempfile
 from collections import Counter
-
+from collections.abc import Iterable
+from typing import Any
 
 from dorydate.builds.drivers import run_cases, write_case
-from dorydate.model.imp import MOST_IMPS, NUMBERS, WINDOW, spell_flow, spell_host
+from dorydate.model.chance.worlds import spell_event
+from dorydate.model.imp_state import NUMBERS
+from dorydate.model.names import Flow, HostName
+from dorydate.model.packets import MOST_IMPS
+from dorydate.model.script import Event
 from dorydate.model.subnet import Subnet
+from dorydate.model.topology import network_of
 
 RUNS = 1000
 EVENTS = 100
@@ -40,7 +48,7 @@ WEIGHTS = {
 class Chance:
     """A network, and events in it. An independent model of the subnet goes along, so that what is there can be named."""
 
-    def __init__(self, seed, is_largest):
+    def __init__(self, seed: int | str, is_largest: bool) -> None:
         self.random = random.Random(seed)
         self.events = LARGEST_EVENTS if is_largest else EVENTS
         count = MOST_IMPS if is_largest else self.random.choice([1, 2, 2, 3, 3, 4, 7])
@@ -49,18 +57,18 @@ class Chance:
         shuffled = self.random.sample(numbers, len(numbers))
         self.ends = self.most_lines(shuffled) if is_largest else self.lines_of(shuffled)
         self.subnet = Subnet(self.imps, self.ends)
-        there = [(host, number) for number, count in self.imps for host in range(count)]
+        there = [HostName(host, number) for number, count in self.imps for host in range(count)]
         near = self.random.sample(there, min(len(there), 4))
         # a host that isn't there, now and then
-        self.hosts = near * 6 + [(self.random.randrange(4), self.random.randrange(1, 64))]
+        self.hosts = near * 6 + [HostName(self.random.randrange(4), self.random.randrange(1, 64))]
         self.flows = [self.flow() for _ in range(6)]
         stops = self.random.random() < 0.4
         rare = ("impdown", "impup", "forget", "drop")
         self.weights = [weight * (4 if stops and kind in rare else 1) for kind, weight in WEIGHTS.items()]
         self.lengths = self.random.choice([(0, 8, 24), (0, 24, 1008), (8, 2100), (1008, 8063)])
-        self.seen = Counter()
+        self.seen: Counter[str] = Counter()
 
-    def lines_of(self, numbers):
+    def lines_of(self, numbers: list[int]) -> list[tuple[int, ...]]:
         """A star, a row or a ring; an IMP has at most five lines."""
         match self.random.choice(["star", "row", "ring"]):
             case "star":
@@ -69,24 +77,26 @@ class Chance:
                 return [*zip(numbers, numbers[1:] + numbers[:1])]
         return [*zip(numbers, numbers[1:])]
 
-    def most_lines(self, numbers):
+    def most_lines(self, numbers: list[int]) -> list[tuple[int, ...]]:
         """From each IMP of a ring to its two neighbours each way, and to one across, which of an odd number of IMPs one has not."""
         count, half = len(numbers), len(numbers) // 2
         near = [(numbers[at], numbers[(at + step) % count]) for step in (1, 2) for at in range(count)]
-        lines = near + [*zip(numbers[:half], numbers[half:])]
+        lines: list[tuple[int, ...]] = [*near, *zip(numbers[:half], numbers[half:])]
         return self.random.sample(lines, len(lines))
 
-    def flow(self):
-        return self.random.choice(self.hosts), self.random.choice(self.hosts), self.random.choice([0, 5, 255])
+    def flow(self) -> Flow:
+        """A flow between hosts that are there, as a rule."""
+        return Flow(self.random.choice(self.hosts), self.random.choice(self.hosts), self.random.choice([0, 5, 255]))
 
-    def event(self):
+    def event(self) -> Event:
         """An event with its parts."""
         kind = self.random.choices([*WEIGHTS], self.weights)[0]
         if kind in ("deliver", "drop") and not any(ways["+"] + ways["-"] for ways in self.subnet.live):
             kind = self.random.choice(["out", "out", "route", kind])
         return kind, *self.parts(kind)
 
-    def parts(self, kind):
+    def parts(self, kind: str) -> tuple[Any, ...]:
+        """The parts of an event of a kind: as a rule about what is there."""
         imps = [number for number, _ in self.imps] * 6 + [self.random.randrange(1, 64)]
         sure = self.random.random() < 0.9
         match kind:
@@ -103,12 +113,15 @@ class Chance:
                 return self.random.choice(imps), self.random.choice(imps)
             case "giveup" | "ask" | "abandon":
                 up = [imp for imp in self.subnet.imps.values() if imp] if sure else []
-                held = [flow for imp in up for flow in (imp.slots if kind == "abandon" else imp.outstanding)]
+                held = [flow for imp in up for flow in ([*imp.slots] if kind == "abandon" else [*imp.outstanding])]
                 return (self.random.choice(held or self.flows),)
             case "alive":
                 alive = self.subnet.alive() if sure else []
-                flow, number = self.random.choice(alive)[:2] if alive else (self.random.choice(self.flows), self.random.choice([0, 1, 256, WINDOW, NUMBERS - 1]))
-                return flow, (number + self.random.choice([0, 0, 1, 256])) % NUMBERS
+                if alive:
+                    flow, number, _ = self.random.choice(alive)
+                else:
+                    flow, number = self.random.choice(self.flows), self.random.choice([0, 1, 256, NUMBERS.window, NUMBERS.count - 1])
+                return flow, (number + self.random.choice([0, 0, 1, 256])) % NUMBERS.count
             case "deliver" | "drop":
                 live = self.subnet.live if sure else []
                 ways = [(line, way) for line, ways in enumerate(live) for way in "+-" if ways[way]]
@@ -119,11 +132,12 @@ class Chance:
             case "enddown" | "endup":
                 ends = [(imp, line) for line, joined in enumerate(self.ends) for imp in joined] if sure else []
                 return self.random.choice(ends or [(self.random.choice(imps), self.random.choice([0, 1, 9]))])
+        raise ValueError(kind)
 
-    def run(self):
+    def run(self) -> tuple[list[str], list[str]]:
         """The lines for the driver, and the lines that it owes."""
         lines = spell_network(self.imps, self.ends)
-        events = [("calm", self.random.choice([2, 3, 4]))] * (self.random.random() < 0.9)
+        events: list[Event] = [("calm", self.random.choice([2, 3, 4]))] * (self.random.random() < 0.9)
         for _ in range(self.events):
             event = events.pop() if events else self.event()
             lines.append(spell_event(*event))
@@ -142,31 +156,17 @@ class Chance:
 # ---- what the driver reads
 
 
-def spell_network(imps, ends):
-    return [" ".join(f"{number}:{hosts}" for number, hosts in imps), " ".join(f"{a}-{b}" for a, b in ends)]
-
-
-def spell_part(part):
-    if isinstance(part, tuple):
-        return spell_flow(part) if len(part) == 3 else spell_host(part)
-    return str(part)
-
-
-def spell_event(kind, *parts):
-    if kind == "out":
-        flow, text = parts
-        padded = text + "0" * (-len(text) % 8)
-        octets = f"{int(padded, 2):0{len(padded) // 4}X}" if padded else "-"
-        return f"out {spell_flow(flow)} {len(text)} {octets}"
-    return " ".join([kind, *map(spell_part, parts)])
+def spell_network(imps: Iterable[tuple[int, int]], ends: Iterable[tuple[int, ...]]) -> list[str]:
+    """The two lines of a network."""
+    return [" ".join(f"{number}:{hosts}" for number, hosts in imps), " ".join("-".join(map(str, line)) for line in ends)]
 
 
 # ---- the driver
 
 
-def with_runs(folder, runs, is_largest):
+def with_runs(folder: str, runs: int, is_largest: bool) -> Counter[str]:
     """Puts the events of each run into a folder, and what is owed for them. Counts the events by what they came to."""
-    seen = Counter()
+    seen: Counter[str] = Counter()
     for run in range(runs):
         chance = Chance(run, is_largest)
         write_case(folder, f"{run:05}", *chance.run())
@@ -174,11 +174,9 @@ def with_runs(folder, runs, is_largest):
     return seen
 
 
-def with_files(folder, source):
+def with_files(folder: str, source: str) -> Counter[str]:
     """Puts the networks and scripts of a folder into another, as the driver reads them. Counts them."""
-    import tomllib  # Python before 3.11 has none
-
-    seen = Counter()
+    seen: Counter[str] = Counter()
     for name in sorted(os.listdir(source)):
         path = f"{source}/{name}"
         if os.path.isfile(path) and os.path.exists(f"{path}.stdout") and not os.path.exists(f"{path}.rows") and not os.path.exists(f"{path}.status"):
@@ -186,18 +184,18 @@ def with_files(folder, source):
                 topology, script = file.read().split("\n%\n", 1)
             with open(f"{source}/{name}.stdout", encoding="utf-8") as file:
                 owed = file.read().splitlines()
-            network = tomllib.loads(topology)
-            if network.get("carrier", "subnet") != "subnet" or not network.get("raw"):
+            network = network_of(topology)
+            if network.carrier != "subnet" or not network.raw:
                 continue
-            imps = sorted((imp["id"], imp["hosts"]) for imp in network["imp"])
-            lines = spell_network(imps, [(line["a"], line["b"]) for line in network.get("line", [])])
+            lines = spell_network(sorted(network.imps), network.lines)
             events = [line for line in script.splitlines() if line and line[0] != "#"]
             write_case(folder, name, lines + events, owed)
             seen[name] += len(events)
     return seen
 
 
-def main():
+def main() -> int:
+    """The exit status."""
     words = sys.argv[1:]
     is_largest = words[:1] == ["largest"]
     source = words[0] if words and os.path.isdir(words[0]) else None

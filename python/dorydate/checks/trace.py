@@ -30,7 +30,8 @@ from dorydate.checks import subnet as subnet_check
 from dorydate.model import trace as trace_model
 from dorydate.model import trace_subnet
 from dorydate.model.chance.questions import Questions
-from dorydate.model.script import BadLine, network_is_good, opened, read_line
+from dorydate.model.runs import network_is_good, opened
+from dorydate.model.script import BadLine, read_line
 from dorydate.model.topology import network_of, spelled as spelled_network
 from dorydate.model.trace import OfBoxes, Traced, all_parts, made_of, spelled, text, traced
 from dorydate.parts import ROOT

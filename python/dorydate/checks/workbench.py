@@ -22,7 +22,8 @@ import subprocess
 import sys
 import tempfile
 
-from dorydate.model import script as script_rules
+from dorydate.model.runs import opened
+from dorydate.model.script import read_event
 from dorydate.explain import topology
 from dorydate.explain import faults
 from dorydate.parts import ROOT, any_program
@@ -48,13 +49,13 @@ def states_of(text: bytes) -> list[dict[str, object]] | None:
     rounds = sum(int(it.split(" ")[1]) for it in lines if it.startswith("calm "))
     if network.is_plain() or rounds > MOST_ROUNDS or len(network.imps) > 16:
         return None
-    place = script_rules.opened(network.as_model())
+    place = opened(network.as_model())
     subnet = getattr(place, "carrier", place)
     if not isinstance(subnet, Subnet):
         return None
     states = []
     for line in lines:
-        place.happen(*script_rules.read_line(line, network.raw))
+        place.happen(*read_event(line, network.raw))
         states.append({name: part(subnet, name) for name in every_name(subnet)})
     return states
 

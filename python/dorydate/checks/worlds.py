@@ -12,18 +12,27 @@ First the audit itself is tried, on books that are right and books that are wron
 are wrong in one place have to be told from the right one by one of these books.
 """
 
+from __future__ import annotations
+
 import copy
 import sys
 from collections import Counter
+from collections.abc import Iterable, Iterator
 from dataclasses import replace
+from typing import Any
 
-
-from dorydate.model.audit import CONTROL, audit, match, partners_are_kept
-from dorydate.model.clean import unclean
-from dorydate.parts import ROOT
-from dorydate.model.script import opened, read_line
-from dorydate.model.world import Life, World
+from dorydate.model.audit import CONTROL, Lives, Log, audit, match, partners_are_kept
+from dorydate.model.book import Life
 from dorydate.model.chance.worlds import reached, some_script
+from dorydate.model.clean import unclean
+from dorydate.model.crossings import Answered, Carrier, Crossing, Passed
+from dorydate.model.host import Host
+from dorydate.model.misreadings import MISREADINGS
+from dorydate.model.names import Flow, HostName
+from dorydate.model.runs import opened_carrier
+from dorydate.model.script import read_event
+from dorydate.model.topology import Topology
+from dorydate.model.world import World
 
 RUNS = 3000
 CLOSELY = 10  # of this many runs one is audited after each event
@@ -46,19 +55,24 @@ GOOD = [
 ]
 
 
-def book_of(lines):
+FIRST, SECOND, THIRD = HostName(0, 1), HostName(0, 2), HostName(0, 3)
+Judged = tuple[list[Crossing], list[Life]]  # a book, as it is judged: its log and its lives
+
+
+def book_of(lines: Iterable[str]) -> Judged:
     """The log and the lives that a script leads to."""
-    world = opened(("plain", False, [(1, 1), (2, 1)], []))
+    world = World(opened_carrier(Topology("plain", False, [(1, 1), (2, 1)], [])))
     for line in lines:
-        world.happen(*read_line(line, raw=False))
+        world.happen(*read_event(line, raw=False))
     return world.carrier.log, world.book.lives
 
 
-def dialogue():
+def dialogue() -> Judged:
+    """The book of the dialogue."""
     return book_of(DIALOGUE)
 
 
-def with_life(place, **fields):
+def with_life(place: int, **fields: Any) -> Judged:
     """The book of the dialogue, with some fields of one life changed."""
     log, lives = dialogue()
     for name, value in fields.items():
@@ -66,7 +80,7 @@ def with_life(place, **fields):
     return log, lives
 
 
-def wrong_books():
+def wrong_books() -> Iterator[tuple[str | None, Judged]]:
     """Books that are wrong in one place, with the part of the promise that they break."""
     log, lives = dialogue()
     sender, receiver = lives
@@ -76,15 +90,17 @@ def wrong_books():
     yield "streams", with_life(1, bits=receiver.bits[:-1] + "1" * (receiver.bits[-1] == "0"))
     yield "streams", with_life(0, handed=sender.handed[:8])
     yield "streams", (log, [receiver])
+    first_request = next(it for it in log if isinstance(it, Passed) and (it.kind, it.flow) == ("in", Flow(FIRST, SECOND, CONTROL)))
     yield "grants", with_life(1, granted=[2, 99])
     yield "grants", with_life(1, granted=[1, 100])
     yield "grants", with_life(0, messages=2)
     yield "partners", (log, [sender, receiver, copy.copy(receiver)])
-    yield "partners", with_life(0, partner=next(at for at, it in enumerate(log) if it[:2] == ("in", ((0, 1), (0, 2), 0))))
+    yield "partners", with_life(0, partner=log.index(first_request))
     yield "malformed", with_life(1, own=7)
     yield "malformed", with_life(1, partner=6)
-    for part, fields in ("streams", {"bits": receiver.bits[8:]}), ("streams", {"bits": receiver.bits + "0"}), ("grants", {"returned": [2, 4]}):
-        yield part, with_life(1, **fields)
+    yield "streams", with_life(1, bits=receiver.bits[8:])
+    yield "streams", with_life(1, bits=receiver.bits + "0")
+    yield "grants", with_life(1, returned=[2, 4])
     older, newer = book_of(GOOD[2])[1][:2], book_of(GOOD[2])[1][2:]
     yield "partners", (book_of(GOOD[2])[0], [*older, newer[0], replace(newer[1], own=older[1].own)])
     yield "partners", (book_of(GOOD[2])[0], [*older, newer[0], replace(newer[1], partner=older[1].partner)])
@@ -92,85 +108,44 @@ def wrong_books():
     yield "partners", (book_of(GOOD[2])[0], [older[1], replace(newer[1], partner=older[1].partner)])
     yield "grants", with_life(1, messages=3)
     yield "streams", (book_of(GOOD[2])[0], [*older, replace(newer[0], bits=newer[0].bits[1:]), newer[1]])
-    flow = (0, 1), (0, 2), 5
-    yield "messages", ([("out", flow, "1"), ("in", flow, "1"), ("out", flow, "1"), ("answer", "rfnm", flow)], [])
-    yield "messages", ([("out", flow, "1"), ("in", flow, "1"), ("in", flow, "1")], [])
-    yield "messages", ([("out", flow, "1"), ("in", flow, "0")], [])
-    yield "messages", ([("in", flow, "1")], [])
-    yield "messages", ([("out", flow, "1"), ("answer", "rfnm", flow)], [])
+    for messages in wrong_messages():
+        yield "messages", (messages, [])
 
 
-def wrong_partners():
+def wrong_messages() -> Iterator[list[Crossing]]:
+    """Logs that break what is promised of messages."""
+    flow = Flow(FIRST, SECOND, 5)
+    out, taken, rfnm = Passed("out", flow, "1"), Passed("in", flow, "1"), Answered("answer", "rfnm", flow)
+    yield [out, taken, out, rfnm]
+    yield [out, taken, taken]
+    yield [out, Passed("in", flow, "0")]
+    yield [taken]
+    yield [out, rfnm]
+
+
+def wrong_partners() -> Iterator[Judged]:
     """Books whose stamps name nothing, or another host's messages, so that they are malformed: they break what is promised of partners too."""
     log, (sender, _) = dialogue()
     yield log, [replace(sender, partner=0)]
     # each took the other's request, but the first says that it is with the second host, and the other end is the third host's
-    first, second, third = (0, 1), (0, 2), (0, 3)
-    log = [("out", (second, first, CONTROL), "0"), ("out", (first, third, CONTROL), "1"), ("in", (first, third, CONTROL), "1")]
-    yield log, [Life(first, 16, second, 33, own=1, partner=1), Life(third, 33, first, 16, own=0, partner=2)]
+    back, on = Flow(SECOND, FIRST, CONTROL), Flow(FIRST, THIRD, CONTROL)
+    crossed: list[Crossing] = [Passed("out", back, "0"), Passed("out", on, "1"), Passed("in", on, "1")]
+    yield crossed, [Life(FIRST, 16, SECOND, 33, own=1, partner=1), Life(THIRD, 33, FIRST, 16, own=0, partner=2)]
 
 
-# readings of the promise that are wrong in one place: what is read otherwise, as the text of python/dorydate/model/audit.py and what takes
-# its place
-WRONG_READINGS = [
-    ("a taking may have another text than what went out", " or since[flow][0] != text", ""),
-    ("a message may be taken twice", " or since[flow][1] or", " or"),
-    ("a taking needs no message", "flow not in since or since[flow][1] or since[flow][0] != text", "since.setdefault(flow, (text, [])) and since[flow][1]"),
-    ("an RFNM needs no taking", "if parts[1] not in since or not since[parts[1]][1]:", "if parts[1] not in since:"),
-    ("an RFNM may be about an older message", "since[flow] = text, []", "since[flow] = text, [] if flow not in since else since[flow][1][1:] or since[flow][1]"),
-    ("a request is known by its place alone", "return life.own, life.socket, life.foreign", "return life.own"),
-    ("a partner's request is where it was taken", "place = last_out(log, (life.peer, life.host, CONTROL), life.partner)", "place = life.partner"),
-    ("a partner's request is the first of its flow", "outs = (at for at in range(place - 1, -1, -1)", "outs = (at for at in range(place)"),
-    ("two lives may have one own request", "len({*own}) < len(own) or ", ""),
-    ("two lives may have one partner's request", " or len({*partner}) < len(partner)", ""),
-    ("a partner may have another partner", "return all(partner[own.index(asked)] == mine for mine, asked in zip(own, partner) if asked in own)", "return True"),
-    ("a life needs no partner's request", "if any(place is None for place, *_ in partner):", "if False:"),
-    ("a partner may be another host's", "if any(ends[asked] != (life.peer, life.host) for asked, life in zip(partner, lives) if asked in ends):", "if False:"),
-    ("every life has a partner's life", "for mine, asked in zip(own, partner) if asked in own)", "for mine, asked in zip(own, partner)) if {*partner} <= {*own} else False"),
-    ("the same sockets are a match", "        and partner_request(log, receiver) == own_request(sender)\n        and partner_request(log, sender) == own_request(receiver)\n", ""),
-    ("a life that took anything needs no match", "len(found) > 1 or receiver.bits and not found", "len(found) > 1"),
-    ("a life that took nothing needs a match", "len(found) > 1 or receiver.bits and not found", "len(found) != 1"),
-    ("what was taken is all that was sent", "found[0].bits.startswith(receiver.bits)", "found[0].bits == receiver.bits"),
-    ("what was taken is the end of what was sent", "found[0].bits.startswith(receiver.bits)", "found[0].bits.endswith(receiver.bits)"),
-    ("what was taken stands somewhere in what was sent", "found[0].bits.startswith(receiver.bits)", "receiver.bits in found[0].bits"),
-    ("what was sent need not be handed over", "return all(life.receives() or life.handed.startswith(life.bits) for life in lives)", "return True"),
-    ("what was sent is all that was handed over", "life.handed.startswith(life.bits)", "life.handed == life.bits"),
-    ("messages are not granted", "messages + receiver.returned[0] <= receiver.granted[0] and ", ""),
-    ("bits are not granted", " and bits + receiver.returned[1] <= receiver.granted[1]", ""),
-    ("what was returned may be sent", "messages + receiver.returned[0] <= receiver.granted[0] and bits + receiver.returned[1]", "messages <= receiver.granted[0] and bits"),
-    ("what was sent need not be granted", "for it in [receiver, *found]", "for it in [receiver]"),
-    ("what was taken need not be granted", "for it in [receiver, *found]", "for it in found"),
-]
-
-
-def unnoticed():
+def unnoticed() -> Iterator[str]:
     """The wrong readings of the promise that judge each book by hand as it should be judged."""
-    with open(f"{ROOT}/python/dorydate/model/audit.py", encoding="utf-8") as file:
-        source = file.read()
     books = [*wrong_books()]
-    for name, text, other in WRONG_READINGS:
-        if source.count(text) != 1:
-            yield f"{name} (the text is there {source.count(text)} times)"
-            continue
-        names = {}
-        exec(source.replace(text, other), names)
-        if all(judged(names["audit"], book) == wanted for wanted, book in books):
-            if not any(judged(names["partners_are_kept"], book) for book in wrong_partners()):
-                yield name
+    for kind in MISREADINGS:
+        reading = kind()
+        if all(reading.audit(*book) == wanted for wanted, book in books) and not any(reading.partners_are_kept(*book) for book in wrong_partners()):
+            yield str(kind.__doc__)
 
 
-def judged(wrong_audit, book):
-    """What a wrong reading says of a book, if it comes to say anything."""
-    try:
-        return wrong_audit(*book)
-    except (IndexError, KeyError) as fault:
-        return fault
-
-
-def pairs_that_differ(log, lives):
+def pairs_that_differ(log: Log, lives: Lives) -> Iterator[tuple[Life, Life]]:
     """Lives that continue, with each other's hosts and sockets, that are not one connection."""
     going = [life for life in lives if not life.has_ended]
-    for life in filter(lambda life: life.receives(), going):
+    for life in filter(Life.receives, going):
         for other in going:
             swapped = (other.host, other.socket, other.peer, other.foreign) == (life.peer, life.foreign, life.host, life.socket)
             if swapped and not match(log, life, other):
@@ -180,11 +155,11 @@ def pairs_that_differ(log, lives):
 class Watched(World):
     """A world that remembers which messages had an effect: they changed their host's program, or it told something."""
 
-    def __init__(self, carrier):
+    def __init__(self, carrier: Carrier) -> None:
         super().__init__(carrier)
-        self.effects = set()
+        self.effects: set[int] = set()
 
-    def take(self, host):
+    def take(self, host: HostName) -> bool:
         before, told, place = kept_by(self.hosts.get(host)), len(self.book.notices), len(self.carrier.log)
         given = super().take(host)
         if given and (kept_by(self.hosts[host]), len(self.book.notices)) != (before, told):
@@ -192,7 +167,7 @@ class Watched(World):
         return given
 
 
-def kept_by(program):
+def kept_by(program: Host | None) -> Any:
     """All that a host's program keeps. A pair in the initial state counts as none."""
     if program is None:
         return None
@@ -200,7 +175,7 @@ def kept_by(program):
     return {peer: it for peer, it in pairs.items() if it != ("closed", False, False, set(), [], [])}, {**program.listening}
 
 
-def broken(world):
+def broken(world: World) -> str | None:
     """What a world's book breaks, None where it keeps all."""
     log, lives = world.carrier.log, world.book.lives
     if isinstance(world, Watched) and unclean(log, world.book.contacts, world.effects) is not None:
@@ -214,12 +189,12 @@ def broken(world):
     return None
 
 
-def run(seed):
+def run(seed: int) -> tuple[str | None, Topology, list[str], Counter[str]]:
     """A random run: what breaks, the script as far as it happened, and what was reached."""
     network, script = some_script(seed)
     if seed % CLOSELY:
         return broken(script.world), network, script.lines, reached(script.world.printed)
-    world = Watched(opened(network).carrier)
+    world = Watched(opened_carrier(network))
     for at, event in enumerate(script.events):
         world.happen(*event)
         if part := broken(world):
@@ -227,7 +202,8 @@ def run(seed):
     return None, network, script.lines, reached(world.printed)
 
 
-def main():
+def main() -> int:
+    """The exit status."""
     for wanted, book in wrong_books():
         if audit(*book) != wanted:
             print(f"check worlds: a book that breaks {wanted} is found to break {audit(*book)}")
@@ -238,7 +214,7 @@ def main():
     if missed := [*unnoticed()]:
         print("check worlds: no book by hand tells these wrong readings of the promise:", *missed, sep="\n")
         return 1
-    came_to = Counter()
+    came_to: Counter[str] = Counter()
     runs = int(sys.argv[1]) if len(sys.argv) > 1 else RUNS
     for seed in range(runs):
         part, network, lines, printed = run(seed)
@@ -246,7 +222,7 @@ def main():
             print(f"check worlds: run {seed} breaks {part}: {network}", *lines, sep="\n")
             return 1
         came_to += printed
-    print(f"check worlds: {len([*wrong_books(), *wrong_partners()])} books written by hand, each judged rightly, and by {len(WRONG_READINGS)} wrong readings of the promise not all")
+    print(f"check worlds: {len([*wrong_books(), *wrong_partners()])} books written by hand, each judged rightly, and by {len(MISREADINGS)} wrong readings of the promise not all")
     print("check worlds: the runs came to", ", ".join(f"{count} {name}" for name, count in sorted(came_to.items())))
     print(f"check worlds: {runs} runs, and each book keeps its promise")
     return 0

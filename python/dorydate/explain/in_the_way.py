@@ -5,7 +5,9 @@ It reads the state of the independent model, which a refused event left as it wa
 
 from dorydate.model.alive import clearing, everything, listed, room_clearing, where
 from dorydate.model.crossings import ANSWERS
-from dorydate.model.imp import QUEUE, STORE, body, in_order, spell_flow, spell_host
+from dorydate.model.imp_state import QUEUE, STORE
+from dorydate.model.names import in_order, spell_flow, spell_host
+from dorydate.model.packets import body
 
 TOLD = 3  # so many packets that stand in the way are told of
 

@@ -8,9 +8,13 @@ from dataclasses import dataclass
 
 from dorydate.model.alive import everything, frame_in_words, listed, of_imp, packet_in_words
 from dorydate.model.crossings import ANSWERS
-from dorydate.model.imp import ASK, BRINGS, DATA, INFINITE, NUMBERS, WINDOW, body, octets, spell_flow, spell_host, target
+from dorydate.model.bits import octets
+from dorydate.model.imp import BRINGS
+from dorydate.model.imp_state import NUMBERS
+from dorydate.model.names import spell_flow, spell_host
+from dorydate.model.packets import ASK, DATA, INFINITE, Carried, Routes, body, target
 from dorydate.explain.in_the_way import InTheWay, hops
-from dorydate.model.script import opened
+from dorydate.model.runs import opened
 from dorydate.model.subnet import Subnet
 
 MOST_ROUNDS = 20_000  # so many rounds of calm are followed at most: the model is slow
@@ -211,13 +215,13 @@ class Inside:
         imp, content = self.subnet.imps[number], was.content
         if content is None:
             return ""
-        if content[0] == "routes":
+        if isinstance(content, Routes):
             return self.new_ways(number, was.ways) or "The routes that it knows stay the same."
         if was.is_thrown_away:
             return self.thrown_away(was)
-        if imp.ports[was.port].line.expected[content[1]] == content[2]:
+        if imp.ports[was.port].line.expected[content.channel] == content.bit:
             return f"IMP {number} has no room for it and does not acknowledge it, so it will be sent again."
-        packet = content[3]
+        packet = content.packet
         if target(packet) != number:
             return self.passed_on(number, packet, was.ways)
         kind, flow, message, *_ = packet
@@ -234,7 +238,7 @@ class Inside:
         ends = [(far, line), (was.number, line)]
         cure = ", ".join(f"`{word} {imp} {line}`" for word in ("enddown", "endup") for imp, line in ends)
         return (
-            f"It never came before, but IMP {was.number} expects the other bit on channel {was.content[1]}: one end of line {line} was reset and "
+            f"It never came before, but IMP {was.number} expects the other bit on channel {was.content.channel}: one end of line {line} was reset and "
             f"the other was not. So IMP {was.number} takes it for a repeat, acknowledges it, and it is LOST. To cure the line, reset both ends: {cure}."
         )
 
@@ -294,10 +298,10 @@ class Inside:
         near = self.subnet.ends[line][0 if way == "+" else 1]
         start = f"{frame_in_words(content)} is gone from {self.line_in_words(line, way)}."
         start = start[0].upper() + start[1:]
-        if content is None or content[0] == "routes":
+        if not isinstance(content, Carried):
             return lambda: [start]
         imp = self.subnet.imps[near]
-        held = imp is not None and imp.ports[self.subnet.port_of(near, line)].line.busy[content[1]] == content[3]
+        held = imp is not None and imp.ports[self.subnet.port_of(near, line)].line.busy[content.channel] == content.packet
         after = f"IMP {near} still holds it, not acknowledged, and sends it again at `resend {near}`." if held else f"IMP {near} holds it no longer for this line."
         return lambda: [start, after]
 
@@ -448,16 +452,16 @@ class Before:
         self.number, self.port, self.content, self.ways = imp.number, port, content, ways
         line = imp.ports[port].line
         self.busy, self.bits = list(line.busy), list(line.next_bit)
-        is_packet = content is not None and content[0] == "packet"
-        self.is_thrown_away = is_packet and content[2] != line.expected[content[1]]
-        self.was_accepted = is_packet and content[3][:4] in imp.ports[port].accepted
+        is_packet = isinstance(content, Carried)
+        self.is_thrown_away = is_packet and content.bit != line.expected[content.channel]
+        self.was_accepted = is_packet and content.packet[:4] in imp.ports[port].accepted
         self.outstanding, self.kept, self.fates = dict(imp.outstanding), dict(imp.kept), dict(imp.fates)
         self.slots = {flow: (number, dict(pieces)) for flow, (number, pieces) in imp.slots.items()}
         self.messages = [len(host.messages) for host in imp.hosts]
 
     def is_new(self, flow, number):
         """Whether the IMP would have taken a number as new."""
-        return flow not in self.kept or 1 <= (number - self.kept[flow]) % NUMBERS <= WINDOW
+        return flow not in self.kept or NUMBERS.is_after(number, self.kept[flow])
 
     def queued(self, flow):
         """How many messages waited for the flow's destination."""

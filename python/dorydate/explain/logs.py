@@ -10,9 +10,10 @@ import difflib
 import re
 from collections.abc import Callable
 
-from dorydate.model.audit import last_out, match, own_request, partner_request
-from dorydate.model.imp import octets as octets_of
-from dorydate.model.imp import spell_flow, spell_host
+from dorydate.model.audit import Log, is_passed, last_out, match, own_request, partner_request
+from dorydate.model.bits import octets as octets_of
+from dorydate.model.crossings import Answered, Passed, Turned
+from dorydate.model.names import Flow, spell_flow, spell_host
 from dorydate.model.log import BadLog, Book, read_log
 from dorydate.explain.faults import wrong_with_text, wrong_with_word
 from dorydate.explain.given import shown
@@ -190,35 +191,41 @@ def why_malformed(book: Book, numbers: list[int]) -> str:
         return f"There are {counted(len(handed), 'list')} of what was handed over and {counted(len(lives), 'life', 'lives')}: this list belongs to no life."
     life = lives[place - 1]
     host, peer = spell_host(life.host), spell_host(life.peer)
-    if not (life.own < len(log) and log[life.own][:2] == ("out", (life.host, life.peer, 0))):
+    if not (life.own < len(log) and is_passed(log[life.own], "out", Flow(life.host, life.peer, 0))):
         return f"Its OWN is {life.own}, and {crossing_at(log, life.own)}. It has to be the place of an `out {host} {peer} 0`, the message with this end's own request. (The first line is place 0.)"
-    if not (life.partner < len(log) and log[life.partner][:2] == ("in", (life.peer, life.host, 0))):
+    if not (life.partner < len(log) and is_passed(log[life.partner], "in", Flow(life.peer, life.host, 0))):
         return f"Its PARTNER is {life.partner}, and {crossing_at(log, life.partner)}. It has to be the place of an `in {peer} {host} 0`, the message with its partner's request. (The first line is place 0.)"
     return f"Its PARTNER is {life.partner}, but before that place no `out {peer} {host} 0` went out that could have come in there."
 
 
-def crossing_at(log: list, place: int) -> str:  # type: ignore[type-arg]
+def crossing_at(log: Log, place: int) -> str:
     """The crossing at a place of the log."""
     if place >= len(log):
         return f"the log has {counted(len(log), 'crossing')} only"
-    kind, *parts = log[place]
-    what = f"{parts[0]} {spell_flow(parts[1])}" if kind == "answer" else spell_flow(parts[0]) if kind in ("out", "in") else spell_host(parts[0])
-    return f"at place {place} (line {place + 1}) is `{kind} {what}`"
+    crossing = log[place]
+    if isinstance(crossing, Answered):
+        what = f"{crossing.answer} {spell_flow(crossing.flow)}"
+    else:
+        what = spell_flow(crossing.flow) if isinstance(crossing, Passed) else spell_host(crossing.host)
+    return f"at place {place} (line {place + 1}) is `{crossing.kind} {what}`"
 
 
 def why_messages(book: Book, numbers: list[int]) -> str:
     log, at = book.log, numbers[0] - 1
-    kind, *parts = log[at]
-    flow = parts[1] if kind == "answer" else parts[0]
+    crossing = log[at]
+    assert not isinstance(crossing, Turned)  # what breaks the messages is a taking or an answer
+    flow = crossing.flow
     out = last_out(log, flow, at)
     if out is None:
         return f"No message of the flow {spell_flow(flow)} went out before it."
-    taken = [place for place in range(out, at) if log[place][:2] == ("in", flow)]
-    if kind == "answer":
+    taken = [place for place in range(out, at) if is_passed(log[place], "in", flow)]
+    if isinstance(crossing, Answered):
         return f"The last message of the flow {spell_flow(flow)} went out in line {out + 1}, and no line since then says that it was taken: an RFNM is about a message that was."
     if taken:
         return f"The message of line {out + 1} was taken already in line {taken[0] + 1}. Each message is taken once at most."
-    return f"It isn't what went out in line {out + 1}: {difference(parts[1], log[out][2], 'what was taken', 'what went out')}"
+    sent = log[out]
+    assert isinstance(sent, Passed)
+    return f"It isn't what went out in line {out + 1}: {difference(crossing.text, sent.text, 'what was taken', 'what went out')}"
 
 
 def difference(one: str, other: str, its: str, others: str) -> str:

@@ -10,8 +10,8 @@ from collections.abc import Iterator
 from typing import Any
 
 from dorydate.model.alive import listed
-from dorydate.model.host import CLOSED, READY
-from dorydate.model.imp import in_order, spell_flow, spell_host
+from dorydate.model.connections import CLOSED, READY
+from dorydate.model.names import in_order, spell_flow, spell_host
 from dorydate.explain.in_the_way import InTheWay
 
 LOOKED = 4  # rounds after which a network that printed nothing is said to be at rest

@@ -10,12 +10,14 @@ import random
 import sys
 import time
 from collections.abc import Sequence
-from typing import Any
 
 from dorydate.explore.kinds import Maker, Pools, chosen, pools
 from dorydate.explore.shrink import Script as Events
 from dorydate.explore.shrink import Shrinker
-from dorydate.model.without import LACKING, broken, opened_without, read_line
+from dorydate.model.script import Event as ModelEvent
+from dorydate.model.script import read_event
+from dorydate.model.topology import Topology
+from dorydate.model.without import LACKING, broken
 from dorydate.network import Network
 from dorydate.script import Event, Script
 
@@ -32,7 +34,8 @@ LENGTH = 16  # events of a schedule: the model is slow
 
 
 def rules() -> list[str]:
-    return [it for it in LACKING if it]
+    """The rules that can be left out."""
+    return [*LACKING]
 
 
 def print_rules() -> int:
@@ -44,19 +47,18 @@ class Lacking:
     """A network whose model lacks a rule."""
 
     def __init__(self, rule: str, network: Network) -> None:
-        self.rule, self.network = rule, network
-        self.read: dict[Event, Any] = {}
-        self.as_model = network.carrier, network.raw, [(it.number, it.hosts) for it in network.imps], [(it.a, it.b) for it in network.lines]
+        self.lacking, self.raw = LACKING[rule], network.raw
+        self.read: dict[Event, ModelEvent] = {}
+        self.as_model = Topology(network.carrier, network.raw, [(it.number, it.hosts) for it in network.imps], [(it.a, it.b) for it in network.lines])
 
-    def breaks(self, script: Sequence[Event], rule: str | None = None) -> str | None:
-        """The first part of the promise that breaks; with all rules where `rule` is empty."""
-        place = opened_without(self.rule if rule is None else None, self.as_model)
+    def breaks(self, script: Sequence[Event]) -> str | None:
+        """The first part of the promise that breaks."""
+        place = self.lacking.opened(self.as_model)
         for event in script:
             if event not in self.read:
-                self.read[event] = read_line(str(event), self.network.raw)
+                self.read[event] = read_event(str(event), self.raw)
             place.happen(*self.read[event])
-        found: str | None = broken(place)
-        return found
+        return broken(place)
 
 
 def network_for(rule: str) -> tuple[Network, Pools]:

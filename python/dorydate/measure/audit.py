@@ -22,41 +22,42 @@ import statistics
 import sys
 import tempfile
 from collections.abc import Callable
-from typing import Any
 
 from dorydate.model.audit import CONTROL
 from dorydate.model.log import Book, spelled_log
 from dorydate.measure import most_memory, processor_time, written
 from dorydate.parts import proved_program
-from dorydate.model.world import Life
+from dorydate.model.book import Life
+from dorydate.model.crossings import Answered, Crossing, Passed
+from dorydate.model.names import Flow, HostName
 
 SIZES = (1_000, 100), (10_000, 1_000)
-A, B = (0, 1), (0, 2)
+A, B = HostName(0, 1), HostName(0, 2)
 TEXT = "01000001"
 DATA = 5  # a link of data
 Make = Callable[[int, int], Book]  # a book of this many crossings and lives
 
 
-def passed(log: list[Any], flow: Any) -> tuple[int, int]:
+def passed(log: list[Crossing], flow: Flow) -> tuple[int, int]:
     """Adds a message that goes out, is taken and answered. It gives the places where it went out and came in."""
-    log += [("out", flow, TEXT), ("in", flow, TEXT), ("answer", "rfnm", flow)]
+    log += [Passed("out", flow, TEXT), Passed("in", flow, TEXT), Answered("answer", "rfnm", flow)]
     return len(log) - 3, len(log) - 2
 
 
-def hosts() -> list[tuple[Any, Any]]:
+def hosts() -> list[tuple[HostName, HostName]]:
     """All pairs of two hosts."""
-    names = [(host, imp) for imp in range(1, 64) for host in range(4)]
+    names = [HostName(host, imp) for imp in range(1, 64) for host in range(4)]
     return [(one, other) for one in names for other in names if one < other]
 
 
 def filled(book: Book, crossings: int) -> Book:
     """Fills up a log with messages of data."""
     while len(book.log) <= crossings - 3:
-        passed(book.log, (A, B, DATA + 1))
+        passed(book.log, Flow(A, B, DATA + 1))
     return book
 
 
-def connected(book: Book, asked: tuple[int, int], answered: tuple[int, int], receiver: Any, sender: Any, socket: int = 16) -> None:
+def connected(book: Book, asked: tuple[int, int], answered: tuple[int, int], receiver: HostName, sender: HostName, socket: int = 16) -> None:
     """Adds both lives of a connection whose two requests went out and came in at these places."""
     bits = TEXT[:5]
     book.lives.append(Life(receiver, socket, sender, socket + 17, asked[0], answered[1], bits, 1, [1, 8]))
@@ -71,8 +72,8 @@ def without_lives(crossings: int, _: int) -> Book:
 def different(crossings: int, lives: int) -> Book:
     book = Book([], [], [])
     for one, other in hosts()[: lives // 2]:
-        requests = passed(book.log, (one, other, CONTROL)), passed(book.log, (other, one, CONTROL))
-        passed(book.log, (other, one, DATA))
+        requests = passed(book.log, Flow(one, other, CONTROL)), passed(book.log, Flow(other, one, CONTROL))
+        passed(book.log, Flow(other, one, DATA))
         connected(book, *requests, one, other)
     return filled(book, crossings)
 
@@ -80,39 +81,39 @@ def different(crossings: int, lives: int) -> Book:
 def alike(crossings: int, lives: int) -> Book:
     book = Book([], [], [])
     for _ in range(lives // 2):
-        requests = passed(book.log, (A, B, CONTROL)), passed(book.log, (B, A, CONTROL))
+        requests = passed(book.log, Flow(A, B, CONTROL)), passed(book.log, Flow(B, A, CONTROL))
         connected(book, *requests, A, B)
     return filled(book, crossings)
 
 
 def alike_and_late(crossings: int, lives: int) -> Book:
-    book, late = Book([], [], []), (B, A, CONTROL)
-    asked = passed(book.log, (A, B, CONTROL))
-    book.log.append(("out", late, TEXT))
+    book, late = Book([], [], []), Flow(B, A, CONTROL)
+    asked = passed(book.log, Flow(A, B, CONTROL))
+    book.log.append(Passed("out", late, TEXT))
     filled(book, crossings // 2)
-    book.log.extend([("in", late, TEXT), ("answer", "rfnm", late)])
+    book.log.extend([Passed("in", late, TEXT), Answered("answer", "rfnm", late)])
     connected(book, asked, (asked[1] + 2, len(book.log) - 2), A, B)
     for _ in range(lives // 2 - 1):
-        requests = passed(book.log, (A, B, CONTROL)), passed(book.log, (B, A, CONTROL))
+        requests = passed(book.log, Flow(A, B, CONTROL)), passed(book.log, Flow(B, A, CONTROL))
         connected(book, *requests, A, B)
     return filled(book, crossings)
 
 
 def in_one_message(crossings: int, lives: int) -> Book:
-    book, late = Book([], [], []), (B, A, CONTROL)
-    asked = passed(book.log, (A, B, CONTROL))
-    book.log.append(("out", late, TEXT))
+    book, late = Book([], [], []), Flow(B, A, CONTROL)
+    asked = passed(book.log, Flow(A, B, CONTROL))
+    book.log.append(Passed("out", late, TEXT))
     filled(book, crossings - 2)
-    book.log.append(("in", late, TEXT))
+    book.log.append(Passed("in", late, TEXT))
     for at in range(lives // 2):
         connected(book, asked, (asked[1] + 2, len(book.log) - 1), A, B, 16 + 2 * at)
     return book
 
 
 def all_at_once(crossings: int, _: int) -> Book:
-    flows = [(one, other, CONTROL) for one, other in hosts()[: crossings // 3]]
-    outs, ins = ([(kind, flow, TEXT) for flow in flows] for kind in ("out", "in"))
-    return Book([*outs, *ins, *(("answer", "rfnm", flow) for flow in flows)], [], [])
+    flows = [Flow(one, other, CONTROL) for one, other in hosts()[: crossings // 3]]
+    outs, ins = [Passed("out", flow, TEXT) for flow in flows], [Passed("in", flow, TEXT) for flow in flows]
+    return Book([*outs, *ins, *(Answered("answer", "rfnm", flow) for flow in flows)], [], [])
 
 
 MEASURED = [

@@ -33,7 +33,7 @@ import tempfile
 from collections.abc import Callable, Sequence
 from dataclasses import dataclass
 
-from dorydate.model.imp import MOST_IMPS
+from dorydate.model.packets import MOST_IMPS
 from dorydate.measure import best_of_all, instructions, most_memory, processor_time, written
 from dorydate.parts import proved_program
 from dorydate.model.subnet import Subnet

@@ -1,63 +1,64 @@
-"""Runs an input by the independent model of the rules alone, without the program: tools/model [--book] [--check] [--texts] < FILE
+"""Runs an input by the independent model of the rules, without the program: tools/model [--book] [--check] [--texts] < FILE
 
-With --log it prints the log, with --trace the trace, and with --audit it judges a log.
-
-With --cases FOLDER it runs each file of a folder, with the options of NAME.args, and compares what it prints with
-NAME.stdout. Of TOML it reads the plain spelling that the examples have, one key a line.
+With --log it prints the log, with --trace the trace, and with --audit it judges a log. With --cases FOLDER it runs each file of a
+folder, with the options of NAME.args, and compares what it prints with NAME.stdout. Of TOML it reads the plain spelling that the
+examples have, one key a line.
 """
 
-import glob
-import os
-import sys
+from __future__ import annotations
 
-from dorydate.model.log import ends_audit, ends_log
-from dorydate.model.script import expected, network_is_good
+import sys
+from collections.abc import Sequence
+from pathlib import Path
+
+from dorydate.model.log import ends_log
+from dorydate.model.runs import End, expected, network_is_good
 from dorydate.model.topology import network_of
 from dorydate.model.trace import ends_trace
+from dorydate.model.verdict import ends_audit
 
 
-def ends(octets, options):
+def ends(octets: bytes, options: Sequence[str]) -> End:
     """How the program has to end on an input."""
-    if options == ["--audit"]:
+    if [*options] == ["--audit"]:
         return ends_audit(octets)
     lines = octets.decode("latin-1").split("\n")
     marker = lines.index("%")
     network, script = network_of("\n".join(lines[:marker])), lines[marker + 1 :]
-    if options == ["--log"] and network_is_good(network, ["worlds"]):
+    if [*options] == ["--log"] and network_is_good(network, ["worlds"]):
         return ends_log(network, script)
-    if options == ["--trace"] and network_is_good(network, ["worlds"]):
+    if [*options] == ["--trace"] and network_is_good(network, ["worlds"]):
         return ends_trace(network, script)
     return expected(options, network, script)
 
 
-def read(path):
-    if not os.path.exists(path):
-        return b""
-    with open(path, "rb") as file:
-        return file.read()
+def read(path: Path) -> bytes:
+    """The octets of a file, none where there is no such file."""
+    return path.read_bytes() if path.exists() else b""
 
 
-def check_cases(folder):
-    """Whether each case of a folder prints what its file says."""
-    wrong, names = 0, [it.removesuffix(".stdout") for it in sorted(glob.glob(f"{folder}/*.stdout"))]
+def check_cases(folder: str) -> int:
+    """Whether a case of a folder prints something else than its file says."""
+    wrong, names = 0, [it.with_suffix("") for it in sorted(Path(folder).glob("*.stdout"))]
     for name in names:
-        options = read(f"{name}.args").decode().split()
+        options = read(name.with_name(f"{name.name}.args")).decode().split()
         status, output, said = ends(read(name), options)
-        if output != read(f"{name}.stdout").decode():
+        if output != read(name.with_name(f"{name.name}.stdout")).decode():
             wrong += 1
             print(f"model: {name} ends with {status} {said.strip()} and prints\n{output}")
     print(f"model: {len(names)} cases of {folder}, {wrong} wrong")
     return 1 if wrong else 0
 
 
-def main():
-    if sys.argv[1:2] == ["--cases"]:
-        return max(check_cases(folder) for folder in sys.argv[2:])
-    status, output, said = ends(sys.stdin.buffer.read(), sys.argv[1:])
+def main(words: Sequence[str]) -> int:
+    """The exit status."""
+    if words[:1] == ["--cases"]:
+        return max(check_cases(folder) for folder in words[1:])
+    status, output, said = ends(sys.stdin.buffer.read(), words)
     print(output, end="")
     print(said, end="", file=sys.stderr)
     return status
 
 
 if __name__ == "__main__":
-    sys.exit(main())
+    sys.exit(main(sys.argv[1:]))

@@ -3,31 +3,40 @@
 `inside` uses this. Nothing here changes a subnet.
 """
 
-from dataclasses import dataclass
+from __future__ import annotations
 
-from dorydate.model.imp import ASK, CHANNELS, DATA, DEAD, NEVER, REQUESTS, RFNM, spell_flow, spell_host, target
+from collections.abc import Iterator, Sequence
+from dataclasses import dataclass
+from typing import Any
+
+from dorydate.model.imp import Imp
+from dorydate.model.names import Flow, HostName, spell_flow, spell_host
+from dorydate.model.packets import ASK, CHANNELS, DATA, DEAD, NEVER, REQUESTS, RFNM, Carried, Content, Kind, Packet, Routes, target
+from dorydate.model.subnet import Subnet
 
 NAMES = {RFNM: "RFNM", DEAD: "Dead", NEVER: "Never"}
+
+Place = tuple[Any, ...]  # a word for a place, and numbers
 
 
 @dataclass(frozen=True)
 class Held:
     """A packet, or what is left of its message, and its place: a word for it and numbers."""
 
-    kind: int  # that of the packet, DATA for a message
-    flow: tuple
+    kind: Kind  # that of the packet, DATA for a message
+    flow: Flow
     number: int
     what: str
-    place: tuple
+    place: Place
 
-    def is_request(self):
+    def is_request(self) -> bool:
         return self.kind in REQUESTS
 
 
 # ---- words
 
 
-def packet_in_words(packet):
+def packet_in_words(packet: Packet) -> str:
     """A packet by what it carries: a piece of a message, a question what became of one, or an answer about one."""
     kind, flow, number, place, last, _ = packet
     if kind == ASK:
@@ -40,14 +49,14 @@ def packet_in_words(packet):
     return f"{which} of message {number} of flow {spell_flow(flow)}"
 
 
-def frame_in_words(content):
+def frame_in_words(content: Content) -> str:
     """What a frame carries beside its acknowledgements."""
     if content is None:
         return "an acknowledgement"
-    return "a table of distances" if content[0] == "routes" else packet_in_words(content[3])
+    return "a table of distances" if isinstance(content, Routes) else packet_in_words(content.packet)
 
 
-def listed(words, most=4):
+def listed(words: Sequence[str], most: int = 4) -> str:
     """Words in a list, the end left out where there are many."""
     if len(words) > most:
         return f"{', '.join(words[:most])} and {len(words) - most} more"
@@ -57,35 +66,40 @@ def listed(words, most=4):
 # ---- places
 
 
-def of_imp(number, imp):
+def held(packet: Packet, place: Place) -> Held:
+    """A packet at a place."""
+    return Held(packet.kind, packet.flow, packet.number, packet_in_words(packet), place)
+
+
+def of_imp(number: int, imp: Imp) -> Iterator[Held]:
     """All that an IMP holds."""
     for packet in imp.store:
-        yield Held(*packet[:3], packet_in_words(packet), ("store", number, packet))
+        yield held(packet, ("store", number, packet))
     for port, end in enumerate(imp.ports):
-        for channel, packet in enumerate(end.line.busy):
-            if packet is not None:
-                yield Held(*packet[:3], packet_in_words(packet), ("channel", number, port, channel))
+        for channel, busy in enumerate(end.line.busy):
+            if busy is not None:
+                yield held(busy, ("channel", number, port, channel))
     for flow, (message, pieces) in imp.slots.items():
         places = listed([str(it) for it in sorted(pieces)])
         what = f"piece{'s' if len(pieces) > 1 else ''} {places} of message {message} of flow {spell_flow(flow)}"
         yield Held(DATA, flow, message, what, ("slot", number, flow))
     for host, it in enumerate(imp.hosts):
         for flow, message, _ in it.messages:
-            yield Held(DATA, flow, message, f"message {message} of flow {spell_flow(flow)}", ("queue", (host, number)))
+            yield Held(DATA, flow, message, f"message {message} of flow {spell_flow(flow)}", ("queue", HostName(host, number)))
 
 
-def everything(subnet):
+def everything(subnet: Subnet) -> Iterator[Held]:
     """All that is alive: what IMPs hold, and then what frames carry."""
     for number, imp in subnet.imps.items():
         yield from of_imp(number, imp) if imp is not None else ()
     for line, ways in enumerate(subnet.live):
         for way, frames in ways.items():
             for place, (_, content) in enumerate(frames):
-                if content is not None and content[0] == "packet":
-                    yield Held(*content[3][:3], packet_in_words(content[3]), ("frame", line, way, place))
+                if isinstance(content, Carried):
+                    yield held(content.packet, ("frame", line, way, place))
 
 
-def where(subnet, place):
+def where(subnet: Subnet, place: Place) -> str:
     """A place in words."""
     match place:
         case ["store", imp, _]:
@@ -105,11 +119,13 @@ def where(subnet, place):
 # ---- what moves it on
 
 
-def clearing(subnet, place):
+def clearing(subnet: Subnet, place: Place) -> str:
     """The next event that takes a packet or message from its place, or brings it nearer to that."""
     match place:
         case ["store", imp, packet]:
-            return channel_clearing(subnet, imp, subnet.imps[imp].route(target(packet)), 0)
+            port = subnet.up(imp).route(target(packet))
+            assert port is not None  # a packet without a way does not stay in the store
+            return channel_clearing(subnet, imp, port, 0)
         case ["channel", imp, port, channel]:
             return channel_clearing(subnet, imp, port, channel)
         case ["slot", _, flow]:
@@ -121,9 +137,9 @@ def clearing(subnet, place):
     raise ValueError(place)
 
 
-def queue_clearing(subnet, host):
+def queue_clearing(subnet: Subnet, host: HostName) -> str:
     """A host takes what waits for it, where its IMP has room for the answer. One that can't take stops."""
-    imp = subnet.imps[host[1]]
+    imp = subnet.up(host.imp)
     if imp.hosts[host[0]].answers:
         return f"take {spell_host(host)}"
     flow = imp.hosts[host[0]].messages[0][0]
@@ -131,9 +147,9 @@ def queue_clearing(subnet, host):
     return f"take {spell_host(host)}" if has_room else room_clearing(subnet, host[1])
 
 
-def room_clearing(subnet, number):
+def room_clearing(subnet: Subnet, number: int) -> str:
     """The next event that makes room in the store of an IMP, which is full."""
-    imp = subnet.imps[number]
+    imp = subnet.up(number)
     for port, end in enumerate(imp.ports):
         for channel in range(CHANNELS):
             if end.line.busy[channel] is not None:
@@ -141,14 +157,15 @@ def room_clearing(subnet, number):
     return f"impdown {number}"
 
 
-def channel_clearing(subnet, number, port, channel):
+def channel_clearing(subnet: Subnet, number: int, port: int, channel: int) -> str:
     """The next event on the way of a packet out of a channel: its acknowledgement arrives, or it does, or it is sent again.
     Where no frame crosses the line any more, its end goes down."""
-    end, line = subnet.imps[number].ports[port], subnet.lines_of(number)[port]
+    here = subnet.up(number)
+    end, line = here.ports[port], subnet.lines_of(number)[port]
     way = "+" if subnet.ends[line][0] == number else "-"
     back = "-" if way == "+" else "+"
     for place, (bits, content) in enumerate(subnet.live[line][back]):
-        is_taken = content is None or content[0] == "routes" or not is_lost(subnet.imps[number], port, content)
+        is_taken = not isinstance(content, Carried) or not is_lost(here, port, content)
         if bits >> channel & 1 != end.line.next_bit[channel] and is_taken:
             return f"deliver {line} {back} {place}"
     far = subnet.ends[line][1 if way == "+" else 0]
@@ -158,12 +175,11 @@ def channel_clearing(subnet, number, port, channel):
         return f"enddown {number} {line}"
     wanted = end.line.frame(channel)
     for place, (_, content) in enumerate(subnet.live[line][way]):
-        if content == wanted:
+        if isinstance(content, Carried) and content == wanted:
             return f"enddown {number} {line}" if is_lost(node, far_port, content) else f"deliver {line} {way} {place}"
     return f"resend {number}"
 
 
-def is_lost(imp, port, content):
+def is_lost(imp: Imp, port: int, content: Carried) -> bool:
     """Whether a frame with a packet would find no room at an IMP."""
-    _, channel, bit, packet = content
-    return bit == imp.ports[port].line.expected[channel] and imp.meaning_of(packet) == "lost"
+    return content.bit == imp.ports[port].line.expected[content.channel] and imp.meaning_of(content.packet) is None

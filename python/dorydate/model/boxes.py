@@ -4,74 +4,79 @@ They were written from docs/mailboxes.md, in another language and another form t
 the program with them.
 """
 
-from dorydate.model.crossings import Crossed
-from dorydate.model.imp import Refused
+from __future__ import annotations
+
+from collections.abc import Iterable
+from typing import Any
+
+from dorydate.model.bits import Bits
+from dorydate.model.crossings import Answer, Answered, Carrier, Given, Message, Passed, Reply, Turned
+from dorydate.model.names import Flow, HostName, Refused
 
 TAKES = 16  # so often a host takes in a round of `calm` at most
+EVENTS = ("out", "take", "giveup", "hostdown", "hostup", "calm")
 
 
-class Boxes(Crossed):
+class Boxes(Carrier):
     """A network that loses nothing and delays nothing."""
 
-    def __init__(self, imps):
+    def __init__(self, imps: Iterable[tuple[int, int]]) -> None:
         super().__init__()
-        self.is_up = {(host, number): True for number, count in sorted(imps) for host in range(count)}
-        self.messages = []  # the oldest first: flow, text
-        self.answers = []  # the oldest first: kind, flow
+        self.is_up = {HostName(host, number): True for number, count in sorted(imps) for host in range(count)}
+        self.messages: list[tuple[Flow, Bits]] = []  # the oldest first
+        self.answers: list[Reply] = []  # the oldest first
 
-    def step(self, kind, *parts):
-        if kind not in ("out", "take", "giveup", "hostdown", "hostup", "calm"):
+    def step(self, kind: str, *parts: Any) -> None:
+        if kind not in EVENTS:
             raise Refused("NoSuch")
-        return super().step(kind, *parts)
+        super().step(kind, *parts)
 
-    def hosts(self):
+    def hosts(self) -> list[HostName]:
         return [*self.is_up]
 
-    def host(self, host):
+    def host(self, host: HostName) -> None:
+        """Refuses a host that is not there."""
         if host not in self.is_up:
             raise Refused("NoSuch")
 
-    def up(self, host):
-        """A host, which has to be there and up."""
+    def up(self, host: HostName) -> None:
+        """Refuses a host that is not there and up."""
         self.host(host)
         if not self.is_up[host]:
             raise Refused("IsDown")
 
-    def out(self, flow, text):
-        source, destination, _ = flow
-        self.up(source)
-        if any(it == flow for it, _ in self.messages) or any(it == flow for _, it in self.answers):
+    def out(self, flow: Flow, text: Bits) -> None:
+        self.up(flow.source)
+        if any(it == flow for it, _ in self.messages) or any(it.flow == flow for it in self.answers):
             raise Refused("Blocked")
-        self.cross("out", flow, text)
-        if self.is_up.get(destination):
+        self.cross(Passed("out", flow, text))
+        if self.is_up.get(flow.destination):
             self.messages.append((flow, text))
         else:
-            self.answers.append(("dead", flow))
+            self.answers.append(Reply("dead", flow))
 
-    def take(self, host):
-        """What the host takes: an answer and its flow, a message with its flow and text, or nothing."""
+    def take(self, host: HostName) -> Given | None:
         self.up(host)
-        for kind, flow in self.answers:
-            if flow[0] == host:
-                self.answers.remove((kind, flow))
-                self.cross("answer", kind, flow)
-                return kind, flow
+        for answer in self.answers:
+            if answer.flow.source == host:
+                self.answers.remove(answer)
+                self.cross(Answered("answer", *answer))
+                return answer
         for flow, text in self.messages:
-            if flow[1] == host:
+            if flow.destination == host:
                 self.messages.remove((flow, text))
-                self.cross("in", flow, text)
+                self.cross(Passed("in", flow, text))
                 self.tell("rfnm", flow)
-                return "message", flow, text
+                return Message("message", flow, text)
         return None
 
-    def quiet_round(self):
+    def quiet_round(self) -> None:
         """Nothing is ever on its way."""
 
-    def is_quiet(self):
-        """Whether a quiet round changes nothing."""
+    def is_quiet(self) -> bool:
         return True
 
-    def calm(self, rounds):
+    def calm(self, rounds: int) -> None:
         """Every host that is up takes what waits, at most 16 things a round."""
         for _ in range(rounds):
             before = len(self.log)
@@ -81,35 +86,35 @@ class Boxes(Crossed):
             if len(self.log) == before:
                 break  # nothing is left for a later round
 
-    def giveup(self, flow):
-        self.host(flow[0])
+    def giveup(self, flow: Flow) -> None:
+        self.host(flow.source)
         waits = [it for it in self.messages if it[0] == flow]
-        if not waits and ("rfnm", flow) not in self.answers:
+        if not waits and Reply("rfnm", flow) not in self.answers:
             raise Refused("NotOutstanding")
         self.messages = [it for it in self.messages if it not in waits]
-        self.answers = [it for it in self.answers if it != ("rfnm", flow)]
+        self.answers = [it for it in self.answers if it != Reply("rfnm", flow)]
         self.tell("incomplete", flow)
 
-    def hostdown(self, host):
+    def hostdown(self, host: HostName) -> None:
         self.up(host)
-        self.cross("down", host)
+        self.cross(Turned("down", host))
         self.is_up[host] = False
-        lost = [flow for flow, _ in self.messages if flow[1] == host]
-        self.messages = [it for it in self.messages if it[0][1] != host]
-        self.answers = [it for it in self.answers if it[1][0] != host]
+        lost = [flow for flow, _ in self.messages if flow.destination == host]
+        self.messages = [it for it in self.messages if it[0].destination != host]
+        self.answers = [it for it in self.answers if it.flow.source != host]
         for flow in lost:
             self.tell("dead", flow)
 
-    def hostup(self, host):
+    def hostup(self, host: HostName) -> None:
         self.host(host)
         if self.is_up[host]:
             raise Refused("IsUp")
-        if any(flow[0] == host for flow, _ in self.messages):
+        if any(flow.source == host for flow, _ in self.messages):
             raise Refused("Unsettled")
-        self.cross("up", host)
+        self.cross(Turned("up", host))
         self.is_up[host] = True
 
-    def tell(self, kind, flow):
+    def tell(self, kind: Answer, flow: Flow) -> None:
         """Puts an answer after the others, where its host is up."""
-        if self.is_up[flow[0]]:
-            self.answers.append((kind, flow))
+        if self.is_up[flow.source]:
+            self.answers.append(Reply(kind, flow))

@@ -5,26 +5,27 @@ other link. `raw_text_in_words` is for raw networks, where a script sends what i
 the independent model of a host's program, so that one place alone knows their forms.
 """
 
-from dorydate.model.host import ALL, CLS, CONTROL_TEXT, ECO, ERP, ERR, GVB, HEADER, INR, INS, LENGTHS, LINKS, NOP, RET, RRP, RST, RTS, STR
-from dorydate.model.host import bits_of, read_numbers, split
-from dorydate.model.imp import octets as octets_of
+from __future__ import annotations
 
-NAMES = {
-    NOP: "NOP", RTS: "RTS", STR: "STR", CLS: "CLS", ALL: "ALL", GVB: "GVB", RET: "RET",
-    INR: "INR", INS: "INS", ECO: "ECO", ERP: "ERP", ERR: "ERR", RST: "RST", RRP: "RRP",
-}  # fmt: skip
+from dorydate.model.bits import Bits, bits_of
+from dorydate.model.bits import octets as octets_of
+from dorydate.model.commands import (
+    ALL, CLS, CONTROL_TEXT, ECO, ERP, ERR, GVB, HEADER, INR, INS, LENGTHS, LINKS, NAMES, NOP, RET, RTS, STR, read_numbers, split,
+)  # fmt: skip
+
 ERRORS = {1: "illegal code", 2: "short", 3: "erroneous", 4: "no such socket", 5: "link not connected"}
 SHOWN = 60  # so many characters or hexadecimal digits of data are shown
 
 
-def count(number, noun):
+def count(number: int, noun: str) -> str:
+    """A number of things."""
     return f"{number} {noun}" if number == 1 else f"{number} {noun}s"
 
 
 # ---- whole texts
 
 
-def text_in_words(link, octets, bits):
+def text_in_words(link: int, octets: bytes, bits: int) -> str:
     """What a text of so many bits says, which lies in these octets and came on this link."""
     text = bits_of(octets)[:bits]
     parts = split(text)
@@ -40,7 +41,7 @@ def text_in_words(link, octets, bits):
     return ", ".join(commands_in_words(octets_of(following[: 8 * number]))) or "no commands"
 
 
-def malformed(text):
+def malformed(text: Bits) -> str:
     """Why a text has no header, or ends before what its header announces."""
     if len(text) < HEADER:
         return f"malformed: {count(len(text), 'bit')}, fewer than the {HEADER} of a header"
@@ -49,7 +50,7 @@ def malformed(text):
     return f"malformed: its header announces {bytes_in_words(size, number)}, and {left} follow"
 
 
-def raw_text_in_words(octets, bits):
+def raw_text_in_words(octets: bytes, bits: int) -> str:
     """What a text of so many bits holds, where nothing is known of its form."""
     return shown(octets, bits) if bits else "nothing"
 
@@ -57,17 +58,18 @@ def raw_text_in_words(octets, bits):
 # ---- data
 
 
-def bytes_in_words(size, number):
+def bytes_in_words(size: int, number: int) -> str:
+    """A number of bytes of a size."""
     return f"{count(number, 'byte')} of {count(size, 'bit')}"
 
 
-def data_in_words(size, number, data):
+def data_in_words(size: int, number: int, data: Bits) -> str:
     """The bytes behind the header of a data message."""
     told = bytes_in_words(size, number)
     return f"{told}: {shown(octets_of(data), len(data))}" if data else told
 
 
-def shown(octets, bits, most=SHOWN):
+def shown(octets: bytes, bits: int, most: int = SHOWN) -> str:
     """Octets as text where they are text, else in hexadecimal digits; the end is left out where there is much."""
     is_text = bits % 8 == 0 and all(32 <= it <= 126 or it in b"\t\r\n" for it in octets)
     words = "".join(ESCAPED.get(it, chr(it)) for it in octets) if is_text else octets.hex().upper()
@@ -80,9 +82,9 @@ ESCAPED = {9: "\\t", 10: "\\n", 13: "\\r", 92: "\\\\"}
 # ---- commands
 
 
-def commands_in_words(octets):
+def commands_in_words(octets: bytes) -> list[str]:
     """The commands in a control text, each in words. The last tells of octets that are no command."""
-    told = []
+    told: list[str] = []
     while octets:
         length = LENGTHS.get(octets[0])
         if length is None:
@@ -94,11 +96,12 @@ def commands_in_words(octets):
     return told
 
 
-def command_in_words(command):
+def command_in_words(command: bytes) -> str:
     """A whole command. Of one with erroneous parameters its faults are told too."""
     code, name = command[0], NAMES[command[0]]
     if code in (RTS, STR):
-        return request_in_words(code, *read_numbers(command, 4, 4, 1))
+        own, foreign, last = read_numbers(command, 4, 4, 1)
+        return request_in_words(code, own, foreign, last)
     if code == CLS:
         own, foreign = read_numbers(command, 4, 4)
         return f"CLS {own} {foreign}"
@@ -115,7 +118,7 @@ def command_in_words(command):
     return error_in_words(command[1], command[2:]) if code == ERR else name
 
 
-def request_in_words(code, own, foreign, last):
+def request_in_words(code: int, own: int, foreign: int, last: int) -> str:
     """An RTS or STR, whose first socket is its sender's own."""
     if code == RTS:
         told = f"RTS {own} from {foreign} on link {last}"
@@ -126,12 +129,12 @@ def request_in_words(code, own, foreign, last):
     return f"{told} (erroneous: {'; '.join(faults)})" if faults else told
 
 
-def parities(receive, send):
+def parities(receive: int, send: int) -> list[str]:
     """What is wrong with a receive socket and a send socket."""
     return [f"{receive} is a send socket"] * (receive % 2) + [f"{send} is a receive socket"] * (1 - send % 2)
 
 
-def error_in_words(kind, quoted):
+def error_in_words(kind: int, quoted: bytes) -> str:
     """An ERR: the command that it quotes, or the octets where they are none."""
     meaning = f" ({ERRORS[kind]})" if kind in ERRORS else ""
     length = LENGTHS.get(quoted[0], len(quoted) + 1)

@@ -2,56 +2,59 @@
 
 They were written from docs/formats.md, in another language and another form than the definitions. Each reader gives the words in
 which tools/calls prints what was read and how that is written again, or the fault. `check readers` compares the code with them.
-
-Octets are `bytes`, and bits a text of the digits 0 and 1.
 """
 
-from dorydate.model.host import ALL, CLS, ECO, ERP, ERR, GVB, INR, INS, LENGTHS, LINKS, QUOTED, RET, RTS, STR
-from dorydate.model.host import header, read_numbers, split
-from dorydate.model.imp import ASK, DATA, DEAD, INFINITE, MOST_IMPS, NEVER, PIECE, RFNM, VERSION, body, octets, spell_host
+from __future__ import annotations
+
+from collections.abc import Callable, Sequence
+from typing import TypeVar
+
+from dorydate.model.bits import Bits, spell_bits
+from dorydate.model.commands import ALL, CLS, ECO, ERP, ERR, GVB, INR, INS, LENGTHS, LINKS, NAMES, QUOTED, RET, RTS, STR, header, read_numbers, split
+from dorydate.model.names import HostName, spell_host
+from dorydate.model.packets import ASK, DATA, DEAD, INFINITE, MOST_IMPS, NEVER, PIECE, RFNM, VERSION, body
 from dorydate.model.script import MOST_TEXT
 
 NOP, ANSWERS = 4, {5: "rfnm", 7: "dead", 9: "incomplete"}
-KINDS = {DATA: "data", RFNM: "rfnm", DEAD: "dead", ASK: "ask", NEVER: "never"}
+KINDS: dict[int, str] = {DATA: "data", RFNM: "rfnm", DEAD: "dead", ASK: "ask", NEVER: "never"}
 PACKET_HEAD, UNIT = 9, 16
 IMPS = range(1, MOST_IMPS + 1)
-COMMANDS = "NOP RTS STR CLS ALL GVB RET INR INS ECO ERP ERR RST RRP".split()
+
+T = TypeVar("T")
 
 
 class Fault(Exception):
     """Why octets say nothing, by the fault's name."""
 
 
-def told(read, *octets_in):
-    """What a reader tells of octets, or its fault."""
+def told(read: Callable[[T], str], given: T) -> str:
+    """What a reader tells of octets or bits, or its fault."""
     try:
-        return read(*octets_in)
+        return read(given)
     except Fault as fault:
         return str(fault)
 
 
-def refuse_if(holds, fault):
+def refuse_if(holds: bool, fault: str) -> None:
+    """Raises a fault where something holds that may not."""
     if holds:
         raise Fault(fault)
 
 
-def in_digits(octets_in):
+def in_digits(octets_in: bytes) -> str:
+    """Octets in hexadecimal digits."""
     return octets_in.hex().upper()
 
 
-def bits_in_digits(bits):
-    return f"{len(bits)} {in_digits(octets(bits)) or '-'}"
-
-
-def host_of(octet):
+def host_of(octet: int) -> HostName:
     """The host that an address octet names."""
-    return octet >> 6, octet & 0b111111
+    return HostName(octet >> 6, octet & 0b111111)
 
 
 # ---- leaders and bodies
 
 
-def leader(octets_in, from_imp):
+def leader(octets_in: bytes, from_imp: bool) -> str:
     """A leader, from an IMP or from a host."""
     refuse_if(len(octets_in) < 4, "ShortLeader")
     kind, address, link = octets_in[0] & 0b1111, octets_in[1], octets_in[2]
@@ -60,23 +63,24 @@ def leader(octets_in, from_imp):
     name = "regular" if kind == 0 else ANSWERS.get(kind) if from_imp else None
     refuse_if(name is None, f"UnknownType {kind}")
     host = host_of(address)
-    refuse_if(host[1] == 0, "BadImp")
+    refuse_if(host.imp == 0, "BadImp")
     return f"{name} {spell_host(host)} {link} = {in_digits(bytes([kind, address, link, 0]))}"
 
 
-def stripped(bits):
+def stripped(bits: Bits) -> str:
     """The text of a body."""
     refuse_if("1" not in bits, "NoMark")
     text = bits[: bits.rindex("1")]
     refuse_if(len(text) > MOST_TEXT, "TooLong")
     refuse_if(len(bits) % UNIT != 0, "Range")
-    return f"{bits_in_digits(text)} = {bits_in_digits(body(text))}"
+    return f"{spell_bits(text)} = {spell_bits(body(text))}"
 
 
 # ---- packets and frames
 
 
-def packet_in_words(octets_in):
+def packet_in_words(octets_in: bytes) -> str:
+    """The fields of a packet."""
     refuse_if(len(octets_in) < PACKET_HEAD, "Short")
     kind, source, destination, link = octets_in[:4]
     number, place_octet, count = octets_in[4] << 8 | octets_in[5], octets_in[6], octets_in[7] << 8 | octets_in[8]
@@ -103,11 +107,13 @@ def packet_in_words(octets_in):
     return f"{KINDS[kind]} {flow} {link} {number} {place} {'last' if last else 'more'} {bits}"
 
 
-def packet(octets_in):
+def packet(octets_in: bytes) -> str:
+    """A packet."""
     return f"{packet_in_words(octets_in)} = {in_digits(octets_in)}"
 
 
-def frame(octets_in):
+def frame(octets_in: bytes) -> str:
+    """A frame."""
     refuse_if(not octets_in, "Short")
     refuse_if(octets_in[0] != VERSION, "BadVersion")
     refuse_if(len(octets_in) < 3, "Short")
@@ -118,7 +124,7 @@ def frame(octets_in):
         refuse_if(content[0] > 15, "NotCanonical")
         words = f"packet {channels} on {content[0] & 7} under {content[0] >> 3} {packet_in_words(content[1:])}"
     elif kind == 1:
-        refuse_if(content, "NotCanonical")
+        refuse_if(bool(content), "NotCanonical")
         words = f"acknowledgements {channels}"
     else:
         refuse_if(kind > 2 or len(content) > len(IMPS) or any(it > INFINITE for it in content), "NotCanonical")
@@ -129,20 +135,20 @@ def frame(octets_in):
 # ---- commands and the header of a message
 
 
-def command(octets_in):
+def command(octets_in: bytes) -> tuple[str | None, int]:
     """The command that octets begin with, in words, and how many octets it has; None in place of words if it is erroneous."""
     quoted = min(len(octets_in), QUOTED)
-    refuse_if(octets_in and octets_in[0] not in LENGTHS, f"IllegalCode {quoted}")
+    refuse_if(bool(octets_in) and octets_in[0] not in LENGTHS, f"IllegalCode {quoted}")
     refuse_if(not octets_in or len(octets_in) < LENGTHS[octets_in[0]], f"Short {quoted}")
     code = octets_in[0]
     spelling = octets_in[: LENGTHS[code]]
     fields = fields_of(code, spelling)
     if fields is None:
         return None, len(spelling)
-    return f"{' '.join([COMMANDS[code], *map(str, fields)])} ({in_digits(spelling)})", len(spelling)
+    return f"{' '.join([NAMES[code], *map(str, fields)])} ({in_digits(spelling)})", len(spelling)
 
 
-def fields_of(code, spelling):
+def fields_of(code: int, spelling: bytes) -> Sequence[int | str] | None:
     """The fields of a command; None where it is erroneous."""
     if code in (RTS, STR):
         own, foreign, third = read_numbers(spelling, 4, 4, 1)
@@ -160,9 +166,9 @@ def fields_of(code, spelling):
     return (spelling[1], in_digits(spelling[2:])) if code == ERR else ()
 
 
-def control_text(octets_in):
+def control_text(octets_in: bytes) -> str:
     """The commands of a control text, one after the other, up to its end or to a fault that ends reading."""
-    words = []
+    words: list[str] = []
     while octets_in:
         try:
             said, used = command(octets_in)
@@ -173,14 +179,15 @@ def control_text(octets_in):
     return ", ".join([*words, "end"])
 
 
-def one_command(octets_in):
+def one_command(octets_in: bytes) -> str:
+    """The command that octets begin with."""
     said, used = command(octets_in)
     return said or f"Erroneous {used}"
 
 
-def message_header(text):
+def message_header(text: Bits) -> str:
     """The header of a host message."""
     parts = split(text)
-    refuse_if(parts is None, "malformed")
-    size, count, _ = parts
-    return f"{count} {size} = {bits_in_digits(header(size, count))}"
+    if parts is None:
+        raise Fault("malformed")
+    return f"{parts.number} {parts.size} = {spell_bits(header(parts.size, parts.number))}"

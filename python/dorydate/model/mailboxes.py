@@ -4,7 +4,17 @@ It was written from docs/mailboxes.md, in another language and another form than
 lines and numbers. `check asking` judges the logs of the independent model by it.
 """
 
-NEEDS = {  # of each answer: what its flow's box has to hold
+from __future__ import annotations
+
+from collections.abc import Iterable, Sequence
+from typing import Literal
+
+from dorydate.model.bits import Bits
+from dorydate.model.crossings import Answered, Crossing, Passed, Turned
+from dorydate.model.names import Flow, HostName
+
+Holds = Literal["waits", "taken"]
+NEEDS: dict[str, tuple[Holds, ...]] = {  # of each answer: what its flow's box has to hold
     "rfnm": ("taken",),
     "incomplete": ("waits", "taken"),
     "dead": ("waits",),
@@ -12,47 +22,60 @@ NEEDS = {  # of each answer: what its flow's box has to hold
 }
 
 
-def first_break(hosts, log):
+class Mailboxes:
+    """Which hosts are up, and of each flow whose box is not empty what it holds, with the text."""
+
+    def __init__(self, hosts: Iterable[HostName]) -> None:
+        self.is_up = dict.fromkeys(hosts, True)
+        self.boxes: dict[Flow, tuple[Holds, Bits]] = {}
+
+    def crosses(self, crossing: Crossing) -> bool:
+        """Whether a crossing finds what it needs; then hosts and boxes are as it leaves them."""
+        if isinstance(crossing, Passed):
+            return self.goes_out(crossing) if crossing.kind == "out" else self.is_taken(crossing)
+        return self.is_answered(crossing) if isinstance(crossing, Answered) else self.turns(crossing)
+
+    def goes_out(self, crossing: Passed) -> bool:
+        fits = self.is_up.get(crossing.flow.source, False) and crossing.flow not in self.boxes
+        self.boxes[crossing.flow] = "waits", crossing.text
+        return fits
+
+    def is_taken(self, crossing: Passed) -> bool:
+        fits = self.is_up.get(crossing.flow.destination, False) and self.boxes.get(crossing.flow) == ("waits", crossing.text)
+        self.boxes[crossing.flow] = "taken", crossing.text
+        return fits
+
+    def is_answered(self, crossing: Answered) -> bool:
+        holds = self.boxes.pop(crossing.flow, None)
+        return self.is_up.get(crossing.flow.source, False) and holds is not None and holds[0] in NEEDS[crossing.answer]
+
+    def turns(self, crossing: Turned) -> bool:
+        fits = self.is_up.get(crossing.host) is (crossing.kind == "down")
+        self.is_up[crossing.host] = crossing.kind == "up"
+        if crossing.kind == "up":
+            self.boxes = {flow: it for flow, it in self.boxes.items() if flow.source != crossing.host}
+        return fits
+
+
+def first_break(hosts: Iterable[HostName], log: Sequence[Crossing]) -> int | None:
     """The place of the first crossing that finds no box as it needs it; None where the log is a run."""
-    is_up, boxes = {host: True for host in hosts}, {}  # of a flow: "waits" or "taken", with the text; none where it is empty
-    for place, (kind, *parts) in enumerate(log):
-        if not crosses(is_up, boxes, kind, *parts):
-            return place
-    return None
+    mailboxes = Mailboxes(hosts)
+    return next((place for place, crossing in enumerate(log) if not mailboxes.crosses(crossing)), None)
 
 
-def crosses(is_up, boxes, kind, *parts):
-    """Whether a crossing finds what it needs; then hosts and boxes are as it leaves them."""
-    match kind, parts:
-        case "out", [flow, text]:
-            fits = is_up.get(flow[0], False) and flow not in boxes
-            boxes[flow] = "waits", text
-        case "in", [flow, text]:
-            fits = is_up.get(flow[1], False) and boxes.get(flow) == ("waits", text)
-            boxes[flow] = "taken", text
-        case "answer", [answer, flow]:
-            fits = is_up.get(flow[0], False) and flow in boxes and boxes[flow][0] in NEEDS[answer]
-            boxes.pop(flow, None)
-        case ("down" | "up"), [host]:
-            fits = host in is_up and is_up[host] == (kind == "down")
-            is_up[host] = kind == "up"
-            for flow in [it for it in boxes if kind == "up" and it[0] == host]:
-                del boxes[flow]
-    return fits
-
-
-def never_taken(log):
+def never_taken(log: Iterable[Crossing]) -> bool:
     """Whether of no message whose source was told "not taken" a taking is in the log, before or after: none between its going out and
     the next one's on its flow."""
-    taken, told = set(), set()  # flows of whose last message this happened
-    for kind, *parts in log:
-        if kind == "out":
-            taken.discard(parts[0])
-            told.discard(parts[0])
-        elif kind == "in":
-            taken.add(parts[0])
-        elif kind == "answer" and parts[0] == "nottaken":
-            told.add(parts[1])
+    taken: set[Flow] = set()  # flows whose last message was taken
+    told: set[Flow] = set()  # and those of whose last message "not taken" was told
+    for crossing in log:
+        if isinstance(crossing, Passed) and crossing.kind == "out":
+            taken.discard(crossing.flow)
+            told.discard(crossing.flow)
+        elif isinstance(crossing, Passed):
+            taken.add(crossing.flow)
+        elif isinstance(crossing, Answered) and crossing.answer == "nottaken":
+            told.add(crossing.flow)
         if taken & told:
             return False
     return True

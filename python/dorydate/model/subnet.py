@@ -4,43 +4,64 @@ It was written from docs/subnet.md over the independent model of one IMP, in ano
 definitions. `check model` compares the program with it. Each event prints what crosses, or why it is refused.
 """
 
-from dorydate.model.crossings import Crossed
-from dorydate.model.imp import REQUESTS, Imp, Refused
+from __future__ import annotations
+
+from collections.abc import Callable, Iterable, Sequence
+from typing import Protocol, TypeVar
+
+from dorydate.model.bits import Bits
+from dorydate.model.crossings import Answered, Carrier, Given, Message, Passed, Turned
+from dorydate.model.imp import Imp
+from dorydate.model.imp_state import NUMBERS, Numbers
+from dorydate.model.names import Flow, HostName, Refused
+from dorydate.model.packets import REQUESTS, Carried, Frame
 
 PLACES = 256  # frames that are live on a line, each way
 TAKES = 16  # takings of a host in a round of `calm`
+FAR = {"+": 1, "-": 0}  # of each way of a line: which of its ends it leads to
+
+T = TypeVar("T")
+Ways = dict[str, list[Frame]]  # of each way of a line: its live frames, the oldest first
 
 
-class Subnet(Crossed):
+class MakesImp(Protocol):
+    """What makes an IMP: from its number, and how many hosts and lines it has."""
+
+    def __call__(self, number: int, hosts: int, ports: int, numbers: Numbers) -> Imp: ...
+
+
+class Subnet(Carrier):
     """IMPs by number, and lines with the frames that are live each way, the oldest first."""
 
-    def __init__(self, imps, lines):
+    def __init__(self, imps: Iterable[tuple[int, int]], lines: Sequence[tuple[int, ...]], numbers: Numbers = NUMBERS, make_imp: MakesImp = Imp) -> None:
         super().__init__()
         self.sites = dict(sorted(imps))
         self.ends = lines
+        self.numbers, self.make_imp = numbers, make_imp
         self.at = {number: [line for line, ends in enumerate(lines) if number in ends] for number in self.sites}
-        self.imps = {number: self.imp_of(number) for number in self.sites}
-        self.live = [{"+": [], "-": []} for _ in lines]
+        self.imps: dict[int, Imp | None] = {number: self.imp_of(number) for number in self.sites}
+        self.live: list[Ways] = [{"+": [], "-": []} for _ in lines]
 
-    def hosts(self):
-        """All hosts in order of IMP and host."""
-        return [(host, number) for number, count in self.sites.items() for host in range(count)]
+    def hosts(self) -> list[HostName]:
+        return [HostName(host, number) for number, count in self.sites.items() for host in range(count)]
 
-    def imp_of(self, number):
-        return Imp(number, self.sites[number], len(self.at[number]))
+    def imp_of(self, number: int) -> Imp:
+        """An IMP that starts."""
+        return self.make_imp(number, self.sites[number], len(self.at[number]), self.numbers)
 
     # ---- lines
 
-    def port_of(self, number, line):
+    def port_of(self, number: int, line: int) -> int:
         """An IMP's ports are its lines in their order."""
         return sum(it < line for it in self.at[number])
 
-    def lines_of(self, number):
+    def lines_of(self, number: int) -> list[int]:
+        """The lines of an IMP, in the order of its ports."""
         return self.at[number]
 
-    def call(self, number, call):
+    def call(self, number: int, call: Callable[[Imp], T]) -> T:
         """Lets an IMP make a call and pump, and puts its frames on its lines."""
-        imp = self.imps[number]
+        imp = self.up(number)
         imp.frames = []
         given = call(imp)
         imp.pump()
@@ -48,191 +69,199 @@ class Subnet(Crossed):
         for port, acknowledged, content in imp.frames:
             way = self.live[lines[port]]["+" if self.ends[lines[port]][0] == number else "-"]
             if len(way) < PLACES:
-                way.append((acknowledged, content))
+                way.append(Frame(acknowledged, content))
         return given
 
     # ---- what is alive
 
-    def alive(self):
+    def alive(self) -> list[tuple[Flow, int, bool]]:
         """Flow, number and whether it is a request, of all that IMPs hold and live frames carry."""
         held = [entry for imp in self.imps.values() if imp is not None for entry in imp.everything()]
-        frames = [content for ways in self.live for way in ways.values() for _, content in way]
-        packets = [content[3] for content in frames if content is not None and content[0] == "packet"]
-        return held + [(packet[1], packet[2], packet[0] in REQUESTS) for packet in packets]
+        carried = [it.content for ways in self.live for way in ways.values() for it in way if isinstance(it.content, Carried)]
+        return held + [(it.packet.flow, it.packet.number, it.packet.kind in REQUESTS) for it in carried]
 
-    def is_alive(self, flow, number):
+    def is_alive(self, flow: Flow, number: int) -> bool:
+        """Whether something of a message is alive."""
         return any(entry[:2] == (flow, number) for entry in self.alive())
 
-    def is_kept(self, flow, number):
+    def is_kept(self, flow: Flow, number: int) -> bool:
         """Whether the destination's IMP is up and keeps this number as the flow's last one."""
-        imp = self.imps.get(flow[1][1])
+        imp = self.imps.get(flow.destination.imp)
         return imp is not None and imp.kept.get(flow) == number
 
-    def is_awaiting(self, other, at):
+    def is_awaiting(self, other: int, at: int) -> bool:
         """Whether a message to a host at an IMP is outstanding at another one, if that is up."""
-        return self.imps[other] is not None and self.imps[other].awaits(at)
+        imp = self.imps[other]
+        return imp is not None and imp.awaits(at)
 
-    def is_awaited(self, at):
+    def is_awaited(self, at: int) -> bool:
         """Whether a message to a host at an IMP is outstanding at any other one that is up."""
         return any(imp.awaits(at) for number, imp in self.imps.items() if imp is not None and number != at)
 
     # ---- what is there
 
-    def up(self, number):
+    def up(self, number: int) -> Imp:
         """An IMP, which has to be up."""
         imp = self.imps[number]
         if imp is None:
             raise Refused("IsDown")
         return imp
 
-    def site(self, number):
+    def site(self, number: int) -> None:
+        """Refuses an IMP that is not there."""
         if number not in self.sites:
             raise Refused("NoSuch")
 
-    def host(self, host):
+    def host(self, host: HostName) -> None:
+        """Refuses a host that is not there."""
         number, imp = host
         if number >= self.sites.get(imp, 0):
             raise Refused("NoSuch")
 
-    def end(self, imp, line):
+    def end(self, imp: int, line: int) -> None:
+        """Refuses an end of a line that is not there."""
         self.site(imp)
         if line >= len(self.ends) or imp not in self.ends[line]:
             raise Refused("NoSuch")
 
-    def way(self, line, direction):
+    def way(self, line: int, direction: str) -> list[Frame]:
+        """The live frames on a way of a line; none where there is no such line."""
         return self.live[line][direction] if line < len(self.live) else []
 
     # ---- events
 
-    def out(self, flow, text):
-        source = flow[0]
+    def out(self, flow: Flow, text: Bits) -> None:
+        source = flow.source
         self.host(source)
-        imp = self.imps[source[1]]
+        imp = self.imps[source.imp]
         if imp is not None and imp.begins(flow):
             if flow in imp.last and self.is_alive(flow, imp.oldest(flow)):
                 raise Refused("StillAlive")
             if self.is_kept(flow, imp.next_number(flow)):
                 raise Refused("StillAlive")
-        self.up(source[1])
-        self.call(source[1], lambda imp: imp.from_host(flow, text))
-        self.cross("out", flow, text)
+        self.call(source.imp, lambda imp: imp.from_host(flow, text))
+        self.cross(Passed("out", flow, text))
 
-    def take(self, host):
-        """What the host takes: an answer and its flow, a message with its flow and text, or nothing."""
+    def take(self, host: HostName) -> Given | None:
         self.host(host)
-        self.up(host[1])
-        given = self.call(host[1], lambda imp: imp.to_host(host[0]))
-        if given is not None and given[0] == "message":
-            self.cross("in", *given[1:])
+        given = self.call(host.imp, lambda imp: imp.to_host(host.number))
+        if isinstance(given, Message):
+            self.cross(Passed("in", given.flow, given.text))
         elif given is not None:
-            self.cross("answer", *given)
+            self.cross(Answered("answer", given.kind, given.flow))
         return given
 
-    def deliver(self, line, direction, place):
+    def deliver(self, line: int, direction: str, place: int) -> None:
+        """A live frame arrives, and stays on its line."""
         way = self.way(line, direction)
         if place >= len(way):
             raise Refused("NoSuch")
-        far = self.ends[line]["+-".index(direction) ^ 1]
+        far = self.ends[line][FAR[direction]]
         if self.imps[far] is not None:
-            port = self.port_of(far, line)
-            self.call(far, lambda imp: imp.from_line(port, *way[place]))
+            port, frame = self.port_of(far, line), way[place]
+            self.call(far, lambda imp: imp.from_line(port, frame.acknowledged, frame.content))
 
-    def drop(self, line, direction, place):
+    def drop(self, line: int, direction: str, place: int) -> None:
+        """A live frame is gone."""
         way = self.way(line, direction)
         if place >= len(way):
             raise Refused("NoSuch")
         del way[place]
 
-    def resend(self, number):
+    def resend(self, number: int) -> None:
+        """An IMP sends again what is in its channels."""
         self.site(number)
-        self.up(number)
         self.call(number, Imp.resend)
 
-    def route(self, number):
+    def route(self, number: int) -> None:
+        """An IMP tells its neighbours its distances."""
         self.site(number)
-        self.up(number)
         self.call(number, Imp.tell_routes)
 
-    def enddown(self, number, line):
+    def enddown(self, number: int, line: int) -> None:
+        """An end of a line goes down."""
         self.end(number, line)
-        self.up(number)
         self.call(number, lambda imp: imp.end_down(self.port_of(number, line)))
 
-    def endup(self, number, line):
+    def endup(self, number: int, line: int) -> None:
+        """An end of a line comes up."""
         self.end(number, line)
-        self.up(number)
         self.call(number, lambda imp: imp.end_up(self.port_of(number, line)))
 
-    def impdown(self, number):
+    def impdown(self, number: int) -> None:
+        """An IMP stops, and its hosts with it."""
         self.site(number)
         for place, host in enumerate(self.up(number).hosts):
             if host.is_up:
-                self.cross("down", (place, number))
+                self.cross(Turned("down", HostName(place, number)))
         self.imps[number] = None
 
-    def impup(self, number):
+    def impup(self, number: int) -> None:
+        """An IMP starts, with all its hosts down."""
         self.site(number)
         others = [imp for other, imp in self.imps.items() if imp is not None and other != number]
-        kept = any(flow[0][1] == number for imp in others for flow in imp.kept)
-        if kept or self.is_awaited(number) or any(number in (flow[0][1], flow[1][1]) for flow, _, _ in self.alive()):
+        kept = any(flow.source.imp == number for imp in others for flow in imp.kept)
+        if kept or self.is_awaited(number) or any(number in (flow.source.imp, flow.destination.imp) for flow, _, _ in self.alive()):
             raise Refused("StillAlive")
         if self.imps[number] is not None:
             raise Refused("IsUp")
-        self.imps[number] = self.imp_of(number)
+        self.start(number)
         for port in (port for imp in others for port in imp.ports):
             # none of its flows' packets is alive, so each that comes from now on is another one, whatever its number
-            port.accepted = {it for it in port.accepted if number not in (it[1][0][1], it[1][1][1])}
-        for host in self.imps[number].hosts:
+            port.accepted = {it for it in port.accepted if number not in (it[1].source.imp, it[1].destination.imp)}
+
+    def start(self, number: int) -> None:
+        """Puts a new IMP in its place, with all its hosts down."""
+        imp = self.imps[number] = self.imp_of(number)
+        for host in imp.hosts:
             host.is_up = False
 
-    def hostdown(self, host):
+    def hostdown(self, host: HostName) -> None:
         self.host(host)
-        self.up(host[1])
-        self.call(host[1], lambda imp: imp.host_down(host[0]))
-        self.cross("down", host)
+        self.call(host.imp, lambda imp: imp.host_down(host.number))
+        self.cross(Turned("down", host))
 
-    def hostup(self, host):
+    def hostup(self, host: HostName) -> None:
         self.host(host)
-        self.up(host[1])
-        self.call(host[1], lambda imp: imp.host_up(host[0]))
-        self.cross("up", host)
+        self.call(host.imp, lambda imp: imp.host_up(host.number))
+        self.cross(Turned("up", host))
 
-    def giveup(self, flow):
-        source = flow[0]
+    def giveup(self, flow: Flow) -> None:
+        source = flow.source
         self.host(source)
-        imp = self.imps[source[1]]
+        imp = self.imps[source.imp]
         if imp is not None and flow in imp.outstanding and self.is_alive(flow, imp.outstanding[flow]):
             raise Refused("StillAlive")
-        self.up(source[1])
-        self.call(source[1], lambda imp: imp.give_up(flow))
+        self.call(source.imp, lambda imp: imp.give_up(flow))
 
-    def ask(self, flow):
-        self.host(flow[0])
-        self.up(flow[0][1])
-        self.call(flow[0][1], lambda imp: imp.ask(flow))
+    def ask(self, flow: Flow) -> None:
+        """An IMP asks what became of a message."""
+        self.host(flow.source)
+        self.call(flow.source.imp, lambda imp: imp.ask(flow))
 
-    def forget(self, at, other):
+    def forget(self, at: int, other: int) -> None:
+        """An IMP forgets the numbers of another one's flows."""
         self.site(at)
         self.site(other)
         if at == other:
             raise Refused("NoSuch")
-        if self.is_awaiting(other, at) or any(is_request and (flow[0][1], flow[1][1]) == (other, at) for flow, _, is_request in self.alive()):
+        requests = [flow for flow, _, is_request in self.alive() if is_request]
+        if self.is_awaiting(other, at) or any((flow.source.imp, flow.destination.imp) == (other, at) for flow in requests):
             raise Refused("StillAlive")
-        self.up(at)
         self.call(at, lambda imp: imp.forget(other))
 
-    def abandon(self, flow):
-        if self.imps.get(flow[1][1]) is None:
+    def abandon(self, flow: Flow) -> None:
+        """An IMP throws away the pieces of a message."""
+        if self.imps.get(flow.destination.imp) is None:
             raise Refused("NoSuch")
-        self.call(flow[1][1], lambda imp: imp.abandon(flow))
+        self.call(flow.destination.imp, lambda imp: imp.abandon(flow))
 
     # ---- rounds
 
-    def is_quiet(self):
-        """Whether a quiet round is known to change nothing."""
+    def is_quiet(self) -> bool:
         return False
 
-    def quiet_round(self):
+    def quiet_round(self) -> None:
         for number, imp in self.imps.items():
             if imp is not None:
                 self.call(number, Imp.tell_routes)
@@ -243,15 +272,20 @@ class Subnet(Crossed):
                     self.deliver(line, direction, 0)
                     self.drop(line, direction, 0)
 
-    def calm(self, rounds):
+    def calm(self, rounds: int) -> None:
         """Rounds, in each of which every host that is up then takes what waits. Refusals are not printed."""
         for _ in range(rounds):
             self.quiet_round()
             for number, imp in self.imps.items():
                 for place, host in enumerate(imp.hosts if imp is not None else []):
-                    for _ in range(TAKES if host.is_up else 0):
-                        try:
-                            if not self.take((place, number)):
-                                break
-                        except Refused:
-                            break
+                    if host.is_up:
+                        self.take_all(HostName(place, number))
+
+    def take_all(self, host: HostName) -> None:
+        """A host takes what waits for it, as often as it may in a round."""
+        for _ in range(TAKES):
+            try:
+                if not self.take(host):
+                    return
+            except Refused:
+                return

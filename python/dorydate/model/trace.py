@@ -5,12 +5,19 @@ of dorydate.model.boxes and dorydate.model.subnet, and a trace is told from what
 subnet are in dorydate.model.trace_subnet. `check trace` uses it.
 """
 
+from __future__ import annotations
+
 import json
+from collections.abc import Iterable
 
 from dorydate.model import trace_subnet
 from dorydate.model.boxes import TAKES, Boxes
-from dorydate.model.imp import spell_flow, spell_host
-from dorydate.model.script import opened, read_line, spelled_text
+from dorydate.model.bits import spelled_text
+from dorydate.model.crossings import Reply, Turned
+from dorydate.model.names import Flow, read_host, spell_flow, spell_host
+from dorydate.model.runs import End, opened
+from dorydate.model.script import read_line
+from dorydate.model.topology import Topology
 from dorydate.model.trace_subnet import subnet_of
 
 
@@ -168,12 +175,11 @@ def made_of(network, parts):
 
 def flow_of(words):
     source, destination, link = words
-    return host_of(source), host_of(destination), int(link)
+    return Flow(host_of(source), host_of(destination), int(link))
 
 
 def host_of(word):
-    host, imp = word.split("/")
-    return int(host), int(imp)
+    return read_host(word)
 
 
 def boxes_of(imps, parts):
@@ -184,19 +190,19 @@ def boxes_of(imps, parts):
             # the log has nothing but their going down, in this order
             for host in part:
                 boxes.is_up[host_of(host)] = False
-                boxes.cross("down", host_of(host))
+                boxes.cross(Turned("down", host_of(host)))
             continue
         for line in part["messages"]:
             _, flow, bits = read_line(f"out {line}")
             boxes.messages.append((flow, bits))
         for line in part["answers"]:
             kind, *words = line.split(" ")
-            boxes.answers.append((kind, flow_of(words)))
+            boxes.answers.append(Reply(kind, flow_of(words)))
     boxes.printed.clear()
     return boxes
 
 
-def ends_trace(network, lines):
+def ends_trace(network: Topology, lines: Iterable[str]) -> End:
     """How the program ends when it is asked for the trace of a network and a script."""
     if not network[1]:
         return 1, "", "arpasim: no trace of such a network\n"

@@ -5,8 +5,12 @@ It was written from docs/trace.md over the independent model of the subnet. `tra
 
 from functools import cache
 
-from dorydate.model.imp import ASK, CHANNELS, DATA, DEAD, INFINITE, MOST_IMPS, NEVER, RFNM, in_order, spell_flow
-from dorydate.model.script import read_bits, read_flow, spelled_text
+from dorydate.model.names import in_order, spell_flow
+from dorydate.model.packets import ASK, CHANNELS, DATA, DEAD, INFINITE, MOST_IMPS, NEVER, RFNM, Carried, Frame, Packet, Routes
+from dorydate.model.crossings import Reply
+from dorydate.model.imp_state import Arrived
+from dorydate.model.bits import read_bits, spelled_text
+from dorydate.model.script import read_flow
 from dorydate.model.subnet import Subnet
 
 KINDS = {DATA: "data", RFNM: "rfnm", DEAD: "dead", ASK: "ask", NEVER: "never"}
@@ -39,9 +43,9 @@ def frame_of(acknowledged, content):
     frame = {"acks": f"{acknowledged:0{CHANNELS}b}"[::-1]}
     if content is None:
         return frame
-    if content[0] == "routes":
-        return {**frame, "routes": distances_of(content[1])}
-    _, channel, bit, packet = content
+    if isinstance(content, Routes):
+        return {**frame, "routes": distances_of(content.distances)}
+    channel, bit, packet = content
     return {**frame, "channel": channel, "bit": bit, "packet": packet_text(packet)}
 
 
@@ -167,7 +171,7 @@ def flow_in(words):
 
 def packet_in(text):
     kind, flow, (number, place, last, count, octets) = words_of(text)
-    return OF_WORDS[kind], flow, int(number), int(place), last == "last", read_bits(count, octets)
+    return Packet(OF_WORDS[kind], flow, int(number), int(place), last == "last", read_bits(count, octets))
 
 
 def bits_in(text):
@@ -181,18 +185,18 @@ def vector_in(distances):
 def frame_in(frame):
     acknowledged = sum(bit << channel for channel, bit in enumerate(bits_in(frame["acks"])))
     if "routes" in frame:
-        return acknowledged, ("routes", vector_in(frame["routes"]))
+        return Frame(acknowledged, Routes(vector_in(frame["routes"])))
     if "packet" in frame:
-        return acknowledged, ("packet", frame["channel"], frame["bit"], packet_in(frame["packet"]))
-    return acknowledged, None
+        return Frame(acknowledged, Carried(frame["channel"], frame["bit"], packet_in(frame["packet"])))
+    return Frame(acknowledged, None)
 
 
 def fill_host(host, told):
     host.is_up = told["up"]
-    host.answers = [words_of(answer)[:2] for answer in told["answers"]]
+    host.answers = [Reply(*words_of(answer)[:2]) for answer in told["answers"]]
     for message in told["messages"]:
         *flow, number, count, octets = message.split(" ")
-        host.messages.append((flow_in(flow), int(number), read_bits(count, octets)))
+        host.messages.append(Arrived(flow_in(flow), int(number), read_bits(count, octets)))
 
 
 def fill_line(line, told):

@@ -1,0 +1,209 @@
+"""Readers and judges of logs that are wrong in one place each: some log by hand has to tell each from the right one."""
+
+from __future__ import annotations
+
+from collections.abc import Callable, Iterable, Sequence
+from typing import TypeVar
+
+from dorydate.model.audit import Lives, Log, partners_are_kept
+from dorydate.model.book import Life
+from dorydate.model.crossings import Crossing
+from dorydate.model.log import BadLog, Book, LogReader
+from dorydate.model.verdict import Judge
+
+ANY = 1_000  # bits of a number of any size here
+T = TypeVar("T")
+
+# ---- readers
+
+
+class GoesOn(LogReader):
+    """Lines may follow the end."""
+
+    def follows(self, lines: Sequence[str], rest: str) -> bool:
+        return False
+
+
+class NoLineFeed(LogReader):
+    """The end needs no line feed."""
+
+    def lines_of(self, octets: bytes) -> tuple[list[str], str]:
+        return octets.decode("latin-1").splitlines(), ""
+
+
+class NoEnd(LogReader):
+    """No end is needed."""
+
+    def unended(self, lines: Sequence[str], book: Book) -> Book:
+        return book
+
+
+class EndAtLastLine(LogReader):
+    """A missing end is put at the last line."""
+
+    def unended(self, lines: Sequence[str], book: Book) -> Book:
+        raise BadLog(len(lines))
+
+
+class AnyOrder(LogReader):
+    """Lines come in any order."""
+
+    def may_follow(self, kind: int, part: int) -> bool:
+        return True
+
+
+class AnyText(LogReader):
+    """A text has any length."""
+
+    most_text = 1_000_000
+
+
+class AnySocket(LogReader):
+    """A socket has any size."""
+
+    socket_bits = ANY
+
+
+class AnyStamp(LogReader):
+    """A stamp has any size."""
+
+    stamp_bits = ANY
+
+
+class ShortStamp(LogReader):
+    """A stamp has 32 bits."""
+
+    stamp_bits = 32
+
+
+class AnyAmount(LogReader):
+    """An amount has any size."""
+
+    amount_bits = ANY
+
+
+class ShortAmount(LogReader):
+    """An amount has 64 bits."""
+
+    amount_bits = 64
+
+
+class AnyKind(LogReader):
+    """The kind is not looked at."""
+
+    def kind_fits(self, life: Life, kind: str) -> bool:
+        return True
+
+
+# ---- judges
+
+
+class FewerLists(Judge):
+    """Lists may be fewer."""
+
+    def life_too_many(self, lives: Sequence[Life], handed: Sequence[str]) -> int | None:
+        return None
+
+
+class MoreLists(Judge):
+    """Lists may be more."""
+
+    def list_too_many(self, lives: Sequence[Life], handed: Sequence[str]) -> int | None:
+        return None
+
+
+class ToldOfItsList(Judge):
+    """A life too many is named by its list."""
+
+    def life_too_many(self, lives: Sequence[Life], handed: Sequence[str]) -> int | None:
+        return len(lives) + len(handed)
+
+
+class LineOfItsNumber(Judge):
+    """The line of a life is that of its number."""
+
+    def line(self, log: Sequence[Crossing], place: int) -> int:
+        return place
+
+
+class BreakBefore(Judge):
+    """A break is put at the entry before it."""
+
+    def first_break(self, entries: Sequence[T], are_kept: Callable[[Sequence[T]], bool]) -> int:
+        return super().first_break(entries, are_kept) - 1
+
+
+class LastMalformed(Judge):
+    """The last malformed life is named."""
+
+    def first(self, lives: Iterable[Life], is_meant: Callable[[Life], bool]) -> int:
+        return [place for place, life in enumerate(lives, 1) if is_meant(life)][-1]
+
+
+class FirstAtOdds(Judge):
+    """Of two lives the first that is at odds with a later one is named."""
+
+    def at_odds(self, log: Log, lives: Lives) -> list[int]:
+        second = len(lives) + 1 - self.first_break(lives[::-1], lambda lives: partners_are_kept(log, lives))
+        return [self.first(lives, lambda life: not partners_are_kept(log, [life, lives[second - 1]])), second]
+
+
+class WrongWayRound(Judge):
+    """Two lives are named the wrong way round."""
+
+    def at_odds(self, log: Log, lives: Lives) -> list[int]:
+        return super().at_odds(log, lives)[::-1]
+
+
+class FirstOfAll(Judge):
+    """The first of two lives is the first of all."""
+
+    def at_odds(self, log: Log, lives: Lives) -> list[int]:
+        return [1, super().at_odds(log, lives)[1]]
+
+
+class NoMatch(Judge):
+    """The match is not named."""
+
+    def with_match(self, place: int, matching: Sequence[int]) -> list[int]:
+        return [place]
+
+
+class MatchFirst(Judge):
+    """The match is named first."""
+
+    def with_match(self, place: int, matching: Sequence[int]) -> list[int]:
+        return [*matching[:1], place]
+
+
+class SenderOfStream(Judge):
+    """A stream that breaks is its sender's fault too."""
+
+    def stream_fails(self, log: Log, lives: Lives, life: Life) -> bool:
+        return not life.receives() or super().stream_fails(log, lives, life)
+
+
+class SenderOfGrant(Judge):
+    """What is not granted is the sender's fault too."""
+
+    def grant_fails(self, log: Log, lives: Lives, life: Life) -> bool:
+        return not life.receives() or super().grant_fails(log, lives, life)
+
+
+READERS: list[type[LogReader]] = [
+    GoesOn, NoLineFeed, NoEnd, EndAtLastLine, AnyOrder, AnyText, AnySocket, AnyStamp, ShortStamp, AnyAmount, ShortAmount, AnyKind,
+]  # fmt: skip
+JUDGES: list[type[Judge]] = [
+    FewerLists, MoreLists, ToldOfItsList, LineOfItsNumber, BreakBefore, LastMalformed, FirstAtOdds, WrongWayRound, FirstOfAll, NoMatch, MatchFirst,
+    SenderOfStream, SenderOfGrant,
+]  # fmt: skip
+
+
+def judge_with(reader: type[LogReader]) -> Judge:
+    """A judge that is right, over a reader that is not."""
+    judge = Judge()
+    judge.reader = reader()
+    return judge
+
+
+MISREADINGS: dict[str, Judge] = {str(it.__doc__): judge_with(it) for it in READERS} | {str(it.__doc__): it() for it in JUDGES}

@@ -1,0 +1,50 @@
+"""Names of hosts and of flows of messages, and why something is refused."""
+
+from __future__ import annotations
+
+from collections.abc import Iterable
+from typing import NamedTuple
+
+
+class Refused(Exception):
+    """An event or a call that is refused, by its reason's name."""
+
+
+class HostName(NamedTuple):
+    """A host: its number at its IMP, and that IMP's number."""
+
+    number: int
+    imp: int
+
+
+class Flow(NamedTuple):
+    """The messages from one host to another on one link."""
+
+    source: HostName
+    destination: HostName
+    link: int
+
+
+def spell_host(host: tuple[int, int]) -> str:
+    return f"{host[0]}/{host[1]}"
+
+
+def spell_flow(flow: tuple[tuple[int, int], tuple[int, int], int]) -> str:
+    (source, source_imp), (destination, destination_imp), link = flow
+    return f"{source}/{source_imp} {destination}/{destination_imp} {link}"
+
+
+def read_host(word: str) -> HostName:
+    """The host that a word names."""
+    number, imp = word.split("/")
+    return HostName(int(number), int(imp))
+
+
+def address(host: tuple[int, int]) -> int:
+    """The octet that names a host."""
+    return host[0] << 6 | host[1]
+
+
+def in_order(flows: Iterable[Flow]) -> list[Flow]:
+    """Flows in order of source, destination and link, and hosts of IMP and host."""
+    return sorted(flows, key=lambda flow: (flow.source[::-1], flow.destination[::-1], flow.link))

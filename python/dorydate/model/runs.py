@@ -1,0 +1,92 @@
+"""Networks that are opened, and how the program ends on a network and the lines of a script: an independent implementation of the rules.
+
+They were written from docs/program.md. `check model` compares the program with them.
+"""
+
+from __future__ import annotations
+
+from collections import Counter
+from collections.abc import Collection, Iterable, Iterator, Sequence
+from typing import Union
+
+from dorydate.model.bits import spelled_text
+from dorydate.model.boxes import Boxes
+from dorydate.model.crossings import Carrier, Crossing, Passed
+from dorydate.model.packets import MOST_IMPS
+from dorydate.model.script import EVERYTHING, BadLine, read_line
+from dorydate.model.subnet import Subnet
+from dorydate.model.topology import Topology
+from dorydate.model.world import World
+
+Place = Union[Carrier, World]  # a raw network, or one with hosts' programs
+End = tuple[int, str, str]  # how a run ends: its status, its output and its words
+OF_CROSSINGS = ("out", "in", "answer", "down", "up")
+
+
+def network_is_good(network: Topology, runs: Collection[str] = ()) -> bool:
+    """Whether a network keeps the rules and can be run.
+
+    A line is its two ends, and whatever further numbers its table has. A network that isn't raw can be run where the program
+    runs `worlds`."""
+    carrier, raw, imps, lines = network
+    numbers = [number for number, _ in imps]
+    if any(len(line) != 2 for line in lines):
+        return False
+    ends = Counter(end for line in lines for end in line)
+    return (
+        carrier in ("plain", "subnet")
+        and (raw or "worlds" in runs)
+        and 1 <= len(imps) <= MOST_IMPS
+        and all(1 <= number <= MOST_IMPS and 0 <= hosts <= 4 for number, hosts in imps)
+        and len({*numbers}) == len(numbers)
+        and all(len({*line}) == 2 and {*line} <= {*numbers} for line in lines)
+        and len({frozenset(line) for line in lines}) == len(lines)
+        and all(count <= 5 for count in ends.values())
+    )
+
+
+def opened_carrier(network: Topology) -> Carrier:
+    """The carrier of a network, at its opening."""
+    carrier, _, imps, lines = network
+    return Boxes(imps) if carrier == "plain" else Subnet(imps, lines)
+
+
+def opened(network: Topology) -> Place:
+    """A carrier or a world at its opening, as the network names it."""
+    carrier = opened_carrier(network)
+    return carrier if network[1] else World(carrier)
+
+
+def log_of(place: Place) -> list[Crossing]:
+    """What has crossed so far."""
+    return place.carrier.log if isinstance(place, World) else place.log
+
+
+def expected(options: Sequence[str], network: Topology, lines: Iterable[str], runs: Collection[str] = EVERYTHING) -> End:
+    """How the program ends on a network and the lines of a script."""
+    if any(word not in ("--book", "--check", "--texts") or options.count(word) > 1 for word in options):
+        return 1, "", "arpasim: bad arguments\n"
+    if not network_is_good(network, runs):
+        return 1, "", "arpasim: bad topology\n"
+    events = []
+    for number, line in enumerate(lines, 1):
+        try:
+            events.append(read_line(line, network[1], runs))
+        except BadLine:
+            return 2, "", f"arpasim: bad script line {number}\n"
+    if "--check" in options:
+        return 0, "ok\n", ""
+    place = opened(network)
+    for event in filter(None, events):
+        place.happen(*event)
+    printed = with_texts(place.printed, log_of(place)) if "--texts" in options else place.printed
+    lives = place.end_of_book() if "--book" in options and isinstance(place, World) else []
+    return 0, "\n".join([*printed, *lives, "end\n"]), ""
+
+
+def with_texts(printed: Iterable[str], crossings: Iterable[Crossing]) -> Iterator[str]:
+    """Printed lines, and after each message its text. The crossings are those of all of them, in order."""
+    left = iter(crossings)
+    for line in printed:
+        crossing = next(left) if line.split(" ")[0] in OF_CROSSINGS else None
+        yield f"{line} {spelled_text(crossing.text)}" if isinstance(crossing, Passed) else line

@@ -1,0 +1,134 @@
+"""What `arpasim --audit` says of a log, with the lines that show it: an independent judge.
+
+It was written from docs/audit.md, in another language and another form than the definitions, over the promise as `audit` reads it.
+"""
+
+from __future__ import annotations
+
+from collections.abc import Callable, Iterable, Sequence
+from dataclasses import replace
+from typing import TypeVar
+
+from dorydate.model.audit import Lives, Log, audit, is_granted, is_well_formed, match, messages_are_kept, partners_are_kept
+from dorydate.model.book import Life
+from dorydate.model.crossings import Crossing
+from dorydate.model.log import MOST_OCTETS, BadLog, Book, LogReader
+from dorydate.model.runs import End
+
+T = TypeVar("T")
+
+
+def ended(said: str) -> End:
+    """How the program ends where this is said of a log."""
+    if said.startswith(("bad log", "log too long")):
+        return 2, "", f"arpasim: {said}\n"
+    return 0 if said == "kept" else 4, f"{said}\n", ""
+
+
+class Judge:
+    """Says of logs what is to be said. `misread_logs` has judges that are wrong in one place each."""
+
+    reader = LogReader()
+
+    def says(self, octets: bytes) -> str:
+        """What is to be said of a log, with the lines at which it is bad, malformed or broken."""
+        if len(octets) > MOST_OCTETS:
+            return "log too long"
+        try:
+            return self.verdict(self.reader.read_log(octets))
+        except BadLog as line:
+            return f"bad log line {line}"
+
+    def verdict(self, book: Book) -> str:
+        """What is to be said of a book, with the lines that show it."""
+        log, lives, handed = book
+        if place := self.unmatched(lives, handed):
+            return f"malformed line {len(log) + place}"
+        lives = [replace(life, handed=bits) for life, bits in zip(lives, handed)]
+        part = audit(log, lives)
+        if part is None:
+            return "kept"
+        if part == "malformed":
+            return f"malformed line {len(log) + self.first(lives, lambda life: not is_well_formed(log, [life]))}"
+        if part == "messages":
+            return f"broken messages line {self.first_break(log, messages_are_kept)}"
+        return f"broken {part} {in_words(self.line(log, place) for place in self.shown(part, log, lives))}"
+
+    def line(self, log: Sequence[Crossing], place: int) -> int:
+        """The line of the life at a place."""
+        return len(log) + place
+
+    # ---- lives and lists
+
+    def unmatched(self, lives: Sequence[Life], handed: Sequence[str]) -> int | None:
+        """Where the lives and the lists differ in number: the place of the first that has none of the other, counted from 1 after the crossings."""
+        if len(lives) > len(handed):
+            return self.life_too_many(lives, handed)
+        return self.list_too_many(lives, handed) if len(handed) > len(lives) else None
+
+    def life_too_many(self, lives: Sequence[Life], handed: Sequence[str]) -> int | None:
+        """The place of the first life without a list."""
+        return len(handed) + 1
+
+    def list_too_many(self, lives: Sequence[Life], handed: Sequence[str]) -> int | None:
+        """The place of the first list without a life."""
+        return 2 * len(lives) + 1
+
+    # ---- places
+
+    def first(self, lives: Iterable[Life], is_meant: Callable[[Life], bool]) -> int:
+        """The place of the first life that is meant, counted from 1."""
+        return next(place for place, life in enumerate(lives, 1) if is_meant(life))
+
+    def first_break(self, entries: Sequence[T], are_kept: Callable[[Sequence[T]], bool]) -> int:
+        """The place, counted from 1, of the entry with which those up to it first break what is promised of them."""
+        return next(count for count in range(1, len(entries) + 1) if not are_kept(entries[:count]))
+
+    def shown(self, part: str, log: Log, lives: Lives) -> list[int]:
+        """The places, counted from 1, of the one or two lives that break a part."""
+        if part == "partners":
+            return self.at_odds(log, lives)
+        place = self.first(lives, lambda life: self.fails(part, log, lives, life))
+        return self.with_match(place, [other for other, life in enumerate(lives, 1) if match(log, lives[place - 1], life)])
+
+    def at_odds(self, log: Log, lives: Lives) -> list[int]:
+        """The second life that is at odds with an earlier one, after that."""
+        second = self.first_break(lives, lambda lives: partners_are_kept(log, lives))
+        return [self.first(lives, lambda life: not partners_are_kept(log, [life, lives[second - 1]])), second]
+
+    def with_match(self, place: int, matching: Sequence[int]) -> list[int]:
+        """A life and then its first match, if it has one."""
+        return [place, *matching[:1]]
+
+    # ---- whether a part fails at a life
+
+    def fails(self, part: str, log: Log, lives: Lives, life: Life) -> bool:
+        """Whether a part fails at a life."""
+        return self.stream_fails(log, lives, life) if part == "streams" else self.grant_fails(log, lives, life)
+
+    def stream_fails(self, log: Log, lives: Lives, life: Life) -> bool:
+        """A sending life sent something else than was handed over; a receiving one has two senders, or took something that its sender did not send."""
+        if not life.receives():
+            return not life.handed.startswith(life.bits)
+        senders = [it for it in lives if match(log, life, it)]
+        return len(senders) > 1 or life.bits != "" and not any(it.bits.startswith(life.bits) for it in senders)
+
+    def grant_fails(self, log: Log, lives: Lives, life: Life) -> bool:
+        """A receiving life took more than it granted, or its sender sent more."""
+        passed = [life, *(it for it in lives if match(log, life, it))] if life.receives() else []
+        return not all(is_granted(life, it.messages, len(it.bits)) for it in passed)
+
+
+def in_words(numbers: Iterable[int]) -> str:
+    """Lines by their numbers."""
+    found = [*numbers]
+    return f"line{'s' if len(found) > 1 else ''} {' '.join(map(str, found))}"
+
+
+RIGHT = Judge()
+says, verdict = RIGHT.says, RIGHT.verdict
+
+
+def ends_audit(octets: bytes) -> End:
+    """How `--audit` ends on a log."""
+    return ended(says(octets))
