@@ -132,7 +132,7 @@ formed_still c log x f = record {
   carried = inl f.carried;
 }
 
-none_carried : (Does : Crossing → ℕ → List Bool → Type 0) (log : List Crossing) (n : ℕ) (bits : List Bool) → n ≡ 0 → bits ≡ [] → AreCarried Does log n bits
+pub none_carried : (Does : Crossing → ℕ → List Bool → Type 0) (log : List Crossing) (n : ℕ) (bits : List Bool) → n ≡ 0 → bits ≡ [] → AreCarried Does log n bits
 none_carried Does [] n bits e f = (e, f)
 none_carried Does (c ∷ log) n bits e f = inl (none_carried Does log n bits e f)
 
@@ -206,7 +206,7 @@ filter_on test x es t = rw t refl
 filter_off : (test : Entry → Bool) (x : Entry) (es : List Entry) → test x ≡ false → filter test (x ∷ es) ≡ filter test es
 filter_off test x es t = rw t refl
 
-in_filter : (test : Entry → Bool) (es : List Entry) → Each (λ (e : Entry). test e ≡ true → Contains (filter test es) e) es
+pub in_filter : (test : Entry → Bool) (es : List Entry) → Each (λ (e : Entry). test e ≡ true → Contains (filter test es) e) es
 in_filter test [] = tt
 in_filter test (x ∷ es) = by (test x) refl (in_filter test es) where
   by : (b : Bool) → test x ≡ b → Each (λ (e : Entry). test e ≡ true → Contains (filter test es) e) es → Each (λ (e : Entry). test e ≡ true → Contains (filter test (x ∷ es)) e) (x ∷ es)
@@ -218,14 +218,14 @@ in_filter test (x ∷ es) = by (test x) refl (in_filter test es) where
 only_one : (x e : Entry) → Contains (x ∷ []) e → e ≡ x
 only_one x e there = each_in (λ (y : Entry). y ≡ x) (x ∷ []) e there (refl, tt)
 
-nobody : {A : Type 0} (e : Entry) → Contains [] e → A
+pub nobody : {A : Type 0} (e : Entry) → Contains [] e → A
 nobody e there = absurd (each_in (λ (y : Entry). ⊥) [] e there tt)
 
-mine_true : (s : ℕ) (e : Entry) → e.mine ≡ true → e.own ≡ s → is_mine_on s e ≡ true
+pub mine_true : (s : ℕ) (e : Entry) → e.mine ≡ true → e.own ≡ s → is_mine_on s e ≡ true
 mine_true s e mine own = ap (λ (b : Bool). b && e.own == s) mine ∙ eq-eqb e.own s own
 
 -- all of a host's own on a socket are the one that there is
-alone_on : (s : ℕ) (es : List Entry) (x : Entry) → mine_on s es ≡ x ∷ [] → Each (λ (e : Entry). e.mine ≡ true → e.own ≡ s → e ≡ x) es
+pub alone_on : (s : ℕ) (es : List Entry) (x : Entry) → mine_on s es ≡ x ∷ [] → Each (λ (e : Entry). e.mine ≡ true → e.own ≡ s → e ≡ x) es
 alone_on s es x one =
     each_weaker (λ (e : Entry). is_mine_on s e ≡ true → Contains (mine_on s es) e) (λ (e : Entry). e.mine ≡ true → e.own ≡ s → e ≡ x) es
     (λ e k mine own. only_one x e (subst (λ (l : List Entry). Contains l e) one (k (mine_true s e mine own)))) (in_filter (is_mine_on s) es)
@@ -237,7 +237,7 @@ passing test (x ∷ es) = by (test x) refl (passing test es) where
   by true t rest = rw t (t, rest)
   by false t rest = rw t rest
 
-one_is : (P : Entry → Type 0) (s : ℕ) (es : List Entry) (x : Entry) → mine_on s es ≡ x ∷ [] → Each P es → P x × (is_mine_on s x ≡ true)
+pub one_is : (P : Entry → Type 0) (s : ℕ) (es : List Entry) (x : Entry) → mine_on s es ≡ x ∷ [] → Each P es → P x × (is_mine_on s x ≡ true)
 one_is P s es x one h = (
   (subst (λ (l : List Entry). Each P l) one (each_filter P (is_mine_on s) es h)).0,
   (subst (λ (l : List Entry). Each (λ (e : Entry). is_mine_on s e ≡ true) l) one (passing (is_mine_on s) es)).0,
@@ -299,7 +299,7 @@ module _ (hosts : List Host) (addresses : HaveAddresses hosts) (moments : List M
       bound = tied answered.named (answered.link (ap is_receive_socket own ∙ r));
     }
 
-  whole : (x : Life) → Contains (kept_in moments).book.lives x → Half moments x → Made moments x
+  pub whole : (x : Life) → Contains (kept_in moments).book.lives x → Half moments x → Made moments x
   whole x there q = by q.1 where
     by : IsBound moments x q.0.link ⊎ IsNew x → Made moments x
     by (inl b) = record { formed = q.0; bound = b }
@@ -340,7 +340,7 @@ module _ (hosts : List Host) (addresses : HaveAddresses hosts) (moments : List M
 
 -- ---- a message of data
 
-flow_two : (f : Flow) (x y : Host) (l : ℕ) → x ≡ f.source → y ≡ f.destination → f.link.0 ≡ l → f ≡ record { source = x; destination = y; link = record { 0 = l } }
+pub flow_two : (f : Flow) (x y : Host) (l : ℕ) → x ≡ f.source → y ≡ f.destination → f.link.0 ≡ l → f ≡ record { source = x; destination = y; link = record { 0 = l } }
 flow_two f x y l s d e =
     ap (λ (n : ℕ). two f.source f.destination n) e ∙ ap (λ (h : Host). two h f.destination l) (sym s) ∙ ap (λ (h : Host). two x h l) (sym d) where
       two : Host → Host → ℕ → Flow

@@ -16,7 +16,15 @@ pub mod Grounds
 pub mod DataTold
 pub mod Formed
 pub mod Notices
+pub mod FirstLists
+pub mod Texts
+pub mod Stamps
+pub mod Calms
+pub mod FirstEnds
+pub mod Firsts
+pub mod FirstBooks
 pub mod FormedRows
+pub mod FirstRows
 pub mod NoticesRows
 pub mod Rows
 pub mod lemmas

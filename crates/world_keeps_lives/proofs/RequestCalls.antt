@@ -71,10 +71,10 @@ module _ (P : Entry → Type 0) (N : Notice → Type 0) (p : Host) (rules : Rule
       kept (λ (q : PairState). Each P q.entries) peer p (receiver_requested own foreign (free_link (pair_with peer s.peers).entries) (pair_with peer s.peers)) s.peers h
       (λ k. asked_receiver P N p rules begins own foreign (free_link (pair_with peer s.peers).entries) (pair_with peer s.peers) k)
   request_keeps begins s (request.Send socket bits) h =
-      owner_keeps s (owner_of socket s.peers) (λ e. with_end socket (with_more_bits bits)) (λ e q. asked_by P N p rules socket (with_more_bits bits) q (λ y. record { own = refl; foreign = refl; mine = refl; asked = refl; partner = refl; link = refl; closing = λ c. c })) h
+      owner_keeps s (owner_of socket s.peers) (λ e. with_end socket (with_more_bits bits)) (λ e q. asked_by P N p rules socket (with_more_bits bits) q (λ y. record { own = refl; foreign = refl; mine = refl; asked = refl; partner = refl; link = refl; closing = λ c. c; off = λ c. c })) h
   request_keeps begins s (request.Grant socket messages bits) h =
       owner_keeps s (owner_of socket s.peers) (λ e q. commanded (command.All (link_of e.link) messages bits) (with_end socket (granted messages bits) q))
-      (λ e q. asked_by P N p rules socket (granted messages bits) q (λ y. record { own = refl; foreign = refl; mine = refl; asked = refl; partner = refl; link = refl; closing = λ c. c })) h
+      (λ e q. asked_by P N p rules socket (granted messages bits) q (λ y. record { own = refl; foreign = refl; mine = refl; asked = refl; partner = refl; link = refl; closing = λ c. c; off = λ c. c })) h
   request_keeps begins s (request.AskBack socket messages bits) h = owner_keeps s (owner_of socket s.peers) (λ e. commanded (command.Gvb (link_of e.link) messages bits)) (λ e q k. k) h
   request_keeps begins s (request.Interrupt socket) h = owner_keeps s (owner_of socket s.peers) (λ e. commanded (interrupt_of e)) (λ e q k. k) h
   request_keeps begins s (request.Close socket) h = close_keeps s socket h (listens_on socket s.listening) refl

@@ -102,6 +102,7 @@ pub record Quiet (e f : Entry) : Type 0 where
   pub partner : f.partner ≡ e.partner
   pub link : f.link ≡ e.link
   pub closing : has_cls e.closing ≡ true → has_cls f.closing ≡ true
+  pub off : e.partner_closed ≡ true → f.partner_closed ≡ true
 
 pub due_still : (c : Closing) → has_cls c ≡ true → has_cls (close_due c) ≡ true
 due_still closing.No e = e
@@ -110,11 +111,11 @@ due_still closing.Queued e = e
 due_still closing.Sent e = e
 
 pub quiet_when : (b : Bool) (e : Entry) → Quiet e (closed_when b e)
-quiet_when true e = record { own = refl; foreign = refl; mine = refl; asked = refl; partner = refl; link = refl; closing = λ c. refl }
-quiet_when false e = record { own = refl; foreign = refl; mine = refl; asked = refl; partner = refl; link = refl; closing = λ c. c }
+quiet_when true e = record { own = refl; foreign = refl; mine = refl; asked = refl; partner = refl; link = refl; closing = λ c. refl; off = λ c. c }
+quiet_when false e = record { own = refl; foreign = refl; mine = refl; asked = refl; partner = refl; link = refl; closing = λ c. c; off = λ c. c }
 
 pub quiet_off : (e : Entry) → Quiet e (closed_by_partner e)
-quiet_off e = record { own = refl; foreign = refl; mine = refl; asked = refl; partner = refl; link = refl; closing = λ c. due_still e.closing c }
+quiet_off e = record { own = refl; foreign = refl; mine = refl; asked = refl; partner = refl; link = refl; closing = λ c. due_still e.closing c; off = λ c. refl }
 
 -- whoever stands at two sockets has them
 pub sockets_of : (own foreign : ℕ) (e : Entry) → is_at own foreign e ≡ true → (e.own ≡ own) × (e.foreign ≡ foreign)
@@ -298,7 +299,7 @@ module _ (P : Entry → Type 0) (N : Notice → Type 0) (peer : Host) (rules : R
 
     good_ret : (link messages bits : ℕ) (e : Entry) (d : DeskState) → Good d → Good (ret_taken link messages bits e d)
     good_ret link messages bits e d h =
-        good_if _ _ _ (good_told _ (changed (receives_on link) (commands.returned messages bits) d) (rules.others _ tt, tt) (good_quiet (receives_on link) (commands.returned messages bits) d (λ x. record { own = refl; foreign = refl; mine = refl; asked = refl; partner = refl; link = refl; closing = λ c. c }) h))
+        good_if _ _ _ (good_told _ (changed (receives_on link) (commands.returned messages bits) d) (rules.others _ tt, tt) (good_quiet (receives_on link) (commands.returned messages bits) d (λ x. record { own = refl; foreign = refl; mine = refl; asked = refl; partner = refl; link = refl; closing = λ c. c; off = λ c. c }) h))
         (good_fault ERRONEOUS (command.Ret link messages bits) d h)
 
     good_taken : (busy : List ℕ) (c : Command) (d : DeskState) → IsOrder (Legal c) → Contains orders (Legal c) → Good d → Good (desk_taken peer busy stamp c d)
@@ -307,10 +308,10 @@ module _ (P : Entry → Type 0) (N : Notice → Type 0) (peer : Host) (rules : R
     good_taken busy (command.Str send receive size) d ok there h = good_str_by receive send size (entry_at receive send d.entries) d there ok.1 ok.3 h
     good_taken busy (command.Cls mine yours) d ok there h = good_cls busy yours mine (entry_at yours mine d.entries) d h
     good_taken busy (command.All link messages bits) d ok there h =
-        good_at (command.All link messages bits) (all_taken link messages bits) (sender_on link d) d (λ e. good_quiet (sends_on link) (commands.granted messages bits) d (λ x. record { own = refl; foreign = refl; mine = refl; asked = refl; partner = refl; link = refl; closing = λ c. c }) h) h
+        good_at (command.All link messages bits) (all_taken link messages bits) (sender_on link d) d (λ e. good_quiet (sends_on link) (commands.granted messages bits) d (λ x. record { own = refl; foreign = refl; mine = refl; asked = refl; partner = refl; link = refl; closing = λ c. c; off = λ c. c }) h) h
     good_taken busy (command.Gvb link messages bits) d ok there h =
         good_at (command.Gvb link messages bits) (gvb_taken link messages bits) (sender_on link d) d
-        (λ e. good_queued _ (changed (sends_on link) (commands.given_back messages bits) d) (good_quiet (sends_on link) (commands.given_back messages bits) d (λ x. record { own = refl; foreign = refl; mine = refl; asked = refl; partner = refl; link = refl; closing = λ c. c }) h)) h
+        (λ e. good_queued _ (changed (sends_on link) (commands.given_back messages bits) d) (good_quiet (sends_on link) (commands.given_back messages bits) d (λ x. record { own = refl; foreign = refl; mine = refl; asked = refl; partner = refl; link = refl; closing = λ c. c; off = λ c. c }) h)) h
     good_taken busy (command.Ret link messages bits) d ok there h = good_at (command.Ret link messages bits) (ret_taken link messages bits) (receiver_on link d) d (λ e. good_ret link messages bits e d h) h
     good_taken busy (command.Inr link) d ok there h = good_at (command.Inr link) interrupted (sender_on link d) d (λ e. good_told _ d (rules.others _ tt, tt) h) h
     good_taken busy (command.Ins link) d ok there h = good_at (command.Ins link) interrupted (receiver_on link d) d (λ e. good_told _ d (rules.others _ tt, tt) h) h
@@ -344,7 +345,7 @@ module _ (P : Entry → Type 0) (N : Notice → Type 0) (peer : Host) (rules : R
     good_gone (command.Rts receive send link) d ok there h = good_opening receive send (asked_at stamp) d (λ x t i. goes.rts receive send link x there ok.1 (sockets_of receive send x t).0 (sockets_of receive send x t).1 i) h
     good_gone (command.Str send receive size) d ok there h = good_opening send receive (asked_at stamp) d (λ x t i. goes.str send receive size x there ok.1 (sockets_of send receive x t).0 (sockets_of send receive x t).1 i) h
     good_gone (command.Cls own foreign) d ok there h =
-        good_swept (changed (is_at own foreign) cls_sent d) (good_quiet (is_at own foreign) cls_sent d (λ x. record { own = refl; foreign = refl; mine = refl; asked = refl; partner = refl; link = refl; closing = λ c. refl }) h)
+        good_swept (changed (is_at own foreign) cls_sent d) (good_quiet (is_at own foreign) cls_sent d (λ x. record { own = refl; foreign = refl; mine = refl; asked = refl; partner = refl; link = refl; closing = λ c. refl; off = λ c. c }) h)
     good_gone c d ok there h = h
 
     good_all_gone : (xs : List Command) (d : DeskState) → AreCommands xs → Each (λ (c : Command). Contains cs c) xs → Good d → Good (commands_gone peer stamp xs d)
@@ -375,7 +376,7 @@ module _ (P : Entry → Type 0) (N : Notice → Type 0) (peer : Host) (rules : R
       (gone.ends, gone.told)
   good_parcel stamp (parcel.Bytes e size count) q listening may ok h = (
     each_changed P (may_send_on q.busy (link_of e.link)) (bits_gone (size * count)) q.entries
-        (λ x t i. rules.quiet x (bits_gone (size * count) x) (record { own = refl; foreign = refl; mine = refl; asked = refl; partner = refl; link = refl; closing = λ c. c }) i) h,
+        (λ x t i. rules.quiet x (bits_gone (size * count) x) (record { own = refl; foreign = refl; mine = refl; asked = refl; partner = refl; link = refl; closing = λ c. c; off = λ c. c }) i) h,
     (may, tt),
   )
 
@@ -386,7 +387,7 @@ module _ (P : Entry → Type 0) (N : Notice → Type 0) (peer : Host) (rules : R
   good_arrived link e text (Some header) d k h =
       good_if (is_acceptable e header) (arrived link e (data_bits header) text d) (text_faulted ERRONEOUS text d)
       (good_told (notice.Arrived e.own (data_of (data_bits header) text) ∷ []) (changed (receives_on link) (spent (data_bits header)) d) (k header refl, tt)
-      (good_quiet (receives_on link) (spent (data_bits header)) d (λ x. record { own = refl; foreign = refl; mine = refl; asked = refl; partner = refl; link = refl; closing = λ c. c }) h))
+      (good_quiet (receives_on link) (spent (data_bits header)) d (λ x. record { own = refl; foreign = refl; mine = refl; asked = refl; partner = refl; link = refl; closing = λ c. c; off = λ c. c }) h))
       (good_queued (error ERRONEOUS (octets_of text)) d h)
 
   pub good_data : (link : ℕ) (text : List Bool) (d : DeskState) → ((e : Entry) (k : DataHeader) → find (receives_on link) d.entries ≡ Some e → is_open e ≡ true → header_of text ≡ Some k → N (notice.Arrived e.own (data_of (data_bits k) text))) → Good d → Good (data_taken link text d)
@@ -433,7 +434,7 @@ module _ (P : Entry → Type 0) (N : Notice → Type 0) (peer : Host) (rules : R
 
   pub asked_closed : (socket : ℕ) (q : PairState) → Each P q.entries → Each P (closed_end socket q).entries
   asked_closed socket q h =
-      let off : Each P (with_end socket called_off q).entries = asked_by socket called_off q (λ e. record { own = refl; foreign = refl; mine = refl; asked = refl; partner = refl; link = refl; closing = λ c. due_still e.closing c }) h in
+      let off : Each P (with_end socket called_off q).entries = asked_by socket called_off q (λ e. record { own = refl; foreign = refl; mine = refl; asked = refl; partner = refl; link = refl; closing = λ c. due_still e.closing c; off = λ c. c }) h in
       (good_settled q.busy (desk_of (with_end socket called_off q) []) (record { ends = off; told = tt })).ends
 
   pub asked_new : Begins P → (e : Entry) (c : Command) (q : PairState) → e.mine ≡ true → e.asked ≡ None → e.partner ≡ None → Each P q.entries → Each P (requested e c q).entries

@@ -1,3 +1,4 @@
+pub mod Firsts
 pub mod Lives
 pub mod Worked
 pub mod WorkedFormed

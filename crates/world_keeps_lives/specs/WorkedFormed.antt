@@ -1,5 +1,6 @@
 -- The lives and notices of a small book, in which eight bits were sent on link 2: words for worked examples.
 use Rattle.std.specs.Prelude.{List, [], ◌∷◌, drop}
+use Rattle.leader1822.specs.declared.crossing.Answer.TheVariants as answer
 use Rattle.leader1822.specs.declared.crossing.Crossing.{Crossing}
 use Rattle.leader1822.specs.declared.crossing.Crossing.TheVariants as crossing
 use Rattle.leader1822.specs.declared.message.HostMessage.{HostMessage}
@@ -8,9 +9,10 @@ use Rattle.sockets.specs.Worked as sockets
 use Rattle.sockets.specs.Worked.{first, second}
 use Rattle.net_sim.specs.declared.book.Told.{Told}
 use Rattle.net_sim.specs.Timeline.{crossings_of}
-use Rattle.net_sim.specs.Worked.{eight, giver, taker}
+use Rattle.net_sim.specs.Worked.{eight, eight_zeros, giver, taker}
 use Rattle.net_sim.specs.WorkedMoments.{connected, sent_moments}
 use Rattle.net_sim.specs.declared.life.Life.{Life}
+use Rattle.world_keeps_lives.specs.Firsts.{Linked}
 
 abbrev pub sent_log : List Crossing
 sent_log = crossings_of sent_moments
@@ -29,6 +31,24 @@ stray = sockets.message second first 3 (0 ∷ 8 ∷ 0 ∷ 1 ∷ 0 ∷ 255 ∷ []
 
 abbrev pub stray_log : List Crossing
 stray_log = crossing.In stray ∷ crossing.Out stray ∷ crossings_of connected
+
+-- a second message on link 2, with eight bits that are zeros, after the first was answered
+abbrev pub zeros_sent : HostMessage
+zeros_sent = sockets.message second first 2 (0 ∷ 8 ∷ 0 ∷ 1 ∷ 0 ∷ 0 ∷ [])
+
+abbrev pub two_log : List Crossing
+two_log = crossing.In zeros_sent ∷ crossing.Out zeros_sent ∷ crossing.Answer answer.Rfnm (sockets.on_link second first 2) ∷ sent_log
+
+-- a life that took the second message and not the first
+abbrev pub took_second : Life
+took_second = record took { bits = eight_zeros }
+
+-- the two lives on their link
+abbrev pub took_on : Linked
+took_on = record { life = took; link = 2 }
+
+abbrev pub gave_on : Linked
+gave_on = record { life = gave; link = 2 }
 
 -- ---- notices
 

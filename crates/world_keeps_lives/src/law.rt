@@ -23,8 +23,9 @@ ghost use Rattle.host_pairs.specs.declared.notice.Notice.TheVariants as notice;
 ghost use Rattle.sockets.specs.Worked.{first, second, third};
 ghost use Rattle.net_sim.specs.Book.{carried, life_ended, granted, new_life, opening_kept, returned};
 ghost use Rattle.world_keeps_lives.specs.Lives.{AreRefusing, EachOn, HasOpenEnd, IsBounded, IsFreeSocket, IsFresh, IsLifeOf, IsOwned, IsSafe, IsSteady, NoneOf, at_socket, mine_on};
+ghost use Rattle.world_keeps_lives.specs.Firsts.{AreApart, FirstBook, IsFirst};
 ghost use Rattle.world_keeps_lives.specs.Worked.{worked_end, with_one};
-ghost use Rattle.world_keeps_lives.specs.WorkedFormed.{arrived_told, gave, sent_log, sent_told, stray_arrived, stray_log, stray_sent, took, untaken_log};
+ghost use Rattle.world_keeps_lives.specs.WorkedFormed.{arrived_told, gave, gave_on, sent_log, sent_told, stray_arrived, stray_log, stray_sent, took, took_on, took_second, two_log, untaken_log};
 ghost use Rattle.net_sim.specs.Worked.{crossings, eight_zeros, taker};
 ghost use Rattle.net_sim.specs.WorkedMoments.{sent_moments};
 
@@ -148,6 +149,23 @@ pub fn worked_formed()
     ensures another_message { IsFormed sent_log (record took { own_stamp = 12 }) → ⊥ }
     ensures another_peer { IsFormed sent_log (record took { partner_stamp = 7 }) → ⊥ }
     ensures another_link { IsFormed stray_log took → ⊥ }
+{}
+
+/// The same lives, by the first messages on their link.
+pub fn worked_firsts()
+    ensures took { IsFirst sent_log took_on }
+    ensures gave { IsFirst sent_log gave_on }
+
+    // two messages crossed. A life of only the second is made of a message that crossed, but not of the first
+    ensures chosen { IsFormed two_log took_second }
+    ensures passed_over { IsFirst two_log (record took_on { life = took_second }) → ⊥ }
+
+    // a message that a life counts and that didn't cross; a second message that went out and that no life counts
+    ensures uncrossed { IsFirst sent_log (record took_on { life = record took { messages = 2 } }) → ⊥ }
+    ensures left_out { FirstBook two_log (gave ∷ []) → ⊥ }
+
+    // one message that two sending lives count
+    ensures twice { AreApart sent_log (gave_on ∷ gave_on ∷ []) → ⊥ }
 {}
 
 /// Notices of the same small book.

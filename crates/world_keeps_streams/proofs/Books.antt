@@ -5,6 +5,7 @@ pub mod Arrives
 pub mod Books
 pub mod Clauses
 pub mod Closes
+pub mod Firsts
 pub mod Given
 pub mod Goes
 pub mod Run

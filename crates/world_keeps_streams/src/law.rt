@@ -22,9 +22,12 @@ ghost use Rattle.net_sim.specs.Timeline.{IsTimeline, crossings_of};
 ghost use Rattle.net_sim.specs.Told.{kept_in, notices_by};
 ghost use Rattle.net_sim.specs.World.{WorldState};
 ghost use Rattle.net_sim.specs.WorkedMoments.{bits_sent, connected, eight_sent, sent_moments};
+ghost use Rattle.world_keeps_lives.specs.Firsts.{FirstBook};
 ghost use Rattle.world_keeps_streams.specs.Worked.{ended_moments, quit_moments, took, took_eight};
 ghost use Rattle.world_keeps_streams.specs.Arrivals.{AllArrive, Arrives, ComesFor};
 ghost use Rattle.world_keeps_streams.specs.Calls.{own_calls, numbered_by_peer};
+ghost use Rattle.world_keeps_streams.specs.Rests.{AllRest, AreAtRest};
+ghost use Rattle.world_keeps_lives.specs.WorkedFormed.{gave};
 ghost use Rattle.world_keeps_streams.specs.Closes.{AllClose, IsClosedByPartner, TookAll};
 
 use leader1822::Carrier;
@@ -64,8 +67,15 @@ pub fn lives()
     // a receiving life whose end its partner has closed, and no user of its host, took all that its partner sent
     ensures closes { (hosts : List Host) (moments : List Moment) → HaveAddresses hosts → mail.IsRun hosts (crossings_of moments) → IsTimeline hosts moments → (receiver : Life) → IsClosedByPartner moments receiver → TookAll (crossings_of moments) (kept_in moments).book.lives receiver }
 
+    // the messages of each life are the first on its link after both of its requests, and each message that goes out is one of a sending life: so crossings
+    // determine the bits of all lives
+    ensures firsts { (hosts : List Host) (moments : List Moment) → HaveAddresses hosts → mail.IsRun hosts (crossings_of moments) → IsTimeline hosts moments → FirstBook (crossings_of moments) (kept_in moments).book.lives }
+
     // data that are taken where they come for a receiving life whose end is open arrive there, all of them
     ensures arrives { (hosts : List Host) (moments : List Moment) (m : HostMessage) → HaveAddresses hosts → mail.IsRun hosts (crossings_of (Crossed (crossing.In m) ∷ moments)) → IsTimeline hosts (Crossed (crossing.In m) ∷ moments) → (receiver : Life) → ComesFor m moments receiver → Arrives m moments receiver }
+
+    // a receiving life at rest, whose end is open and for which nothing waits, took all that its partner sent
+    ensures rests { (hosts : List Host) (moments : List Moment) → HaveAddresses hosts → mail.IsRun hosts (crossings_of moments) → IsTimeline hosts moments → (receiver sender : Life) → AreAtRest moments receiver sender → (receiver.bits ≡ sender.bits) × (receiver.messages ≡ sender.messages) }
 
     // what a sending life sent that it matches, with what was returned, is within what it granted
     ensures sent { (hosts : List Host) (moments : List Moment) → HaveAddresses hosts → mail.IsRun hosts (crossings_of moments) → IsTimeline hosts moments → (receiver sender : Life) → Contains (kept_in moments).book.lives receiver → Contains (kept_in moments).book.lives sender → Match (crossings_of moments) receiver sender → IsGranted receiver sender.messages (length sender.bits) }
@@ -75,7 +85,9 @@ pub fn lives()
 pub fn worlds<C: Carrier>()
     ensures source { (hosts : List Host) (w : WorldState C) → IsLawful C.seen hosts w → (receiver : Life) → Contains w.kept.book.lives receiver → receives receiver ≡ true → (receiver.bits ≡ [] → ⊥) → Source w.kept.book.crossings w.kept.book.lives receiver }
     ensures closes { (hosts : List Host) (w : WorldState C) → (lawful : IsLawful C.seen hosts w) → AllClose lawful.whole.moments }
+    ensures firsts { (hosts : List Host) (w : WorldState C) → IsLawful C.seen hosts w → FirstBook w.kept.book.crossings w.kept.book.lives }
     ensures arrives { (hosts : List Host) (w : WorldState C) → (lawful : IsLawful C.seen hosts w) → AllArrive lawful.whole.moments }
+    ensures rests { (hosts : List Host) (w : WorldState C) → (lawful : IsLawful C.seen hosts w) → AllRest lawful.whole.moments }
     ensures sent { (hosts : List Host) (w : WorldState C) → IsLawful C.seen hosts w → (receiver sender : Life) → Contains w.kept.book.lives receiver → Contains w.kept.book.lives sender → Match w.kept.book.crossings receiver sender → IsGranted receiver sender.messages (length sender.bits) }
 {}
 
@@ -87,6 +99,13 @@ pub fn worked_arrivals()
     // where its user has closed the end, they don't come for the life, though it goes on; and nobody is notified of them
     ensures closing { ComesFor eight_sent (Asked dialogue.first (request.Close 16) ∷ bits_sent) took → ⊥ }
     ensures dropped { notices_by (Crossed (crossing.In eight_sent)) (Asked dialogue.first (request.Close 16) ∷ bits_sent) ≡ [] }
+{}
+
+/// Eight bits that were sent: taken, and waiting to be taken; and where the receiving user has closed.
+pub fn worked_rests()
+    ensures rests { AreAtRest sent_moments took_eight gave }
+    ensures waits { AreAtRest bits_sent took gave → ⊥ }
+    ensures closing { AreAtRest (Asked dialogue.first (request.Close 16) ∷ sent_moments) took_eight gave → ⊥ }
 {}
 
 /// A connection that its partner closes: after all was taken, and after the receiving user had closed it and eight bits were dropped.

@@ -1,5 +1,5 @@
 -- Data that are taken where they come for a receiving life whose end is open arrive there.
-use Rattle.std.proofs.Common.{◌≡◌, ◌⊎◌, inl, inr, ◌==◌, ◌&&◌, not, ℕ, Bool, true, false, List, [], ◌∷◌, ◌++◌, length, filter, find, drop, Option, Some, None, refl, ap, sym, subst, ◌∙◌, eq-eqb}
+use Rattle.std.proofs.Common.{◌≡◌, inl, inr, ◌==◌, ◌&&◌, not, ℕ, Bool, true, false, List, [], ◌∷◌, ◌++◌, length, filter, find, drop, Option, Some, refl, ap, sym, subst, ◌∙◌, eq-eqb}
 use Rattle.std.proofs.lemmas.Bool.{eqb-true}
 use Rattle.std.specs.List.{Contains}
 use Rattle.leader1822.specs.Calls.{Seen}
@@ -18,18 +18,17 @@ use Rattle.stream_law.specs.Receivers as receivers
 use Rattle.stream_law.specs.Receivers.{Receiver}
 use Rattle.stream_law.specs.Streams.{Box, Empty, Waiting, Taken}
 use Rattle.stream_law.proofs.lemmas.{acceptable, some_is, waits_of}
-use Rattle.host_pairs.specs.Commands.{Found, Open, found_in}
+use Rattle.host_pairs.specs.Commands.{Found, found_in}
 use Rattle.host_pairs.specs.Data.{arrived_if, data_found, data_of, data_taken, is_acceptable}
 use Rattle.host_pairs.specs.Desk.{DeskState, desk_of}
-use Rattle.host_pairs.specs.Entries.{is_ending, is_link, is_mine_on, is_open, receives_on}
+use Rattle.host_pairs.specs.Entries.{is_link, is_mine_on, is_open, receives_on}
 use Rattle.host_pairs.specs.Phases as phases
-use Rattle.host_pairs.specs.Turn.{TurnState, message_taken, with_desk}
+use Rattle.host_pairs.specs.Turn.{message_taken}
 use Rattle.host_pairs.specs.declared.entry.Entry.{Entry}
-use Rattle.host_pairs.specs.declared.notice.Notice.{Notice}
 use Rattle.host_pairs.specs.declared.notice.Notice.TheVariants as notice
 use Rattle.host_pairs.proofs.lemmas.{both}
 use Rattle.host_keeps_streams.specs.Ends.{AreReceiver, HasReceiver, IsReceiver}
-use Rattle.host_keeps_streams.specs.Histories.{name_now, numbered, receiver_now}
+use Rattle.host_keeps_streams.specs.Histories.{name_now, numbered}
 use Rattle.host_keeps_streams.proofs.lemmas.{accept_same, bits_there, first_is, open_found, open_same}
 use Rattle.pair_keeps_streams.proofs.lemmas.{IsPosted, Lies, Post}
 use Rattle.reset_law.specs.Boxes as reset

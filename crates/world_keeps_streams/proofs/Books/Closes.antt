@@ -1,29 +1,39 @@
--- A receiving life whose end its partner has closed, and no user of its host, took all that its partner sent.
-use Rattle.std.proofs.Common.{◌≡◌, ◌⊎◌, inl, inr, ℕ, suc, ◌+◌, ◌≤◌, ◌==◌, Bool, true, false, List, [], ◌∷◌, ◌++◌, length, filter, Some, refl, ap, sym, subst, ◌∙◌, arith}
+-- A receiving life took all that its partner sent, where its partner has closed its end, and no user of its host; and where its end is open, and nothing waits
+-- on its link.
+use Rattle.std.proofs.Common.{◌≡◌, ◌⊎◌, inl, inr, ℕ, suc, ◌+◌, ◌≤◌, ◌==◌, Bool, true, false, List, [], ◌∷◌, ◌++◌, length, filter, Some, refl, ap, sym, subst, ◌∙◌, append-nil, arith}
 use Rattle.std.proofs.lemmas.Bool.{eqb-true, ne_eqb}
 use Rattle.std.specs.List.{Contains}
 use Rattle.leader1822.specs.Calls.{Seen}
 use Rattle.leader1822.specs.Host.{Host}
+use Rattle.leader1822.specs.Mailboxes as mail
+use Rattle.leader1822.specs.Mailboxes.{box_of}
 use Rattle.stream_law.specs.Receivers.{Receiver}
-use Rattle.stream_law.specs.Within.{IsSafe}
+use Rattle.stream_law.specs.Streams.{Box, Empty, Waiting, Taken}
+use Rattle.stream_law.specs.Within.{IsSafe, waiting_in}
 use Rattle.stream_law.proofs.lemmas.{safe_inv, some_is}
 use Rattle.host_pairs.specs.Entries.{is_mine_on, receives_on}
-use Rattle.host_pairs.specs.declared.entry.Entry.{Entry}
 use Rattle.host_pairs.proofs.lemmas.{both}
 use Rattle.host_keeps_streams.specs.Ends.{HasReceiver, IsReceiver}
 use Rattle.host_keeps_streams.specs.Histories.{HasClosed, name_now, numbered, receiver_now}
 use Rattle.host_keeps_streams.proofs.lemmas.{closed_first}
+use Rattle.pair_keeps_streams.proofs.lemmas.{Fetched, Free, IsPosted}
+use Rattle.reset_law.specs.Boxes as reset
+use Rattle.reset_law.specs.Boxes.{boxes}
 use Rattle.reset_law.specs.Stays as stay
 use Rattle.sockets.specs.Pairs.{pair_with}
 use Rattle.net_sim.specs.Clean.{IsLawful}
-use Rattle.net_sim.specs.Safe.{Match}
+use Rattle.net_sim.specs.Safe.{Match, receives}
 use Rattle.net_sim.specs.Story.{Moment, events_of, program}
-use Rattle.net_sim.specs.Timeline.{crossings_of}
+use Rattle.net_sim.specs.Timeline.{crossings_of, seen_box}
 use Rattle.net_sim.specs.World.{WorldState}
 use Rattle.net_sim.specs.declared.life.Life.{Life}
+use Rattle.net_sim.proofs.lemmas.{box_same, flow_of}
+use Rattle.world_keeps_lives.specs.Lives.{HasOpenEnd}
+use Rattle.world_keeps_lives.proofs.lemmas.{open_parts}
 use Rattle.world_keeps_pairing.proofs.lemmas.{book_run}
 use Rattle.world_keeps_streams.specs.Calls.{own_calls}
 use Rattle.world_keeps_streams.specs.Closes.{AllClose, IsClosedByPartner, TookAll}
+use Rattle.world_keeps_streams.specs.Rests.{AllRest, AreAtRest}
 use Rattle.world_keeps_streams.proofs.Books.All.{all_given}
 use Rattle.world_keeps_streams.proofs.Books.Arrives.{end_at, on_link, one_end, rest_lawful, stays_of, unlike}
 use Rattle.world_keeps_streams.proofs.Books.Books.{one_receiver, one_sender}
@@ -35,12 +45,32 @@ use Rattle.world_keeps_streams.proofs.Carried.Streams.{all_bits}
 use Rattle.world_keeps_streams.proofs.Deeds.Effects.{Among, among_kept}
 use Rattle.world_keeps_streams.proofs.Lives.Lists.{IsOf, is_of, of_drop, of_parts}
 use Rattle.world_keeps_streams.proofs.Requests.Sides.{Heard, Lawful, Own, lives_in}
+use Rattle.world_keeps_streams.proofs.Steps.Joined.{post_in}
 use Rattle.world_keeps_streams.proofs.Steps.Streams.{has_receiver}
+
+free_box : (b : Box) → IsPosted Free b → waiting_in b ≡ []
+free_box Empty p = refl
+free_box (Waiting c size bits) p = absurd p
+free_box Taken p = absurd p
+
+fetched_box : (b : Box) → IsPosted Fetched b → waiting_in b ≡ []
+fetched_box Empty p = absurd p
+fetched_box (Waiting c size bits) p = absurd p
+fetched_box Taken p = refl
 
 suc_is : (m n : ℕ) → suc m ≡ suc n → m ≡ n
 suc_is m n e = omega (arith, e)
 
-module _ (hosts : List Host) (ms : List Moment) (l : Lawful hosts ms) (x : Life) (f : IsClosedByPartner ms x) where
+-- a receiving life that isn't over, on its link
+record AtLink (ms : List Moment) (x : Life) : Type 0 where
+  there : Contains (lives_in ms) x
+  receiving : receives x ≡ true
+  goes : x.ended ≡ false
+  end : HasOpenEnd (program x.host ms) x
+  link : ℕ
+  linked : end.end.link ≡ Some link
+
+module _ (hosts : List Host) (ms : List Moment) (l : Lawful hosts ms) (x : Life) (f : AtLink ms x) where
   given : Given hosts x.host x.peer (Own x.host x.peer) (Heard x.host x.peer)
   given = all_given hosts x.host x.peer
 
@@ -90,6 +120,9 @@ module _ (hosts : List Host) (ms : List Moment) (l : Lawful hosts ms) (x : Life)
   place : (f.link ≡ suc n) × (c ≡ name_now numbered x.peer (own_calls x.host x.peer ms) x.socket x.foreign)
   place = is_here n (w.receiving x late refl refl f.receiving).g going
 
+  place_is : f.link ≡ suc n
+  place_is = place.0
+
   off : (suc n == 0) ≡ false
   off = ne_eqb (suc n) 0 (λ e. absurd (cc))
 
@@ -106,20 +139,6 @@ module _ (hosts : List Host) (ms : List Moment) (l : Lawful hosts ms) (x : Life)
       ap (λ (k : ℕ). name_now numbered x.peer (own_calls x.host x.peer ms) k f.end.end.foreign) own
       ∙ ap (λ (k : ℕ). name_now numbered x.peer (own_calls x.host x.peer ms) x.socket k) f.end.foreign ∙ sym place.1
 
-  over : (receiver_now numbered x.peer (suc n) (own_calls x.host x.peer ms)).over c ≡ true
-  over = ap (λ (k : ℕ). (receiver_now numbered x.peer (suc n) (own_calls x.host x.peer ms)).over k) (sym name_is) ∙ law.over ∙ f.closed
-
-  late_cls : (receiver_now numbered x.peer (suc n) (own_calls x.host x.peer ms)).first c ≡ false
-  late_cls = by ((receiver_now numbered x.peer (suc n) (own_calls x.host x.peer ms)).first c) refl where
-    none : HasClosed numbered x.peer (suc n) c (own_calls x.host x.peer ms) → ⊥
-    none h =
-        f.unclosed (subst (λ (k : ℕ). HasClosed numbered x.peer k (name_now numbered x.peer (own_calls x.host x.peer ms) x.socket x.foreign) (own_calls x.host x.peer ms)) (sym place.0)
-        (subst (λ (k : ℕ). HasClosed numbered x.peer (suc n) k (own_calls x.host x.peer ms)) place.1 h))
-
-    by : (v : Bool) → (receiver_now numbered x.peer (suc n) (own_calls x.host x.peer ms)).first c ≡ v → (receiver_now numbered x.peer (suc n) (own_calls x.host x.peer ms)).first c ≡ false
-    by true e = absurd (none (closed_first numbered x.peer (suc n) c (own_calls x.host x.peer ms) e))
-    by false e = e
-
   -- ---- so all was taken
 
   abbrev sent : List (List Bool)
@@ -128,99 +147,171 @@ module _ (hosts : List Host) (ms : List Moment) (l : Lawful hosts ms) (x : Life)
   same : (w.j n).x.receiver ≡ receiver_now numbered x.peer (suc n) (own_calls x.host x.peer ms)
   same = (w.j n).received_a stays
 
-  all : (w.j n).x.receiver.taken c ≡ (w.j n).x.sender.sent c
+  module _ (all : (w.j n).x.receiver.taken c ≡ (w.j n).x.sender.sent c) where
+    bits_are : x.bits ≡ all_bits ((w.j n).x.sender.sent c)
+    bits_are = going.bits ∙ ap all_bits all
+
+    messages_are : x.messages ≡ length ((w.j n).x.sender.sent c)
+    messages_are = going.messages ∙ ap (λ (ts : List (List Bool)). length ts) all
+
+    -- ---- the sending life
+
+    some_sent : (ts : List (List Bool)) → (ts ≡ [] → ⊥) → 1 ≤ length ts
+    some_sent [] some = absurd (some refl)
+    some_sent (t ∷ ts) some = omega arith
+
+    module _ (s : Life) (there : Contains (lives_in ms) s) (m : Match (crossings_of ms) x s) where
+      s_in : IsOf s (lives_in ms)
+      s_in = is_of s (lives_in ms) there
+
+      only : (r : Life) → IsOf r (lives_in ms) → Match (crossings_of ms) r s → x ≡ r
+      only r i k = one_receiver hosts Own Heard (λ a b. all_given hosts a b) ms l x r s here i m k
+
+      -- where something was sent in the connection
+      some_there : (((w.j n).x.sender.sent c) ≡ [] → ⊥) → (x.bits ≡ s.bits) × (x.messages ≡ s.messages)
+      some_there some =
+          let h : HasS x.host x.peer (Own x.host x.peer) (Heard x.host x.peer) ms w.j n c = w.has_sender n c some in
+          let matches : Match (crossings_of ms) x h.life =
+          one_matches x.host x.peer (Own x.host x.peer) (Heard x.host x.peer) ms (given.matched ms l) w x h.life known.g h.is.g late h.there (refl, refl) (h.host, h.peer) f.receiving h.name known.own h.is.heard in
+          let one : h.life ≡ s = one_sender hosts Own Heard (λ a b. all_given hosts a b) ms l x h.life s (of_drop (since x.host x.peer ms) h.life (lives_in ms) h.there) s_in matches m in
+          let bits : h.life.bits ≡ all_bits ((w.j n).x.sender.sent c) = h.is.gave.bits ∙ ap (λ (k : ℕ). all_bits ((w.j k).x.sender.sent (numbered h.life.foreign h.life.socket h.is.g))) h.link ∙ ap (λ (k : ℕ). all_bits ((w.j n).x.sender.sent k)) h.name in
+          let messages : h.life.messages ≡ length ((w.j n).x.sender.sent c) =
+          h.is.gave.messages ∙ ap (λ (k : ℕ). length ((w.j k).x.sender.sent (numbered h.life.foreign h.life.socket h.is.g))) h.link ∙ ap (λ (k : ℕ). length ((w.j n).x.sender.sent k)) h.name in
+          (bits_are ∙ sym bits ∙ ap (λ (y : Life). y.bits) one, messages_are ∙ sym messages ∙ ap (λ (y : Life). y.messages) one)
+
+      -- a sending life that sent something did so in the connection of the life
+      module _ (p : PresentS x.host x.peer (Own x.host x.peer) (Heard x.host x.peer) ms w.j s) (i : IsOf s (present_in x.host x.peer ms)) (some : (w.j p.link).x.sender.sent (numbered s.foreign s.socket p.g) ≡ [] → ⊥) where
+        granter : HasR x.host x.peer (Own x.host x.peer) (Heard x.host x.peer) ms w.j p.link (numbered s.foreign s.socket p.g)
+        granter =
+            let safe : IsSafe (w.j p.link).x (numbered s.foreign s.socket p.g) = safe_inv (w.j p.link).x (w.j p.link).joint.inv_x (numbered s.foreign s.socket p.g) in
+            let one : 1 ≤ length ((w.j p.link).x.sender.sent (numbered s.foreign s.socket p.g)) = some_sent ((w.j p.link).x.sender.sent (numbered s.foreign s.socket p.g)) some in
+            let in_messages : length ((w.j p.link).x.sender.sent (numbered s.foreign s.socket p.g)) + ((w.j p.link).x.receiver.returned (numbered s.foreign s.socket p.g)).messages ≤ ((w.j p.link).x.receiver.granted (numbered s.foreign s.socket p.g)).messages
+            = safe.sent.in_messages in
+            w.has_receiver p.link (numbered s.foreign s.socket p.g) (omega (arith, one, in_messages))
+
+        it_is : x ≡ granter.life
+        it_is =
+            only granter.life (of_drop (since x.host x.peer ms) granter.life (lives_in ms) granter.there)
+            (one_matches x.host x.peer (Own x.host x.peer) (Heard x.host x.peer) ms (given.matched ms l) w granter.life s granter.is.g p.g granter.there i (granter.host, granter.peer) (sym m.peers.0, m.peers.1) granter.kind (sym granter.name) granter.is.own p.heard)
+
+        found : (link k : ℕ) (y : Life) → x ≡ y → GoesOn x.host x.peer (Own x.host x.peer) (Heard x.host x.peer) ms w.j link k y → (f.link ≡ suc link) × (numbered y.socket y.foreign k ≡ name_now numbered x.peer (own_calls x.host x.peer ms) x.socket x.foreign)
+        found link k y e o =
+            subst (λ (z : Life). GoesOn x.host x.peer (Own x.host x.peer) (Heard x.host x.peer) ms w.j link k z → (f.link ≡ suc link) × (numbered z.socket z.foreign k ≡ name_now numbered x.peer (own_calls x.host x.peer ms) x.socket x.foreign)) e (is_here link k) o
+
+        at : (f.link ≡ suc granter.is.link) × (numbered granter.life.socket granter.life.foreign granter.is.g ≡ name_now numbered x.peer (own_calls x.host x.peer ms) x.socket x.foreign)
+        at = found granter.is.link granter.is.g granter.life it_is (granter.is.going (ap (λ (y : Life). y.ended) (sym it_is) ∙ f.goes))
+
+        link_same : p.link ≡ n
+        link_same = sym granter.link ∙ suc_is granter.is.link n (sym at.0 ∙ place.0)
+
+        name_same : numbered s.foreign s.socket p.g ≡ c
+        name_same = sym granter.name ∙ at.1 ∙ sym place.1
+
+        some_here : (w.j n).x.sender.sent c ≡ [] → ⊥
+        some_here none = some (ap (λ (k : ℕ). (w.j k).x.sender.sent (numbered s.foreign s.socket p.g)) link_same ∙ ap (λ (k : ℕ). (w.j n).x.sender.sent k) name_same ∙ none)
+
+      -- where nothing was
+      none_there : (w.j n).x.sender.sent c ≡ [] → (s.messages ≡ 0) × (s.bits ≡ [])
+      none_there none = elim (of_parts (since x.host x.peer ms) s (lives_in ms) s_in) [
+        | inl early ↦ old (settled_s hosts x.host x.peer (Own x.host x.peer) (Heard x.host x.peer) given ms l s early (sym m.peers.0) m.peers.1 m.sending).granted
+        | inr i ↦ new (w.sending s i (sym m.peers.0) m.peers.1 m.sending) i
+      ] where
+        old : ((s.messages ≡ 0) × (s.bits ≡ [])) ⊎ OldGranter ms s → (s.messages ≡ 0) × (s.bits ≡ [])
+        old (inl e) = e
+        old (inr o) = absurd (unlike x.ended (ap (λ (y : Life). y.ended) (only o.receiver o.there o.matches) ∙ o.over) f.goes)
+
+        new : (p : PresentS x.host x.peer (Own x.host x.peer) (Heard x.host x.peer) ms w.j s) → IsOf s (present_in x.host x.peer ms) → (s.messages ≡ 0) × (s.bits ≡ [])
+        new p i = by ((w.j p.link).x.sender.sent (numbered s.foreign s.socket p.g)) refl where
+          by : (ts : List (List Bool)) → (w.j p.link).x.sender.sent (numbered s.foreign s.socket p.g) ≡ ts → (s.messages ≡ 0) × (s.bits ≡ [])
+          by [] e = (p.gave.messages ∙ ap (λ (ts : List (List Bool)). length ts) e, p.gave.bits ∙ ap all_bits e)
+          by (t ∷ ts) e = absurd (some_here p i (λ empty. absurd (let no : t ∷ ts ≡ [] = sym e ∙ empty in cc)) none)
+
+      one_close : (x.bits ≡ s.bits) × (x.messages ≡ s.messages)
+      one_close = by ((w.j n).x.sender.sent c) refl where
+        by : (ts : List (List Bool)) → (w.j n).x.sender.sent c ≡ ts → (x.bits ≡ s.bits) × (x.messages ≡ s.messages)
+        by [] e =
+            let z : (s.messages ≡ 0) × (s.bits ≡ []) = none_there e in
+            (bits_are ∙ ap all_bits e ∙ sym z.1, messages_are ∙ ap (λ (ts : List (List Bool)). length ts) e ∙ sym z.0)
+        by (t ∷ ts) e = some_there (λ empty. absurd (let no : t ∷ ts ≡ [] = sym e ∙ empty in cc))
+
+-- ---- a receiving life that its partner has closed
+
+module _ (hosts : List Host) (ms : List Moment) (l : Lawful hosts ms) (x : Life) (f : IsClosedByPartner ms x) where
+  abbrev at_link : AtLink ms x
+  at_link = record { there = f.there; receiving = f.receiving; goes = f.goes; end = f.end; link = f.link; linked = f.linked }
+
+  abbrev link_now : ℕ
+  link_now = n hosts ms l x at_link
+
+  abbrev name_here : ℕ
+  name_here = c hosts ms l x at_link
+
+  over : (receiver_now numbered x.peer (suc link_now) (own_calls x.host x.peer ms)).over name_here ≡ true
+  over = ap (λ (k : ℕ). (receiver_now numbered x.peer (suc link_now) (own_calls x.host x.peer ms)).over k) (sym (name_is hosts ms l x at_link)) ∙ (law hosts ms l x at_link).over ∙ f.closed
+
+  late_cls : (receiver_now numbered x.peer (suc link_now) (own_calls x.host x.peer ms)).first name_here ≡ false
+  late_cls = by ((receiver_now numbered x.peer (suc link_now) (own_calls x.host x.peer ms)).first name_here) refl where
+    none : HasClosed numbered x.peer (suc link_now) name_here (own_calls x.host x.peer ms) → ⊥
+    none h =
+        f.unclosed (subst (λ (k : ℕ). HasClosed numbered x.peer k (name_now numbered x.peer (own_calls x.host x.peer ms) x.socket x.foreign) (own_calls x.host x.peer ms)) (sym (place hosts ms l x at_link).0)
+        (subst (λ (k : ℕ). HasClosed numbered x.peer (suc link_now) k (own_calls x.host x.peer ms)) (place hosts ms l x at_link).1 h))
+
+    by : (v : Bool) → (receiver_now numbered x.peer (suc link_now) (own_calls x.host x.peer ms)).first name_here ≡ v → (receiver_now numbered x.peer (suc link_now) (own_calls x.host x.peer ms)).first name_here ≡ false
+    by true e = absurd (none (closed_first numbered x.peer (suc link_now) name_here (own_calls x.host x.peer ms) e))
+    by false e = e
+
+  all : ((w hosts ms l x at_link).j link_now).x.receiver.taken name_here ≡ ((w hosts ms l x at_link).j link_now).x.sender.sent name_here
   all =
-      let safe : IsSafe (w.j n).x c = safe_inv (w.j n).x (w.j n).joint.inv_x c in
-      safe.whole (ap (λ (r : Receiver). r.over c) same ∙ over) (ap (λ (r : Receiver). r.first c) same ∙ late_cls)
-
-  bits_are : x.bits ≡ all_bits ((w.j n).x.sender.sent c)
-  bits_are = going.bits ∙ ap all_bits all
-
-  messages_are : x.messages ≡ length ((w.j n).x.sender.sent c)
-  messages_are = going.messages ∙ ap (λ (ts : List (List Bool)). length ts) all
-
-  -- ---- the sending life
-
-  some_sent : (ts : List (List Bool)) → (ts ≡ [] → ⊥) → 1 ≤ length ts
-  some_sent [] some = absurd (some refl)
-  some_sent (t ∷ ts) some = omega arith
-
-  module _ (s : Life) (there : Contains (lives_in ms) s) (m : Match (crossings_of ms) x s) where
-    s_in : IsOf s (lives_in ms)
-    s_in = is_of s (lives_in ms) there
-
-    only : (r : Life) → IsOf r (lives_in ms) → Match (crossings_of ms) r s → x ≡ r
-    only r i k = one_receiver hosts Own Heard (λ a b. all_given hosts a b) ms l x r s here i m k
-
-    -- where something was sent in the connection
-    some_there : (((w.j n).x.sender.sent c) ≡ [] → ⊥) → (x.bits ≡ s.bits) × (x.messages ≡ s.messages)
-    some_there some =
-        let h : HasS x.host x.peer (Own x.host x.peer) (Heard x.host x.peer) ms w.j n c = w.has_sender n c some in
-        let matches : Match (crossings_of ms) x h.life =
-        one_matches x.host x.peer (Own x.host x.peer) (Heard x.host x.peer) ms (given.matched ms l) w x h.life known.g h.is.g late h.there (refl, refl) (h.host, h.peer) f.receiving h.name known.own h.is.heard in
-        let one : h.life ≡ s = one_sender hosts Own Heard (λ a b. all_given hosts a b) ms l x h.life s (of_drop (since x.host x.peer ms) h.life (lives_in ms) h.there) s_in matches m in
-        let bits : h.life.bits ≡ all_bits ((w.j n).x.sender.sent c) = h.is.gave.bits ∙ ap (λ (k : ℕ). all_bits ((w.j k).x.sender.sent (numbered h.life.foreign h.life.socket h.is.g))) h.link ∙ ap (λ (k : ℕ). all_bits ((w.j n).x.sender.sent k)) h.name in
-        let messages : h.life.messages ≡ length ((w.j n).x.sender.sent c) =
-        h.is.gave.messages ∙ ap (λ (k : ℕ). length ((w.j k).x.sender.sent (numbered h.life.foreign h.life.socket h.is.g))) h.link ∙ ap (λ (k : ℕ). length ((w.j n).x.sender.sent k)) h.name in
-        (bits_are ∙ sym bits ∙ ap (λ (y : Life). y.bits) one, messages_are ∙ sym messages ∙ ap (λ (y : Life). y.messages) one)
-
-    -- a sending life that sent something did so in the connection of the life
-    module _ (p : PresentS x.host x.peer (Own x.host x.peer) (Heard x.host x.peer) ms w.j s) (i : IsOf s (present_in x.host x.peer ms)) (some : (w.j p.link).x.sender.sent (numbered s.foreign s.socket p.g) ≡ [] → ⊥) where
-      granter : HasR x.host x.peer (Own x.host x.peer) (Heard x.host x.peer) ms w.j p.link (numbered s.foreign s.socket p.g)
-      granter =
-          let safe : IsSafe (w.j p.link).x (numbered s.foreign s.socket p.g) = safe_inv (w.j p.link).x (w.j p.link).joint.inv_x (numbered s.foreign s.socket p.g) in
-          let one : 1 ≤ length ((w.j p.link).x.sender.sent (numbered s.foreign s.socket p.g)) = some_sent ((w.j p.link).x.sender.sent (numbered s.foreign s.socket p.g)) some in
-          let in_messages : length ((w.j p.link).x.sender.sent (numbered s.foreign s.socket p.g)) + ((w.j p.link).x.receiver.returned (numbered s.foreign s.socket p.g)).messages ≤ ((w.j p.link).x.receiver.granted (numbered s.foreign s.socket p.g)).messages
-          = safe.sent.in_messages in
-          w.has_receiver p.link (numbered s.foreign s.socket p.g) (omega (arith, one, in_messages))
-
-      it_is : x ≡ granter.life
-      it_is =
-          only granter.life (of_drop (since x.host x.peer ms) granter.life (lives_in ms) granter.there)
-          (one_matches x.host x.peer (Own x.host x.peer) (Heard x.host x.peer) ms (given.matched ms l) w granter.life s granter.is.g p.g granter.there i (granter.host, granter.peer) (sym m.peers.0, m.peers.1) granter.kind (sym granter.name) granter.is.own p.heard)
-
-      found : (link k : ℕ) (y : Life) → x ≡ y → GoesOn x.host x.peer (Own x.host x.peer) (Heard x.host x.peer) ms w.j link k y → (f.link ≡ suc link) × (numbered y.socket y.foreign k ≡ name_now numbered x.peer (own_calls x.host x.peer ms) x.socket x.foreign)
-      found link k y e o =
-          subst (λ (z : Life). GoesOn x.host x.peer (Own x.host x.peer) (Heard x.host x.peer) ms w.j link k z → (f.link ≡ suc link) × (numbered z.socket z.foreign k ≡ name_now numbered x.peer (own_calls x.host x.peer ms) x.socket x.foreign)) e (is_here link k) o
-
-      at : (f.link ≡ suc granter.is.link) × (numbered granter.life.socket granter.life.foreign granter.is.g ≡ name_now numbered x.peer (own_calls x.host x.peer ms) x.socket x.foreign)
-      at = found granter.is.link granter.is.g granter.life it_is (granter.is.going (ap (λ (y : Life). y.ended) (sym it_is) ∙ f.goes))
-
-      link_same : p.link ≡ n
-      link_same = sym granter.link ∙ suc_is granter.is.link n (sym at.0 ∙ place.0)
-
-      name_same : numbered s.foreign s.socket p.g ≡ c
-      name_same = sym granter.name ∙ at.1 ∙ sym place.1
-
-      some_here : (w.j n).x.sender.sent c ≡ [] → ⊥
-      some_here none = some (ap (λ (k : ℕ). (w.j k).x.sender.sent (numbered s.foreign s.socket p.g)) link_same ∙ ap (λ (k : ℕ). (w.j n).x.sender.sent k) name_same ∙ none)
-
-    -- where nothing was
-    none_there : (w.j n).x.sender.sent c ≡ [] → (s.messages ≡ 0) × (s.bits ≡ [])
-    none_there none = elim (of_parts (since x.host x.peer ms) s (lives_in ms) s_in) [
-      | inl early ↦ old (settled_s hosts x.host x.peer (Own x.host x.peer) (Heard x.host x.peer) given ms l s early (sym m.peers.0) m.peers.1 m.sending).granted
-      | inr i ↦ new (w.sending s i (sym m.peers.0) m.peers.1 m.sending) i
-    ] where
-      old : ((s.messages ≡ 0) × (s.bits ≡ [])) ⊎ OldGranter ms s → (s.messages ≡ 0) × (s.bits ≡ [])
-      old (inl e) = e
-      old (inr o) = absurd (unlike x.ended (ap (λ (y : Life). y.ended) (only o.receiver o.there o.matches) ∙ o.over) f.goes)
-
-      new : (p : PresentS x.host x.peer (Own x.host x.peer) (Heard x.host x.peer) ms w.j s) → IsOf s (present_in x.host x.peer ms) → (s.messages ≡ 0) × (s.bits ≡ [])
-      new p i = by ((w.j p.link).x.sender.sent (numbered s.foreign s.socket p.g)) refl where
-        by : (ts : List (List Bool)) → (w.j p.link).x.sender.sent (numbered s.foreign s.socket p.g) ≡ ts → (s.messages ≡ 0) × (s.bits ≡ [])
-        by [] e = (p.gave.messages ∙ ap (λ (ts : List (List Bool)). length ts) e, p.gave.bits ∙ ap all_bits e)
-        by (t ∷ ts) e = absurd (some_here p i (λ empty. absurd (let no : t ∷ ts ≡ [] = sym e ∙ empty in cc)) none)
-
-    one_close : (x.bits ≡ s.bits) × (x.messages ≡ s.messages)
-    one_close = by ((w.j n).x.sender.sent c) refl where
-      by : (ts : List (List Bool)) → (w.j n).x.sender.sent c ≡ ts → (x.bits ≡ s.bits) × (x.messages ≡ s.messages)
-      by [] e =
-          let z : (s.messages ≡ 0) × (s.bits ≡ []) = none_there e in
-          (bits_are ∙ ap all_bits e ∙ sym z.1, messages_are ∙ ap (λ (ts : List (List Bool)). length ts) e ∙ sym z.0)
-      by (t ∷ ts) e = some_there (λ empty. absurd (let no : t ∷ ts ≡ [] = sym e ∙ empty in cc))
+      let safe : IsSafe ((w hosts ms l x at_link).j link_now).x name_here = safe_inv ((w hosts ms l x at_link).j link_now).x ((w hosts ms l x at_link).j link_now).joint.inv_x name_here in
+      safe.whole (ap (λ (r : Receiver). r.over name_here) (same hosts ms l x at_link) ∙ over) (ap (λ (r : Receiver). r.first name_here) (same hosts ms l x at_link) ∙ late_cls)
 
   pub closes : TookAll (crossings_of ms) (lives_in ms) x
-  closes s there m = one_close s there m
+  closes s there m = one_close hosts ms l x at_link all s there m
+
+-- ---- a receiving life at rest
+
+module _ (hosts : List Host) (ms : List Moment) (l : Lawful hosts ms) (x s : Life) (f : AreAtRest ms x s) where
+  abbrev at_rest : AtLink ms x
+  at_rest = record { there = f.there; receiving = f.matches.receiving; goes = f.goes; end = f.end; link = f.link; linked = f.linked }
+
+  abbrev link_here : ℕ
+  link_here = n hosts ms l x at_rest
+
+  abbrev number : ℕ
+  number = c hosts ms l x at_rest
+
+  sender_stays : stay.stays x.peer x.host (events_of ms) ≡ true
+  sender_stays =
+      subst (λ (g : Host). stay.stays g x.host (events_of ms) ≡ true) (sym f.matches.peers.0)
+      (subst (λ (g : Host). stay.stays s.host g (events_of ms) ≡ true) f.matches.peers.1 (stays_of hosts ms l s f.sender_there f.sender_goes))
+
+  posted : IsPosted (post_in (boxes x.peer x.host (events_of ms) (suc link_here))) ((w hosts ms l x at_rest).j link_here).x.box
+  posted = ((w hosts ms l x at_rest).j link_here).joint.box_x.whole sender_stays
+
+  box_is : boxes x.peer x.host (events_of ms) (suc link_here) ≡ seen_box (suc link_here) (box_of (flow_of x.peer x.host (suc link_here)) (crossings_of ms))
+  box_is = box_same x.peer x.host ms (suc link_here)
+
+  empty : waiting_in ((w hosts ms l x at_rest).j link_here).x.box ≡ []
+  empty = by (box_of (flow_of x.peer x.host (suc link_here)) (crossings_of ms)) refl where
+    by : (b : mail.Box) → box_of (flow_of x.peer x.host (suc link_here)) (crossings_of ms) ≡ b → waiting_in ((w hosts ms l x at_rest).j link_here).x.box ≡ []
+    by mail.Empty e = free_box ((w hosts ms l x at_rest).j link_here).x.box (subst (λ (b : reset.Box). IsPosted (post_in b) ((w hosts ms l x at_rest).j link_here).x.box) (box_is ∙ ap (seen_box (suc link_here)) e) posted)
+    by (mail.Taken there text) e = fetched_box ((w hosts ms l x at_rest).j link_here).x.box (subst (λ (b : reset.Box). IsPosted (post_in b) ((w hosts ms l x at_rest).j link_here).x.box) (box_is ∙ ap (seen_box (suc link_here)) e) posted)
+    by (mail.Waiting there text) e =
+        absurd (f.silent there text (subst (λ (k : ℕ). box_of (flow_of x.peer x.host k) (crossings_of ms) ≡ mail.Waiting there text) (sym (place_is hosts ms l x at_rest)) e))
+
+  is_law : IsReceiver (c hosts ms l x at_rest) f.end.end (receiver_now numbered x.peer (suc link_here) (own_calls x.host x.peer ms))
+  is_law = subst (λ (k : ℕ). IsReceiver k f.end.end (receiver_now numbered x.peer (suc link_here) (own_calls x.host x.peer ms))) (name_is hosts ms l x at_rest) (law hosts ms l x at_rest)
+
+  caught_up : ((w hosts ms l x at_rest).j link_here).x.sender.sent number ≡ ((w hosts ms l x at_rest).j link_here).x.receiver.taken number ++ waiting_in ((w hosts ms l x at_rest).j link_here).x.box
+  caught_up =
+      ((w hosts ms l x at_rest).j link_here).joint.inv_x.whole number (ap (λ (r : Receiver). r.end) (same hosts ms l x at_rest) ∙ is_law.end) (ap (λ (r : Receiver). r.closed) (same hosts ms l x at_rest) ∙ is_law.closed ∙ (open_parts f.end.end f.opened).unclosed)
+      (ap (λ (r : Receiver). r.over number) (same hosts ms l x at_rest) ∙ is_law.over ∙ (open_parts f.end.end f.opened).unheard)
+
+  all_taken : ((w hosts ms l x at_rest).j link_here).x.receiver.taken number ≡ ((w hosts ms l x at_rest).j link_here).x.sender.sent number
+  all_taken = sym (caught_up ∙ ap (λ (ts : List (List Bool)). ((w hosts ms l x at_rest).j link_here).x.receiver.taken number ++ ts) empty ∙ append-nil (((w hosts ms l x at_rest).j link_here).x.receiver.taken number))
+
+  pub rests : (x.bits ≡ s.bits) × (x.messages ≡ s.messages)
+  rests = one_close hosts ms l x at_rest all_taken s f.sender_there f.matches
 
 -- ---- at all moments, and in worlds
 
@@ -229,3 +320,9 @@ all_close hosts ms l later earlier is x f = closes hosts earlier (rest_lawful ho
 
 pub world_closes : {C : Type 0} (seen : C → Seen) (hosts : List Host) (w : WorldState C) → (lawful : IsLawful seen hosts w) → AllClose lawful.whole.moments
 world_closes seen hosts w lawful = all_close hosts lawful.whole.moments (lawful.addresses, book_run seen hosts w lawful, lawful.whole.timeline)
+
+all_rest : (hosts : List Host) (ms : List Moment) → Lawful hosts ms → AllRest ms
+all_rest hosts ms l later earlier is x s f = rests hosts earlier (rest_lawful hosts later earlier (subst (λ (ns : List Moment). Lawful hosts ns) is l)) x s f
+
+pub world_rests : {C : Type 0} (seen : C → Seen) (hosts : List Host) (w : WorldState C) → (lawful : IsLawful seen hosts w) → AllRest lawful.whole.moments
+world_rests seen hosts w lawful = all_rest hosts lawful.whole.moments (lawful.addresses, book_run seen hosts w lawful, lawful.whole.timeline)

@@ -5,7 +5,6 @@ use Rattle.std.specs.List.{Contains}
 use Rattle.leader1822.specs.Host.{Host}
 use Rattle.host_pairs.specs.Entries.{entry_at}
 use Rattle.host_pairs.specs.declared.entry.Entry.{Entry}
-use Rattle.host_pairs.proofs.lemmas.{both}
 use Rattle.host_keeps_streams.specs.Histories as calls
 use Rattle.host_keeps_streams.specs.Histories.{AreAllowed, IsHistory, IsTelling, ends_after, gone_now, receiver_now, sender_now}
 use Rattle.host_keeps_streams.proofs.lemmas.{Holds, holds_now, name_of}
@@ -91,7 +90,7 @@ call_next number tells a b cs m lives holds refusing fits old now c =
 
 -- ---- elements of a list
 
-contains_among : {A : Type 0} (xs : List A) (x : A) → Contains xs x → Among x xs
+pub contains_among : {A : Type 0} (xs : List A) (x : A) → Contains xs x → Among x xs
 contains_among {A} xs x h = from xs h.0 h.1 h.2 where
   from : (xs : List A) (i : ℕ) → i < length xs → slice_index_or xs i x ≡ x → Among x xs
   from [] i less is = absurd (omega (arith, less))

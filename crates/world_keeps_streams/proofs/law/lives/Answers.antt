@@ -1,6 +1,7 @@
 use Rattle.world_keeps_streams.proofs.Books.All.{sent, source}
 use Rattle.world_keeps_streams.proofs.Books.Arrives.{arrives}
-use Rattle.world_keeps_streams.proofs.Books.Closes.{closes}
+use Rattle.world_keeps_streams.proofs.Books.Closes.{closes, rests}
+use Rattle.world_keeps_streams.proofs.Books.Firsts.{firsts}
 use Rattle.world_keeps_streams.proofs.law.lives.Goals as goal
 
 pub returns-clause-source : goal.returns-clause-source
@@ -14,3 +15,9 @@ returns-clause-arrives c hosts moments m addresses run time receiver comes = arr
 
 pub returns-clause-closes : goal.returns-clause-closes
 returns-clause-closes c hosts moments addresses run time receiver closed = closes hosts moments (addresses, run, time) receiver closed
+
+pub returns-clause-firsts : goal.returns-clause-firsts
+returns-clause-firsts c hosts moments addresses run time = firsts hosts moments (addresses, run, time)
+
+pub returns-clause-rests : goal.returns-clause-rests
+returns-clause-rests c hosts moments addresses run time receiver sender quiet = rests hosts moments (addresses, run, time) receiver sender quiet

@@ -1,6 +1,7 @@
 use Rattle.world_keeps_streams.proofs.Books.All.{world_sent, world_source}
 use Rattle.world_keeps_streams.proofs.Books.Arrives.{world_arrives}
-use Rattle.world_keeps_streams.proofs.Books.Closes.{world_closes}
+use Rattle.world_keeps_streams.proofs.Books.Closes.{world_closes, world_rests}
+use Rattle.world_keeps_streams.proofs.Books.Firsts.{world_firsts}
 use Rattle.world_keeps_streams.proofs.law.worlds.Goals as goal
 
 pub returns-clause-source : goal.returns-clause-source
@@ -14,3 +15,9 @@ returns-clause-arrives g c hosts w lawful = world_arrives g.C.Carrier.seen hosts
 
 pub returns-clause-closes : goal.returns-clause-closes
 returns-clause-closes g c hosts w lawful = world_closes g.C.Carrier.seen hosts w lawful
+
+pub returns-clause-firsts : goal.returns-clause-firsts
+returns-clause-firsts g c hosts w lawful = world_firsts g.C.Carrier.seen hosts w lawful
+
+pub returns-clause-rests : goal.returns-clause-rests
+returns-clause-rests g c hosts w lawful = world_rests g.C.Carrier.seen hosts w lawful

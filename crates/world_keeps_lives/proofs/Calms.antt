@@ -1,0 +1,163 @@
+-- What moments of no data do to lives: all keep what they carried, and new ones begin where a request of theirs crosses.
+use Rattle.std.proofs.Common.{◌≡◌, ℕ, Bool, true, false, if◌then◌else◌, List, [], ◌∷◌, ◌++◌, map, refl, ap, sym, subst, ◌∙◌}
+use Rattle.std.proofs.lemmas.List.{append_assoc, map-append}
+use Rattle.leader1822.specs.Host.{Host}
+use Rattle.leader1822.specs.declared.crossing.Crossing.{Crossing}
+use Rattle.leader1822.specs.declared.crossing.Crossing.TheVariants as crossing
+use Rattle.host_pairs.specs.declared.notice.Notice.{Notice}
+use Rattle.host_pairs.specs.declared.notice.Notice.TheVariants as notice
+use Rattle.sockets.specs.declared.request.Request.{Request}
+use Rattle.sockets.specs.declared.request.Request.TheVariants as request
+use Rattle.net_sim.specs.Book.{Kept, all_told, book_told, changed_when, granted, life_ended, lives_asked, lives_at, lives_between, lives_crossed, lives_on, lives_told, lives_with, more, new_life, returned, where_it}
+use Rattle.net_sim.specs.Story.{Asked, Crossed, Moment}
+use Rattle.net_sim.specs.Told.{host_in, kept_by, kept_in, notices_by}
+use Rattle.net_sim.specs.declared.life.Amount.{Amount}
+use Rattle.net_sim.specs.declared.life.Life.{Life}
+use Rattle.world_keeps_lives.proofs.Grounds.{Opens, Tells}
+use Rattle.world_keeps_lives.proofs.Requests.{Each, each_append, each_map}
+use Rattle.world_keeps_lives.proofs.Stamps.{Now, Stamped}
+
+-- a life keeps all but what was granted, what was returned, and whether it is over
+abbrev pub kept_as : Amount → Amount → Bool → Life → Life
+kept_as g r e x = record x { granted = g; returned = r; ended = e }
+
+abbrev pub kept_so : (Life → Amount) → (Life → Amount) → (Life → Bool) → Life → Life
+kept_so g r e x = kept_as (g x) (r x) (e x) x
+
+map_is : (f g : Life → Life) → ((x : Life) → f x ≡ g x) → (xs : List Life) → map f xs ≡ map g xs
+map_is f g k [] = refl
+map_is f g k (x ∷ xs) = ap (λ (y : Life). y ∷ map f xs) (k x) ∙ ap (λ (ys : List Life). g x ∷ ys) (map_is f g k xs)
+
+map_two : (f g : Life → Life) (xs : List Life) → map g (map f xs) ≡ map (λ (x : Life). g (f x)) xs
+map_two f g [] = refl
+map_two f g (x ∷ xs) = ap (λ (ys : List Life). g (f x) ∷ ys) (map_two f g xs)
+
+nil_right : (xs : List Life) → xs ++ [] ≡ xs
+nil_right [] = refl
+nil_right (x ∷ xs) = ap (λ (ys : List Life). x ∷ ys) (nil_right xs)
+
+itself : (x : Life) → x ≡ kept_as x.granted x.returned x.ended x
+itself x = refl
+
+all_itself : (xs : List Life) → xs ≡ map (λ (x : Life). kept_as x.granted x.returned x.ended x) xs
+all_itself [] = refl
+all_itself (x ∷ xs) = ap (λ (ys : List Life). x ∷ ys) (all_itself xs)
+
+module _ (lives : List Life) (here : ℕ) (log : List Crossing) where
+  -- a life that begins: it has carried nothing, its requests crossed, and one of them just now
+  abbrev pub Born : Life → Type 0
+  Born x = (x.messages ≡ 0) × (x.bits ≡ []) × Opens x.host x.peer log x.socket x.foreign x.own_stamp x.partner_stamp × Now lives here x.socket x.foreign x.own_stamp x.partner_stamp
+
+  pub record Calm (old new : List Life) : Type 0 where
+    pub given : Life → Amount
+    pub back : Life → Amount
+    pub over : Life → Bool
+    pub more : List Life
+    pub is : new ≡ map (kept_so given back over) old ++ more
+    pub still : (x : Life) → x.ended ≡ true → over x ≡ true
+    pub born : Each Born more
+
+  calm_none : (xs : List Life) → Calm xs xs
+  calm_none xs = record { given = λ x. x.granted; back = λ x. x.returned; over = λ x. x.ended; more = []; is = all_itself xs ∙ sym (nil_right _); still = λ x e. e; born = tt }
+
+  calm_on : (xs ys zs : List Life) → Calm xs ys → Calm ys zs → Calm xs zs
+  calm_on xs ys zs c d = record {
+    given = λ x. d.given (kept_so c.given c.back c.over x);
+    back = λ x. d.back (kept_so c.given c.back c.over x);
+    over = λ x. d.over (kept_so c.given c.back c.over x);
+    more = map (kept_so d.given d.back d.over) c.more ++ d.more;
+    is = d.is ∙ ap (λ (l : List Life). map (kept_so d.given d.back d.over) l ++ d.more) c.is
+        ∙ ap (λ (l : List Life). l ++ d.more) (map-append (kept_so d.given d.back d.over) (map (kept_so c.given c.back c.over) xs) c.more ∙ ap (λ (l : List Life). l ++ map (kept_so d.given d.back d.over) c.more) (map_two (kept_so c.given c.back c.over) (kept_so d.given d.back d.over) xs))
+        ∙ append_assoc (map (λ (x : Life). kept_so d.given d.back d.over (kept_so c.given c.back c.over x)) xs) (map (kept_so d.given d.back d.over) c.more) d.more;
+    still = λ x e. d.still (kept_so c.given c.back c.over x) (c.still x e);
+    born = each_append Born (map (kept_so d.given d.back d.over) c.more) d.more (each_map Born (kept_so d.given d.back d.over) c.more (λ x b. b) c.born) d.born;
+  }
+
+  calm_ended : (test : Life → Bool) (xs : List Life) → Calm xs (where_it test life_ended xs)
+  calm_ended test xs = record {
+    given = λ x. x.granted;
+    back = λ x. x.returned;
+    over = λ x. if test x then true else x.ended;
+    more = [];
+    is = map_is (λ x. changed_when (test x) life_ended x) (kept_so (λ x. x.granted) (λ x. x.returned) (λ x. if test x then true else x.ended)) (λ x. by x (test x)) xs ∙ sym (nil_right _);
+    still = λ x e. off x (test x) e;
+    born = tt;
+  } where
+    by : (x : Life) (v : Bool) → changed_when v life_ended x ≡ kept_as x.granted x.returned (if v then true else x.ended) x
+    by x true = refl
+    by x false = refl
+
+    off : (x : Life) (v : Bool) → x.ended ≡ true → (if v then true else x.ended) ≡ true
+    off x true e = refl
+    off x false e = e
+
+  calm_returned : (test : Life → Bool) (m n : ℕ) (xs : List Life) → Calm xs (where_it test (returned m n) xs)
+  calm_returned test m n xs = record {
+    given = λ x. x.granted;
+    back = λ x. if test x then more m n x.returned else x.returned;
+    over = λ x. x.ended;
+    more = [];
+    is = map_is (λ x. changed_when (test x) (returned m n) x) (kept_so (λ x. x.granted) (λ x. if test x then more m n x.returned else x.returned) (λ x. x.ended)) (λ x. by x (test x)) xs ∙ sym (nil_right _);
+    still = λ x e. e;
+    born = tt;
+  } where
+    by : (x : Life) (v : Bool) → changed_when v (returned m n) x ≡ kept_as x.granted (if v then more m n x.returned else x.returned) x.ended x
+    by x true = refl
+    by x false = refl
+
+  calm_granted : (test : Life → Bool) (m n : ℕ) (xs : List Life) → Calm xs (where_it test (granted m n) xs)
+  calm_granted test m n xs = record {
+    given = λ x. if test x then more m n x.granted else x.granted;
+    back = λ x. x.returned;
+    over = λ x. x.ended;
+    more = [];
+    is = map_is (λ x. changed_when (test x) (granted m n) x) (kept_so (λ x. if test x then more m n x.granted else x.granted) (λ x. x.returned) (λ x. x.ended)) (λ x. by x (test x)) xs ∙ sym (nil_right _);
+    still = λ x e. e;
+    born = tt;
+  } where
+    by : (x : Life) (v : Bool) → changed_when v (granted m n) x ≡ kept_as (if v then more m n x.granted else x.granted) x.returned x.ended x
+    by x true = refl
+    by x false = refl
+
+  calm_born : (x : Life) (xs : List Life) → Born x → Calm xs (xs ++ x ∷ [])
+  calm_born x xs b = record { given = λ x. x.granted; back = λ x. x.returned; over = λ x. x.ended; more = x ∷ []; is = ap (λ (ys : List Life). ys ++ x ∷ []) (all_itself xs); still = λ x e. e; born = (b, tt) }
+
+  -- ---- one moment
+
+  module _ (h p : Host) where
+    calm_told : (n : Notice) (xs : List Life) → Tells h p log n → Stamped lives here n → Calm xs (lives_told h n xs)
+    calm_told (notice.Opened s q f a b) xs t now =
+        calm_born (new_life h s q f a b) xs (refl, refl, subst (λ (g : Host). Opens h g log s f a b) (sym t.0) t.1, now)
+    calm_told (notice.Ended s q f) xs t now = calm_ended (lives_between h s q f) xs
+    calm_told (notice.PairReset q) xs t now = calm_ended (lives_with h q) xs
+    calm_told (notice.Sent s bits) xs t now = absurd t
+    calm_told (notice.Arrived s bits) xs t now = absurd t
+    calm_told (notice.Returned s messages bits) xs t now = calm_returned (lives_at h s) messages bits xs
+    calm_told (notice.Ready q) xs t now = calm_none xs
+    calm_told (notice.ContactFailed q) xs t now = calm_none xs
+    calm_told (notice.Interrupt s) xs t now = calm_none xs
+    calm_told (notice.Echoed q octet) xs t now = calm_none xs
+    calm_told (notice.RemoteError q code detail) xs t now = calm_none xs
+
+    calm_all_told : (ns : List Notice) (k : Kept) → Each (Tells h p log) ns → Each (Stamped lives here) ns → Calm k.book.lives (all_told h ns k).book.lives
+    calm_all_told [] k t now = calm_none k.book.lives
+    calm_all_told (n ∷ ns) k t now = calm_on k.book.lives (lives_told h n k.book.lives) (all_told h ns (book_told h n k)).book.lives (calm_told n k.book.lives t.0 now.0) (calm_all_told ns (book_told h n k) t.1 now.1)
+
+  calm_crossed : (c : Crossing) (xs : List Life) → Calm xs (lives_crossed c xs)
+  calm_crossed (crossing.Down g) xs = calm_ended (lives_on g) xs
+  calm_crossed (crossing.Up g) xs = calm_none xs
+  calm_crossed (crossing.Out m) xs = calm_none xs
+  calm_crossed (crossing.In m) xs = calm_none xs
+  calm_crossed (crossing.Answer kind f) xs = calm_none xs
+
+  calm_asked : (g : Host) (r : Request) (xs : List Life) → Calm xs (lives_asked g r xs)
+  calm_asked g (request.Grant socket messages bits) xs = calm_granted (lives_at g socket) messages bits xs
+  calm_asked g r xs = calm_none xs
+
+  calm_by : (y : Moment) (k : Kept) → Calm k.book.lives (kept_by y k).book.lives
+  calm_by (Crossed c) k = calm_crossed c k.book.lives
+  calm_by (Asked g r) k = calm_asked g r k.book.lives
+
+  pub calm_moment : (y : Moment) (ms : List Moment) (p : Host) → Each (Tells (host_in y) p log) (notices_by y ms) → Each (Stamped lives here) (notices_by y ms) → Calm (kept_in ms).book.lives (kept_in (y ∷ ms)).book.lives
+  calm_moment y ms p told now =
+      calm_on (kept_in ms).book.lives (kept_by y (kept_in ms)).book.lives (kept_in (y ∷ ms)).book.lives (calm_by y (kept_in ms)) (calm_all_told (host_in y) p (notices_by y ms) (kept_by y (kept_in ms)) told now)

@@ -1,0 +1,353 @@
+-- The messages of each life are the first on its link, over all moments.
+use Rattle.std.proofs.Common.{◌≡◌, inl, inr, ℕ, ◌*◌, ◌==◌, Bool, true, false, if◌then◌else◌, List, [], ◌∷◌, ◌++◌, take, drop, length, Option, Some, None, is_some, refl, ap, sym, subst, ◌∙◌, eq-eqb}
+use Rattle.std.specs.List.{Contains}
+use Rattle.std.proofs.lemmas.Bool.{eqb-true}
+use Rattle.std.proofs.Math.Seq.{drop-append_seam}
+use Rattle.leader1822.specs.Calls.{Seen}
+use Rattle.leader1822.specs.Flow.{same_flow}
+use Rattle.leader1822.specs.Host.{Host, same_host}
+use Rattle.leader1822.specs.declared.address.Flow.{Flow}
+use Rattle.leader1822.specs.declared.crossing.Crossing.{Crossing}
+use Rattle.leader1822.specs.declared.crossing.Crossing.TheVariants as crossing
+use Rattle.leader1822.specs.declared.message.HostMessage.{HostMessage}
+use Rattle.leader1822.proofs.lemmas.{same_flow-refl, same_flow-true, same_host-refl}
+use Rattle.ncp_control.specs.DataHeader.{data_bits, header_bits}
+use Rattle.ncp_control.specs.Numbers.{is_receive_socket}
+use Rattle.ncp_control.specs.declared.command.Command.{Command}
+use Rattle.host_pairs.specs.Allowed.{MayGo}
+use Rattle.host_pairs.specs.Data.{data_of}
+use Rattle.host_pairs.specs.Entries.{is_link, is_open, is_receiving, receives_on, sends_on}
+use Rattle.host_pairs.specs.Pair.{PairState}
+use Rattle.host_pairs.specs.Parcels as parcel
+use Rattle.host_pairs.specs.Parcels.{Parcel, link_for, link_of, may_send_on, next_of}
+use Rattle.host_pairs.specs.declared.entry.Entry.{Entry}
+use Rattle.host_pairs.specs.declared.notice.Notice.{Notice}
+use Rattle.host_pairs.specs.declared.notice.Notice.TheVariants as notice
+use Rattle.host_pairs.proofs.lemmas.{both, what_goes}
+use Rattle.host_keeps_streams.proofs.lemmas.Senders as senders
+use Rattle.host_keeps_streams.proofs.lemmas.{find_passes}
+use Rattle.sockets.specs.Pairs.{pair_with}
+use Rattle.sockets.specs.Sending.{message_for, next_in}
+use Rattle.sockets.specs.declared.request.Request.{Request}
+use Rattle.sockets.proofs.lemmas.{next_is, next_pair}
+use Rattle.net_sim.specs.Book.{all_told, carried, lives_at, where_it}
+use Rattle.net_sim.specs.Clean.{IsLawful}
+use Rattle.net_sim.specs.Formed.{data_by, flow_of}
+use Rattle.net_sim.specs.Safe.{receives}
+use Rattle.net_sim.specs.Story.{Asked, Crossed, Follows, IsNext, Moment, places, program}
+use Rattle.net_sim.specs.Timeline.{crossings_of}
+use Rattle.net_sim.specs.Told.{host_in, kept_by, kept_in, notices_by}
+use Rattle.net_sim.specs.World.{WorldState}
+use Rattle.net_sim.specs.declared.life.Life.{Life}
+use Rattle.net_sim.proofs.lemmas.{coupled, places_same}
+use Rattle.world_keeps_pairing.proofs.lemmas.{book_lives, book_run}
+use Rattle.world_keeps_lives.specs.Firsts.{AreAfter, AreApart, FirstBook, Linked, data_in, text_of}
+use Rattle.world_keeps_lives.proofs.Calms.{Calm, calm_moment}
+use Rattle.world_keeps_lives.proofs.DataTold.{TakesIf, answer_told, asking_told, bytes_told, control_told, message_takes, offer_told}
+use Rattle.world_keeps_lives.proofs.FirstEnds.{Apart, AtEnd, Together, Good, Lawful, Tracked, all_due, at_end, ends_in, flow_link, lives_in}
+use Rattle.world_keeps_lives.proofs.FirstLists.{After, Pairwise}
+use Rattle.world_keeps_lives.proofs.Firsts.{good_calm, good_data}
+use Rattle.world_keeps_lives.proofs.Formed.{flow_two}
+use Rattle.world_keeps_lives.proofs.Grounds.{Going, Tells, goes_of, going_rules}
+use Rattle.world_keeps_lives.proofs.Laws.{live}
+use Rattle.world_keeps_lives.proofs.Requests.{Each, MayTell, each_in, each_of, found_in}
+use Rattle.world_keeps_lives.proofs.Stamps.{stamped}
+
+no : {A : Type 0} (b : Bool) → b ≡ true → b ≡ false → A
+no b e f = absurd (let both : true ≡ false = sym e ∙ f in cc)
+
+-- ---- what is on no link of a life
+
+-- what goes over link 0, or isn't a message
+abbrev IsControl : Crossing → Type 0
+IsControl (crossing.Out m) = (m.flow.link.0 == 0) ≡ true
+IsControl (crossing.In m) = (m.flow.link.0 == 0) ≡ true
+IsControl c = Unit {0}
+
+not_same : (f g : Flow) → (f.link.0 == 0) ≡ false → (g.link.0 == 0) ≡ true → same_flow f g ≡ false
+not_same f g off on = by (same_flow f g) refl where
+  by : (v : Bool) → same_flow f g ≡ v → v ≡ false
+  by true e = no (g.link.0 == 0) on (ap (λ (h : Flow). h.link.0 == 0) (sym (same_flow-true f g e)) ∙ off)
+  by false e = refl
+
+quiet_text : (comes : Bool) (f : Flow) (c : Crossing) → (f.link.0 == 0) ≡ false → IsControl c → text_of comes f c ≡ []
+quiet_text true f (crossing.In m) off on = let e : same_flow f m.flow ≡ false = not_same f m.flow off on in rw e refl
+quiet_text false f (crossing.Out m) off on = let e : same_flow f m.flow ≡ false = not_same f m.flow off on in rw e refl
+quiet_text true f (crossing.Out m) off on = refl
+quiet_text false f (crossing.In m) off on = refl
+quiet_text true f (crossing.Answer kind k) off on = refl
+quiet_text false f (crossing.Answer kind k) off on = refl
+quiet_text true f (crossing.Down h) off on = refl
+quiet_text false f (crossing.Down h) off on = refl
+quiet_text true f (crossing.Up h) off on = refl
+quiet_text false f (crossing.Up h) off on = refl
+
+-- the text of what is on a flow
+text_here : (v : Bool) (f g : Flow) (text : List Bool) → g ≡ f → (if same_flow f g then text ∷ [] else []) ≡ text ∷ []
+text_here v f g text e = let s : same_flow f g ≡ true = subst (λ (h : Flow). same_flow f h ≡ true) (sym e) (same_flow-refl f) in rw s refl
+
+-- ---- a life's flow
+
+sends_on_flow : (x : Life) (link : ℕ) → receives x ≡ false → flow_of x link ≡ record { source = x.host; destination = x.peer; link = record { 0 = link } }
+sends_on_flow x link kind = ap (λ (b : Bool). if b then record { source = x.peer; destination = x.host; link = record { 0 = link } } else record { source = x.host; destination = x.peer; link = record { 0 = link } }) kind
+
+takes_on_flow : (x : Life) (link : ℕ) → receives x ≡ true → flow_of x link ≡ record { source = x.peer; destination = x.host; link = record { 0 = link } }
+takes_on_flow x link kind = ap (λ (b : Bool). if b then record { source = x.peer; destination = x.host; link = record { 0 = link } } else record { source = x.host; destination = x.peer; link = record { 0 = link } }) kind
+
+some_link : (o : Option ℕ) → is_some o ≡ true → o ≡ Some (link_of o)
+some_link None e = absurd (let both : false ≡ true = e in cc)
+some_link (Some l) e = refl
+
+same_link : (l k : ℕ) → Some l ≡ Some k → l ≡ k
+same_link l k e = cc
+
+same_out : (m n : HostMessage) → crossing.Out m ≡ crossing.Out n → m ≡ n
+same_out m n e = cc
+
+no_out : {A : Type 0} (m n : HostMessage) → crossing.In m ≡ crossing.Out n → A
+no_out m n e = absurd (cc)
+
+same_arrived : (s t : ℕ) (a b : List Bool) → notice.Arrived s a ∷ [] ≡ notice.Arrived t b ∷ [] → s ≡ t
+same_arrived s t a b e = cc
+
+none_arrived : {A : Type 0} (s : ℕ) (a : List Bool) → [] ≡ notice.Arrived s a ∷ [] → A
+none_arrived s a e = absurd (cc)
+
+module _ (hosts : List Host) (given : Together hosts) where
+  story_by : (y : Moment) (ms : List Moment) → Follows y ms → (m : HostMessage) → y ≡ Crossed (crossing.Out m) → IsNext (program m.flow.source ms) m
+  story_by y ms f m e = subst (λ (z : Moment). Follows z ms) e f
+
+  module _ (ms : List Moment) (l : Lawful hosts ms) (g : Good ms) where
+    -- ---- moments of no data
+
+    calm_of : (y : Moment) → Follows y ms → (p : Host) → Each (Tells (host_in y) p (crossings_of (y ∷ ms))) (notices_by y ms) → Calm (lives_in ms) (places ms) (crossings_of (y ∷ ms)) (lives_in ms) (lives_in (y ∷ ms))
+    calm_of y follows p told =
+        calm_moment (lives_in ms) (places ms) (crossings_of (y ∷ ms)) y ms p told (stamped hosts l.0 ms l.1 l.2 (lives_in ms) (all_due hosts given ms l) y (story_by y ms follows))
+
+    calm : (y : Moment) → Lawful hosts (y ∷ ms) → Follows y ms → (p : Host) → ((c : Crossing) → y ≡ Crossed c → IsControl c) → Each (Tells (host_in y) p (crossings_of (y ∷ ms))) (notices_by y ms) → Good (y ∷ ms)
+    calm y late follows p control told =
+        good_calm hosts given y ms l late (story_by y ms follows) g (calm_of y follows p told)
+        (λ q there t goes o c is. quiet_text (receives q.life) (flow_of q.life q.link) c (ap (λ (n : ℕ). n == 0) (flow_link q.life q.link) ∙ t.other) (control c is)) (λ m is. control (crossing.Out m) is)
+
+    -- ---- a message goes out
+
+    module _ (m : HostMessage) (late : Lawful hosts (Crossed (crossing.Out m) ∷ ms)) (n : IsNext (program m.flow.source ms) m) where
+      abbrev a : Host
+      a = m.flow.source
+
+      abbrev b : Host
+      b = m.flow.destination
+
+      abbrev log : List Crossing
+      log = crossing.Out m ∷ crossings_of ms
+
+      abbrev queue : List Command
+      queue = (pair_with m.flow.destination (program m.flow.source ms).peers).queue
+
+      quiet_out : (z : Parcel) → link_for z ≡ 0 → next_in (program m.flow.source ms).peers ≡ Some (n.peer, z) → m ≡ message_for (program m.flow.source ms).own n.peer z
+          → MayTell (Going a b log queue) (Tells a b log) b (going_rules a b log queue) (places ms) z (pair_with b (program a ms).peers) → Good (Crossed (crossing.Out m) ∷ ms)
+      quiet_out z zero next is may = calm (Crossed (crossing.Out m)) late n b control (offer_told hosts l.0 ms l.1 l.2 m n z next is may) where
+        on : (m.flow.link.0 == 0) ≡ true
+        on = eq-eqb m.flow.link.0 0 (ap (λ (x : HostMessage). x.flow.link.0) is ∙ zero)
+
+        control : (c : Crossing) → Crossed (crossing.Out m) ≡ Crossed c → IsControl c
+        control c same = subst (λ (d : Crossing). IsControl d) (let two : crossing.Out m ≡ c = cc in two) on
+
+      module _ (e : Entry) (size count : ℕ) (next : next_in (program m.flow.source ms).peers ≡ Some (n.peer, parcel.Bytes e size count)) (is : m ≡ message_for (program m.flow.source ms).own n.peer (parcel.Bytes e size count)) where
+        to : m.flow.destination ≡ n.peer.host
+        to = ap (λ (x : HostMessage). x.flow.destination) is
+
+        same : pair_with m.flow.destination (program m.flow.source ms).peers ≡ n.peer.pair
+        same = subst (λ (y : Host). pair_with y (program m.flow.source ms).peers ≡ n.peer.pair) (sym to) (next_pair (program m.flow.source ms).peers n.peer (parcel.Bytes e size count) n.order next)
+
+        parcel_next : next_of n.peer.pair ≡ Some (parcel.Bytes e size count)
+        parcel_next = next_is n.peer (parcel.Bytes e size count) (program m.flow.source ms).peers next
+
+        may : MayGo n.peer.pair (parcel.Bytes e size count)
+        may = what_goes n.peer.pair (parcel.Bytes e size count) parcel_next
+
+        among : Contains (ends_in m.flow.source m.flow.destination ms) e
+        among = subst (λ (q : PairState). Contains q.entries e) (sym same)
+            (found_in (λ (y : Entry). Contains n.peer.pair.entries y) (may_send_on n.peer.pair.busy (link_of e.link)) n.peer.pair.entries e (senders.next_is n.peer.pair e size count parcel_next) (each_of n.peer.pair.entries))
+
+        text : drop 40 m.text ≡ take (size * count) e.bits
+        text =
+            let four : length (header_bits (record { size = size; count = count })) ≡ 40 = refl in
+            ap (λ (x : HostMessage). drop 40 x.text) is ∙ ap (λ (k : ℕ). drop k (header_bits (record { size = size; count = count }) ++ take (size * count) e.bits)) (sym four) ∙ drop-append_seam (header_bits (record { size = size; count = count })) (take (size * count) e.bits)
+
+        linked : e.link ≡ Some m.flow.link.0
+        linked = some_link e.link may.1.linked ∙ ap (λ (k : ℕ). Some k) (sym (ap (λ (x : HostMessage). x.flow.link.0) is))
+
+        lives_are : lives_in (Crossed (crossing.Out m) ∷ ms) ≡ where_it (lives_at m.flow.source e.own) (carried (take (size * count) e.bits)) (lives_in ms)
+        lives_are = ap (λ (ns : List Notice). (all_told m.flow.source ns (kept_by (Crossed (crossing.Out m)) (kept_in ms))).book.lives) (bytes_told (program m.flow.source ms) (places ms) n.peer e size count next)
+
+        -- a life on whose flow it is
+        on_flow : (x : Life) (link : ℕ) → x.host ≡ m.flow.source → x.peer ≡ m.flow.destination → x.socket ≡ e.own → e.link ≡ Some link → (receives x ≡ false) × (m.flow ≡ flow_of x link)
+        on_flow x link host peer socket its =
+            let kind : receives x ≡ false = ap is_receive_socket socket ∙ may.1.sends in
+            (kind, flow_two m.flow x.host x.peer link host peer (sym (same_link link m.flow.link.0 (sym its ∙ linked))) ∙ sym (sends_on_flow x link kind))
+
+        hit : (x : Life) (link : ℕ) → x.host ≡ m.flow.source → x.peer ≡ m.flow.destination → x.socket ≡ e.own → e.link ≡ Some link
+            → (text_of (receives x) (flow_of x link) (crossing.Out m) ≡ m.text ∷ []) × (data_in (receives x) m.text ≡ Some (take (size * count) e.bits))
+        hit x link host peer socket its =
+            let f : (receives x ≡ false) × (m.flow ≡ flow_of x link) = on_flow x link host peer socket its in (
+              ap (λ (v : Bool). text_of v (flow_of x link) (crossing.Out m)) f.0 ∙ text_here false (flow_of x link) m.flow m.text f.1,
+              ap (λ (v : Bool). data_in v m.text) f.0 ∙ ap (λ (bs : List Bool). Some bs) text,
+            )
+
+        missed : (p : Linked) → (there : Contains (lives_in ms) p.life) → (t : Tracked ms p) → (goes : p.life.ended ≡ false) → is_open (at_end hosts given ms l p there t goes).end ≡ true → lives_at m.flow.source e.own p.life ≡ false
+            → text_of (receives p.life) (flow_of p.life p.link) (crossing.Out m) ≡ []
+        missed p there t goes o off = by (receives p.life) refl where
+          i : AtEnd ms p
+          i = at_end hosts given ms l p there t goes
+
+          never : receives p.life ≡ false → flow_of p.life p.link ≡ m.flow → ⊥
+          never kind flow =
+              let f : record { source = p.life.host; destination = p.life.peer; link = record { 0 = p.link } } ≡ m.flow = sym (sends_on_flow p.life p.link kind) ∙ flow in
+              let host : p.life.host ≡ m.flow.source = ap (λ (g : Flow). g.source) f in
+              let peer : p.life.peer ≡ m.flow.destination = ap (λ (g : Flow). g.destination) f in
+              let link : p.link ≡ m.flow.link.0 = ap (λ (g : Flow). g.link.0) f in
+              let its : Contains (ends_in p.life.host p.life.peer ms) e = subst (λ (x : Host). Contains (ends_in x p.life.peer ms) e) (sym host) (subst (λ (x : Host). Contains (ends_in m.flow.source x ms) e) (sym peer) among) in
+              let one : i.end ≡ e = given.one_sender ms l p.life.host p.life.peer p.link t.other i.end e i.there its (sends i.end (ap is_receive_socket i.own ∙ kind) i.link) (sends e may.1.sends (linked ∙ ap (λ (k : ℕ). Some k) (sym link))) in
+              let socket : p.life.socket ≡ e.own = sym i.own ∙ ap (λ (x : Entry). x.own) one in
+              let h : same_host m.flow.source p.life.host ≡ true = subst (λ (x : Host). same_host m.flow.source x ≡ true) (sym host) (same_host-refl m.flow.source) in
+              let s : (p.life.socket == e.own) ≡ true = eq-eqb p.life.socket e.own socket in
+              let on : lives_at m.flow.source e.own p.life ≡ true = rw (h, s, goes) refl in
+              no (lives_at m.flow.source e.own p.life) on off where
+                sends : (x : Entry) → is_receiving x ≡ false → x.link ≡ Some p.link → sends_on p.link x ≡ true
+                sends x k is = let s : is_link p.link x.link ≡ true = ap (is_link p.link) is ∙ eq-eqb p.link p.link refl in rw (k, s) refl
+
+          by : (v : Bool) → receives p.life ≡ v → text_of v (flow_of p.life p.link) (crossing.Out m) ≡ []
+          by true kind = refl
+          by false kind = flows (same_flow (flow_of p.life p.link) m.flow) refl where
+            flows : (v : Bool) → same_flow (flow_of p.life p.link) m.flow ≡ v → (if v then m.text ∷ [] else []) ≡ []
+            flows true f = absurd (never kind (same_flow-true (flow_of p.life p.link) m.flow f))
+            flows false f = refl
+
+        bytes_out : Good (Crossed (crossing.Out m) ∷ ms)
+        bytes_out =
+            good_data hosts given (Crossed (crossing.Out m)) ms l late (story_by (Crossed (crossing.Out m)) ms n) g (crossing.Out m) refl m.flow.source m.flow.destination e m.text (take (size * count) e.bits) among may.1.is_opened lives_are hit missed
+            (λ k two x link host peer socket its. subst (λ (w : HostMessage). (receives x ≡ false) × (w.flow ≡ flow_of x link)) (same_out m k two) (on_flow x link host peer socket its))
+
+      out_good : Good (Crossed (crossing.Out m) ∷ ms)
+      out_good = by n.parcel n.next n.message where
+        by : (z : Parcel) → next_in (program m.flow.source ms).peers ≡ Some (n.peer, z) → m ≡ message_for (program m.flow.source ms).own n.peer z → Good (Crossed (crossing.Out m) ∷ ms)
+        by parcel.Reset next is = quiet_out parcel.Reset refl next is tt
+        by parcel.Reply next is = quiet_out parcel.Reply refl next is tt
+        by (parcel.Commands count) next is = quiet_out (parcel.Commands count) refl next is (goes_of hosts l.0 ms l.1 l.2 a b log m n.peer count (inl (refl, places_same ms)) refl next n.order is)
+        by (parcel.Bytes e size count) next is = bytes_out e size count next is
+
+    -- ---- a message comes in
+
+    module _ (m : HostMessage) (late : Lawful hosts (Crossed (crossing.In m) ∷ ms)) (follows : Follows (Crossed (crossing.In m)) ms) (off : (m.flow.link.0 == 0) ≡ false) where
+      -- it arrives where it is on the flow of an open end
+      arrived : (p : Linked) → (there : Contains (lives_in ms) p.life) → (t : Tracked ms p) → (goes : p.life.ended ≡ false) → is_open (at_end hosts given ms l p there t goes).end ≡ true → receives p.life ≡ true → flow_of p.life p.link ≡ m.flow
+          → notices_by (Crossed (crossing.In m)) ms ≡ notice.Arrived p.life.socket (drop 40 m.text) ∷ []
+      arrived p there t goes o kind flow =
+          let f : record { source = p.life.peer; destination = p.life.host; link = record { 0 = p.link } } ≡ m.flow = sym (takes_on_flow p.life p.link kind) ∙ flow in
+          given.arrives ms m late p.life there kind goes (ap (λ (g : Flow). g.destination) f) (ap (λ (g : Flow). g.source) f) (live hosts ms l.0 l.1 l.2 p.life there goes) o
+          ((at_end hosts given ms l p there t goes).link ∙ ap (λ (k : ℕ). Some k) (ap (λ (g : Flow). g.link.0) f)) off
+
+      taken_text : (p : Linked) → (receives p.life ≡ true → flow_of p.life p.link ≡ m.flow → ⊥) → text_of (receives p.life) (flow_of p.life p.link) (crossing.In m) ≡ []
+      taken_text p never = by (receives p.life) refl where
+        by : (v : Bool) → receives p.life ≡ v → text_of v (flow_of p.life p.link) (crossing.In m) ≡ []
+        by false kind = refl
+        by true kind = flows (same_flow (flow_of p.life p.link) m.flow) refl where
+          flows : (v : Bool) → same_flow (flow_of p.life p.link) m.flow ≡ v → (if v then m.text ∷ [] else []) ≡ []
+          flows true f = absurd (never kind (same_flow-true (flow_of p.life p.link) m.flow f))
+          flows false f = refl
+
+      taken_good : TakesIf m.flow.link.0 m.text (ends_in m.flow.destination m.flow.source ms) (notices_by (Crossed (crossing.In m)) ms) → Good (Crossed (crossing.In m) ∷ ms)
+      taken_good (inl none) =
+          good_calm hosts given (Crossed (crossing.In m)) ms l late (story_by (Crossed (crossing.In m)) ms follows) g (calm_of (Crossed (crossing.In m)) follows m.flow.source (subst (λ (ns : List Notice). Each (Tells m.flow.destination m.flow.source (crossing.In m ∷ crossings_of ms)) ns) (sym none) tt))
+          (λ p there t goes o c two. subst (λ (d : Crossing). text_of (receives p.life) (flow_of p.life p.link) d ≡ []) (let same : crossing.In m ≡ c = cc in same)
+          (taken_text p (λ kind flow. none_arrived p.life.socket (drop 40 m.text) (sym none ∙ arrived p there t goes o kind flow))))
+          (λ k two. no_out m k (let same : crossing.In m ≡ crossing.Out k = cc in same))
+      taken_good (inr t) =
+          good_data hosts given (Crossed (crossing.In m)) ms l late (story_by (Crossed (crossing.In m)) ms follows) g (crossing.In m) refl m.flow.destination m.flow.source t.end m.text (data_of (data_bits t.header) m.text) among t.opened lives_are hit missed
+          (λ k two x link host peer socket its. no_out m k two) where
+            among : Contains (ends_in m.flow.destination m.flow.source ms) t.end
+            among = found_in (λ (y : Entry). Contains (ends_in m.flow.destination m.flow.source ms) y) (receives_on m.flow.link.0) (ends_in m.flow.destination m.flow.source ms) t.end t.found (each_of (ends_in m.flow.destination m.flow.source ms))
+
+            on : (is_receiving t.end ≡ true) × (is_link m.flow.link.0 t.end.link ≡ true)
+            on = both (is_receiving t.end) (is_link m.flow.link.0 t.end.link) (find_passes (receives_on m.flow.link.0) t.end (ends_in m.flow.destination m.flow.source ms) t.found)
+
+            lives_are : lives_in (Crossed (crossing.In m) ∷ ms) ≡ where_it (lives_at m.flow.destination t.end.own) (carried (data_of (data_bits t.header) m.text)) (lives_in ms)
+            lives_are = ap (λ (ns : List Notice). (all_told m.flow.destination ns (kept_by (Crossed (crossing.In m)) (kept_in ms))).book.lives) t.is
+
+            hit : (x : Life) (link : ℕ) → x.host ≡ m.flow.destination → x.peer ≡ m.flow.source → x.socket ≡ t.end.own → t.end.link ≡ Some link
+                → (text_of (receives x) (flow_of x link) (crossing.In m) ≡ m.text ∷ []) × (data_in (receives x) m.text ≡ Some (data_of (data_bits t.header) m.text))
+            hit x link host peer socket its =
+                let kind : receives x ≡ true = ap is_receive_socket socket ∙ on.0 in
+                let same : link ≡ m.flow.link.0 = eqb-true link m.flow.link.0 (ap (λ (o : Option ℕ). is_link m.flow.link.0 o) (sym its) ∙ on.1) in
+                let flow : m.flow ≡ flow_of x link = flow_two m.flow x.peer x.host link peer host (sym same) ∙ sym (takes_on_flow x link kind) in (
+                  ap (λ (v : Bool). text_of v (flow_of x link) (crossing.In m)) kind ∙ text_here true (flow_of x link) m.flow m.text flow,
+                  ap (λ (v : Bool). data_in v m.text) kind ∙ ap (data_by m.text) t.read,
+                )
+
+            missed : (p : Linked) → (there : Contains (lives_in ms) p.life) → (u : Tracked ms p) → (goes : p.life.ended ≡ false) → is_open (at_end hosts given ms l p there u goes).end ≡ true → lives_at m.flow.destination t.end.own p.life ≡ false
+                → text_of (receives p.life) (flow_of p.life p.link) (crossing.In m) ≡ []
+            missed p there u goes o not_at = taken_text p never where
+              never : receives p.life ≡ true → flow_of p.life p.link ≡ m.flow → ⊥
+              never kind flow =
+                  let f : record { source = p.life.peer; destination = p.life.host; link = record { 0 = p.link } } ≡ m.flow = sym (takes_on_flow p.life p.link kind) ∙ flow in
+                  let host : p.life.host ≡ m.flow.destination = ap (λ (g : Flow). g.destination) f in
+                  let socket : p.life.socket ≡ t.end.own = same_arrived p.life.socket t.end.own (drop 40 m.text) (data_of (data_bits t.header) m.text) (sym (arrived p there u goes o kind flow) ∙ t.is) in
+                  let h : same_host m.flow.destination p.life.host ≡ true = subst (λ (x : Host). same_host m.flow.destination x ≡ true) (sym host) (same_host-refl m.flow.destination) in
+                  let s : (p.life.socket == t.end.own) ≡ true = eq-eqb p.life.socket t.end.own socket in
+                  let at : lives_at m.flow.destination t.end.own p.life ≡ true = rw (h, s, goes) refl in
+                  no (lives_at m.flow.destination t.end.own p.life) at not_at
+
+    in_good : (m : HostMessage) → Lawful hosts (Crossed (crossing.In m) ∷ ms) → Follows (Crossed (crossing.In m)) ms → Good (Crossed (crossing.In m) ∷ ms)
+    in_good m late follows = by (m.flow.link.0 == 0) refl where
+      by : (z : Bool) → (m.flow.link.0 == 0) ≡ z → Good (Crossed (crossing.In m) ∷ ms)
+      by true here = calm (Crossed (crossing.In m)) late follows m.flow.source (λ c two. subst (λ (d : Crossing). IsControl d) (let same : crossing.In m ≡ c = cc in same) here) (control_told hosts l.0 ms l.1 l.2 m here)
+      by false off = taken_good m late follows off (message_takes (program m.flow.destination ms) m (places ms) off)
+
+    crossed_good : (c : Crossing) → Lawful hosts (Crossed c ∷ ms) → Follows (Crossed c) ms → Good (Crossed c ∷ ms)
+    crossed_good (crossing.Out m) late follows = out_good m late follows
+    crossed_good (crossing.In m) late follows = in_good m late follows
+    crossed_good (crossing.Answer kind f) late follows =
+        calm (Crossed (crossing.Answer kind f)) late follows f.destination (λ c two. subst (λ (d : Crossing). IsControl d) (let same : crossing.Answer kind f ≡ c = cc in same) tt) (answer_told hosts l.0 ms l.1 l.2 kind f)
+    crossed_good (crossing.Down h) late follows = calm (Crossed (crossing.Down h)) late follows h (λ c two. subst (λ (d : Crossing). IsControl d) (let same : crossing.Down h ≡ c = cc in same) tt) tt
+    crossed_good (crossing.Up h) late follows = calm (Crossed (crossing.Up h)) late follows h (λ c two. subst (λ (d : Crossing). IsControl d) (let same : crossing.Up h ≡ c = cc in same) tt) tt
+
+    asked_good : (h : Host) (r : Request) → Lawful hosts (Asked h r ∷ ms) → Good (Asked h r ∷ ms)
+    asked_good h r late = calm (Asked h r) late tt h (λ c two. absurd (let no_two : Asked h r ≡ Crossed c = two in cc)) (asking_told ms h r)
+
+  -- ---- all moments
+
+  pub good : (ms : List Moment) → Lawful hosts ms → Good ms
+  good [] l = record { links = []; all = refl; tracked = tt; apart = tt; sent = λ place m i off. absurd i }
+  good (Crossed c ∷ ms) l =
+      let before : Lawful hosts ms = (l.0, l.1.1, l.2.1) in
+      crossed_good ms before (good ms before) c l (coupled hosts l.0 (Crossed c ∷ ms) l.1 l.2).story.0
+  good (Asked h r ∷ ms) l =
+      let before : Lawful hosts ms = (l.0, l.1, l.2.1) in
+      asked_good ms before (good ms before) h r l
+
+  after_apart : (crossings : List Crossing) (p : Linked) (qs : List Linked) → After (Apart crossings) p qs → AreAfter crossings p qs
+  after_apart crossings p [] h = tt
+  after_apart crossings p (q ∷ qs) h = (
+    (λ f. elim (h.0 f.0 f.1 f.2) [
+      | inl e ↦ inl e.0
+      | inr e ↦ inr e.1
+    ]),
+    after_apart crossings p qs h.1,
+  )
+
+  all_apart : (crossings : List Crossing) (ps : List Linked) → Pairwise (Apart crossings) ps → AreApart crossings ps
+  all_apart crossings [] h = tt
+  all_apart crossings (p ∷ ps) h = (after_apart crossings p ps h.0, all_apart crossings ps h.1)
+
+  pub firsts : (ms : List Moment) → Lawful hosts ms → FirstBook (crossings_of ms) (lives_in ms)
+  firsts ms l =
+      let g : Good ms = good ms l in
+      record { links = g.links; all = g.all; first = λ p there. (each_in (Tracked ms) g.links p there g.tracked).first; apart = all_apart (crossings_of ms) g.links g.apart; sent = g.sent }
+
+  -- ---- worlds
+
+  pub world_firsts : {C : Type 0} (seen : C → Seen) (w : WorldState C) → IsLawful seen hosts w → FirstBook w.kept.book.crossings w.kept.book.lives
+  world_firsts seen w lawful =
+      subst (λ (log : List Crossing). FirstBook log w.kept.book.lives) (sym lawful.whole.crossings)
+      (subst (λ (lives : List Life). FirstBook (crossings_of lawful.whole.moments) lives) (sym (book_lives seen hosts w lawful)) (firsts lawful.whole.moments (lawful.addresses, book_run seen hosts w lawful, lawful.whole.timeline)))

@@ -1,0 +1,119 @@
+-- Where a user is notified of an opening, one of its two requests has just crossed, unless a life of its own request is there.
+use Rattle.std.proofs.Common.{◌≡◌, ◌⊎◌, inl, inr, ℕ, Bool, true, false, List, Some, None, is_some, refl, ap, sym, subst, ◌∙◌}
+use Rattle.std.specs.List.{Contains}
+use Rattle.leader1822.specs.Host.{Host}
+use Rattle.leader1822.specs.Mailboxes as mail
+use Rattle.leader1822.specs.declared.crossing.Crossing.TheVariants as crossing
+use Rattle.leader1822.specs.declared.message.HostMessage.{HostMessage}
+use Rattle.ncp_control.specs.declared.command.Command.{Command}
+use Rattle.host_pairs.specs.Control.{Order}
+use Rattle.host_pairs.specs.Entries.{has_cls, is_open}
+use Rattle.host_pairs.specs.Parcels as parcel
+use Rattle.host_pairs.specs.Parcels.{Parcel}
+use Rattle.host_pairs.specs.declared.entry.Entry.{Entry}
+use Rattle.host_pairs.specs.declared.notice.Notice.{Notice}
+use Rattle.host_pairs.specs.declared.notice.Notice.TheVariants as notice
+use Rattle.sockets.specs.Pairs.{pair_with}
+use Rattle.net_sim.specs.Clean.{HaveAddresses}
+use Rattle.net_sim.specs.Story.{Asked, Crossed, IsNext, Moment, places, program}
+use Rattle.net_sim.specs.Timeline.{IsTimeline, crossings_of}
+use Rattle.net_sim.specs.Told.{notices_by}
+use Rattle.net_sim.specs.declared.life.Life.{Life}
+use Rattle.world_keeps_pairing.proofs.lemmas.{queued_commands}
+use Rattle.world_keeps_lives.proofs.Desks.{IsAnOpen, open_parts}
+use Rattle.world_keeps_lives.proofs.Requests.{Begins, Each, Goes, Hears, IsOther, MayTell, Quiet, Rules}
+use Rattle.world_keeps_lives.proofs.RequestCalls.{answer_keeps, message_keeps, offer_keeps, request_told}
+
+no : {A : Type 0} (b : Bool) → b ≡ true → b ≡ false → A
+no b e f = absurd (let both : true ≡ false = sym e ∙ f in cc)
+
+no_place : {A : Type 0} (n : ℕ) → None ≡ Some n → A
+no_place n e = absurd (cc)
+
+one_place : (m n : ℕ) → Some m ≡ Some n → m ≡ n
+one_place m n e = cc
+
+-- an end that is open was so before, where nothing but its closing has changed
+pub open_back : (e f : Entry) → Quiet e f → is_open f ≡ true → is_open e ≡ true
+open_back e f q o = by (has_cls e.closing) e.partner_closed refl refl where
+  parts : IsAnOpen f
+  parts = open_parts f o
+
+  by : (v w : Bool) → has_cls e.closing ≡ v → e.partner_closed ≡ w → is_open e ≡ true
+  by true w g h = no (has_cls f.closing) (q.closing g) parts.unclosed
+  by false true g h = no f.partner_closed (q.off h) parts.unheard
+  by false false g h = rw (ap is_some (sym q.asked) ∙ parts.asked, ap is_some (sym q.partner) ∙ parts.partner, g, h) refl
+
+module _ (lives : List Life) (here : ℕ) where
+  -- a life has this own request
+  pub record HasLife (own foreign asked : ℕ) : Type 0 where
+    pub life : Life
+    pub there : Contains lives life
+    pub place : life.own_stamp ≡ asked
+    pub socket : life.socket ≡ own
+    pub foreign_is : life.foreign ≡ foreign
+
+  abbrev pub Now : ℕ → ℕ → ℕ → ℕ → Type 0
+  Now own foreign a b = (a ≡ here) ⊎ ((b ≡ here) ⊎ HasLife own foreign a)
+
+  abbrev pub Stamped : Notice → Type 0
+  Stamped (notice.Opened socket peer foreign own partner) = Now socket foreign own partner
+  Stamped n = Unit {0}
+
+  abbrev pub Due : Entry → Type 0
+  Due e = is_open e ≡ true → (a b : ℕ) → e.asked ≡ Some a → e.partner ≡ Some b → Now e.own e.foreign a b
+
+  other : (n : Notice) → IsOther n → Stamped n
+  other (notice.Opened s q f a b) o = absurd o
+  other (notice.Sent s bits) o = tt
+  other (notice.Arrived s bits) o = tt
+  other n o = tt
+
+  rules : (p : Host) → Rules Due Stamped p
+  rules p = record {
+    quiet = λ e f q d o a b asked partner.
+        subst (λ (n : ℕ). Now n f.foreign a b) (sym q.own) (subst (λ (n : ℕ). Now e.own n a b) (sym q.foreign) (d (open_back e f q o) a b (sym q.asked ∙ asked) (sym q.partner ∙ partner)));
+    others = other;
+    opens = λ e a b d asked partner goes. (let o : is_open e ≡ true = rw (asked, partner, goes) refl in d o a b asked partner);
+  }
+
+  begins : Begins Due
+  begins = record { fresh = λ e mine asked partner o a b is p. no_place a (sym asked ∙ is); refused = λ own foreign stamp o a b is p. no_place a is }
+
+  hears : (orders : List Order) → Hears Due here orders
+  hears orders = record {
+    begins = begins;
+    rts = λ own foreign l e there even odd o f d opened a b asked partner. inr (inl (sym (one_place here b partner)));
+    str = λ own foreign size e there odd even o f d opened a b asked partner. inr (inl (sym (one_place here b partner)));
+  }
+
+  goes : (cs : List Command) → Goes Due here cs
+  goes cs = record {
+    rts = λ own foreign l e there even o f d opened a b asked partner. inl (sym (one_place here a asked));
+    str = λ own foreign size e there odd o f d opened a b asked partner. inl (sym (one_place here a asked));
+  }
+
+-- ---- one moment
+
+module _ (hosts : List Host) (addresses : HaveAddresses hosts) (moments : List Moment) (run : mail.IsRun hosts (crossings_of moments)) (time : IsTimeline hosts moments) (lives : List Life)
+    (old : (a b : Host) → Each (Due lives (places moments)) (pair_with b (program a moments).peers).entries) where
+  pub stamped : (y : Moment) → ((m : HostMessage) → y ≡ Crossed (crossing.Out m) → IsNext (program m.flow.source moments) m) → Each (Stamped lives (places moments)) (notices_by y moments)
+  stamped (Crossed (crossing.Out m)) story =
+      (offer_keeps (Due lives (places moments)) (Stamped lives (places moments)) m.flow.destination (rules lives (places moments) m.flow.destination) (program m.flow.source moments) (places moments) n.peer n.parcel n.order n.next
+      (sym (ap (λ (x : HostMessage). x.flow.destination) n.message)) (queued_commands hosts moments addresses run time m.flow.source m.flow.destination) (may n.parcel) (old m.flow.source m.flow.destination)).told where
+        n : IsNext (program m.flow.source moments) m
+        n = story m refl
+
+        may : (z : Parcel) → MayTell (Due lives (places moments)) (Stamped lives (places moments)) m.flow.destination (rules lives (places moments) m.flow.destination) (places moments) z (pair_with m.flow.destination (program m.flow.source moments).peers)
+        may parcel.Reset = tt
+        may parcel.Reply = tt
+        may (parcel.Commands count) = goes lives (places moments) _
+        may (parcel.Bytes e size count) = tt
+  stamped (Crossed (crossing.In m)) story =
+      (message_keeps (Due lives (places moments)) (Stamped lives (places moments)) m.flow.source (rules lives (places moments) m.flow.source) (program m.flow.destination moments) m (places moments) refl
+      ((λ zero. hears lives (places moments) _), (λ off e k f o t. tt)) (old m.flow.destination m.flow.source)).told
+  stamped (Crossed (crossing.Answer kind f)) story =
+      (answer_keeps (Due lives (places moments)) (Stamped lives (places moments)) f.destination (rules lives (places moments) f.destination) (program f.source moments) kind f (places moments) refl (old f.source f.destination)).told
+  stamped (Crossed (crossing.Down g)) story = tt
+  stamped (Crossed (crossing.Up g)) story = tt
+  stamped (Asked h r) story = request_told (Due lives (places moments)) (Stamped lives (places moments)) h (rules lives (places moments) h) (program h moments) r

@@ -1,0 +1,78 @@
+-- The messages of each life are the first on its link: what two programs do together to make them so.
+use Rattle.std.proofs.Common.{◌≡◌, inl, inr, ℕ, ◌==◌, true, false, List, [], ◌∷◌, drop, filter, sym, ◌∙◌}
+use Rattle.std.specs.List.{Contains}
+use Rattle.leader1822.specs.Calls.{Seen}
+use Rattle.leader1822.specs.Host.{Host}
+use Rattle.stream_law.specs.Senders.{Sender}
+use Rattle.host_pairs.specs.Entries.{is_open, sends_on}
+use Rattle.host_pairs.specs.declared.entry.Entry.{Entry}
+use Rattle.host_keeps_streams.specs.Ends.{AreSender}
+use Rattle.host_keeps_streams.specs.Histories.{name_now, numbered, sender_now}
+use Rattle.host_keeps_streams.specs.Names.{IsSending}
+use Rattle.sockets.specs.Pairs.{pair_with}
+use Rattle.net_sim.specs.Clean.{IsLawful}
+use Rattle.net_sim.specs.Story.{Moment, program}
+use Rattle.net_sim.specs.Timeline.{crossings_of}
+use Rattle.net_sim.specs.World.{WorldState}
+use Rattle.net_sim.specs.declared.life.Life.{Life}
+use Rattle.world_keeps_lives.specs.Firsts.{FirstBook}
+use Rattle.world_keeps_lives.proofs.lemmas as books
+use Rattle.world_keeps_lives.proofs.lemmas.{HasOwner, Together}
+use Rattle.world_keeps_streams.specs.Calls.{own_calls}
+use Rattle.world_keeps_streams.proofs.Books.Arrives.{arrives}
+use Rattle.world_keeps_streams.proofs.Carried.Calls.{Carries, contains_among, recent, since}
+use Rattle.world_keeps_streams.proofs.Carried.Step.{LifeFor}
+use Rattle.world_keeps_streams.proofs.Carried.World.{carries_numbered}
+use Rattle.world_keeps_streams.proofs.Deeds.Effects.{Among, among_kept}
+use Rattle.world_keeps_streams.proofs.Lives.Lists.{IsOf, contains, of_drop}
+use Rattle.world_keeps_streams.proofs.Requests.Sides.{Lawful, lives_in}
+use Rattle.world_keeps_streams.proofs.Steps.Streams.{has_sender}
+
+-- of the ends on a link there is one that sends
+one_of : (name : ℕ → ℕ → ℕ) (xs : List Entry) (s : Sender) → AreSender name xs s → (e f : Entry) → Among e xs → Among f xs → e ≡ f
+one_of name [] s h e f i j = absurd i
+one_of name (x ∷ []) s h e f (inl i) (inl j) = sym i ∙ j
+one_of name (x ∷ []) s h e f (inl i) (inr j) = absurd j
+one_of name (x ∷ []) s h e f (inr i) j = absurd i
+one_of name (x ∷ y ∷ more) s h e f i j = absurd h
+
+from_among : (x : Life) (xs : List Life) → Among x xs → IsOf x xs
+from_among x [] i = absurd i
+from_among x (y ∷ ys) (inl e) = inl (sym e)
+from_among x (y ∷ ys) (inr i) = inr (from_among x ys i)
+
+module _ (hosts : List Host) where
+  one_sender : (ms : List Moment) → Lawful hosts ms → (a b : Host) (link : ℕ) → (link == 0) ≡ false → (e f : Entry) → Contains (pair_with b (program a ms).peers).entries e → Contains (pair_with b (program a ms).peers).entries f
+      → sends_on link e ≡ true → sends_on link f ≡ true → e ≡ f
+  one_sender ms l a b link off e f i j on also =
+      let h : IsSending (name_now numbered b (own_calls a b ms)) link (pair_with b (program a ms).peers).entries (sender_now numbered b link (own_calls a b ms)) = has_sender hosts l.0 link off a b ms l.1 l.2 in
+      one_of (name_now numbered b (own_calls a b ms)) (filter (sends_on link) (pair_with b (program a ms).peers).entries) (sender_now numbered b link (own_calls a b ms)) h.here e f
+      (among_kept (sends_on link) (pair_with b (program a ms).peers).entries e (contains_among (pair_with b (program a ms).peers).entries e i) on)
+      (among_kept (sends_on link) (pair_with b (program a ms).peers).entries f (contains_among (pair_with b (program a ms).peers).entries f j) also)
+
+  owner : (ms : List Moment) → Lawful hosts ms → (a b : Host) (e : Entry) → Contains (pair_with b (program a ms).peers).entries e → e.mine ≡ true → is_open e ≡ true → HasOwner a b ms e
+  owner ms l a b e there mine opened =
+      let c : Carries numbered a b ms = carries_numbered hosts l.0 a b ms l.1 l.2 in
+      let w : LifeFor a b e (recent a b ms) = c.opens e (contains_among (pair_with b (program a ms).peers).entries e there) mine opened in
+      record {
+        life = w.life;
+        there = contains w.life (lives_in ms) (of_drop (since a b ms) w.life (lives_in ms) (from_among w.life (drop (since a b ms) (lives_in ms)) w.there));
+        host = w.host;
+        peer = w.peer;
+        goes = w.goes;
+        socket = w.socket;
+      }
+
+  together : Together hosts
+  together = record {
+    one_sender = one_sender;
+    owner = owner;
+    arrives = λ ms m l x there kind goes host peer o opened link off.
+        arrives hosts l.0 m ms l.1 l.2 x (record { there = there; receiving = kind; goes = goes; host = host; peer = peer; end = o; opened = opened; link = link; off_control = off });
+  }
+
+  pub firsts : (ms : List Moment) → Lawful hosts ms → FirstBook (crossings_of ms) (lives_in ms)
+  firsts ms l = books.firsts hosts together ms l
+
+pub world_firsts : {C : Type 0} (seen : C → Seen) (hosts : List Host) (w : WorldState C) → IsLawful seen hosts w → FirstBook w.kept.book.crossings w.kept.book.lives
+world_firsts seen hosts w lawful = books.world_firsts hosts (together hosts) seen w lawful
