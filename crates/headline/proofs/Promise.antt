@@ -7,7 +7,7 @@ use Rattle.headline.specs.Promise.{KeepsPromise}
 use Rattle.world_keeps_connections.proofs.lemmas.{world_joined}
 use Rattle.world_keeps_lives.proofs.lemmas.{world_formed, world_handed, world_taken, world_told}
 use Rattle.world_keeps_pairing.proofs.lemmas.{world_alone, world_partners}
-use Rattle.world_keeps_streams.proofs.lemmas.{world_arrives, world_closes, world_sent, world_source}
+use Rattle.world_keeps_streams.proofs.lemmas.{world_arrives, world_closes, world_firsts, world_rests, world_sent, world_source}
 
 pub promise : {C : Type 0} (seen : C → Seen) (w : WorldState C) → IsLawful seen (seen w.carrier).hosts w → KeepsPromise seen w
 promise seen w lawful = record {
@@ -30,4 +30,6 @@ promise seen w lawful = record {
   lawful = lawful;
   arrives = world_arrives seen (seen w.carrier).hosts w lawful;
   closes = world_closes seen (seen w.carrier).hosts w lawful;
+  rests = world_rests seen (seen w.carrier).hosts w lawful;
+  firsts = world_firsts seen (seen w.carrier).hosts w lawful;
 }
