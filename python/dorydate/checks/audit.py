@@ -16,6 +16,7 @@ It takes the proved program, or where ./build has not made that the one that was
 
 from __future__ import annotations
 
+import functools
 import glob
 import multiprocessing
 import os
@@ -29,11 +30,13 @@ from dorydate.checks import log_rows
 from dorydate.model.audit import PARTS
 from dorydate.model.chance.books import of_world, small
 from dorydate.model.chance.breaking import WAYS
-from dorydate.checks.cases import cases_below
+from dorydate.checks.cases import Case, cases_below
 from dorydate.model.log import book_of, ends_log, read_log, spelled_log
 from dorydate.model.misread_logs import MISREADINGS
 from dorydate.model.verdict import Judge, ended, ends_audit, says
-from dorydate.model.topology import network_of, spelled_input
+from dorydate.model.chance.worlds import Script
+from dorydate.model.runs import End
+from dorydate.model.topology import Topology, network_of, spelled_input
 from dorydate.checks import headline
 from dorydate.parts import ROOT, any_program
 
@@ -45,16 +48,25 @@ CORES = os.cpu_count() or 1
 # ---- the program
 
 
-def run(octets, *options):
+@functools.cache
+def program() -> str:
+    """The program of these sources."""
+    found = any_program()
+    if found is None:
+        sys.exit("check audit: there is no program of these sources")
+    return found
+
+
+def run(octets: bytes, *options: str) -> End:
     """How the program ends: its status, its output and its words."""
-    ran = subprocess.run([PROGRAM, *options], input=octets, capture_output=True, timeout=600)
+    ran = subprocess.run([program(), *options], input=octets, capture_output=True, timeout=600)
     return ran.returncode, ran.stdout.decode("latin-1"), ran.stderr.decode("latin-1")
 
 
-def compared(what, octets, owed):
+def compared(what: str, octets: bytes, owed: End) -> str | None:
     """What is wrong with the audit of a log, None where nothing is."""
     if (found := run(octets, "--audit")) != owed:
-        return f"{what}: found {found}, wanted {owed}, of {octets[-1000:]}"
+        return f"{what}: found {found}, wanted {owed}, of {octets[-1000:]!r}"
     return None
 
 
@@ -76,24 +88,24 @@ def judged(judge: Judge, octets: bytes) -> str | None:
         return None
 
 
-def said(owed):
+def said(owed: End) -> str:
     """What is printed about a log, without the line."""
     return owed[1].split(" line")[0].strip() or "bad log line"
 
 
-def octets_around(octets):
+def octets_around(octets: bytes) -> Iterator[bytes]:
     """Each prefix of a log, and the log with each octet changed."""
     yield from (octets[:length] for length in range(len(octets)))
     for place in range(len(octets)):
         yield from (octets[:place] + value + octets[place + 1 :] for value in (b"\0", b"\x7f", b"\xff"))
 
 
-def check_logs():
+def check_logs() -> list[str]:
     """What is wrong with logs by hand, and with prefixes and changed octets of one."""
     wrong = [f"no log by hand tells this wrong reading: {it}" for it in unnoticed()]
     by_hand = [(octets, wanted, says(octets)) for octets, wanted in log_rows.rows()]
     of_page = [(octets, ended(wanted), ends_audit(octets)) for octets, wanted in log_rows.rows_of_page()]
-    wrong += [f"the reader in Python says {found}, and {wanted} is wanted, of {octets[-400:]}" for octets, wanted, found in [*by_hand, *of_page] if found != wanted]
+    wrong += [f"the reader in Python says {found}, and {wanted} is wanted, of {octets[-400:]!r}" for octets, wanted, found in [*by_hand, *of_page] if found != wanted]
     rows = [*((octets, ended(wanted)) for octets, wanted, _ in by_hand), *((octets, owed) for octets, owed, _ in of_page)]
     around = [(it, ends_audit(it)) for it in octets_around(log_rows.SHORT.encode())]
     with ThreadPoolExecutor(CORES) as threads:
@@ -104,7 +116,7 @@ def check_logs():
     return wrong
 
 
-def check_options():
+def check_options() -> list[str]:
     """What is wrong with options: neither of the two goes with another one, or twice."""
     octets = log_rows.SHORT.encode()
     options = [[one, other] for one in ("--log", "--audit") for other in ("--log", "--audit", "--book", "--check", "--texts")]
@@ -117,7 +129,7 @@ def check_options():
 # ---- logs of inputs
 
 
-def owed_log(octets):
+def owed_log(octets: bytes) -> End:
     """How `--log` has to end on an input: as without it, where that ends in a fault, and else with the model's log."""
     without = run(octets)
     if without[0]:
@@ -127,7 +139,7 @@ def owed_log(octets):
     return ends_log(network_of("\n".join(lines[:marker])), lines[marker + 1 :])
 
 
-def logged(case):
+def logged(case: Case) -> tuple[str | None, int]:
     """What is wrong with the log of a stored input, None where nothing is, and how `--log` ended."""
     status, log, words = found = run(case.octets, "--log")
     owed = owed_log(case.octets)
@@ -141,14 +153,14 @@ def logged(case):
     return None, status
 
 
-def different_line(found, owed):
+def different_line(found: str, owed: str) -> str:
     """Where two outputs differ."""
-    found, owed = found.split("\n"), owed.split("\n")
-    at = next((at for at, pair in enumerate(zip(found, owed)) if pair[0] != pair[1]), min(len(found), len(owed)))
-    return f"prints {found[at : at + 1]} as line {at + 1}, for {owed[at : at + 1]}"
+    lines, wanted = found.split("\n"), owed.split("\n")
+    at = next((at for at, pair in enumerate(zip(lines, wanted)) if pair[0] != pair[1]), min(len(lines), len(wanted)))
+    return f"prints {lines[at : at + 1]} as line {at + 1}, for {wanted[at : at + 1]}"
 
 
-def check_long():
+def check_long() -> list[str]:
     """What is wrong with logs of so many octets as are read, and of one more. The first line of each is bad."""
     rows = [(b"x" * 33_554_432, (2, "", "arpasim: bad log line 1\n")), (b"x" * 33_554_433, (2, "", "arpasim: log too long\n"))]
     found = [(len(octets), owed, run(octets, "--audit"), ends_audit(octets)) for octets, owed in rows]
@@ -156,15 +168,15 @@ def check_long():
     return [f"a log of {count} octets: found {ended}, in Python {in_python}, wanted {owed}" for count, owed, ended, in_python in found if not ended == in_python == owed]
 
 
-def check_stored():
+def check_stored() -> list[str]:
     """What is wrong with the stored logs and inputs of the folder `logs`."""
     cases = [*cases_below(f"{ROOT}/logs")]
-    found = [(case, run(case.octets, *case.args.decode().split())) for case in cases]
+    found = [(case, run(case.octets, *(case.args or b"").decode().split())) for case in cases]
     print(f"check audit: {len(cases)} stored in the folder `logs`")
     return [f"{case.name}: {ended}" for case, ended in found if ended != (case.status, case.printed.decode(), case.words)]
 
 
-def check_inputs():
+def check_inputs() -> list[str]:
     cases = [case for folder in ("examples", "cases") for case in cases_below(f"{ROOT}/{folder}")]
     with ThreadPoolExecutor(CORES) as threads:
         found = [*threads.map(logged, cases)]
@@ -172,9 +184,10 @@ def check_inputs():
     return [fault for fault, _ in found if fault]
 
 
-def check_without():
+def check_without() -> list[str]:
     """What is wrong with the verdicts on the books that break where a rule is lacking."""
-    wrong, seen = [], Counter()
+    wrong: list[str | None] = []
+    seen = Counter[str]()
     for path in sorted(glob.glob(f"{ROOT}/without/*")):
         lesson = headline.Lesson(path)
         octets = spelled_log(book_of(lesson.network, lesson.run(lesson.rule, lesson.script)))
@@ -190,10 +203,11 @@ def check_without():
 # ---- random books
 
 
-def tried(seed):
+def tried(seed: int) -> tuple[Counter[str], list[str]]:
     """A book of a world and a small one: what they came to, and what is wrong."""
     way, book, network, script = of_world(seed)
-    seen, wrong = Counter(), []
+    seen = Counter[str]()
+    wrong: list[str | None] = []
     for kind, book in ("world", book), ("small", small(seed)):
         octets = spelled_log(book)
         owed = ends_audit(octets)
@@ -209,15 +223,15 @@ def tried(seed):
     return seen, [*filter(None, wrong)]
 
 
-def log_of_world(seed, network, script):
+def log_of_world(seed: int, network: Topology, script: Script) -> str | None:
     """What is wrong with the program's log of a script, None where nothing is."""
     owed = 0, spelled_log(book_of(network, script.world)).decode("latin-1"), ""
     found = run(spelled_input(network, script.lines), "--log")
     return f"the log of world {seed}: {different_line(found[1], owed[1])}" if found != owed else None
 
 
-def check_chance(count):
-    seen, wrong = Counter(), []
+def check_chance(count: int) -> list[str]:
+    seen, wrong = Counter[str](), list[str]()
     with ProcessPoolExecutor(CORES, multiprocessing.get_context("fork")) as processes:
         for found, faults in processes.map(tried, range(count), chunksize=8):
             seen += found
@@ -229,17 +243,13 @@ def check_chance(count):
     return wrong
 
 
-def listed(seen, start=""):
+def listed(seen: Counter[str], start: str = "") -> str:
     return ", ".join(f"{count} {name.removeprefix(start)}" for name, count in sorted(seen.items()) if name.startswith(start))
 
 
-def main():
-    global PROGRAM  # the processes that try books have it from here
+def main() -> int:
     count = int(sys.argv[1]) if len(sys.argv) > 1 else COUNT
-    PROGRAM = any_program()
-    if PROGRAM is None:
-        print("check audit: there is no program of these sources")
-        return 1
+    program()  # built before the processes that try books are
     wrong = [*check_logs(), *check_long(), *check_stored(), *check_options(), *check_inputs(), *check_without(), *check_chance(count)]
     print(*wrong[:10], sep="\n", end="\n" if wrong else "")
     print(f"check audit: {len(wrong)} wrong" if wrong else "check audit: the program says what it should of each log, and prints the logs that it should")

@@ -14,16 +14,15 @@ from concurrent.futures import ThreadPoolExecutor
 from typing import NamedTuple
 
 from dorydate.model.runs import expected
-from dorydate.model.topology import spelled_input
+from dorydate.model.topology import Topology, spelled_input
 from dorydate.model.trace import ends_trace
 from dorydate.model.verdict import ends_audit
 from dorydate.parts import any_program
 
-Network = tuple[str, bool, list[tuple[int, int]], list[tuple[int, int]]]
 End = tuple[int, str, str]
 
-PAIR: Network = ("plain", False, [(1, 1), (2, 1)], [])
-MANY: Network = ("plain", False, [(imp, 4) for imp in range(1, 64)], [])
+PAIR = Topology("plain", False, [(1, 1), (2, 1)], [])
+MANY = Topology("plain", False, [(imp, 4) for imp in range(1, 64)], [])
 CONNECTED = ["contact 0/1 0/2", "calm 3", "openrecv 0/1 0/2 16 33", "opensend 0/2 0/1 33 16 8", "calm 3"]
 SHORT = ["contact 0/1 0/2", "calm 3", "server 0/1 7 100", "openrecv 0/1 0/2 2 1", "opensend 0/2 0/1 1 2 8", "calm 3", "grant 0/1 2 65000 1000000"]
 SERVED = ["contact 0/1 0/2", "calm 3", "server 0/1 7 100", "user 0/2 0/1 7 16", "calm 40"]
@@ -33,12 +32,12 @@ class Limit(NamedTuple):
     """An input past a limit: the options, the network and the lines of its script."""
 
     options: list[str]
-    network: Network
+    network: Topology
     lines: list[str]
 
 
 def ring(count: int) -> list[tuple[int, int]]:
-    """As many lines as so many IMPs can have: each is joined to the two before it and the two behind it."""
+    """As many lines as this many IMPs can have: each is joined to the two before it and the two after it."""
     return [(at + 1, (at + step) % count + 1) for step in (1, 2) for at in range(count)]
 
 
@@ -54,7 +53,7 @@ LIMITS: dict[str, Limit] = {
     "commands that wait": Limit([], PAIR, ["contact 0/1 0/2", "calm 3", *["echo 0/1 0/2 65"] * 5000, "calm 400"]),
     "a typed line": Limit([], PAIR, [*SERVED, f"type 0/2 {'A' * 20_000}", "calm 200"]),
     "servers": Limit([], PAIR, ["contact 0/1 0/2", "calm 3", *[f"server 0/1 {2 * at + 1} {10_000 + 2 * at}" for at in range(600)], "user 0/2 0/1 1199 16", "calm 40"]),
-    "lines of a subnet": Limit([], ("subnet", True, [(imp, 1) for imp in range(1, 64)], ring(63)), ["calm 40", *[f"out 0/1 0/{imp} 5 8 41" for imp in range(2, 64)], "calm 60"]),
+    "lines of a subnet": Limit([], Topology("subnet", True, [(imp, 1) for imp in range(1, 64)], [*ring(63)]), ["calm 40", *[f"out 0/1 0/{imp} 5 8 41" for imp in range(2, 64)], "calm 60"]),
 }
 
 
@@ -86,7 +85,7 @@ def of_log(program: str, name: str) -> str | None:
 
 def of_trace(program: str, name: str) -> str | None:
     """The same of a trace of 12,000 events."""
-    network: Network = ("plain", True, [(1, 2), (2, 1)], [])
+    network = Topology("plain", True, [(1, 2), (2, 1)], [])
     lines = ["take 0/1"] * 12_000
     found, wanted = ends(program, ["--trace"], spelled_input(network, lines)), ends_trace(network, lines)
     return None if found == wanted and found[0] == 0 else failed(name, found, wanted)
@@ -100,8 +99,10 @@ def main() -> int:
         return 1
     kinds: dict[str, Callable[[str, str], str | None]] = {name: of_script for name in LIMITS} | {"crossings of a log": of_log, "events of a trace": of_trace}
     names = sys.argv[1:] or [*kinds]
+    tries = [(kinds[name], name) for name in names]
     with ThreadPoolExecutor(os.cpu_count() or 1) as threads:
-        wrong = [*filter(None, threads.map(lambda name: kinds[name](program, name), names))]
+        running = [threads.submit(kind, program, name) for kind, name in tries]
+        wrong = [why for it in running if (why := it.result())]
     for line in wrong:
         print(f"check limits: {line}")
     print(f"check limits: {len(names) - len(wrong)} of {len(names)} inputs past a limit end as the models say")

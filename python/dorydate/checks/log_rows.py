@@ -3,8 +3,11 @@
 Most are made of one short log, that of docs/audit.md, with something changed in it.
 """
 
+from __future__ import annotations
+
 import re
 import subprocess
+from collections.abc import Iterator
 
 from dorydate.parts import ROOT
 
@@ -107,7 +110,7 @@ BAD_LINES = [
 
 # ---- whole logs, octet by octet, and the verdict or the number of the bad line
 
-OCTETS = [
+OCTETS: list[tuple[bytes, int | str]] = [
     (b"", 1),
     (b"end", 1),
     (b"end\n", "kept"),
@@ -131,7 +134,7 @@ OCTETS = [
 ]
 
 
-def rows_of_page():
+def rows_of_page() -> Iterator[tuple[bytes, str]]:
     """The changes of the page's log, as sed makes them, and what the program prints of each."""
     if f"```text\n{SHORT}```" not in PAGE:
         raise ValueError("docs/audit.md has another log than logs/two-octets")
@@ -140,7 +143,7 @@ def rows_of_page():
         yield changed, said
 
 
-def rows():
+def rows() -> Iterator[tuple[bytes, str]]:
     """Each log, and what is to be said of it, with the line."""
     for text, other, wanted in VERDICTS:
         if text not in SHORT:
@@ -150,4 +153,4 @@ def rows():
         yield from ((f"{line}\nend\n".encode(), wanted) for line in lines)
     yield from ((f"{line}\nend\n".encode("latin-1"), "bad log line 1") for line in BAD_LINES)
     yield from ((f"down 0/1\n{line}\nend\n".encode("latin-1"), "bad log line 2") for line in BAD_LINES)
-    yield from ((octets, f"bad log line {wanted}" if isinstance(wanted, int) else wanted) for octets, wanted in OCTETS)
+    yield from ((octets, f"bad log line {said}" if isinstance(said, int) else said) for octets, said in OCTETS)

@@ -17,6 +17,8 @@ It takes the proved program, or where ./build has not made that the one that was
 takes the program that `rt try` builds without proofs, and fewer inputs, since that one is slow.
 """
 
+from __future__ import annotations
+
 import os
 import random
 import re
@@ -24,17 +26,22 @@ import subprocess
 import sys
 import tempfile
 from collections import Counter
+from collections.abc import Iterable, Iterator, Sequence
 from concurrent.futures import ThreadPoolExecutor
+from typing import Protocol
 
 
 from dorydate.model.chance.questions import Counting, Questions
 from dorydate.model.log import ends_log
-from dorydate.model.topology import spelled_input
+from dorydate.model.topology import Topology, spelled_input
 from dorydate.parts import ROOT, any_program
-from dorydate.model.runs import expected
+from dorydate.model.runs import End, expected
 from dorydate.model.chance.worlds import reached
 from dorydate.model.chance.worlds import some_script as some_script_of_world
 
+Given = tuple[list[str], Topology, list[str]]  # options, a network, and the lines of a script
+Run = tuple[list[str], bytes]  # options and an input
+PLAIN_AND_LOG: tuple[list[str], list[str]] = [], ["--log"]
 INPUTS = 3000
 WORLDS = 1500
 ASKING = 500
@@ -42,12 +49,12 @@ ASKING = 500
 # ---- random inputs
 
 
-def some_network(chance):
+def some_network(chance: random.Random) -> Topology:
     """A network; up to one in three breaks a rule or cannot be run."""
     numbers = chance.sample(range(1, 64), chance.choice([1, 2, 2, 3, 3, 7]))
-    imps = [(number, chance.choice([0, 1, 1, 2, 4])) for number in numbers]
+    imps: list[tuple[int, int]] = [(number, chance.choice([0, 1, 1, 2, 4])) for number in numbers]
     # a star, or a row that may be a ring
-    lines = [(number, numbers[0]) for number in numbers[1:6]]
+    lines: list[tuple[int, ...]] = [(number, numbers[0]) for number in numbers[1:6]]
     if chance.random() < 0.4:
         lines = [*zip(numbers, numbers[1:] + numbers[: chance.choice([0, 1])])]
         lines = lines[: len(lines) - (len(numbers) < 3)] if len(lines) == len(numbers) else lines
@@ -78,10 +85,10 @@ def some_network(chance):
             lines.append(chance.choice([lines[0], lines[0][::-1]]))
         case 12 | 13 if lines:
             lines[-1] += (chance.choice([*lines[-1], 0]),)
-    return carrier, raw, imps, lines
+    return Topology(carrier, raw, imps, lines)
 
 
-def some_text(chance):
+def some_text(chance: random.Random) -> str:
     """The bits and the octets of a text."""
     bits = chance.choice([0, 0, 1, 7, 8, 8, 9, 24, 1008, 8063, 8064])
     if bits == 0:
@@ -100,9 +107,9 @@ RAW = [
 ]  # fmt: skip
 
 
-def some_script(chance, network):
+def some_script(chance: random.Random, network: Topology) -> list[str]:
     """Lines of events, most of them about few flows of few hosts."""
-    there = [f"{host}/{number}" for number, count in network[2] for host in range(count)]
+    there = [f"{host}/{number}" for number, count in network.imps for host in range(count)]
     hosts = chance.sample(there, min(len(there), 3)) + [f"{chance.randrange(4)}/{chance.randrange(1, 64)}"]
     flows = [f"{chance.choice(hosts)} {chance.choice(hosts)} {chance.choice([0, 5, 255])}" for _ in range(4)]
     lines = []
@@ -126,7 +133,7 @@ def some_script(chance, network):
     return lines if chance.random() < 0.2 else [it for it in lines if " 8064 " not in it]
 
 
-def changed(chance, line):
+def changed(chance: random.Random, line: str) -> str:
     """A line with one octet or one word changed; now and then it is still an event."""
     words = line.split(" ")
     place = chance.randrange(len(line) + 1)
@@ -148,9 +155,10 @@ def changed(chance, line):
     return " ".join(words)
 
 
-def some_input(chance):
+def some_input(chance: random.Random) -> Given:
     """Options, a network, and the lines of a script."""
-    words = chance.choice([[]] * 12 + [["--book"], ["--check"], ["--check", "--book"], ["--book", "--book"], ["-"], ["--texts"], ["--texts"], ["--texts", "--check"], ["--texts", "--texts"]])
+    none: list[list[str]] = [[]] * 12
+    words = chance.choice(none + [["--book"], ["--check"], ["--check", "--book"], ["--book", "--book"], ["-"], ["--texts"], ["--texts"], ["--texts", "--check"], ["--texts", "--texts"]])
     network = some_network(chance)
     lines = some_script(chance, network)
     if lines and chance.random() < 0.4:
@@ -162,7 +170,7 @@ def some_input(chance):
     return words, network, lines
 
 
-def some_world_input(seed, runs):
+def some_world_input(seed: int, runs: Sequence[str]) -> Given:
     """Options, a network with host programs, and the lines of a script that was made by looking at the model."""
     chance = random.Random(f"world {seed}")
     network, script = some_script_of_world(seed, "services" in runs)
@@ -171,29 +179,38 @@ def some_world_input(seed, runs):
         place = chance.randrange(len(lines))
         others = ["out 0/1 0/2 5 0 -", "listen 0/1 16 256", "grant 0/1 16 65536 0", "send 0/1 33 8 F", "server 0/1 7 100", "type 0/1"]
         lines[place] = changed(chance, lines[place]) if chance.random() < 0.6 else chance.choice(others)
-    return chance.choice([[], ["--book"], ["--texts", "--book"]]), network, lines
+    options: list[list[str]] = [[], ["--book"], ["--texts", "--book"]]
+    return chance.choice(options), network, lines
 
 
-def some_questions(seed, seen):
+def some_questions(seed: int, seen: Counter[str]) -> tuple[Topology, list[str]]:
     """A network and the lines of a script in which IMPs ask. What its questions come to is counted."""
     questions = Questions(seed, make=Counting)
-    seen += questions.subnet.came_to()
+    if isinstance(questions.subnet, Counting):
+        seen += questions.subnet.came_to()
     return questions.network, questions.lines
 
 
 # ---- the program
 
 
+class Program(Protocol):
+    """A program that is run on inputs."""
+
+    def ends(self, inputs: Iterable[Run]) -> Iterator[End]:
+        """How it ends on inputs with their options: its status, its output and its words."""
+
+
 class Kept:
     """The program that ./build keeps."""
 
-    def __init__(self, path):
+    def __init__(self, path: str) -> None:
         self.path = path
 
-    def ends(self, inputs):
+    def ends(self, inputs: Iterable[Run]) -> Iterator[End]:
         """How it ends on inputs with their options: its status, its output and its words."""
 
-        def run(given):
+        def run(given: Run) -> End:
             options, octets = given
             ran = subprocess.run([self.path, *options], input=octets, capture_output=True, timeout=60)
             return ran.returncode, ran.stdout.decode("latin-1"), ran.stderr.decode("latin-1")
@@ -205,10 +222,10 @@ class Kept:
 class Tried:
     """The program of a folder with the repository, built without proofs."""
 
-    def __init__(self, folder):
+    def __init__(self, folder: str) -> None:
         self.crate = f"{folder}/crates/arpasim"
 
-    def ends(self, inputs):
+    def ends(self, inputs: Iterable[Run]) -> Iterator[End]:
         with tempfile.TemporaryDirectory() as cases:
             for number, (options, octets) in enumerate(inputs):
                 for name, content in (f"{number:06}", octets), (f"{number:06}.args", "".join(f"{it}\n" for it in options).encode()):
@@ -226,17 +243,17 @@ class Tried:
             sys.exit(f"check model: `rt try` ran nothing:\n{ran.stderr.decode('latin-1')}")
 
 
-def what_it_runs(program):
+def what_it_runs(program: Program) -> list[str]:
     """What the program runs beside raw networks: worlds, and services on their hosts. It is asked with small inputs."""
-    network = "plain", False, [(1, 1)], []
+    network = Topology("plain", False, [(1, 1)], [])
     questions = {"worlds": "offer 0/1", "services": "server 0/1 7 100"}
     answers = program.ends([(["--check"], spelled_input(network, [line])) for line in questions.values()])
     return [name for name, (status, _, _) in zip(questions, answers) if status == 0]
 
 
-def compare(program, inputs, runs):
+def compare(program: Program, inputs: Sequence[Given], runs: Sequence[str]) -> Counter[str] | None:
     """Compares the program with the model on inputs. What they came to, and how many lines were printed; None where one differs."""
-    ends, lines_printed, came_to = Counter(), 0, Counter()
+    ends, lines_printed, came_to = Counter[str](), 0, Counter[str]()
     given = [(options, spelled_input(network, lines)) for options, network, lines in inputs]
     for place, (found, (options, network, lines)) in enumerate(zip(program.ends(given), inputs)):
         wanted = ends_log(network, [*lines, ""]) if options == ["--log"] else expected(options, network, [*lines, ""], runs)
@@ -252,18 +269,19 @@ def compare(program, inputs, runs):
     return came_to
 
 
-def main():
-    if sys.argv[1:2] == ["--try"]:
-        program = Tried((sys.argv[2:3] or [ROOT])[0])
-    else:
-        program = Kept(any_program())
-        if program.path is None:
-            print("check model: there is no program of these sources")
-            return 1
+def main() -> int:
+    is_tried = sys.argv[1:2] == ["--try"]
+    path = None if is_tried else any_program()
+    if not is_tried and path is None:
+        print("check model: there is no program of these sources")
+        return 1
+    program: Program = Tried((sys.argv[2:3] or [ROOT])[0])
+    if path:
+        program = Kept(path)
     runs = what_it_runs(program)
     if sys.argv[1:2] == ["asking"]:
         return compare_asking(program, int(sys.argv[2]) if sys.argv[2:] else 10_000, runs)
-    inputs, worlds = (INPUTS, WORLDS) if isinstance(program, Kept) else (INPUTS // 20, WORLDS // 10)
+    inputs, worlds = (INPUTS, WORLDS) if not is_tried else (INPUTS // 20, WORLDS // 10)
     if compare(program, [some_input(random.Random(seed)) for seed in range(inputs)], runs) is None:
         return 1
     if "worlds" not in runs:
@@ -273,15 +291,16 @@ def main():
     if came_to is None:
         return 1
     print("check model: worlds came to", ", ".join(f"{count} {name}" for name, count in sorted(came_to.items())))
-    return compare_asking(program, ASKING if isinstance(program, Kept) else ASKING // 10, runs)
+    return compare_asking(program, ASKING if not is_tried else ASKING // 10, runs)
 
 
-def compare_asking(program, count, runs):
+def compare_asking(program: Program, count: int, runs: Sequence[str]) -> int:
     """Compares the program with the model on scripts with questions, each by what is printed and by its log."""
-    seen = Counter()
+    seen = Counter[str]()
     for first in range(0, count, 500):
         scripts = [some_questions(seed, seen) for seed in range(first, min(first + 500, count))]
-        if compare(program, [(options, *script) for script in scripts for options in ([], ["--log"])], runs) is None:
+        asked: list[Given] = [(options, *script) for script in scripts for options in PLAIN_AND_LOG]
+        if compare(program, asked, runs) is None:
             return 1
     print(f"check model: {count} scripts with questions, each by what is printed and by its log; they came to", ", ".join(f"{number} {name}" for name, number in sorted(seen.items())))
     return 0

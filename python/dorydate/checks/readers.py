@@ -14,24 +14,30 @@ reader has to be met.
 It takes the proved program, or where ./build has not made that the one that was built without proofs: ./check readers
 """
 
+from __future__ import annotations
+
 import os
 import subprocess
 import tempfile
 from collections import Counter
+from collections.abc import Callable, Iterator
 from concurrent.futures import ThreadPoolExecutor
+from typing import Any, TypeVar
 
 from dorydate.model import formats as format_rules
 from dorydate.builds.drivers import run_cases, write_case
 from dorydate.model.formats import told
-from dorydate.model.bits import bits_of, spell_bits
+from dorydate.model.bits import Bits, bits_of, spell_bits
+from dorydate.model.runs import End
 from dorydate.model.inputs import ends
 from dorydate.parts import any_program
 
+Row = TypeVar("Row", bytes, Bits)
 CHANGES = b"\x00\x7f\xff"
 
 # ---- what is read
 
-READERS = {
+READERS: dict[str, Callable[[Any], str]] = {
     "from_host": lambda octets: format_rules.leader(octets, False),
     "from_imp": lambda octets: format_rules.leader(octets, True),
     "packet": format_rules.packet,
@@ -137,47 +143,47 @@ WORKED = [
 ]
 
 
-def with_changes(octets):
+def with_changes(octets: bytes) -> Iterator[bytes]:
     """Octets with each of them changed to each value of CHANGES."""
     for place in range(len(octets)):
         yield from (octets[:place] + bytes([value]) + octets[place + 1 :] for value in CHANGES)
 
 
-def with_flips(octets):
+def with_flips(octets: bytes) -> Iterator[bytes]:
     """Octets with each bit changed."""
     for place, octet in enumerate(octets):
         yield from (octets[:place] + bytes([octet ^ 1 << bit]) + octets[place + 1 :] for bit in range(8))
 
 
-def prefixes(row):
+def prefixes(row: Row) -> Iterator[Row]:
     """A list of octets or bits, and each shorter prefix of it."""
     yield row
     yield from (row[:length] for length in range(len(row)))
 
 
-def octets_around(octets):
+def octets_around(octets: bytes) -> list[bytes]:
     return [*prefixes(octets), *with_changes(octets), *with_flips(octets)]
 
 
-def bits_around(bits, octets):
+def bits_around(bits: int, octets: bytes) -> list[Bits]:
     changed = (bits_of(it)[:bits] for it in [*with_changes(octets), *with_flips(octets)])
     return [*prefixes(bits_of(octets)[:bits]), *changed]
 
 
-def lines_of(reader, spelled):
+def lines_of(reader: str, spelled: str) -> tuple[list[str], list[str]]:
     """What comes of a row: the lines for tools/calls, and what it owes, the row itself first."""
     *bits, digits = spelled.split()
     octets = bytes.fromhex(digits)
     if reader in OF_BITS:
-        around = bits_around(int(bits[0]), octets)
-        return [f"{reader} {spell_bits(it)}" for it in around], [told(READERS[reader], it) for it in around]
+        rows = bits_around(int(bits[0]), octets)
+        return [f"{reader} {spell_bits(it)}" for it in rows], [told(READERS[reader], it) for it in rows]
     around = octets_around(octets)
     return [f"{reader} {it.hex().upper() or '-'}" for it in around], [told(READERS[reader], it) for it in around]
 
 
-def check_octets():
+def check_octets() -> int:
     """How many rows are read otherwise by the second reading or by the code."""
-    wrong, met, total = 0, {reader: Counter() for reader in READERS}, 0
+    wrong, met, total = 0, {reader: Counter[str]() for reader in READERS}, 0
     with tempfile.TemporaryDirectory() as folder:
         for number, (reader, spelled, wanted) in enumerate(WORKED, 1):
             lines, owed = lines_of(reader, spelled)
@@ -275,7 +281,7 @@ OPTIONS = ["--book"]
 WHOLE = {"a raw script": RAW, "a script of a world": WORLD, "services": SERVICES}
 
 
-def inputs():
+def inputs() -> Iterator[tuple[str, bytes]]:
     """Each input, with what is tried."""
     for name, octets in WHOLE.items():
         for number, it in enumerate([*prefixes(octets), *with_changes(octets)]):
@@ -285,14 +291,14 @@ def inputs():
             yield f"{name} after {length} octets", octets[:length] + b"\n%\n"
 
 
-def check_inputs(program):
+def check_inputs(program: str) -> int:
     """How many inputs the program ends otherwise on than the second reading says."""
 
-    def run(octets):
+    def run(octets: bytes) -> End:
         ran = subprocess.run([program, *OPTIONS], input=octets, capture_output=True, timeout=60)
         return ran.returncode, ran.stdout.decode(), ran.stderr.decode()
 
-    tried, wrong, seen = list(inputs()), 0, Counter()
+    tried, wrong, seen = list(inputs()), 0, Counter[str]()
     with ThreadPoolExecutor(os.cpu_count() or 1) as threads:
         for (name, octets), found in zip(tried, threads.map(run, (octets for _, octets in tried))):
             wanted = ends(octets, OPTIONS)
@@ -304,7 +310,7 @@ def check_inputs(program):
     return wrong
 
 
-def main():
+def main() -> int:
     program = any_program()
     if program is None:
         print("check readers: there is no program of these sources")

@@ -13,35 +13,53 @@ with `--log`, and its own `--audit` has to say `kept`. Of books that are spoiled
 It takes the proved program, or where ./build has not made that the one that was built without proofs, which is slow.
 """
 
+from __future__ import annotations
+
+import functools
 import multiprocessing
 import os
 import subprocess
 import sys
 from collections import Counter
+from collections.abc import Iterator, Sequence
 from concurrent.futures import ProcessPoolExecutor
 from dataclasses import replace
+from typing import Any
 
-from dorydate.model.audit import audit, match
+from dorydate.model.audit import Lives, Log, audit, match
 from dorydate.model.log import Book, spelled_log
 from dorydate.model.verdict import ends_audit
 from dorydate.model.topology import network_of
 from dorydate.parts import ROOT, any_program
-from dorydate.model.bits import read_bits
-from dorydate.model.crossings import Answered, Passed, Turned
-from dorydate.model.runs import with_texts
+from dorydate.model.bits import Bits, read_bits
+from dorydate.model.crossings import Answered, Crossing, Passed, Turned
+from dorydate.model.log import ANSWERS
+from dorydate.model.runs import End, with_texts
 from dorydate.model.script import read_flow
 from dorydate.model.names import read_host
 from dorydate.checks.stopping import Dialogue, Stop, Stuck
 from dorydate.model.book import Life
+from dorydate.model.world import World
 
 EXAMPLE = f"{ROOT}/examples/from-a-terminal-to-a-server"
 NAMES = {"imp": "an IMP", "host": "a host", "end": "an end of the line"}
 ENDS = "done server 0/2 100 101", "done user 0/1 18 19", "line 0/1 HELLO"
 HEADER = 40  # bits of a message of data before its data
 CORES = os.cpu_count() or 1
+BookOfRun = tuple[list[Crossing], list[Life]]
 
 
-def dialogue():
+@functools.cache
+def program() -> str:
+    """The program of these sources."""
+    found = any_program()
+    if found is None:
+        raise SystemExit("check stops: there is no program of these sources")
+    return found
+
+
+@functools.cache
+def dialogue() -> tuple[str, Dialogue]:
     """The topology of the example, and its script as single events. They print what the example prints."""
     with open(EXAMPLE, encoding="utf-8") as file, open(EXAMPLE + ".stdout", encoding="utf-8") as stdout:
         (topology, script), owed = file.read().split("\n%\n"), stdout.read().splitlines()
@@ -54,30 +72,32 @@ def dialogue():
 # ---- the book of a run, from what was printed
 
 
-def hosts_and_link(words):
-    return [number for word in words[:2] for number in word.split("/")] + words[2:]
+def hosts_and_link(words: Sequence[str]) -> list[str]:
+    return [*(number for word in words[:2] for number in word.split("/")), *words[2:]]
 
 
-def crossing_of(line):
+def crossing_of(line: str) -> Crossing | None:
     """A crossing by its printed line, None where it is another line."""
     kind, *words = line.split(" ")
     match kind:
         case "out" | "in":
             return Passed(kind, read_flow(hosts_and_link(words[:3])), read_bits(*words[3:]))
         case "answer":
-            return Answered(kind, words[0], read_flow(hosts_and_link(words[1:])))
+            return Answered(kind, ANSWERS[words[0]], read_flow(hosts_and_link(words[1:])))
         case "down" | "up":
             return Turned(kind, read_host(words[0]))
     return None
 
 
-def carried(lines):
+def carried(lines: Sequence[str]) -> list[Bits]:
     """The bits of each life: each `sent` and `arrived` is after its message, and is about the last opening of its socket."""
-    bits, last, text = [], {}, ""
+    bits: list[Bits] = []
+    last: dict[tuple[str, ...], int] = {}
+    text = ""
     for line in lines:
         kind, *words = line.split(" ")
-        if kind in ("out", "in"):
-            text = crossing_of(line).text
+        if isinstance(crossing := crossing_of(line), Passed):
+            text = crossing.text
         elif kind == "opened":
             last[tuple(words[:2])] = len(bits)
             bits.append("")
@@ -86,7 +106,7 @@ def carried(lines):
     return bits
 
 
-def life_of(line, bits, handed):
+def life_of(line: str, bits: Bits, handed: Bits) -> Life:
     """A life by its line."""
     _, host, socket, peer, foreign, own, partner, _, messages, _, *rest = line.split(" ")
     counts = [*map(int, rest[:4])]
@@ -94,17 +114,17 @@ def life_of(line, bits, handed):
     return Life(*ends, bits, int(messages), counts[:2], counts[2:], rest[4] == "ended", handed)
 
 
-def book_of(lines, model):
+def book_of(lines: Sequence[str], model: World) -> BookOfRun:
     """The crossings and the lives that were printed."""
     lives = [it for it in lines if it.startswith("life ")]
     handed = [it.handed for it in model.book.lives]
-    return [*filter(None, map(crossing_of, lines))], [life_of(*it) for it in zip(lives, carried(lines), handed)]
+    return [it for it in map(crossing_of, lines) if it is not None], [life_of(*it) for it in zip(lives, carried(lines), handed)]
 
 
 # ---- what is wrong with it
 
 
-def difference(stop, lines):
+def difference(stop: Stop, lines: Sequence[str]) -> str | None:
     """Where the program prints something else than the model, None where it does not."""
     owed = [*with_texts(stop.world.printed, stop.world.carrier.log), *stop.world.end_of_book(), "end"]
     if lines == owed:
@@ -113,9 +133,10 @@ def difference(stop, lines):
     return f"it prints {lines[place : place + 1]} as line {place + 1}, and the model {owed[place : place + 1]}"
 
 
-def wrong_with(stop, lines, log, lives):
+def wrong_with(stop: Stop, lines: Sequence[str], log: Log, lives: Lives) -> str | None:
     """What is wrong with a run that prints what the model prints, None where nothing is."""
-    if any([it.host for it in log if it.kind == kind] != stop.stopped for kind in ("down", "up")):
+    turned = [it for it in log if isinstance(it, Turned)]
+    if any([it.host for it in turned if it.kind == kind] != stop.stopped for kind in ("down", "up")):
         return "other hosts stop, or come up, than should"
     if [it.spell() for it in lives] != [it for it in lines if it.startswith("life ")]:
         return "its lives are not made of the printed messages"
@@ -125,25 +146,25 @@ def wrong_with(stop, lines, log, lives):
         return f"its book breaks {part}"
     going = [it for it in lives if not it.has_ended]
     if sum(match(log, it, other) for it in going for other in going) != 2:
-        return "other connections go on at its end than two"
+        return "other connections are open at its end than two"
     return None
 
 
-def end_of(stop, lines):
+def end_of(stop: Stop, lines: Sequence[str]) -> Counter[str]:
     """What services report after the last user has begun, and what is refused."""
     return Counter(it for it in lines[stop.served :] if it.split(" ")[0] in ("done", "failed", "line", "refused"))
 
 
-def wanted(stop):
+def wanted(stop: Stop) -> Counter[str]:
     """What they have to report: a line from each echo service to each terminal."""
     return Counter(dict(zip(ENDS, (1, 1, stop.echoes * stop.terminals))))
 
 
-def spoiled(log, lives):
+def spoiled(log: Log, lives: Lives) -> Iterator[tuple[str, Log, Lives]]:
     """Books that break a part of the promise, made of one that keeps it."""
     at = next(number for number, it in enumerate(lives) if it.receives() and it.bits)
 
-    def changed(**parts):
+    def changed(**parts: Any) -> Lives:
         return [*lives[:at], replace(lives[at], **parts), *lives[at + 1 :]]
 
     yield "messages", [*log, next(it for it in reversed(log) if it[0] == "in")], lives
@@ -156,16 +177,19 @@ def spoiled(log, lives):
 # ---- all runs
 
 
-def tried(count):
+def tried(count: int) -> tuple[Counter[str], list[str]]:
     """What came of stopping everything after an event: counts, and what is wrong with which run."""
-    seen, wrong, book = Counter(), [], []
-    for things in DIALOGUE.things():
+    seen, wrong = Counter[str](), list[str]()
+    book: BookOfRun | None = None
+    _, events = dialogue()
+    for things in events.things():
+        found: str | None
         try:
-            found, *book = judged(Stop(DIALOGUE, count, things), seen)
+            found, book = judged(Stop(events, count, things), seen)
         except Stuck as why:
             found = str(why)
         if found:
-            wrong.append(f"after event {count}, {DIALOGUE.lines[count - 1]}, {things}: {found}")
+            wrong.append(f"after event {count}, {events.lines[count - 1]}, {things}: {found}")
     for part, log, lives in spoiled(*book) if book and not wrong else ():
         seen["spoiled"] += 1
         octets = log_of(log, lives)
@@ -174,37 +198,37 @@ def tried(count):
     return seen, wrong
 
 
-def judged(stop, seen):
+def judged(stop: Stop, seen: Counter[str]) -> tuple[str | None, BookOfRun | None]:
     """What is wrong with a run, None where nothing is; and its book, if the program printed what the model prints."""
     lines = printed(stop)
     if found := difference(stop, lines):
-        return (found,)
+        return found, None
     book = book_of(lines, stop.world)
     seen.update(counted(stop, lines, *book))
-    return wrong_with(stop, lines, *book) or wrong_with_log(stop, log_of(*book)), *book
+    return wrong_with(stop, lines, *book) or wrong_with_log(stop, log_of(*book)), book
 
 
-def run(octets, *options):
+def run(octets: bytes, *options: str) -> End:
     """How the program ends: its status, its output and its words."""
-    ran = subprocess.run([PROGRAM, *options], input=octets, capture_output=True)
+    ran = subprocess.run([program(), *options], input=octets, capture_output=True)
     return ran.returncode, ran.stdout.decode(), ran.stderr.decode()
 
 
-def input_of(stop):
-    return "\n".join([TOPOLOGY, "%", *stop.lines, ""]).encode()
+def input_of(stop: Stop) -> bytes:
+    return "\n".join([dialogue()[0], "%", *stop.lines, ""]).encode()
 
 
-def printed(stop):
+def printed(stop: Stop) -> list[str]:
     """The lines that the program prints for a run, with its book."""
     status, output, _ = run(input_of(stop), "--texts", "--book")
     return [*output.splitlines(), *([f"status {status}"] if status else [])]
 
 
-def log_of(log, lives):
-    return spelled_log(Book(log, lives, [it.handed for it in lives]))
+def log_of(log: Log, lives: Lives) -> bytes:
+    return spelled_log(Book([*log], [*lives], [it.handed for it in lives]))
 
 
-def wrong_with_log(stop, octets):
+def wrong_with_log(stop: Stop, octets: bytes) -> str | None:
     """What is wrong with the log of a run, None where nothing is."""
     if run(input_of(stop), "--log") != (0, octets.decode(), ""):
         return "its log is not what it printed"
@@ -213,7 +237,7 @@ def wrong_with_log(stop, octets):
     return None
 
 
-def counted(stop, lines, log, lives):
+def counted(stop: Stop, lines: Sequence[str], log: Log, lives: Lives) -> Counter[str]:
     """What there was in a run."""
     seen = Counter({"runs": 1, "events": len(stop.lines), "crossings": len(log), "lives": len(lives)})
     seen["stop: " + (NAMES[stop.things[0][0]] if len(stop.things) == 1 else "all in turn")] += 1
@@ -226,11 +250,11 @@ def counted(stop, lines, log, lives):
     return seen
 
 
-def listed(seen, start):
+def listed(seen: Counter[str], start: str) -> str:
     return ", ".join(f"{count} {name.removeprefix(start)}" for name, count in sorted(seen.items()) if name.startswith(start))
 
 
-def tell(seen, events, stops):
+def tell(seen: Counter[str], events: int, stops: int) -> None:
     print(f"check stops: the dialogue is {events} single events, and everything stops after {'each' if stops == events else stops} of them")
     print(f"check stops: {seen['runs']} runs of {seen['events']} events; what stops: {listed(seen, 'stop: ')}; {seen['down']} times a host goes down, {seen['up']} times up")
     print(f"check stops: {seen['refusals']} refusals until something was cleared: {listed(seen, 'tried: ')}; cleared by {listed(seen, 'cleared: ')}")
@@ -238,18 +262,17 @@ def tell(seen, events, stops):
     print(f"check stops: {seen['runs']} books audited, by the program and in Python, with {seen['crossings']} crossings and {seen['lives']} lives, and {seen['spoiled']} that are spoiled")
 
 
-def main():
-    global DIALOGUE, PROGRAM, TOPOLOGY  # the processes that make the runs have them from here
+def main() -> int:
     every = int(sys.argv[1]) if len(sys.argv) > 1 else 1
-    PROGRAM = any_program()
-    TOPOLOGY, DIALOGUE = dialogue()
-    counts = range(every, len(DIALOGUE.lines) + 1, every)
-    seen, wrong = Counter(), []
+    program()  # both are there before the processes that make the runs are
+    _, events = dialogue()
+    counts = range(every, len(events.lines) + 1, every)
+    seen, wrong = Counter[str](), list[str]()
     with ProcessPoolExecutor(CORES, multiprocessing.get_context("fork")) as processes:
         for found, faults in processes.map(tried, counts, chunksize=4):
             seen += found
             wrong += faults
-    tell(seen, len(DIALOGUE.lines), len(counts))
+    tell(seen, len(events.lines), len(counts))
     print(*wrong[:20], sep="\n", end="\n" if wrong else "")
     print(f"check stops: {len(wrong)} wrong" if wrong else "check stops: each dialogue comes to its end, each book keeps its promise, and each spoiled one breaks its part")
     return 1 if wrong else 0

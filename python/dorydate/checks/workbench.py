@@ -47,9 +47,9 @@ def states_of(text: bytes) -> list[dict[str, object]] | None:
     network = topology.read(head.encode())
     lines = [it for it in script.split("\n") if it and not it.startswith("#")]
     rounds = sum(int(it.split(" ")[1]) for it in lines if it.startswith("calm "))
-    if network.is_plain() or rounds > MOST_ROUNDS or len(network.imps) > 16:
+    if network.is_plain() or rounds > MOST_ROUNDS or len(network.topology.imps) > 16:
         return None
-    place = opened(network.as_model())
+    place = opened(network.topology)
     subnet = getattr(place, "carrier", place)
     if not isinstance(subnet, Subnet):
         return None

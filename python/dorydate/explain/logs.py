@@ -11,7 +11,9 @@ import re
 from collections.abc import Callable
 
 from dorydate.model.audit import Log, is_passed, last_out, match, own_request, partner_request
+from dorydate.model.bits import Bits
 from dorydate.model.bits import octets as octets_of
+from dorydate.model.book import Life
 from dorydate.model.crossings import Answered, Passed, Turned
 from dorydate.model.names import Flow, spell_flow, spell_host
 from dorydate.model.log import BadLog, Book, read_log
@@ -176,7 +178,7 @@ def counted(number: int, noun: str, nouns: str = "") -> str:
     return f"{number} {noun if number == 1 else nouns or noun + 's'}"
 
 
-def life_at(book: Book, number: int):  # type: ignore[no-untyped-def]
+def life_at(book: Book, number: int) -> tuple[Life, Bits, int]:
     """The life in a line of the log, and its list of what was handed over with the line of that."""
     place = number - len(book.log) - 1
     return book.lives[place], book.handed[place], len(book.log) + len(book.lives) + place + 1

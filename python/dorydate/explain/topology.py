@@ -1,75 +1,72 @@
 """The network that an input describes, with the names of its sites.
 
-The program has accepted the topology already, so nothing is judged here. A comment behind an IMP's number is its name:
+The program has accepted the topology already, so nothing is judged here. A comment after an IMP's number is its name:
 `id = 1 # UCLA`.
 """
 
+from __future__ import annotations
+
 import re
+from collections.abc import Mapping
 from dataclasses import dataclass, field
 
-from dorydate.model.topology import network_of
-
-try:
-    import tomllib
-except ImportError:  # Python before 3.11 has no reader of TOML
-    tomllib = None
+from dorydate.explain.given import Input
+from dorydate.explain.topologies import document_of
+from dorydate.model.topology import Topology
 
 NAME = re.compile(r"^[ \t]*id[ \t]*=[ \t]*(\d+)[ \t]*#[ \t]*(\S.*)$", re.MULTILINE)
-SHOWN = 14  # so many characters of a site's name are shown
+IS_RAW = re.compile(rb"^[ \t]*raw[ \t]*=[ \t]*true\b", re.MULTILINE)
+SHOWN = 14  # characters of a site's name that are shown
 
 
 class Unreadable(Exception):
     """Why a topology that the program accepts can't be read here."""
 
 
-@dataclass
+@dataclass(frozen=True)
 class Network:
-    """A network: its carrier, whether its script is raw, how many hosts each IMP has, its lines, and names of sites."""
+    """A network, and the names of sites by the numbers of their IMPs."""
 
-    carrier: str
-    raw: bool
-    imps: dict
-    lines: list
-    names: dict = field(default_factory=dict)
+    topology: Topology
+    names: Mapping[int, str] = field(default_factory=dict)
 
-    def hosts(self):
+    @property
+    def raw(self) -> bool:
+        return self.topology.raw
+
+    def hosts(self) -> list[str]:
         """All hosts in order of IMP and host, as they are printed."""
-        return [f"{host}/{imp}" for imp, count in sorted(self.imps.items()) for host in range(count)]
+        return [f"{host}/{imp}" for imp, count in sorted(self.topology.imps) for host in range(count)]
 
-    def is_plain(self):
-        return self.carrier == "plain"
-
-    def title_of(self, imp):
-        """How an IMP is called: its site's name where that is known."""
-        return self.names.get(imp, f"IMP {imp}")
-
-    def as_model(self):
-        """The network as the independent model in Python takes it."""
-        return self.carrier, self.raw, list(self.imps.items()), self.lines
+    def is_plain(self) -> bool:
+        return self.topology.carrier == "plain"
 
 
-def read(octets):
+def read(octets: bytes) -> Network:
     """The network of a topology in UTF-8."""
     text = octets.decode().removeprefix("\ufeff").replace("\r\n", "\n")
-    carrier, raw, imps, lines = by_tomllib(text) if tomllib else by_hand(text)
-    names = {int(number): name.rstrip()[:SHOWN].rstrip() for number, name in NAME.findall(text)}
-    return Network(carrier, raw, dict(imps), lines, names)
-
-
-def by_tomllib(text):
-    document = tomllib.loads(text)
+    try:
+        document = document_of(text)
+    except ValueError:
+        raise Unreadable("this Python has no reader of TOML, and the topology isn't in the plain spelling of one key a line") from None
     imps = [(imp["id"], imp["hosts"]) for imp in document["imp"]]
     lines = [(line["a"], line["b"]) for line in document.get("line", [])]
-    return document.get("carrier", "subnet"), document.get("raw", False), imps, lines
+    names = {int(number): name.rstrip()[:SHOWN].rstrip() for number, name in NAME.findall(text)}
+    return Network(Topology(document.get("carrier", "subnet"), document.get("raw", False), imps, [*lines]), names)
 
 
-def by_hand(text):
-    """The same without a library, for the plain spelling that the examples have: one key a line."""
-    spaced = re.sub(r"^[ \t]*(\w+)[ \t]*=[ \t]*", r"\1 = ", text, flags=re.MULTILINE)
+# ---- of an input that may be refused
+
+
+def network_by(given: Input) -> Network | None:
+    """The network of an input's topology; None where that can't be read here."""
     try:
-        return network_of(spaced)
-    except (ValueError, KeyError):
-        raise Unreadable(
-            "this Python has no reader of TOML, and the topology isn't in the plain spelling of one key a line: "
-            "a page of it needs Python 3.11 or later"
-        ) from None
+        return read(given.topology())
+    except (Unreadable, KeyError, TypeError, ValueError):
+        return None
+
+
+def is_raw(given: Input) -> bool:
+    """Whether the topology says that the script itself sends and takes messages."""
+    network = network_by(given)
+    return network.raw if network else IS_RAW.search(given.topology()) is not None
