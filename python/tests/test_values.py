@@ -5,11 +5,13 @@ from __future__ import annotations
 import random
 import unittest
 from collections.abc import Callable
+from itertools import islice
 from pathlib import Path
 
 from dorydate import script as events
 from dorydate.explore import pattern, shrink
-from dorydate.explore.kinds import Maker, fit, pools
+from dorydate.explore.cores import Cores
+from dorydate.explore.kinds import Maker, favoured, fit, pools
 from dorydate.explore.many import moved
 from dorydate.network import BadNetwork, Host, Imp, Line, Network
 from dorydate.script import BadLine, Calm, Drop, Flow, Out, Script, Text, read_event
@@ -172,6 +174,36 @@ class Schedules(unittest.TestCase):
     def test_copies_are_moved(self) -> None:
         self.assertEqual(moved(Flow(Host(0, 1), Host(1, 2), 7), "flow", 4, 2), Flow(Host(0, 5), Host(1, 6), 7))
         self.assertEqual((moved(1, "line", 4, 2), moved(1, "imp", 4, 2), moved(1, "place", 4, 2)), (3, 5, 1))
+
+    def test_a_pattern_about_a_trace_favours_what_leads_to_it(self) -> None:
+        net = Network.joined("A-B", raw=True)
+        self.assertEqual(favoured(pattern.read("out A B N")), frozenset())
+        asked = favoured(pattern.read("noted never A B N K then arrives data A B N K"))
+        self.assertEqual(asked, {"out", "ask", "deliver"})
+        maker = Maker(pools(net), favoured=asked)
+        counts = [sum(type(maker.events[it]).__name__ in ("Out", "Ask", "Deliver") for parts in maker.batch(random.Random(1), 30, number)[0] for part in parts for it in part) for number in (0, 2)]
+        self.assertGreater(counts[1], 2 * counts[0])
+
+
+class Processes(unittest.TestCase):
+    def test_batches_come_in_order_from_any_number(self) -> None:
+        for processes in (1, 2, 3):
+            self.assertEqual([*islice(Cores(square, processes), 20)], [it * it for it in range(20)])
+
+    def test_what_goes_wrong_comes_in_its_place(self) -> None:
+        for processes in (1, 2):
+            batches = iter(Cores(fails_at_three, processes))
+            self.assertEqual([*islice(batches, 3)], [0, 1, 2])
+            with self.assertRaises(ZeroDivisionError):
+                next(batches)
+
+
+def square(number: int) -> int:
+    return number * number
+
+
+def fails_at_three(number: int) -> int:
+    return number if number < 3 else number // 0
 
 
 if __name__ == "__main__":

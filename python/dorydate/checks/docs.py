@@ -32,7 +32,7 @@ import unittest
 from collections import Counter
 from collections.abc import Iterator
 
-from dorydate.documents import anchors, crates_page, dialect, paragraphs, planted, rules, tests
+from dorydate.documents import anchors, crates_page, dialect, notebook, paragraphs, planted, rules, tests
 from dorydate.drawings import pictures
 from dorydate.parts import ROOT
 
@@ -239,7 +239,7 @@ def failed_tests() -> list[str]:
 def made() -> list[str]:
     """What isn't as it is made, and what the drawings and the words of the documents have that they shouldn't."""
     print("check docs:", dialect.summary())
-    return [*failed_tests(), *paragraphs.faults(), *anchors.faults(), *pictures.faults(), *crates_page.faults(), *planted.faults(), *rules.faults(), *dialect.faults()]
+    return [*failed_tests(), *paragraphs.faults(), *anchors.faults(), *pictures.faults(), *crates_page.faults(), *planted.faults(), *rules.faults(), *notebook.faults(), *dialect.faults()]
 
 
 def write() -> int:
@@ -247,7 +247,8 @@ def write() -> int:
     crates_page.write()
     planted.write()
     rules.write()
-    print(f"check docs: docs/measured/crates.md, planted.md, rules.md and {pictures.write()} drawings are written")
+    notebook.write()
+    print(f"check docs: docs/measured/crates.md, planted.md, rules.md, docs/experiment.ipynb and {pictures.write()} drawings are written")
     return 0
 
 

@@ -2,7 +2,7 @@
 
 Checks python/dorydate: ./check python
 
-`mypy --strict` and pyflakes read the package and its tests, where they are installed; otherwise that is said. The tests
+`mypy --strict` and pyflakes read the package and its tests, where they are installed; otherwise that is said. So it is with the notebook and Jupyter. The tests
 of python/tests run, and so do the lines of docs/python.md. Then searches with fixed seeds find what they have to find, no longer than it was
 found before, and the audit keeps the log of each schedule that an exploration runs. These need a fast program: the one that ./build proved, or the one that
 the variable DORYDATE_PROGRAM names (tools/optimised makes one).
@@ -10,6 +10,7 @@ the variable DORYDATE_PROGRAM names (tools/optimised makes one).
 
 from __future__ import annotations
 
+import importlib.util
 import os
 import shutil
 import subprocess
@@ -19,6 +20,7 @@ import tempfile
 from dorydate.parts import ROOT, any_program
 
 PACKAGE = f"{ROOT}/python"
+SOURCES = ("dorydate", "tests", "packing.py", "__main__.py")
 SEARCHES = {"taken-and-incomplete": 8, "half-open": 9, "resets-in-step": 6, "lost-at-a-close": 13, "noted-before-it-comes": 8}  # events at most, a last calm included
 SCHEDULES = 1_000  # whose logs are audited
 
@@ -29,7 +31,7 @@ def mypy() -> bool:
         print("check python: mypy is not installed, so the types were not checked (apt-get install mypy)")
         return True
     with tempfile.TemporaryDirectory() as kept:
-        ran = subprocess.run(["mypy", "--strict", "--cache-dir", kept, "dorydate", "tests"], cwd=PACKAGE, capture_output=True, text=True)
+        ran = subprocess.run(["mypy", "--strict", "--cache-dir", kept, *SOURCES], cwd=PACKAGE, capture_output=True, text=True)
     print(f"check python: mypy: {ran.stdout.strip()}")
     return ran.returncode == 0
 
@@ -39,7 +41,7 @@ def pyflakes() -> bool:
     if not shutil.which("pyflakes3"):
         print("check python: pyflakes3 is not installed, so it did not run (apt-get install pyflakes3)")
         return True
-    ran = subprocess.run(["pyflakes3", "dorydate", "tests", "packing.py"], cwd=PACKAGE, capture_output=True, text=True)
+    ran = subprocess.run(["pyflakes3", *SOURCES], cwd=PACKAGE, capture_output=True, text=True)
     print(f"check python: pyflakes: {ran.stdout.strip() or 'nothing is found'}")
     return ran.returncode == 0
 
@@ -55,6 +57,16 @@ def tests(env: dict[str, str]) -> bool:
     told = python("-m", "doctest", "docs/python.md", env=env)
     print("check python: the tutorial prints what it says" if told.returncode == 0 else told.stdout)
     return ran.returncode == told.returncode == 0
+
+
+def notebook(env: dict[str, str]) -> bool:
+    """Whether the notebook runs; True where nobody can tell."""
+    if not all(importlib.util.find_spec(it) for it in ("nbclient", "ipykernel")):
+        print("check python: Jupyter's nbclient and ipykernel are not installed, so docs/experiment.ipynb did not run")
+        return True
+    ran = python("-m", "jupyter", "execute", "docs/experiment.ipynb", env=env)
+    print("check python: the notebook runs" if ran.returncode == 0 else ran.stderr)
+    return ran.returncode == 0
 
 
 def explorations(env: dict[str, str]) -> bool:
@@ -80,4 +92,4 @@ def main() -> int:
     env = {**os.environ, "DORYDATE_PROGRAM": program, "PYTHONPATH": f"{PACKAGE}:{ROOT}/tools"}
     if program.endswith("-unproved"):
         print("check python: the program without proofs is too slow for explorations, so none is run: ./build makes the fast one")
-    return 0 if all([mypy(), pyflakes(), tests(env), program.endswith("-unproved") or explorations(env)]) else 1
+    return 0 if all([mypy(), pyflakes(), tests(env), notebook(env), program.endswith("-unproved") or explorations(env)]) else 1

@@ -14,6 +14,7 @@ from pathlib import Path
 
 from dorydate.expect import expected
 from dorydate.explore import breadth, lockup, without
+from dorydate.explore.cores import available
 from dorydate.explore.kinds import Pools, chosen, pools
 from dorydate.explore.many import CannotRun
 from dorydate.explore.named import SEARCHES
@@ -46,7 +47,8 @@ def parser() -> argparse.ArgumentParser:
     made.add_argument("--seconds", type=float, default=600.0, help="seconds at most")
     made.add_argument("--seed", type=int, default=1)
     made.add_argument("--matches", type=int, default=MATCHES, help="matches to shrink; the shortest is printed")
-    made.add_argument("--audit", action="store_true", help="hold the log of each schedule up to the proved audit")
+    made.add_argument("--cores", type=int, default=available(), help="processes that look at schedules; what is found for a seed is the same for any number of them")
+    made.add_argument("--audit", action="store_true", help="give the log of each schedule to the proved audit")
     made.add_argument("--all", type=int, metavar="EVENTS", help="run every list of at most EVENTS events, from the shortest; states seen before are not followed again")
     made.add_argument("--without", metavar="RULE", help="the independent model without one rule in the place of the program: which promise breaks")
     made.add_argument("--rules", action="store_true", help="print the rules that can be left out")
@@ -130,7 +132,7 @@ def searched(words: argparse.Namespace, program: Program) -> int:
     """A search by random schedules."""
     network, pattern = network_of(words), pattern_of(words)
     search = Search(network, pattern, program, words.seed, pools_of(words, network), audits=words.audit)
-    best = search.run(words.runs, words.seconds, words.matches, None if words.quiet else Shown(pattern))
+    best = search.run(words.runs, words.seconds, words.matches, None if words.quiet else Shown(pattern), words.cores)
     if sys.stderr.isatty() and not words.quiet:
         print(file=sys.stderr)
     progress = search.progress

@@ -3,7 +3,7 @@
 from __future__ import annotations
 
 import random
-from collections.abc import Iterable, Mapping, Sequence
+from collections.abc import Collection, Iterable, Mapping, Sequence
 from itertools import accumulate
 
 from dorydate import script as events
@@ -26,6 +26,16 @@ CAUSES = {
     "failed": {"server", "user"},
 }
 ONE_BYTE = Text.of(b"A")
+# kinds of events that lead to lines which a pattern asks for; in one batch of THIRD they are favoured, and calms are seldom
+LEADS = {
+    "noted": {"out", "ask", "deliver"},
+    "arrives": {"out", "deliver"},
+    "slots": {"out", "deliver"},
+    "answer": {"take"},
+}
+THIRD = 3
+FAVOUR = 16  # the weight of a favoured kind beside that of another one
+SIZES, LONG_SIZES = (1, 2, 3, 5, 8), (5, 8, 13)  # events between two calms
 
 
 def pools(network: Network, texts: Sequence[Text] = (Text(),), links: Sequence[int] = (0,), places: int = 3) -> Pools:
@@ -95,19 +105,25 @@ def chosen(found: Pools, kinds: Iterable[str]) -> Pools:
     return {kind: found[kind] for kind in kinds if kind in found}
 
 
+def favoured(pattern: Pattern) -> frozenset[str]:
+    """The kinds of events that a pattern about a trace is reached by: what comes in a frame has to overtake, and calms undo that."""
+    return frozenset(kind for word in pattern.heads() for kind in LEADS.get(word, ())) if pattern.needs_trace() else frozenset()
+
+
 class Maker:
     """Makes schedules: swarm and flat weights in turn. An event is named by its place in `events`."""
 
-    def __init__(self, found: Pools, length: int = LENGTH, opening: int = 1, calms: Sequence[int] = CALMS) -> None:
+    def __init__(self, found: Pools, length: int = LENGTH, opening: int = 1, calms: Sequence[int] = CALMS, favoured: Collection[str] = ()) -> None:
+        self.favoured = favoured
         self.length, self.opening, self.calms = length, opening, calms  # rounds before the first event make routes known
         self.kinds = tuple(kind for kind in found if found[kind])
         self.events: tuple[Event, ...] = tuple(event for kind in self.kinds for event in found[kind])
         counts = [len(found[kind]) for kind in self.kinds]
         self.ranges = [(end - count, count) for end, count in zip(accumulate(counts), counts)]
 
-    def weights(self, chance: random.Random, is_swarm: bool) -> list[int]:
+    def weights(self, chance: random.Random, is_swarm: bool, is_fitted: bool = False) -> list[int]:
         """The weights of the kinds, each with those before it."""
-        given = [chance.choice(SWARM) if is_swarm else 1 for _ in self.kinds]
+        given = [(FAVOUR if is_fitted and kind in self.favoured else 1) * (chance.choice(SWARM) if is_swarm else 1) for kind in self.kinds]
         return list(accumulate(given if any(given) else [1] * len(given)))
 
     def some(self, chance: random.Random, weights: Sequence[int], count: int) -> list[int]:
@@ -115,17 +131,18 @@ class Maker:
         draw = chance.random
         return [begin + int(draw() * many) for begin, many in chance.choices(self.ranges, cum_weights=weights, k=count)]
 
-    def batch(self, chance: random.Random, copies: int) -> tuple[list[list[list[int]]], list[int]]:
+    def batch(self, chance: random.Random, copies: int, number: int = 0) -> tuple[list[list[list[int]]], list[int]]:
         """Schedules for networks side by side: for each the events of each part, and the calms after the parts, which they share."""
         calms, left, ends = [self.opening], self.length, [0]
+        is_fitted = bool(self.favoured) and number % THIRD == THIRD - 1
         while left > 0:
-            size = chance.choice((1, 2, 3, 5, 8))
+            size = chance.choice(LONG_SIZES if is_fitted else SIZES)
             ends.append(ends[-1] + size)
             calms.append(chance.choice(self.calms))
             left -= size + 1
         parts: list[list[list[int]]] = []
         for copy in range(copies):
-            drawn = self.some(chance, self.weights(chance, copy % 2 == 0), ends[-1])
+            drawn = self.some(chance, self.weights(chance, copy % 2 == 0, is_fitted), ends[-1])
             parts.append([[], *(drawn[begin:end] for begin, end in zip(ends, ends[1:]))])
         return parts, calms
 

@@ -23,7 +23,7 @@ class Named:
 
 SEARCHES = {
     "taken-and-incomplete": Named(
-        "a message is taken, and its sender is told Incomplete",
+        "a message is taken, and its sender gets Incomplete",
         TWO_RAW,
         "out A B N .. then not out A B N .. then in A B N .. then not out A B N .. then answer incomplete A B N",
     ),
@@ -38,7 +38,7 @@ SEARCHES = {
         "not down .. then out .. and calm 50: no ready, 100 lines",
     ),
     "lost-at-a-close": Named(
-        "bits are sent, and not taken, and both users are told that the connection has ended",
+        "bits are sent, and not taken, and both users learn that the connection has ended",
         TWO_PLAIN,
         "not down .. then not pairreset .. then ended A S B T and life A S B T O P send M N .. ended and life B T A S Q R receive K L .. ended and calm 5: 0 lines where L < N where O < R where Q < P",
     ),
@@ -46,6 +46,11 @@ SEARCHES = {
         "a message is noted as never come, and then it arrives",
         TWO_RAW,
         "noted never A B N K then arrives data A B N K",
+    ),
+    "refused-before-it-comes": Named(
+        "a sender gets NotTaken, and then its message arrives",
+        TWO_RAW,
+        "noted never A B N K then answer incomplete A B N then arrives data A B N K",
     ),
     "twice": Named("a message is taken twice: no schedule does that", TWO_RAW, "out A B N .. then not out A B N .. then in A B N .. then not out A B N .. then in A B N .."),
 }

@@ -4,10 +4,11 @@ from __future__ import annotations
 
 import random
 import time
-from collections.abc import Callable, Iterator, Sequence
+from collections.abc import Callable, Generator, Sequence
 from dataclasses import dataclass, field
 
-from dorydate.explore.kinds import Maker, Pools, fit, pools
+from dorydate.explore.cores import Cores
+from dorydate.explore.kinds import Maker, Pools, favoured, fit, pools
 from dorydate.explore.many import HOSTS, CannotRun, Many, One, Result
 from dorydate.explore.pattern import Pattern
 from dorydate.explore.seen import Seen
@@ -17,6 +18,16 @@ from dorydate.program import Program
 
 MATCHES = 5  # matches that are shrunk; the best is taken
 SAMPLED = 16  # one batch of these shows how deep the pattern was reached
+
+
+@dataclass(frozen=True)
+class Batch:
+    """What came of schedules side by side: their number, those that match, how deep the pattern was reached and how often, and logs kept."""
+
+    schedules: int
+    matches: tuple[Script, ...]
+    depths: tuple[int, ...] = ()  # of the schedules that were looked at
+    kept: int = 0
 
 
 @dataclass
@@ -37,6 +48,15 @@ class Progress:
     def seconds(self) -> float:
         return time.monotonic() - self.begun
 
+    def take(self, batch: Batch) -> None:
+        """Counts what came of a batch."""
+        self.schedules += batch.schedules
+        self.kept += batch.kept
+        for depth in batch.depths:
+            if depth > self.deepest:
+                self.deepest, self.reached = depth, 0
+            self.reached += depth == self.deepest
+
     def line(self, length: int) -> str:
         """A line for whoever waits."""
         rate = self.schedules / max(self.seconds(), 0.001)
@@ -50,16 +70,17 @@ class NotKept(Exception):
 
 
 class Search:
-    """A search in a network for a pattern."""
+    """A search in a network for a pattern. The schedules of a batch depend on the seed and on its number only."""
 
     def __init__(self, network: Network, pattern: Pattern, program: Program, seed: int = 1, found: Pools | None = None, length: int = 40, audits: bool = False) -> None:
         if pattern.needs_trace() and not network.raw:
             raise CannotRun("only raw networks have the lines of a trace: `noted`, `arrives`, `slots`")
         self.network, self.pattern = network, pattern
         self.many, self.one = Many(network, program), One(network, program)
-        self.maker = Maker(fit(pools(network) if found is None else found, pattern), length=length, opening=1 if network.carrier == "subnet" else 0)
+        opening = 1 if network.carrier == "subnet" else 0
+        self.maker = Maker(fit(pools(network) if found is None else found, pattern), length=length, opening=opening, favoured=favoured(pattern))
         self.table = self.many.table(self.maker.events)
-        self.chance, self.audits = random.Random(seed), audits
+        self.seed, self.audits = seed, audits
         self.progress = Progress()
 
     # ---- looking
@@ -75,57 +96,47 @@ class Search:
         result = self.results(self.one, [[list(map(str, script))]], [0])[0]
         return self.pattern.match(result.lines, result.last) is not None
 
-    def batches(self) -> Iterator[Script]:
-        """Scripts that match, in a process of their own too, as they are found. Between them it yields an empty one for each batch."""
-        while True:
-            parts, calms = self.maker.batch(self.chance, self.many.copies)
-            lines = [[[known[it] for it in part] for part in script] for script, known in zip(parts, self.table)]
-            results = self.results(self.many, lines, calms)
-            if self.audits:
-                self.judge(self.many.text(lines, calms, self.pattern.calm.rounds))
-            is_sampled = self.progress.schedules % (SAMPLED * self.many.copies) == 0
-            self.progress.schedules += self.many.copies
-            for part, result in zip(parts, results):
-                if is_sampled:
-                    self.sample(result.lines)
-                if self.pattern.match(result.lines, result.last) is not None:
-                    script = tuple(self.maker.script(part, calms))
-                    if self.matches(script):
-                        yield script
-            yield ()
+    def batch(self, number: int) -> Batch:
+        """What comes of the schedules of this number. Those that match do so in a process of their own too."""
+        parts, calms = self.maker.batch(random.Random(f"{self.seed} {number}"), self.many.copies, number)
+        lines = [[[known[it] for it in part] for part in script] for script, known in zip(parts, self.table)]
+        results = self.results(self.many, lines, calms)
+        kept = self.judged(self.many.text(lines, calms, self.pattern.calm.rounds)) if self.audits else 0
+        depths = [self.pattern.depth(it.lines) for it in results] if number % SAMPLED == 0 else []
+        meant = [tuple(self.maker.script(part, calms)) for part, it in zip(parts, results) if self.pattern.match(it.lines, it.last) is not None]
+        return Batch(self.many.copies, tuple(filter(self.matches, meant)), tuple(depths), kept)
 
-    def judge(self, text: str) -> None:
-        """Holds the log of networks side by side up to the proved audit."""
+    def judged(self, text: str) -> int:
+        """How many networks side by side have a log that the proved audit calls kept: all of them. Raises NotKept where it doesn't."""
         log = self.many.program.run(text.encode("ascii"), "--log")
         verdict = self.many.program.run(log.output.encode("ascii"), "--audit")
         if verdict.output != "kept\n":
             raise NotKept(f"the audit says {verdict.output or verdict.said!r} of the log of this input:\n{text}")
-        self.progress.kept += self.many.copies
+        return self.many.copies
 
-    def sample(self, lines: Sequence[str]) -> None:
-        """Takes note of how deep a schedule came."""
-        depth = self.pattern.depth(lines)
-        if depth > self.progress.deepest:
-            self.progress.deepest, self.progress.reached = depth, 0
-        self.progress.reached += depth == self.progress.deepest
-
-    def run(self, runs: int, seconds: float = 3600.0, wanted: int = MATCHES, show: Callable[[Progress], None] | None = None) -> Script | None:
-        """The shortest script of some matches, None where none was found. Ctrl-C ends it with what was found."""
-        shown = self.progress.begun
+    def run(self, runs: int, seconds: float = 3600.0, wanted: int = MATCHES, show: Callable[[Progress], None] | None = None, processes: int = 1) -> Script | None:
+        """The shortest script of some matches, None where none was found. Ctrl-C ends it with what was found. How many processes look
+        changes how soon something is found, and not what."""
+        progress, shown = self.progress, self.progress.begun
+        batches = iter(Cores(self.batch, processes))
         try:
-            for script in self.batches():
-                if script:
+            for batch in batches:
+                progress.take(batch)
+                for script in batch.matches[: wanted - progress.matches]:
                     self.take(script)
                     if show:
-                        show(self.progress)
-                if self.progress.matches >= wanted or self.progress.schedules >= runs or self.progress.seconds() > seconds:
+                        show(progress)
+                if progress.matches >= wanted or progress.schedules >= runs or progress.seconds() > seconds:
                     break
                 if show and time.monotonic() - shown > 1:
                     shown = time.monotonic()
-                    show(self.progress)
+                    show(progress)
         except KeyboardInterrupt:
             pass
-        return self.progress.best
+        finally:
+            if isinstance(batches, Generator):
+                batches.close()
+        return progress.best
 
     def take(self, script: Script) -> None:
         """Shrinks a match, and keeps it if it is the shortest."""
