@@ -21,16 +21,16 @@ import shutil
 import sys
 import tempfile
 from collections import Counter
-from collections.abc import Iterator, Sequence
 from typing import Any, TypeVar
 
 from dorydate.builds.drivers import run_cases, write_case
-from dorydate.model.bits import Bits, bits_of, spell_bits
+from dorydate.checks.host_calls import Calls
+from dorydate.checks.host_worked import worked_runs
+from dorydate.model.bits import Bits, bits_of
 from dorydate.model.commands import control_message, header, number
 from dorydate.model.connections import GONE, READY
 from dorydate.model.crossings import Answer, Message, Reply
-from dorydate.model.host import Host
-from dorydate.model.names import Flow, HostName, Refused, spell_flow, spell_host
+from dorydate.model.names import Flow, HostName
 
 T = TypeVar("T")
 
@@ -45,67 +45,6 @@ LINKS = [2, 2, 3, 4, 5, 31, 1, 32, 255]
 OPENED = [(16, 33), (18, 35)]
 FAILURES: list[Answer] = ["incomplete", "dead", "nottaken"]
 ANSWERS: list[Answer] = ["rfnm", *FAILURES]
-
-
-# ---- calls, on the independent model and for the driver
-
-
-def spell_part(part: Any) -> str:
-    """A part of a call: what comes in, bits, or a number."""
-    match part:
-        case Message() | Reply():
-            return f"{part.kind} {spell_flow(part.flow)}{f' {spell_bits(part.text)}' if isinstance(part, Message) else ''}"
-        case str():
-            return spell_bits(part)
-    return str(part)
-
-
-def spell_call(name: str, parts: Sequence[Any]) -> str:
-    """The words of a call."""
-    match name:
-        case "accept":
-            inbound, stamp = parts
-            return f"accept {stamp} {spell_part(inbound)}"
-        case "contact" | "echo" | "open_send" | "open_receive":
-            peer, *rest = parts
-            return " ".join([name, spell_host(peer), *map(str, rest)])
-    return " ".join([name, *map(spell_part, parts)])
-
-
-def spell_next(host: Host) -> str:
-    """What goes out next."""
-    found = host.next_out()
-    return f"next {spell_flow(found[0])} {spell_bits(found[1])}" if found else "next nothing"
-
-
-class Calls:
-    """Hosts, the calls on them and what these owe."""
-
-    def __init__(self, names: Sequence[HostName]) -> None:
-        self.hosts = [Host(name) for name in names]
-        self.lines = [" ".join(map(spell_host, names))]
-        self.owed: list[str] = []
-        self.stamp = 0
-        self.seen: Counter[str] = Counter()
-
-    def call(self, place: int, name: str, *parts: Any, asked: bool = False) -> None:
-        """A call on a host."""
-        host = self.hosts[place]
-        self.lines.append(f"{place} {'ask ' if asked else ''}{spell_call(name, parts)}")
-        try:
-            notices: list[str] = getattr(host, name)(*parts)
-            self.seen[f"{name}: done"] += 1
-            self.seen.update(f"told: {notice.split()[0]}" for notice in notices)
-            answer = ";".join(["ok", *notices])
-        except Refused as refused:
-            self.seen[f"{name}: refused {refused}"] += 1
-            answer = f"refused {refused}"
-        self.owed.append(f"{answer} {spell_next(host)}")
-
-    def stamped(self, place: int, name: str, *parts: Any) -> None:
-        """A call that takes its place in the log."""
-        self.stamp += 1
-        self.call(place, name, *parts, self.stamp)
 
 
 # ---- hosts that exchange what they send
@@ -320,101 +259,6 @@ class Chance(Calls):
         while len(self.owed) < CALLS:
             self.something()
         return self
-
-
-# ---- every command cut at every length, and with each octet changed
-
-
-class Worked(Calls):
-    """Hosts of one name, each opened with a peer, and sending on link 5 to it and receiving on link 2 from it."""
-
-    OWN, PEER = HostName(0, 1), HostName(0, 2)
-
-    def __init__(self, link: int, texts: Sequence[Bits]) -> None:
-        super().__init__([self.OWN] * len(texts))
-        for place, text in enumerate(texts):
-            self.open(place)
-            self.stamped(place, "accept", Message("message", Flow(self.PEER, self.OWN, link), text))
-            for _ in range(2):
-                self.goes(place)
-
-    def comes(self, place: int, *commands: str) -> None:
-        """Commands of the peer come in."""
-        message = control_message(map(bytes.fromhex, commands))
-        self.stamped(place, "accept", Message("message", Flow(self.PEER, self.OWN, 0), message))
-
-    def goes(self, place: int) -> None:
-        """What is next goes out, and is answered."""
-        self.stamped(place, "offered")
-        self.stamped(place, "accept", Reply("rfnm", Flow(self.OWN, self.PEER, 0)))
-
-    def open(self, place: int) -> None:
-        """A connection each way opens."""
-        self.comes(place, "0C")
-        self.goes(place)
-        self.call(place, "open_send", self.PEER, 33, 16, 8)
-        self.call(place, "open_receive", self.PEER, 18, 35)
-        self.goes(place)
-        self.comes(place, "01 00000010 00000021 05", "02 00000023 00000012 08", "04 05 0003 00000064")
-        self.call(place, "send", 33, bits_of(bytes(range(1, 14))))
-        self.call(place, "grant", 18, 3, 100)
-        self.goes(place)
-
-
-class AllLinks(Worked):
-    """A host that uses up the links of its receiving ends."""
-
-    def __init__(self) -> None:
-        Calls.__init__(self, [self.OWN])
-        self.comes(0, "0C")
-        self.goes(0)
-        for own in range(100, 164, 2):
-            self.call(0, "open_receive", self.PEER, own, 33)
-        self.call(0, "listen", 200, 8)
-        for _ in range(3):
-            self.comes(0, "02 00000021 000000C8 08")
-            for _ in range(4):
-                self.goes(0)
-            self.call(0, "close", 110)
-            self.comes(0, "03 00000021 0000006E", "03 00000021 000000C8")
-
-
-WORKED = [
-    "00",
-    "01 00000014 00000025 06",
-    "02 00000025 00000014 08",
-    "03 00000010 00000021",
-    "03 00000023 00000012",
-    "04 05 0002 00000064",
-    "05 05 40 C8",
-    "06 02 0001 00000010",
-    "07 05",
-    "08 02",
-    "09 41",
-    "0A 41",
-    "0B 01 0E070000000000000000",
-    "0C",
-    "0D",
-    "0E 07",
-    "01 000000",
-]
-
-
-def changed(text: Bits, step: int = 8) -> list[Bits]:
-    """The text cut at every length, and with each octet changed."""
-    cut = [text[:length] for length in range(0, len(text) + 1, step)]
-    octets = [(at, bits_of(octet)) for at in range(0, len(text), 8) for octet in (b"\x00", b"\x7f", b"\xff")]
-    return cut + [text[:at] + octet + text[at + 8 :] for at, octet in octets]
-
-
-def worked_runs() -> Iterator[Calls]:
-    """What is made of each command with an ECO after it, of data, and of control texts of every length."""
-    yield Worked(0, changed(control_message([bytes([0])]), 1))
-    for name in WORKED:
-        yield Worked(0, changed(control_message([bytes.fromhex(name), bytes.fromhex("09 42")])))
-    yield Worked(2, changed(header(8, 4) + bits_of(b"DATA")))
-    yield AllLinks()
-    yield Worked(0, [header(8, length) + bits_of(bytes([9, 65] * 62)[:length]) for length in range(125)])
 
 
 # ---- the runs
