@@ -2,14 +2,14 @@
 
 It takes the proved program, or where ./build has not made that the one that was built without proofs, which is slow.
 
-A file NAME of a folder, or of a folder below it, is an input. Beside it may stand
+A file NAME of a folder, or of a folder below it, is an input. Beside it may be
 
 - NAME.args: the options, one a line
 - NAME.stdout: what is printed; without this file, nothing
 - NAME.stderr and NAME.status: the line on standard error and the exit status; without these files, nothing and 0
 - NAME.rows: a table of inputs that end alike. NAME is then the beginning that they share, and is no input itself; each
-  line of NAME.rows is what stands behind it in one of them. Such a line is octets between double quotes, with the escapes
-  of Python and Rust; `"x"*9` stands for nine times x, and texts that are separated by blanks follow each other. Lines
+  line of NAME.rows is what follows it in one of them. Such a line is octets between double quotes, with the escapes
+  of Python and Rust; `"x"*9` is nine times x, and texts that are separated by blanks follow each other. Lines
   that begin with # are ignored, and so are empty lines.
 """
 
@@ -22,6 +22,7 @@ import subprocess
 import sys
 from collections.abc import Iterator
 from concurrent.futures import ThreadPoolExecutor
+from dataclasses import dataclass
 
 from dorydate.parts import any_program
 
@@ -43,7 +44,7 @@ def octets_of(path: str) -> bytes | None:
 
 
 def row_of(line: str) -> bytes:
-    """The octets that a line of a table stands for."""
+    """The octets that a line of a table spells."""
     octets, place = b"", 0
     while place < len(line):
         part = PART.match(line, place)
@@ -59,17 +60,24 @@ def rows_of(table: bytes) -> list[bytes]:
     return [row_of(it) for it in table.decode("ascii").splitlines() if it and not it.startswith("#")]
 
 
+@dataclass(frozen=True)
 class Case:
     """An input, its options, and how it is to end."""
 
-    def __init__(self, name: str, octets: bytes, path: str) -> None:
-        self.name, self.octets = name, octets
-        self.args = octets_of(path + ".args")
-        self.printed = octets_of(path + ".stdout") or b""
-        self.words = (octets_of(path + ".stderr") or b"").decode()
-        self.status = int(octets_of(path + ".status") or 0)
-        if self.printed and self.words:
+    name: str
+    octets: bytes
+    args: bytes | None
+    printed: bytes
+    words: str
+    status: int
+
+    @staticmethod
+    def read(name: str, octets: bytes, path: str) -> Case:
+        """The case of an input, with what is stored beside a file."""
+        printed, words = octets_of(path + ".stdout") or b"", (octets_of(path + ".stderr") or b"").decode()
+        if printed and words:
             raise Wrong(f"{name}: an input that is refused prints nothing")
+        return Case(name, octets, octets_of(path + ".args"), printed, words, int(octets_of(path + ".status") or 0))
 
     def differs(self, program: str) -> str | None:
         """How what comes of the case differs from what is stored, or None."""
@@ -97,10 +105,10 @@ def cases_below(folder: str) -> Iterator[Case]:
             name = os.path.relpath(path, folder).replace("/", "-")
             head, table = octets_of(path) or b"", octets_of(path + ".rows")
             if table is None:
-                yield Case(name, head, path)
+                yield Case.read(name, head, path)
             else:
                 for number, row in enumerate(rows_of(table), start=1):
-                    yield Case(f"{name}-row-{number}", head + row, path)
+                    yield Case.read(f"{name}-row-{number}", head + row, path)
 
 
 def stray_files(folder: str) -> Iterator[str]:

@@ -30,6 +30,7 @@ import subprocess
 import tempfile
 from collections import Counter
 from concurrent.futures import ThreadPoolExecutor
+from dataclasses import dataclass
 from itertools import count
 
 from dorydate.parts import ROOT, any_program
@@ -48,16 +49,23 @@ CORES = os.cpu_count() or 1
 Ended = tuple[tuple[int, bytes], bytes]  # the status and the words of a run, and its output
 
 
+@dataclass(frozen=True)
 class Way:
     """What fails, and how reads and writes are made."""
 
-    def __init__(self, kind: str, at_most: int = 0, how: str | None = None) -> None:
-        self.kind, self.how = kind, how
-        self.variables = {"AT_MOST": str(at_most)} if at_most else {}
-        if how:
-            self.variables[how] = "1"
-        size = {0: "whole", 1: "of one octet"}.get(at_most, f"of {at_most} octets")
-        self.name = kind if kind == "allocations" else f"{kind} {size}{f', {how.lower()}' if how else ''}"
+    kind: str
+    at_most: int = 0
+    how: str | None = None
+
+    @property
+    def variables(self) -> dict[str, str]:
+        """What tools/failing.c is asked for."""
+        return {**({"AT_MOST": str(self.at_most)} if self.at_most else {}), **({self.how: "1"} if self.how else {})}
+
+    @property
+    def name(self) -> str:
+        size = {0: "whole", 1: "of one octet"}.get(self.at_most, f"of {self.at_most} octets")
+        return self.kind if self.kind == "allocations" else f"{self.kind} {size}{f', {self.how.lower()}' if self.how else ''}"
 
     def variable(self) -> str:
         return {"allocations": "FAIL_ALLOCATION", "reads": "FAIL_READ", "writes": "FAIL_WRITE"}[self.kind]
