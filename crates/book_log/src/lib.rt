@@ -21,4 +21,4 @@ mod words;
 pub use book::LoggedBook;
 pub use fault::LogFault;
 pub use print::print_log;
-pub use read::{MAX_LOG, read_log};
+pub use read::read_log;

@@ -1,6 +1,6 @@
 //! Reading a log.
 
-ghost use Rattle.std.specs.Prelude.{◌≤◌, length, MatchResult};
+ghost use Rattle.std.specs.Prelude.{MatchResult};
 ghost use Rattle.book_log.specs.Log.{IsLog, IsLogFault};
 
 use crate::book::LoggedBook;
@@ -9,15 +9,11 @@ use crate::lines::{Line, read_line};
 use script::reading::cut;
 use std::alloc::Global;
 
-/// The most octets that a log may have.
-pub const MAX_LOG: usize = 33_554_432;
-
 /// Returns the book that a log tells.
 ///
 /// Errors: `BadLine` with the number of the first bad line, counted from 1; where the last line is missing, that of the line after
 /// the last one. `OutOfMemory`, which may come at any line with no bad line before it.
 pub fn read_log(alloc: Global, text: &[u8]) -> Result<LoggedBook, LogFault>
-    requires { length text.now ≤ MAX_LOG }
     ensures { MatchResult result (IsLog text.now) (IsLogFault text.now) }
 {
     let mut book = LoggedBook::new(alloc);

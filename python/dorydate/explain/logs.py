@@ -45,8 +45,6 @@ def explained(octets: bytes, verdict: str) -> str:
     """Why the program says this of a log."""
     if found := re.fullmatch(r"bad log line (\d+)", verdict):
         return why_bad(octets, int(found[1]))
-    if verdict == "log too long":
-        return f"The log has {len(octets)} octets, and at most 33554432 are read."
     try:
         book = read_log(octets)
     except BadLog as line:

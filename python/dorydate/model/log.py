@@ -20,7 +20,6 @@ from dorydate.model.script import FLOW, HOST, MOST_TEXT, BadLine, host_of, read_
 from dorydate.model.topology import Topology
 from dorydate.model.world import World
 
-MOST_OCTETS = 33_554_432
 NUMBER = r"(0|[1-9][0-9]{0,38})"  # none of 128 bits has more digits
 OCTETS = r"(-|(?:[0-9A-F][0-9A-F])+)"
 MESSAGE = re.compile(f"(out|in) {FLOW} {NUMBER} {OCTETS}")

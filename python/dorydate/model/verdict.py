@@ -12,7 +12,7 @@ from typing import TypeVar
 from dorydate.model.audit import Lives, Log, audit, is_granted, is_well_formed, match, messages_are_kept, partners_are_kept
 from dorydate.model.book import Life
 from dorydate.model.crossings import Crossing
-from dorydate.model.log import MOST_OCTETS, BadLog, Book, LogReader
+from dorydate.model.log import BadLog, Book, LogReader
 from dorydate.model.runs import End
 
 T = TypeVar("T")
@@ -20,7 +20,7 @@ T = TypeVar("T")
 
 def ended(said: str) -> End:
     """How the program ends where this is said of a log."""
-    if said.startswith(("bad log", "log too long")):
+    if said.startswith("bad log"):
         return 2, "", f"arpasim: {said}\n"
     return 0 if said == "kept" else 4, f"{said}\n", ""
 
@@ -32,8 +32,6 @@ class Judge:
 
     def says(self, octets: bytes) -> str:
         """What is to be said of a log, with the lines at which it is bad, malformed or broken."""
-        if len(octets) > MOST_OCTETS:
-            return "log too long"
         try:
             return self.verdict(self.reader.read_log(octets))
         except BadLog as line:
