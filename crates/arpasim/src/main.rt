@@ -1,75 +1,32 @@
 //! The program `arpasim`: it runs a network over a script and prints what its hosts see.
 //!
-//! Standard input is a topology, a line `%` and a script, or for `--audit` a log. The program itself is `command_line::run`,
-//! `run_log`, `run_trace` or `run_audit`; here it is given the words of the command line, standard input and standard output, and its fault
-//! becomes a line on standard error and the exit status.
+//! Standard input is a topology, a line `%` and a script, or for `--audit` a log. The program itself is
+//! `command_line::run_program`; here it is given the words of the command line, standard input and standard output, and its
+//! fault becomes a line on standard error.
 #![tactic(auto)]
 
-use command_line::{
-    Audit, AuditFault, Output, Printer, Reader, ScriptFault, Task, audit_status, run, run_audit,
-    run_log, run_trace,
-};
+use command_line::{Done, Printer, ProgramFault, Reader, ScriptFault, exit_status, run_program};
 use std::io::{BufWriter, ErrorKind};
 use std::process::ExitCode;
 use std::rt::Env;
 use std::{env, io};
 
 fn main(rt: HostRuntime) -> ExitCode {
-    let words = match words_of(&rt) {
-        Ok(words) => words,
-        Err(fault) => return told(&rt, fault),
-    };
-    if let Some(Task::Audit) = Task::of(&words) {
-        return match audit_input(&rt) {
-            Ok(said) => ExitCode::from(audit_status(said)),
-            Err(fault) => {
-                let _ = eprintln!(rt; "{fault}");
-                ExitCode::from(fault.status())
-            }
-        };
+    let outcome = run_here(&rt);
+    if let Err(fault) = outcome {
+        let _ = eprintln!(rt; "{fault}");
     }
-    match replay_input(&rt, &words) {
-        Ok(()) => ExitCode::SUCCESS,
-        Err(fault) => told(&rt, fault),
-    }
+    ExitCode::from(exit_status(outcome))
 }
 
-/// Tells a fault on standard error, and answers its exit status.
-fn told<R: Eprint>(rt: &R, fault: ScriptFault) -> ExitCode {
-    let _ = eprintln!(rt; "{fault}");
-    ExitCode::from(fault.status())
-}
-
-/// Runs the simulator as the command line asks, from standard input to standard output.
-fn replay_input<R: Env + Input + Print + AllocGlobal>(
-    rt: &R,
-    words: &[String],
-) -> Result<(), ScriptFault> {
+/// Runs the program on the words of its command line, from standard input to standard output.
+fn run_here<R: Env + Input + Print + AllocGlobal>(rt: &R) -> Result<Done, ProgramFault> {
+    let words = words_of(rt).map_err(ProgramFault::Script)?;
     let mut reader = Reader::new(rt.reader());
     let buffered = BufWriter::new(rt.alloc(), io::writer(rt));
-    let mut writer = Printer::new(buffered.map_err(|_| ScriptFault::OutOfMemory)?);
-    let outcome = match Task::of(words) {
-        Some(Task::Log) => run_log(rt.alloc(), &mut reader, &mut writer),
-        Some(Task::Trace) => run_trace(rt.alloc(), &mut reader, &mut writer),
-        _ => run(rt.alloc(), words, &mut reader, &mut writer),
-    };
-    // what was written before memory ran out is still gathered
-    let flushed = match outcome {
-        Err(ScriptFault::OutOfMemory) => writer.flush(),
-        _ => Ok(()),
-    };
-    // what is still gathered where a write has failed is not written again
-    let _ = writer.into_inner().into_parts();
-    outcome?;
-    Ok(flushed?)
-}
-
-/// Audits the log on standard input, and writes to standard output what the audit says.
-fn audit_input<R: Env + Input + Print + AllocGlobal>(rt: &R) -> Result<Audit, AuditFault> {
-    let mut reader = Reader::new(rt.reader());
-    let buffered = BufWriter::new(rt.alloc(), io::writer(rt));
-    let mut writer = Printer::new(buffered.map_err(|_| AuditFault::OutOfMemory)?);
-    let outcome = run_audit(rt.alloc(), &mut reader, &mut writer);
+    let buffered = buffered.map_err(|_| ProgramFault::Script(ScriptFault::OutOfMemory))?;
+    let mut writer = Printer::new(buffered);
+    let outcome = run_program(rt.alloc(), &words, &mut reader, &mut writer);
     // what is still gathered where a write has failed is not written again
     let _ = writer.into_inner().into_parts();
     outcome

@@ -4,6 +4,8 @@ use Rattle.std.proofs.lemmas.List.{reverse-reverse}
 use Rattle.book_log.specs.Log.{Book}
 use Rattle.book_log.proofs.lemmas.{book_once}
 use Rattle.headline.proofs.lemmas.{kept_promise}
+use Rattle.leader1822.specs.Host.{Host}
+use Rattle.leader1822.specs.Mailboxes.{IsRun}
 use Rattle.leader1822.specs.Messages.{SafeMessages}
 use Rattle.leader1822.specs.declared.crossing.Crossing.{Crossing}
 use Rattle.net_sim.specs.Audit.{Says}
@@ -21,7 +23,7 @@ use Rattle.command_line.specs.Events.{Asked, Raw, World}
 use Rattle.command_line.specs.Logs.{Logged, LogsFrom, LogsOver, raw_book, world_book}
 use Rattle.command_line.specs.declared.auditing.AuditFault.{AuditFault}
 use Rattle.command_line.specs.declared.auditing.AuditFault.TheVariants as fault
-use Rattle.command_line.proofs.Printed.{none_there, safe_alone}
+use Rattle.command_line.proofs.Printed.{none_there, safe_alone, world_run}
 
 -- ---- the log is kept
 
@@ -29,18 +31,25 @@ use Rattle.command_line.proofs.Printed.{none_there, safe_alone}
 turned : (said : Audit) (log : List Crossing) (lives : List Life) (handed : List (List Bool)) → Says said log lives handed → Says said (reverse (reverse log)) lives handed
 turned said log lives handed = subst (λ (cs : List Crossing). Says said cs lives handed) (sym (reverse-reverse log))
 
+run_twice : (hosts : List Host) (log : List Crossing) → IsRun hosts log → IsRun hosts (reverse (reverse log))
+run_twice hosts log run = subst (IsRun hosts) (sym (reverse-reverse log)) run
+
 kept_alone : (log : List Crossing) → SafeMessages log → Says audit.Kept log [] []
 kept_alone log messages = (record { counts = refl; stamped = λ x there. absurd (none_there x there) }, safe_alone log messages)
 
 kept_from : {C : Type 0} (calls : Calls C) (opening : C) (events : Asked) (octets : List ℕ) → LogsFrom calls opening events (Some []) (Some octets) → IsKeptLog octets
 kept_from calls opening (Raw events) octets h = record {
   book = raw_book (calls.seen h.last).log;
+  hosts = (calls.seen h.last).hosts;
   log = record { spelled = h.written; valid = h.valid };
+  run = run_twice (calls.seen h.last).hosts (calls.seen h.last).log h.run;
   says = turned audit.Kept (calls.seen h.last).log [] [] (kept_alone (calls.seen h.last).log h.messages);
 }
 kept_from calls opening (World events) octets h = record {
   book = world_book h.last.kept;
+  hosts = (calls.seen h.last.carrier).hosts;
   log = record { spelled = h.written; valid = h.valid };
+  run = run_twice (calls.seen h.last.carrier).hosts h.last.kept.book.crossings (world_run calls.seen h.last h.promise);
   says = turned audit.Kept h.last.kept.book.crossings h.last.kept.book.lives h.last.kept.handed (kept_promise calls.seen h.last h.promise);
 }
 
@@ -69,10 +78,9 @@ said_kept octets said before after a k =
 
 -- where octets are a log, its lines are not bad
 never_bad : (octets : List ℕ) (f : AuditFault) → IsAuditFault octets f → IsKeptLog octets → SaysKept octets (Err f)
-never_bad octets fault.LongLog h k = h
 never_bad octets fault.OutOfMemory h k = tt
 never_bad octets fault.CannotWrite h k = tt
-never_bad octets (fault.BadLog number) h k = absurd (h.1.none k.book k.log)
+never_bad octets (fault.BadLog number) h k = absurd (h.none k.book k.log)
 never_bad octets fault.CannotRead h k = absurd h
 
 -- whatever the reader's octets are, as far as they are known

@@ -1,5 +1,5 @@
 -- What is written of a log is what its audit says.
-use Rattle.std.proofs.Common.{◌≡◌, ◌<◌, ◌≤◌, ℕ, Bool, true, false, List, ◌++◌, length, reverse, Option, Some, None, IfSome, codes, Result, Ok, Err, MatchResult, OnOk, refl, sym, ◌∙◌, subst}
+use Rattle.std.proofs.Common.{◌≡◌, ℕ, Bool, true, false, List, ◌++◌, reverse, Option, Some, None, IfSome, codes, Result, Ok, Err, MatchResult, OnOk, refl, sym, ◌∙◌, subst}
 use Rattle.std.specs.Prelude.{◌↔◌}
 use Rattle.std.proofs.lemmas.Bool.{false≢true}
 use Rattle.std.specs.Io.KnownBytes.{Appends, Keeps}
@@ -23,9 +23,9 @@ pub known_audited : (known : Option (List ℕ)) (octets : List ℕ) (said : Audi
 known_audited None octets said before after same h = tt
 known_audited (Some k) octets said before after same h = subst (λ (o : List ℕ). AuditsLog o said before after) same h
 
-pub some_log : (known : Option (List ℕ)) (octets : List ℕ) (b : Book) → IfSome known (λ k. octets ≡ k) → length octets ≤ 33554432 → IsLog octets b → IfSome known IsSomeLog
-some_log None octets b same short log = tt
-some_log (Some k) octets b same short log = subst IsSomeLog same (record { short = short; book = b; log = log })
+pub some_log : (known : Option (List ℕ)) (octets : List ℕ) (b : Book) → IfSome known (λ k. octets ≡ k) → IsLog octets b → IfSome known IsSomeLog
+some_log None octets b same log = tt
+some_log (Some k) octets b same log = subst IsSomeLog same (b, log)
 
 -- what is written is what was read
 pub says_of : (b : Book) (said : Audit) (crossings : List Crossing) (lives : List Life) (handed : List (List Bool)) → crossings ≡ b.crossings → lives ≡ b.lives → handed ≡ b.handed
@@ -53,35 +53,31 @@ verdict_stays b (audit.Broken p) before after last h k =
 
 -- ---- faults
 
-unread_known : (k : List ℕ) (f : AuditFault) (failed : Bool) → IsLogReadFault f → (f ≡ fault.LongLog → 33554432 < length k) → (f ≡ fault.CannotRead → failed ≡ true) → failed ≡ false → IsAuditFault k f
-unread_known k fault.LongLog failed read long told whole = long refl
-unread_known k fault.OutOfMemory failed read long told whole = tt
-unread_known k fault.CannotRead failed read long told whole = absurd (false≢true (sym whole ∙ told refl))
-unread_known k (fault.BadLog number) failed read long told whole = absurd read
-unread_known k fault.CannotWrite failed read long told whole = absurd read
+unread_known : (k : List ℕ) (f : AuditFault) (failed : Bool) → IsLogReadFault f → (f ≡ fault.CannotRead → failed ≡ true) → failed ≡ false → IsAuditFault k f
+unread_known k fault.OutOfMemory failed read told whole = tt
+unread_known k fault.CannotRead failed read told whole = absurd (false≢true (sym whole ∙ told refl))
+unread_known k (fault.BadLog number) failed read told whole = absurd read
+unread_known k fault.CannotWrite failed read told whole = absurd read
 
-pub unread : (known : Option (List ℕ)) (r : Result Audit AuditFault) (f : AuditFault) (failed : Bool) → r ≡ Err f → IsLogReadFault f → (f ≡ fault.LongLog → IfSome known (λ k. 33554432 < length k))
+pub unread : (known : Option (List ℕ)) (r : Result Audit AuditFault) (f : AuditFault) (failed : Bool) → r ≡ Err f → IsLogReadFault f
     → (f ≡ fault.CannotRead → failed ≡ true) → failed ≡ false → IfSome known (λ k. MatchResult r (λ said. IsSomeLog k) (IsAuditFault k))
-unread None r f failed is read long told whole = tt
-unread (Some k) r f failed is read long told whole = subst (λ (q : Result Audit AuditFault). MatchResult q (λ said. IsSomeLog k) (IsAuditFault k)) (sym is) (unread_known k f failed read long told whole)
+unread None r f failed is read told whole = tt
+unread (Some k) r f failed is read told whole = subst (λ (q : Result Audit AuditFault). MatchResult q (λ said. IsSomeLog k) (IsAuditFault k)) (sym is) (unread_known k f failed read told whole)
 
-unlogged_known : (k : List ℕ) (f : AuditFault) → IsBookFault k f → length k ≤ 33554432 → IsAuditFault k f
-unlogged_known k (fault.BadLog number) bad short = (short, bad)
-unlogged_known k fault.OutOfMemory bad short = tt
-unlogged_known k fault.LongLog bad short = absurd bad
-unlogged_known k fault.CannotRead bad short = absurd bad
-unlogged_known k fault.CannotWrite bad short = absurd bad
+unlogged_known : (k : List ℕ) (f : AuditFault) → IsBookFault k f → IsAuditFault k f
+unlogged_known k (fault.BadLog number) bad = bad
+unlogged_known k fault.OutOfMemory bad = tt
+unlogged_known k fault.CannotRead bad = absurd bad
+unlogged_known k fault.CannotWrite bad = absurd bad
 
-pub unlogged : (known : Option (List ℕ)) (octets : List ℕ) (r : Result Audit AuditFault) (f : AuditFault) → IfSome known (λ k. octets ≡ k) → r ≡ Err f → IsBookFault octets f → length octets ≤ 33554432
+pub unlogged : (known : Option (List ℕ)) (octets : List ℕ) (r : Result Audit AuditFault) (f : AuditFault) → IfSome known (λ k. octets ≡ k) → r ≡ Err f → IsBookFault octets f
     → IfSome known (λ k. MatchResult r (λ said. IsSomeLog k) (IsAuditFault k))
-unlogged None octets r f same is bad short = tt
-unlogged (Some k) octets r f same is bad short =
-    subst (λ (q : Result Audit AuditFault). MatchResult q (λ said. IsSomeLog k) (IsAuditFault k)) (sym is)
-    (unlogged_known k f (subst (λ (o : List ℕ). IsBookFault o f) same bad) (subst (λ (o : List ℕ). length o ≤ 33554432) same short))
+unlogged None octets r f same is bad = tt
+unlogged (Some k) octets r f same is bad =
+    subst (λ (q : Result Audit AuditFault). MatchResult q (λ said. IsSomeLog k) (IsAuditFault k)) (sym is) (unlogged_known k f (subst (λ (o : List ℕ). IsBookFault o f) same bad))
 
 -- a failed write is told of a log
-pub unwritten : (known : Option (List ℕ)) (octets : List ℕ) (b : Book) (r : Result Audit AuditFault) → IfSome known (λ k. octets ≡ k) → r ≡ Err fault.CannotWrite → length octets ≤ 33554432 → IsLog octets b
+pub unwritten : (known : Option (List ℕ)) (octets : List ℕ) (b : Book) (r : Result Audit AuditFault) → IfSome known (λ k. octets ≡ k) → r ≡ Err fault.CannotWrite → IsLog octets b
     → IfSome known (λ k. MatchResult r (λ said. IsSomeLog k) (IsAuditFault k))
-unwritten None octets b r same is short log = tt
-unwritten (Some k) octets b r same is short log =
-    subst (λ (q : Result Audit AuditFault). MatchResult q (λ said. IsSomeLog k) (IsAuditFault k)) (sym is) (subst IsSomeLog same (record { short = short; book = b; log = log }))
+unwritten None octets b r same is log = tt
+unwritten (Some k) octets b r same is log = subst (λ (q : Result Audit AuditFault). MatchResult q (λ said. IsSomeLog k) (IsAuditFault k)) (sym is) (subst IsSomeLog same (b, log))

@@ -26,7 +26,7 @@ use Rattle.replay.proofs.lemmas.Settled as replay
 
 -- ---- a whole replay
 
-raw_once : {C : Type 0} (calls : Calls C) → AreSettled calls → (opening : C) (events : List RawEvent) (shown more : List Shown) → ShowsFrom calls opening events shown → ShowsFrom calls opening events more → shown ≡ more
+pub raw_once : {C : Type 0} (calls : Calls C) → AreSettled calls → (opening : C) (events : List RawEvent) (shown more : List Shown) → ShowsFrom calls opening events shown → ShowsFrom calls opening events more → shown ≡ more
 raw_once calls settled opening events shown more h k =
     let one : OneReplay h.last k.last shown more = replays_once calls settled opening events h.last k.last shown more h.replayed k.replayed in
     one.lines

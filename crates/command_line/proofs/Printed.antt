@@ -1,18 +1,26 @@
 -- What a replay prints is a formed and safe book.
-use Rattle.std.proofs.Common.{arith, ◌≡◌, ℕ, Bool, true, false, List, [], ◌∷◌, ◌++◌, Option, length, reverse, codes, refl, ap, sym, subst, ◌∙◌}
+use Rattle.std.proofs.Common.{arith, ◌≡◌, ◌+◌, ◌⊎◌, inl, inr, ℕ, Bool, true, false, List, [], ◌∷◌, ◌++◌, Option, length, map, reverse, codes, refl, ap, ap₂, sym, subst, ◌∙◌}
 use Rattle.std.proofs.lemmas.List.{length-append}
 use Rattle.std.specs.Io.KnownBytes.{Appends}
 use Rattle.std.specs.List.{Contains}
 use Rattle.headline.specs.Promise.{KeepsPromise}
 use Rattle.leader1822.specs.Boxes.{Boxes}
 use Rattle.leader1822.specs.Calls.{Seen}
+use Rattle.leader1822.specs.Host.{Host}
+use Rattle.leader1822.specs.Mailboxes.{IsRun}
 use Rattle.leader1822.specs.Messages.{SafeMessages}
 use Rattle.leader1822.specs.declared.crossing.Crossing.{Crossing}
+use Rattle.net_sim.specs.Book.{Book}
+use Rattle.net_sim.specs.declared.book.Told.{Told}
 use Rattle.net_sim.specs.Formed.{FormedBook}
-use Rattle.net_sim.specs.Safe.{AreTwo, SafeBook}
+use Rattle.net_sim.specs.Notices.{FormedNotices}
+use Rattle.net_sim.specs.Safe.{AreTwo, Match, SafeBook}
 use Rattle.net_sim.specs.World.{WorldState}
 use Rattle.net_sim.specs.declared.event.WorldFault.TheVariants.{Carrier}
 use Rattle.net_sim.specs.declared.life.Life.{Life}
+use Rattle.host_services.specs.declared.report.Reported.{Reported}
+use Rattle.icp.specs.declared.outcome.Outcome.TheVariants as outcome
+use Rattle.host_services.specs.declared.report.Report.TheVariants as report
 use Rattle.replay.specs.Output.{Shown, crossings_of, output}
 use Rattle.replay.specs.Output as raw
 use Rattle.replay.specs.Replay.{Calls}
@@ -21,30 +29,33 @@ use Rattle.script.specs.Input.{ended_line}
 use Rattle.topology.specs.Topology.{TopologyFields}
 use Rattle.topology.specs.declared.network.CarrierKind.{CarrierKind}
 use Rattle.topology.specs.declared.network.CarrierKind.TheVariants as kind
+use Rattle.world_keeps_connections.specs.Connections.{HasReported, IsConnected, IsEnd, JoinedBook}
 use Rattle.world_replay.specs.Output as lines
 use Rattle.world_script.specs.declared.event.WorldEvent.{WorldEvent}
 use Rattle.command_line.specs.Carriers.{hosting, plain_calls, plain_of, subnet_calls, subnet_of}
 use Rattle.command_line.specs.Events.{Asked, Raw, World}
-use Rattle.command_line.specs.Printed.{AreOneBook, PrintsBook, PrintsPart}
+use Rattle.command_line.specs.Lived.{AreLived, lives_in, ungranted}
+use Rattle.command_line.specs.Printed.{AreOneBook, AreRaw, PrintsBook, PrintsPart, log_of, shown_book}
 use Rattle.command_line.specs.Replayed.{EndsFrom, EndsOver, Ran, RanInPart, ReplaysFrom, ReplaysOver, ShowsBook, WorldShowsFrom, book_text}
+use Rattle.command_line.proofs.Lived.{lived, none_lived}
 use Rattle.command_line.proofs.Once.{world_once}
 use Rattle.command_line.proofs.Settled.{plain_settled}
 
 -- ---- a network without host programs
 
 -- lines without notices are lines
-as_world : List Shown → List lines.Shown
+pub as_world : List Shown → List lines.Shown
 as_world [] = []
 as_world (raw.Crossed c ∷ shown) = lines.Crossed c ∷ as_world shown
 as_world (raw.Refused f ∷ shown) = lines.Refused (Carrier f) ∷ as_world shown
 
-same_output : (detail : Detail) (shown : List Shown) → output detail shown ≡ lines.output detail (as_world shown)
+pub same_output : (detail : Detail) (shown : List Shown) → output detail shown ≡ lines.output detail (as_world shown)
 unfolding as_world
 same_output detail [] = refl
 same_output detail (raw.Crossed c ∷ shown) = ap (λ xs. ended_line (raw.shown_text detail (raw.Crossed c)) ++ xs) (same_output detail shown)
 same_output detail (raw.Refused f ∷ shown) = ap (λ xs. ended_line (raw.shown_text detail (raw.Refused f)) ++ xs) (same_output detail shown)
 
-same_crossings : (shown : List Shown) → crossings_of shown ≡ lines.crossings_of (as_world shown)
+pub same_crossings : (shown : List Shown) → crossings_of shown ≡ lines.crossings_of (as_world shown)
 unfolding as_world
 same_crossings [] = refl
 same_crossings (raw.Crossed c ∷ shown) = ap (λ cs. c ∷ cs) (same_crossings shown)
@@ -79,24 +90,83 @@ safe_alone log messages = record {
   };
 }
 
-raw_book : (shown : List Shown) → SafeMessages (reverse (crossings_of shown)) → AreOneBook (as_world shown) []
-raw_book shown messages = record {
+no_notices : (shown : List Shown) → lines.notices_of (as_world shown) ≡ []
+unfolding as_world
+no_notices [] = refl
+no_notices (raw.Crossed c ∷ shown) = no_notices shown
+no_notices (raw.Refused f ∷ shown) = no_notices shown
+
+no_reports : (shown : List Shown) → lines.reports_of (as_world shown) ≡ []
+unfolding as_world
+no_reports [] = refl
+no_reports (raw.Crossed c ∷ shown) = no_reports shown
+no_reports (raw.Refused f ∷ shown) = no_reports shown
+
+-- nothing was reported, so no initial connection is finished
+none_reported : (r : Reported) (reports : List Reported) → reports ≡ [] → Contains reports r → ⊥
+none_reported r reports none there = let few : length reports ≡ 0 = ap length none in omega (arith, few, there.1)
+
+raw_joined : (shown : List Shown) → JoinedBook (shown_book (as_world shown) [])
+raw_joined shown = λ server user s u a b c d h. absurd (none_reported h.served.entry (lines.reports_of (as_world shown)) (no_reports shown) h.served.there)
+
+raw_lived : (shown : List Shown) → AreLived (log_of (as_world shown)) (lines.notices_of (as_world shown)) []
+raw_lived shown = sym (ap (lives_in (log_of (as_world shown))) (no_notices shown) ∙ none_lived (log_of (as_world shown)))
+
+raw_book : (hosts : List Host) (shown : List Shown) → SafeMessages (reverse (crossings_of shown)) → IsRun hosts (reverse (crossings_of shown)) → AreOneBook (as_world shown) []
+raw_book hosts shown messages run = record {
   handed = [];
+  hosts = hosts;
   formed = λ x there. absurd (none_there x there);
-  safe = safe_alone (reverse (lines.crossings_of (as_world shown))) (subst (λ cs. SafeMessages (reverse cs)) (same_crossings shown) messages);
+  told = inl (record { no_notices = no_notices shown; no_reports = no_reports shown; no_lives = refl });
+  safe = safe_alone (log_of (as_world shown)) (subst (λ cs. SafeMessages (reverse cs)) (same_crossings shown) messages);
+  joined = raw_joined shown;
+  run = subst (λ cs. IsRun hosts (reverse cs)) (same_crossings shown) run;
+  lived = raw_lived shown;
 }
 
-no_lives : (book : Bool) → book_text book [] ≡ []
+pub no_lives : (book : Bool) → book_text book [] ≡ []
 no_lives true = refl
 no_lives false = refl
 
 -- ---- a network whose hosts have programs
 
+-- what two books have in common is all that a joined book is about
+is_end : (b other : Book) → b.lives ≡ other.lives → (holder : Host) (own : ℕ) (partner : Host) (foreign : ℕ) (x : Life) → IsEnd b holder own partner foreign x → IsEnd other holder own partner foreign x
+is_end b other same holder own partner foreign x h = record { there = subst (λ (lives : List Life). Contains lives x) same h.there; host = h.host; socket = h.socket; peer = h.peer; foreign = h.foreign; live = h.live }
+
+pub joined_as : (b other : Book) → b.crossings ≡ other.crossings → b.reports ≡ other.reports → b.lives ≡ other.lives → JoinedBook b → JoinedBook other
+joined_as b other crossings reports lives joined = λ server user s u a e c d h.
+    subst (λ (log : List Crossing). Match log c e × Match log a d) crossings
+    (joined server user s u a e c d (record {
+      served = subst (HasReported server (report.Server (outcome.Done s (s + 1)))) (sym reports) h.served;
+      asked = subst (HasReported user (report.User (outcome.Done (u + 2) (u + 3)))) (sym reports) h.asked;
+      server_hears = is_end other b (sym lives) server s user (u + 3) a h.server_hears;
+      server_speaks = is_end other b (sym lives) server (s + 1) user (u + 2) e h.server_speaks;
+      user_hears = is_end other b (sym lives) user (u + 2) server (s + 1) c h.user_hears;
+      user_speaks = is_end other b (sym lives) user (u + 3) server s d h.user_speaks;
+    }))
+
+-- what is left of a run without its newest crossings is one
+pub older_run : (hosts : List Host) (more log : List Crossing) → IsRun hosts (more ++ log) → IsRun hosts log
+older_run hosts [] log run = run
+older_run hosts (c ∷ more) log run = older_run hosts more log run.1
+
+-- the book of a world is a run, even if memory ran out in an event of which something crossed
+pub world_run : {C : Type 0} (seen : C → Seen) (last : WorldState C) → KeepsPromise seen last → IsRun (seen last.carrier).hosts last.kept.book.crossings
+world_run seen last promise =
+    older_run (seen last.carrier).hosts promise.lawful.booked.unbooked last.kept.book.crossings (subst (IsRun (seen last.carrier).hosts) promise.lawful.booked.book promise.lawful.run)
+
 world_book : {C : Type 0} (seen : C → Seen) (last : WorldState C) (shows : List lines.Shown) → ShowsBook last.kept.book shows → KeepsPromise seen last → AreOneBook shows last.kept.book.lives
 world_book seen last shows booked promise = record {
   handed = last.kept.handed;
+  hosts = (seen last.carrier).hosts;
   formed = subst (λ log. FormedBook log last.kept.book.lives) booked.crossed promise.formed;
+  told = inr (subst (λ (told : List Told). FormedNotices (log_of shows) told) booked.told (subst (λ (log : List Crossing). FormedNotices log last.kept.book.notices) booked.crossed promise.told));
   safe = subst (λ log. SafeBook log last.kept.book.lives last.kept.handed) booked.crossed promise.safe;
+  joined = joined_as last.kept.book (shown_book shows last.kept.book.lives) booked.crossed booked.said refl promise.joined;
+  run = subst (IsRun (seen last.carrier).hosts) booked.crossed (world_run seen last promise);
+  lived = subst (λ (told : List Told). AreLived (log_of shows) told last.kept.book.lives) booked.told
+      (subst (λ (log : List Crossing). AreLived log last.kept.book.notices last.kept.book.lives) booked.crossed (lived promise.lawful.whole.moments last.kept promise.lawful.whole.kept));
 }
 
 -- ---- any network
@@ -105,7 +175,7 @@ printed_from : {C : Type 0} (calls : Calls C) (opening : C) (book : Bool) (detai
 printed_from calls opening book detail (Raw events) a b r = record {
   shown = as_world r.shown;
   lives = [];
-  one = raw_book r.shown (subst SafeMessages r.shows.crossed r.shows.messages);
+  one = raw_book (calls.seen r.shows.last).hosts r.shown (subst SafeMessages r.shows.crossed r.shows.messages) (subst (IsRun (calls.seen r.shows.last).hosts) r.shows.crossed r.shows.run);
   written = subst (λ xs. Appends a b (lines.output detail (as_world r.shown) ++ (xs ++ codes "end\n"))) (sym (no_lives book))
       (subst (λ xs. Appends a b (xs ++ codes "end\n")) (same_output detail r.shown) r.written);
 }
@@ -127,7 +197,7 @@ part_from : {C : Type 0} (calls : Calls C) (opening : C) (detail : Detail) (even
 part_from calls opening detail (Raw events) a b r = record {
   shown = as_world r.shown;
   lives = [];
-  one = raw_book r.shown (subst SafeMessages r.is_shown.crossed r.is_shown.messages);
+  one = raw_book (calls.seen r.is_shown.last).hosts r.shown (subst SafeMessages r.is_shown.crossed r.is_shown.messages) (subst (IsRun (calls.seen r.is_shown.last).hosts) r.is_shown.crossed r.is_shown.run);
   written = subst (Appends a b) (same_output detail r.shown) r.written;
 }
 part_from calls opening detail (World events) a b r = record {
@@ -156,3 +226,14 @@ pub without_the_last : (opening : Boxes) (events : List WorldEvent) (lives : Lis
 without_the_last opening events lives last shows more h k =
     let one : (lives ++ last ∷ [] ≡ lives) × (shows ≡ more) = world_once plain_calls plain_settled opening events (lives ++ last ∷ []) lives shows more h k in
     omega (arith, ap length one.0, length-append lives (last ∷ []))
+
+-- ---- what it means that lines and lives are one book
+
+pub joined_in : (shown : List lines.Shown) (lives : List Life) (b : Book) → AreOneBook shown lives → b.crossings ≡ reverse (lines.crossings_of shown) → b.reports ≡ lines.reports_of shown → b.lives ≡ lives → JoinedBook b
+joined_in shown lives b h crossings reports alive = joined_as (shown_book shown lives) b (sym crossings) (sym reports) (sym alive) h.joined
+
+pub told_in : (shown : List lines.Shown) (lives : List Life) → AreOneBook shown lives → (lines.notices_of shown ≡ [] → ⊥) → FormedNotices (reverse (lines.crossings_of shown)) (lines.notices_of shown)
+told_in shown lives h some = elim h.told [
+  | inl bare ↦ absurd (some bare.no_notices)
+  | inr told ↦ told
+]

@@ -1,8 +1,10 @@
 -- What is written of a log as its audit.
-use Rattle.std.specs.Prelude.{◌≡◌, ℕ, ◌+◌, ◌<◌, ◌≤◌, List, ◌++◌, length, reverse, Option, Result, Ok, Err, codes}
+use Rattle.std.specs.Prelude.{◌≡◌, ℕ, ◌+◌, List, ◌++◌, length, reverse, Option, Result, Ok, Err, codes}
 use Rattle.std.specs.Fmt.{decimal}
 use Rattle.std.specs.Io.KnownBytes.{Appends}
 use Rattle.book_log.specs.Log.{Book, IsBadLine, IsLog}
+use Rattle.leader1822.specs.Host.{Host}
+use Rattle.leader1822.specs.Mailboxes.{IsRun}
 use Rattle.net_sim.specs.Audit.{Says, part_text}
 use Rattle.net_sim.specs.Findings.{Shows}
 use Rattle.net_sim.specs.declared.auditing.findings.Finding.{Finding}
@@ -56,32 +58,30 @@ pub record Audited (said : Audit) (before after : Option (List ℕ)) : Type 0 wh
 
 -- ---- faults
 
--- a log of at most 33,554,432 octets
-pub record IsSomeLog (octets : List ℕ) : Type 0 where
-  pub short : length octets ≤ 33554432
-  pub book : Book
-  pub log : IsLog octets book
+-- octets are the log of a book
+abbrev pub IsSomeLog : List ℕ → Type 0
+IsSomeLog octets = (book : Book) × IsLog octets book
 
 -- when each fault may be given for these octets, where no read failed. Memory may run out at any octets
 abbrev pub IsAuditFault : List ℕ → AuditFault → Type 0
-IsAuditFault octets fault.LongLog = 33554432 < length octets
-IsAuditFault octets (fault.BadLog number) = (length octets ≤ 33554432) × IsBadLine octets number
+IsAuditFault octets (fault.BadLog number) = IsBadLine octets number
 IsAuditFault octets fault.OutOfMemory = Unit {0}
 IsAuditFault octets fault.CannotWrite = IsSomeLog octets
 IsAuditFault octets fault.CannotRead = ⊥
 
 -- ---- logs that a replay wrote
 
--- octets are the log of a book that is kept
+-- octets are the log of a book that is kept, and what crossed in it is a run of the mailboxes
 pub record IsKeptLog (octets : List ℕ) : Type 0 where
   pub book : Book
+  pub hosts : List Host
   pub log : IsLog octets book
   pub says : SaysOf audit.Kept book
+  pub run : IsRun hosts (reverse book.crossings)
 
--- how the audit of such a log ends: it says `kept`. Only a log that is too long, memory or a failed write can keep it from saying so
+-- how the audit of such a log ends: it says `kept`. Only memory or a failed write can keep it from saying so
 abbrev pub SaysKept : List ℕ → Result Audit AuditFault → Type 0
 SaysKept octets (Ok said) = said ≡ audit.Kept
-SaysKept octets (Err fault.LongLog) = 33554432 < length octets
 SaysKept octets (Err fault.OutOfMemory) = Unit {0}
 SaysKept octets (Err fault.CannotWrite) = Unit {0}
 SaysKept octets (Err (fault.BadLog number)) = ⊥
@@ -92,12 +92,18 @@ SaysKept octets (Err fault.CannotRead) = ⊥
 -- the exit status of a fault
 abbrev pub status_at : AuditFault → ℕ
 status_at fault.CannotRead = 1
-status_at fault.LongLog = 2
 status_at (fault.BadLog number) = 2
 status_at fault.OutOfMemory = 3
 status_at fault.CannotWrite = 3
 
--- and after an audit
+-- what standard error says of a fault
+abbrev pub audit_text : AuditFault → List ℕ
+audit_text fault.CannotRead = codes "arpasim: cannot read"
+audit_text (fault.BadLog number) = codes "arpasim: bad log line " ++ decimal number
+audit_text fault.OutOfMemory = codes "arpasim: stopped"
+audit_text fault.CannotWrite = codes "arpasim: stopped"
+
+-- the exit status after an audit
 abbrev pub status_said : Audit → ℕ
 status_said audit.Kept = 0
 status_said audit.Malformed = 4
@@ -108,7 +114,6 @@ status_said (audit.Broken p) = 4
 -- the faults of reading octets
 abbrev pub IsLogReadFault : AuditFault → Type 0
 IsLogReadFault fault.CannotRead = Unit {0}
-IsLogReadFault fault.LongLog = Unit {0}
 IsLogReadFault fault.OutOfMemory = Unit {0}
 IsLogReadFault (fault.BadLog number) = ⊥
 IsLogReadFault fault.CannotWrite = ⊥
@@ -118,5 +123,4 @@ abbrev pub IsBookFault : List ℕ → AuditFault → Type 0
 IsBookFault octets (fault.BadLog number) = IsBadLine octets number
 IsBookFault octets fault.OutOfMemory = Unit {0}
 IsBookFault octets fault.CannotRead = ⊥
-IsBookFault octets fault.LongLog = ⊥
 IsBookFault octets fault.CannotWrite = ⊥

@@ -4,10 +4,14 @@ pub mod Described
 pub mod Events
 pub mod Faults
 pub mod Input
+pub mod Joins
+pub mod Lived
 pub mod Logs
 pub mod Options
 pub mod Parser
 pub mod Printed
+pub mod Program
+pub mod Reading
 pub mod Replayed
 pub mod Steps
 pub mod Traced

@@ -1,18 +1,45 @@
 -- The output, for whoever knows neither the input nor the network.
-use Rattle.std.specs.Prelude.{ℕ, Bool, List, ◌++◌, reverse, Option, codes}
+use Rattle.std.specs.Prelude.{◌≡◌, ◌⊎◌, ℕ, Bool, List, [], ◌++◌, reverse, Option, codes}
 use Rattle.std.specs.Io.KnownBytes.{Appends}
+use Rattle.leader1822.specs.Host.{Host}
+use Rattle.leader1822.specs.Mailboxes.{IsRun}
+use Rattle.leader1822.specs.declared.crossing.Crossing.{Crossing}
+use Rattle.net_sim.specs.Book.{Book}
 use Rattle.net_sim.specs.Formed.{FormedBook}
+use Rattle.net_sim.specs.Notices.{FormedNotices}
 use Rattle.net_sim.specs.Safe.{SafeBook}
 use Rattle.net_sim.specs.declared.life.Life.{Life}
 use Rattle.replay.specs.declared.print.Detail.{Detail}
-use Rattle.world_replay.specs.Output.{Shown, crossings_of, output}
+use Rattle.world_keeps_connections.specs.Connections.{JoinedBook}
+use Rattle.world_replay.specs.Output.{Shown, crossings_of, notices_of, output, reports_of}
+use Rattle.command_line.specs.Lived.{AreLived}
 use Rattle.command_line.specs.Replayed.{book_text}
 
--- the crossings of these lines, with these lives, are a formed and safe book
+-- what crossed by these lines, newest first
+abbrev pub log_of : List Shown → List Crossing
+log_of shown = reverse (crossings_of shown)
+
+-- the book of these lines and lives. Of contacts there are no lines
+abbrev pub shown_book : List Shown → List Life → Book
+shown_book shown lives = record { crossings = log_of shown; notices = notices_of shown; contacts = []; reports = reports_of shown; lives = lives }
+
+-- a network without host programs has no users: there are no notices, reports and lives
+pub record AreRaw (shown : List Shown) (lives : List Life) : Type 0 where
+  pub no_notices : notices_of shown ≡ []
+  pub no_reports : reports_of shown ≡ []
+  pub no_lives : lives ≡ []
+
+-- these lines, with these lives, are one book. It is formed, of messages that crossed; its notices of data tell of such messages, unless there are no host
+-- programs; it is safe; its initial connections are joined; what crossed is a run of the mailboxes; and its lives are those that crossings and notices make
 pub record AreOneBook (shown : List Shown) (lives : List Life) : Type 0 where
   pub handed : List (List Bool)
-  pub formed : FormedBook (reverse (crossings_of shown)) lives
-  pub safe : SafeBook (reverse (crossings_of shown)) lives handed
+  pub hosts : List Host
+  pub formed : FormedBook (log_of shown) lives
+  pub told : AreRaw shown lives ⊎ FormedNotices (log_of shown) (notices_of shown)
+  pub safe : SafeBook (log_of shown) lives handed
+  pub joined : JoinedBook (shown_book shown lives)
+  pub run : IsRun hosts (log_of shown)
+  pub lived : AreLived (log_of shown) (notices_of shown) lives
 
 -- lines are written, then the lives of their book where it is asked for, and a last line `end`
 pub record PrintsBook (book : Bool) (detail : Detail) (before after : Option (List ℕ)) : Type 0 where

@@ -1,16 +1,17 @@
 //! The audit of a log.
 
-ghost use Rattle.std.specs.Prelude.{◌≡◌, ◌≢◌, ◌≤◌, ◌<◌, ◌↔◌, Err, IfErr, IfOk, IfSome, MatchResult, OnOk, Some, [], false, length, true};
+ghost use Rattle.std.specs.Prelude.{◌≡◌, ◌≢◌, ◌↔◌, Err, IfErr, IfOk, IfSome, MatchResult, OnOk, Some, [], false, true};
 ghost use Rattle.book_log.specs.Log.{IsLog};
 ghost use Rattle.command_line.specs.Audits.{Audited, AuditsLog, IsAuditFault, IsBookFault, IsLogReadFault, IsSomeLog, SaysKept, status_at, status_said};
 ghost use Rattle.command_line.specs.Logs.{Logged};
 
 use crate::source::{ReadFailed, Source};
 use crate::verdict::write_said;
-use book_log::{LogFault, LoggedBook, MAX_LOG, read_log};
+use book_log::{LogFault, LoggedBook, read_log};
 use net_sim::{Audit, audit};
 use replay::{Output, WriteFailed};
 use std::alloc::{AllocError, AllocFailed, Global};
+use std::fmt;
 use thiserror::Error;
 
 /// Why a log was not audited. Where several apply, the first one of this list is given. Only `OutOfMemory` may come in place of
@@ -18,31 +19,39 @@ use thiserror::Error;
 #[derive(Clone, Copy, Debug, Drop, PartialEq, Eq, Error)]
 pub enum AuditFault {
     /// The log could not be read.
-    #[error("arpasim: cannot read")]
     CannotRead,
-    /// The log has more than 33,554,432 octets.
-    #[error("arpasim: log too long")]
-    LongLog,
     /// This line of the log, counted from 1, is the first bad one.
-    #[error("arpasim: bad log line {0}")]
     BadLog(usize),
     /// No memory was left. Nothing was written.
-    #[error("arpasim: stopped")]
     OutOfMemory,
     /// The output could not be written.
-    #[error("arpasim: stopped")]
     CannotWrite,
 }
 
+/// Prints what standard error says of a fault.
+impl fmt::Display for AuditFault {
+    ghost use Rattle.std.specs.Prelude.{Some};
+    ghost use Rattle.command_line.specs.Audits.{audit_text};
+
+    ghost output = { λ fault. Some (audit_text fault) };
+
+    fn fmt<W: fmt::Write>(&self, f: &mut fmt::Formatter<W>) -> fmt::Result {
+        match self {
+            AuditFault::CannotRead => f.write_str("arpasim: cannot read"),
+            AuditFault::BadLog(number) => write!(f, "arpasim: bad log line {number}"),
+            AuditFault::OutOfMemory | AuditFault::CannotWrite => f.write_str("arpasim: stopped"),
+        }
+    }
+}
+
 impl AuditFault {
-    /// Returns the exit status: 1 for reading, 2 for a log that is too long or has a bad line, 3 when memory runs out
-    /// or a write fails.
+    /// Returns the exit status: 1 for reading, 2 for a bad line, 3 when memory runs out or a write fails.
     pub fn status(&self) -> u8
         ensures { result ≡ status_at self.now }
     {
         match self {
             AuditFault::CannotRead => 1,
-            AuditFault::LongLog | AuditFault::BadLog(_) => 2,
+            AuditFault::BadLog(_) => 2,
             AuditFault::OutOfMemory | AuditFault::CannotWrite => 3,
         }
     }
@@ -104,7 +113,6 @@ pub fn audit_status(said: Audit) -> u8
 ///
 /// Errors, in this order:
 /// - `CannotRead`: a read failed. Nothing more is asked of the reader.
-/// - `LongLog`: there are more than 33,554,432 octets.
 /// - `BadLog`: the first bad line. Nothing is written.
 /// - `CannotWrite`: a write or a flush failed. Nothing more is asked of the writer.
 ///
@@ -150,37 +158,32 @@ pub fn run_audit<R: Source, W: Output>(
 /// How many octets are asked for at once.
 const CHUNK: usize = 4096;
 
-/// Returns all octets that the reader gives. It is asked for one octet more than a log may have, and for none after
-/// that.
+/// Returns all octets that the reader gives.
 ///
-/// Errors: `CannotRead` where a read fails, `LongLog` where there are more octets than a log may have, `OutOfMemory`.
+/// Errors: `CannotRead` where a read fails, `OutOfMemory`.
 fn read_octets<R: Source>(alloc: Global, reader: &mut R) -> Result<Vec<u8>, AuditFault>
     requires { R.failed reader.old ≡ false }
-    ensures long { IfOk result (λ octets. length octets.items ≤ MAX_LOG) }
     ensures whole { IfOk result (λ octets. IfSome (R.remaining reader.old) (λ known. octets.items ≡ known)) }
-    ensures too_long { result ≡ Err AuditFault.LongLog → IfSome (R.remaining reader.old) (λ known. MAX_LOG < length known) }
     ensures fault { IfErr result IsLogReadFault }
     ensures failed { (result ≡ Err AuditFault.CannotRead) ↔ (R.failed reader.new ≡ true) }
 {
     let mut octets = Vec::new(alloc);
     let mut buffer = [0; CHUNK];
-    while octets.len() <= MAX_LOG {
-        let room = CHUNK.min(MAX_LOG + 1 - octets.len());
-        let chunk = &mut buffer[..room];
-        let count = reader.read(chunk)?;
+    // no memory holds as many octets
+    while octets.len() < usize::MAX {
+        let count = reader.read(&mut buffer)?;
         if count == 0 {
             return Ok(octets);
         }
-        octets.extend_from_slice(&chunk[..count])?;
+        octets.extend_from_slice(&buffer[..count])?;
     }
-    Err(AuditFault::LongLog)
+    Err(AuditFault::OutOfMemory)
 }
 
 /// Returns the book of a log.
 ///
 /// Errors: `BadLog`, `OutOfMemory`.
 fn read_book(alloc: Global, octets: &[u8]) -> Result<LoggedBook, AuditFault>
-    requires { length octets.now ≤ MAX_LOG }
     ensures { MatchResult result (IsLog octets.now) (IsBookFault octets.now) }
 {
     match read_log(alloc, octets) {

@@ -6,6 +6,7 @@ ghost use Rattle.command_line.specs.Faults.{status_of};
 use crate::source::ReadFailed;
 use replay::{ReplayFault, WriteFailed};
 use std::alloc::{AllocError, AllocFailed};
+use std::fmt;
 use thiserror::Error;
 
 /// Why the simulator ends with a fault. Where several apply, the first one of this list is given. Only
@@ -16,27 +17,39 @@ use thiserror::Error;
 #[derive(Clone, Copy, Debug, Drop, PartialEq, Eq, Error)]
 pub enum ScriptFault {
     /// A word that is no option, or an option given twice.
-    #[error("arpasim: bad arguments")]
     BadOptions,
     /// The input could not be read.
-    #[error("arpasim: cannot read")]
     CannotRead,
     /// The input has more than 1,048,576 octets, has no line `%`, or begins with no topology that can be
     /// replayed.
-    #[error("arpasim: bad topology")]
     BadTopology,
     /// This line of the script, counted from 1, is no event. Nothing was replayed.
-    #[error("arpasim: bad script line {0}")]
     BadLine(usize),
     /// The network has no traces: its hosts have programs. Nothing was replayed.
-    #[error("arpasim: no trace of such a network")]
     NoTrace,
     /// No memory was left. The output is a prefix of what the replay would have written.
-    #[error("arpasim: stopped")]
     OutOfMemory,
     /// The output could not be written.
-    #[error("arpasim: stopped")]
     CannotWrite,
+}
+
+/// Prints what standard error says of a fault.
+impl fmt::Display for ScriptFault {
+    ghost use Rattle.std.specs.Prelude.{Some};
+    ghost use Rattle.command_line.specs.Faults.{script_text};
+
+    ghost output = { λ fault. Some (script_text fault) };
+
+    fn fmt<W: fmt::Write>(&self, f: &mut fmt::Formatter<W>) -> fmt::Result {
+        match self {
+            ScriptFault::BadOptions => f.write_str("arpasim: bad arguments"),
+            ScriptFault::CannotRead => f.write_str("arpasim: cannot read"),
+            ScriptFault::BadTopology => f.write_str("arpasim: bad topology"),
+            ScriptFault::BadLine(number) => write!(f, "arpasim: bad script line {number}"),
+            ScriptFault::NoTrace => f.write_str("arpasim: no trace of such a network"),
+            ScriptFault::OutOfMemory | ScriptFault::CannotWrite => f.write_str("arpasim: stopped"),
+        }
+    }
 }
 
 impl ScriptFault {

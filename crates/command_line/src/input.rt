@@ -1,9 +1,10 @@
 //! What the simulator reads: octets up to a limit, and the topology and the script in them.
 
-ghost use Rattle.std.specs.Prelude.{◌≡◌, ◌≢◌, ◌≤◌, Err, IsUtf8, ◌<◌, ◌↔◌, false, length, IfSome, IfOk, IfErr, MatchResult, true};
+ghost use Rattle.std.specs.Prelude.{◌≡◌, ◌≢◌, ◌≤◌, Err, IsUtf8, ◌<◌, ◌↔◌, false, length, IfSome, IfOk, IfErr, MatchResult, OnOk, true};
 ghost use Rattle.command_line.specs.Described.{Describes};
 ghost use Rattle.command_line.specs.Events.{AsksFor, asked_of};
 ghost use Rattle.command_line.specs.Input.{IsInput, IsInputFault};
+ghost use Rattle.command_line.specs.Reading.{ReadsAll, ReadsFirst};
 ghost use Rattle.script.specs.Script.{lines_of};
 ghost use Rattle.command_line.specs.Steps.{IsEventsFault, IsNetworkFault, IsReadFault};
 ghost use Rattle.topology.specs.Topology.{TopologyFields};
@@ -97,6 +98,8 @@ pub(crate) fn read_octets<R: Source>(alloc: Global, reader: &mut R) -> Result<Ve
     ensures too_long { result ≡ Err ScriptFault.BadTopology → IfSome (R.remaining reader.old) (λ known. MAX_INPUT < length known) }
     ensures fault { IfErr result IsReadFault }
     ensures failed { (result ≡ Err ScriptFault.CannotRead) ↔ (R.failed reader.new ≡ true) }
+    ensures reads { ReadsFirst (R.remaining reader.old) (R.remaining reader.new) }
+    ensures reads_all { result ≢ Err ScriptFault.CannotRead → result ≢ Err ScriptFault.OutOfMemory → ReadsAll (R.remaining reader.old) (R.remaining reader.new) }
 {
     let mut octets = Vec::new(alloc);
     let mut buffer = [0; CHUNK];

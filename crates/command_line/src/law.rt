@@ -1,16 +1,31 @@
 //! What the simulator promises, as laws over its definitions. The functions here do nothing: their clauses
 //! are the laws.
 
-ghost use Rattle.std.specs.Prelude.{◌≡◌, ◌++◌, ℕ, Bool, List, [], ◌∷◌, Option, Some};
+ghost use Rattle.std.specs.Prelude.{◌≡◌, ◌++◌, ℕ, Bool, List, [], ◌∷◌, Ok, Option, Some, reverse};
 ghost use Rattle.leader1822.specs.Boxes.{Boxes};
+ghost use Rattle.leader1822.specs.Host.{Host};
+ghost use Rattle.leader1822.specs.Mailboxes.{IsRun};
+ghost use Rattle.leader1822.specs.declared.crossing.Crossing.TheVariants as crossing;
+ghost use Rattle.leader1822.specs.declared.message.HostMessage.{HostMessage};
+ghost use Rattle.host_pairs.specs.declared.notice.Notice.TheVariants as notice;
+ghost use Rattle.net_sim.specs.Book.{Book};
+ghost use Rattle.net_sim.specs.Formed.{FormedBook};
+ghost use Rattle.net_sim.specs.Notices.{FormedNotices};
+ghost use Rattle.net_sim.specs.Safe.{SafeBook};
+ghost use Rattle.net_sim.specs.declared.auditing.said.Audit.{Audit};
+ghost use Rattle.net_sim.specs.declared.auditing.said.Audit.TheVariants as audit;
 ghost use Rattle.net_sim.specs.declared.life.Life.{Life};
 ghost use Rattle.replay.specs.declared.print.Detail.{Detail};
-ghost use Rattle.world_replay.specs.Output.{Shown};
+ghost use Rattle.world_keeps_connections.specs.Connections.{JoinedBook};
+ghost use Rattle.world_replay.specs.Output as lines;
+ghost use Rattle.world_replay.specs.Output.{Shown, crossings_of, notices_of, reports_of};
 ghost use Rattle.world_script.specs.declared.event.WorldEvent.{WorldEvent};
-ghost use Rattle.command_line.specs.Audits.{IsKeptLog};
+ghost use Rattle.command_line.specs.Audits.{IsKeptLog, SaysKept};
 ghost use Rattle.command_line.specs.Carriers.{hosting, plain_calls};
-ghost use Rattle.command_line.specs.Logs.{Logged};
-ghost use Rattle.command_line.specs.Printed.{PrintsBook, PrintsPart};
+ghost use Rattle.command_line.specs.Joins.{PrintTheSame, TellTheSame};
+ghost use Rattle.command_line.specs.Lived.{AreLived};
+ghost use Rattle.command_line.specs.Logs.{Logged, LogsInput};
+ghost use Rattle.command_line.specs.Printed.{AreOneBook, PrintsBook, PrintsPart};
 ghost use Rattle.command_line.specs.Replayed.{Ran, RanInPart, ReplaysInput, StopsInput, WorldShowsFrom};
 ghost use Rattle.command_line.specs.Traced.{TraceStops, TracesInput};
 
@@ -31,16 +46,60 @@ pub fn one_trace()
     ensures part { (input before part whole : List ℕ) → TraceStops input (Some before) (Some part) → TracesInput input (Some before) (Some whole) → (rest : List ℕ) × (whole ≡ part ++ rest) }
 {}
 
-/// What is printed is a formed and safe book, of whatever network and events: the crossings of the lines, and the lives, which are printed where the book is
-/// asked for. In a network without host programs there are no lives. Where memory runs out the crossings are still those of such a book.
+/// The input determines its log.
+pub fn one_log()
+    ensures { (input before after other : List ℕ) → LogsInput input (Some before) (Some after) → LogsInput input (Some before) (Some other) → after ≡ other }
+{}
+
+/// The outputs of one input tell one replay. Whether the book and texts are asked for only decides how much of it is printed; and the log is that of the
+/// crossings and the lives that are printed.
+pub fn one_replay()
+    ensures options { (book other : Bool) (detail more : Detail) (input one two : List ℕ) → ReplaysInput book detail input (Some []) (Some one) → ReplaysInput other more input (Some []) (Some two) → PrintTheSame book other detail more one two }
+    ensures log { (book : Bool) (detail : Detail) (input out log : List ℕ) → ReplaysInput book detail input (Some []) (Some out) → LogsInput input (Some []) (Some log) → TellTheSame book detail out log }
+{}
+
+/// What is printed is one book, of whatever network and events, with the book or without it: all that lines show is in it, and its lives, which are printed
+/// where the book is asked for, are those that the lines make. In a network without host programs there are none. Where memory runs out the lines
+/// are still those of such a book.
 pub fn printed_books()
     ensures whole { (book : Bool) (detail : Detail) (before after : Option (List ℕ)) → Ran book detail before after → PrintsBook book detail before after }
     ensures part { (detail : Detail) (before after : Option (List ℕ)) → RanInPart detail before after → PrintsPart detail before after }
 {}
 
-/// What `--log` writes is a log, of whatever network and events, and its book is kept. So whoever reads it comes to this book, and to this verdict.
+/// What it means that lines and lives are one book: all that was promised holds of what the lines show.
+pub fn one_book()
+    ensures formed { (shown : List Shown) (lives : List Life) → AreOneBook shown lives → FormedBook (reverse (crossings_of shown)) lives }
+    ensures told { (shown : List Shown) (lives : List Life) → AreOneBook shown lives → (notices_of shown ≡ [] → ⊥) → FormedNotices (reverse (crossings_of shown)) (notices_of shown) }
+    ensures safe { (shown : List Shown) (lives : List Life) → AreOneBook shown lives → (handed : List (List Bool)) × SafeBook (reverse (crossings_of shown)) lives handed }
+    ensures joined { (shown : List Shown) (lives : List Life) (b : Book) → AreOneBook shown lives → b.crossings ≡ reverse (crossings_of shown) → b.reports ≡ reports_of shown → b.lives ≡ lives → JoinedBook b }
+    ensures run { (shown : List Shown) (lives : List Life) → AreOneBook shown lives → (hosts : List Host) × IsRun hosts (reverse (crossings_of shown)) }
+    ensures lived { (shown : List Shown) (lives : List Life) → AreOneBook shown lives → AreLived (reverse (crossings_of shown)) (notices_of shown) lives }
+{}
+
+/// Lines that no book has.
+pub fn worked_lines()
+    // a message that comes in and never went out
+    ensures never_out { (m : HostMessage) (lives : List Life) → AreOneBook (lines.Crossed (crossing.In m) ∷ []) lives → ⊥ }
+
+    // a notice that bits have arrived, where nothing crossed
+    ensures nothing_in { (h : Host) (socket : ℕ) (bits : List Bool) (lives : List Life) → AreOneBook (lines.Noticed (record { host = h; place = 0; notice = notice.Arrived socket bits }) ∷ []) lives → ⊥ }
+
+    // a notice that an end is open, without its life
+    ensures no_life { (h peer : Host) (socket foreign own partner : ℕ) → AreOneBook (lines.Noticed (record { host = h; place = 0; notice = notice.Opened socket peer foreign own partner }) ∷ []) [] → ⊥ }
+
+    // a life of which no notice tells
+    ensures no_notice { (life : Life) (lives : List Life) → AreOneBook [] (life ∷ lives) → ⊥ }
+{}
+
+/// What `--log` writes is a log, of whatever network and events. Its book is kept, and what crossed in it is a run of the mailboxes. So whoever reads it
+/// comes to this book, and to this verdict.
 pub fn logs_are_kept()
     ensures { (octets : List ℕ) → Logged (Some []) (Some octets) → IsKeptLog octets }
+{}
+
+/// Of a log that is kept nothing else is said.
+pub fn worked_verdicts()
+    ensures { (octets : List ℕ) (said : Audit) → SaysKept octets (Ok said) → said ≡ audit.Kept }
 {}
 
 /// Lives that no replay shows.

@@ -1,8 +1,8 @@
 //! The simulator behind its command line: which options it takes, what it reads, and what it writes.
 //!
-//! Words are read as [`Options`] where each of them is one of the three options and none occurs twice. [`run`]
-//! then reads an input and replays its script, or only reads it, as the options ask. [`run_script`] does the
-//! same for options that were read already.
+//! [`run_program`] is the whole program: its words ask for a replay with [`Options`], for its log or its trace, or for the
+//! audit of a log. [`run`] is the part of it that replays an input or only reads it, as the options ask, and
+//! [`run_script`] does the same for options that were read already.
 //!
 //! An input is a topology, the marker line `%` and a script. A caller may rely on three things. Every input is
 //! replayed or refused by name, with the first fault of the list. What is written is what the replay shows.
@@ -21,6 +21,7 @@ mod input;
 pub mod law;
 mod logging;
 mod options;
+mod program;
 mod simulator;
 mod source;
 mod tracing;
@@ -31,6 +32,7 @@ pub use fault::ScriptFault;
 pub use logging::run_log;
 pub use net_sim::Audit;
 pub use options::{Options, OptionsFault, Task};
+pub use program::{Done, ProgramFault, exit_status, run_program};
 pub use replay::{Detail, Output, Printer, WriteFailed};
 pub use simulator::{run, run_script};
 pub use source::{ReadFailed, Reader, Source};

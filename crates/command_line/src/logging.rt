@@ -8,6 +8,7 @@ ghost use Rattle.command_line.specs.Carriers.{hosting};
 ghost use Rattle.command_line.specs.Events.{asked_of};
 ghost use Rattle.command_line.specs.Input.{IsInputFault, IsSomeInput};
 ghost use Rattle.command_line.specs.Logs.{Logged, LogsFrom, LogsInput, LogsOn, LogsRaw, LogsWorld};
+ghost use Rattle.command_line.specs.Reading.{ReadsAll, ReadsFirst};
 ghost use Rattle.command_line.specs.Steps.{IsReplayFault};
 
 use crate::carriers::subnet_of;
@@ -76,6 +77,11 @@ pub fn run_log<R: Source, W: Output>(
 
     // and of a reader whose octets are known these are the script and the topology that were read
     ensures logged { OnOk result (IfSome (R.remaining reader.old) (λ octets. LogsInput octets (W.contents writer.old) (W.contents writer.new))) }
+
+    // the reader is asked for the first octets only, and for an octet more than an input may have at most; unless a read fails or memory runs out, it is
+    // asked for all of them
+    ensures reads { ReadsFirst (R.remaining reader.old) (R.remaining reader.new) }
+    ensures reads_all { result ≢ Err ScriptFault.CannotRead → result ≢ Err ScriptFault.OutOfMemory → ReadsAll (R.remaining reader.old) (R.remaining reader.new) }
 
     // what is read is an input, or the first fault is given
     ensures read { R.failed reader.new ≡ false → IfSome (R.remaining reader.old) (λ octets. MatchResult result (λ _. IsSomeInput octets) (IsInputFault octets)) }

@@ -4,6 +4,7 @@ ghost use Rattle.std.specs.Prelude.{◌≡◌, ◌≢◌, ◌⊎◌, ◌↔◌, 
 ghost use Rattle.std.specs.Io.KnownBytes.{Appends, Keeps};
 ghost use Rattle.command_line.specs.Input.{IsInputFault, IsSomeInput};
 ghost use Rattle.command_line.specs.Options.{detail_of, options_of};
+ghost use Rattle.command_line.specs.Reading.{ReadsAll, ReadsFirst};
 ghost use Rattle.command_line.specs.Replayed.{Ran, RanInPart, ReplaysInput, StopsInput};
 
 use crate::carriers::{replay_on, write_last};
@@ -44,6 +45,11 @@ pub fn run<R: Source, W: Output>(
 
     // and of a reader whose octets are known these are the script and the topology that were read
     ensures replayed { IfSome (options_of (map string_bytes words.now)) (λ options. options.check ≡ false → OnOk result (IfSome (R.remaining reader.old) (λ octets. ReplaysInput options.book (detail_of options.texts) octets (W.contents writer.old) (W.contents writer.new)))) }
+
+    // the reader is asked for the first octets only, and for an octet more than an input may have at most; unless a read fails or memory runs out, it is
+    // asked for all of them
+    ensures reads { ReadsFirst (R.remaining reader.old) (R.remaining reader.new) }
+    ensures reads_all { IfSome (options_of (map string_bytes words.now)) (λ options. result ≢ Err ScriptFault.CannotRead → result ≢ Err ScriptFault.OutOfMemory → ReadsAll (R.remaining reader.old) (R.remaining reader.new)) }
 
     // what is read is an input, or the first fault is given
     ensures read { IfSome (options_of (map string_bytes words.now)) (λ options. R.failed reader.new ≡ false → IfSome (R.remaining reader.old) (λ octets. MatchResult result (λ _. IsSomeInput octets) (IsInputFault octets))) }
@@ -112,6 +118,11 @@ pub fn run_script<R: Source, W: Output>(
     // and of a reader whose octets are known these are the script and the topology that were read
     ensures replayed { check ≡ false → OnOk result (IfSome (R.remaining reader.old) (λ octets. ReplaysInput book detail octets (W.contents writer.old) (W.contents writer.new))) }
     ensures options { IfErr result (λ f. f ≢ ScriptFault.BadOptions) }
+
+    // the reader is asked for the first octets only, and for an octet more than an input may have at most; unless a read fails or memory runs out, it is
+    // asked for all of them
+    ensures reads { ReadsFirst (R.remaining reader.old) (R.remaining reader.new) }
+    ensures reads_all { result ≢ Err ScriptFault.CannotRead → result ≢ Err ScriptFault.OutOfMemory → ReadsAll (R.remaining reader.old) (R.remaining reader.new) }
 
     // what is read is an input, or the first fault is given
     ensures read { R.failed reader.new ≡ false → IfSome (R.remaining reader.old) (λ octets. MatchResult result (λ _. IsSomeInput octets) (IsInputFault octets)) }

@@ -10,6 +10,8 @@
 #[cfg(test)]
 mod options;
 #[cfg(test)]
+mod programs;
+#[cfg(test)]
 mod scripts;
 #[cfg(test)]
 mod topologies;

@@ -1,11 +1,10 @@
-use Rattle.std.proofs.Common.{◌≡◌, ◌-◌, ◌≤◌, false, length, vec_len}
+use Rattle.std.proofs.Common.{◌≡◌, ◌-◌, false, vec_len}
 use Rattle.std.specs.Io.KnownBytes.{Consumes}
 use Rattle.command_line.proofs.auditing.read_octets.Given as goal
 
 -- what was read so far
 abbrev pub invariant-loop-buffer : goal.invariant-loop-buffer
-invariant-loop-buffer g l =
-    Consumes (g.R.Source.remaining l.fn.reader) (g.R.Source.remaining l.reader) l.octets.items × (g.R.Source.failed l.reader ≡ false) × (length l.octets.items ≤ 33554433)
+invariant-loop-buffer g l = Consumes (g.R.Source.remaining l.fn.reader) (g.R.Source.remaining l.reader) l.octets.items × (g.R.Source.failed l.reader ≡ false)
 
 abbrev pub decreases-loop-buffer : goal.decreases-loop-buffer
-decreases-loop-buffer g l = 33554433 - vec_len l.octets
+decreases-loop-buffer g l = 18446744073709551615 - vec_len l.octets

@@ -13,22 +13,22 @@ pub returns-clause-says : goal.returns-clause-says
 returns-clause-says g c = known_audited (g.R.Source.remaining c.args.reader.now) c.in_ok-octets.octets.items c.audit-said.result (g.W.Output.contents c.args.writer.now) (g.W.Output.contents c.write_said.new.writer) c.in_ok-octets.ensures.whole (audits c.in_ok-octets.octets.items c.in_ok-book.book c.audit-said.result (g.W.Output.contents c.args.writer.now) (g.W.Output.contents c.write_said.new.writer) (subst (λ (o : List ℕ). IsLog o c.in_ok-book.book) c.deref.ensures.value c.in_ok-book.ensures) (says_of c.in_ok-book.book c.audit-said.result c.crossings.result.now c.lives.result.now c.handed.result.now c.crossings.ensures c.lives.ensures c.handed.ensures c.audit-said.ensures) c.in_ok-write_said.ensures.written)
 
 pub returns-clause-read : goal.returns-clause-read
-returns-clause-read g c = λ whole. some_log (g.R.Source.remaining c.args.reader.now) c.in_ok-octets.octets.items c.in_ok-book.book c.in_ok-octets.ensures.whole c.in_ok-octets.ensures.long (subst (λ (o : List ℕ). IsLog o c.in_ok-book.book) c.deref.ensures.value c.in_ok-book.ensures)
+returns-clause-read g c = λ whole. some_log (g.R.Source.remaining c.args.reader.now) c.in_ok-octets.octets.items c.in_ok-book.book c.in_ok-octets.ensures.whole (subst (λ (o : List ℕ). IsLog o c.in_ok-book.book) c.deref.ensures.value c.in_ok-book.ensures)
 
 pub returns-in_err-octets-clause-read : goal.returns-in_err-octets-clause-read
 returns-in_err-octets-clause-read g c = λ whole.
     let same : c.from_residual.result ≡ Err c.in_err-octets.field-0.0 = search rules in
-    unread (g.R.Source.remaining c.args.reader.now) c.from_residual.result c.in_err-octets.field-0.0 (g.R.Source.failed c.read_octets.new.reader) same c.in_err-octets.ensures.fault (λ e. c.in_err-octets.ensures.too_long (ap Err e)) (λ e. c.in_err-octets.ensures.failed.0 (ap Err e)) whole
+    unread (g.R.Source.remaining c.args.reader.now) c.from_residual.result c.in_err-octets.field-0.0 (g.R.Source.failed c.read_octets.new.reader) same c.in_err-octets.ensures.fault (λ e. c.in_err-octets.ensures.failed.0 (ap Err e)) whole
 
 pub returns-in_err-book-clause-read : goal.returns-in_err-book-clause-read
 returns-in_err-book-clause-read g c = λ whole.
     let same : c.from_residual-in_err-book.result ≡ Err c.in_err-book.field-0.0 = search rules in
-    unlogged (g.R.Source.remaining c.args.reader.now) c.in_ok-octets.octets.items c.from_residual-in_err-book.result c.in_err-book.field-0.0 c.in_ok-octets.ensures.whole same (subst (λ (o : List ℕ). IsBookFault o c.in_err-book.field-0.0) c.deref.ensures.value c.in_err-book.ensures) c.in_ok-octets.ensures.long
+    unlogged (g.R.Source.remaining c.args.reader.now) c.in_ok-octets.octets.items c.from_residual-in_err-book.result c.in_err-book.field-0.0 c.in_ok-octets.ensures.whole same (subst (λ (o : List ℕ). IsBookFault o c.in_err-book.field-0.0) c.deref.ensures.value c.in_err-book.ensures)
 
 pub returns-in_err-write_said-clause-read : goal.returns-in_err-write_said-clause-read
 returns-in_err-write_said-clause-read g c = λ whole.
     let same : c.from_residual-in_err-write_said.result ≡ Err fault.CannotWrite = search rules in
-    unwritten (g.R.Source.remaining c.args.reader.now) c.in_ok-octets.octets.items c.in_ok-book.book c.from_residual-in_err-write_said.result c.in_ok-octets.ensures.whole same c.in_ok-octets.ensures.long (subst (λ (o : List ℕ). IsLog o c.in_ok-book.book) c.deref.ensures.value c.in_ok-book.ensures)
+    unwritten (g.R.Source.remaining c.args.reader.now) c.in_ok-octets.octets.items c.in_ok-book.book c.from_residual-in_err-write_said.result c.in_ok-octets.ensures.whole same (subst (λ (o : List ℕ). IsLog o c.in_ok-book.book) c.deref.ensures.value c.in_ok-book.ensures)
 
 pub returns-clause-kept : goal.returns-clause-kept
 returns-clause-kept g c = λ whole. ends_kept (g.R.Source.remaining c.args.reader.now) c.audit-said.result (g.W.Output.contents c.args.writer.now) (g.W.Output.contents c.write_said.new.writer) (returns-clause-says g c)

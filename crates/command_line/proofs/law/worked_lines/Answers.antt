@@ -1,0 +1,14 @@
+use Rattle.command_line.proofs.WorkedLines.{never_out, no_life, no_notice, nothing_in}
+use Rattle.command_line.proofs.law.worked_lines.Goals as goal
+
+pub returns-clause-never_out : goal.returns-clause-never_out
+returns-clause-never_out c = never_out
+
+pub returns-clause-nothing_in : goal.returns-clause-nothing_in
+returns-clause-nothing_in c = nothing_in
+
+pub returns-clause-no_life : goal.returns-clause-no_life
+returns-clause-no_life c = no_life
+
+pub returns-clause-no_notice : goal.returns-clause-no_notice
+returns-clause-no_notice c = no_notice

@@ -1,0 +1,11 @@
+-- How far an input is read.
+use Rattle.std.specs.Prelude.{◌≡◌, ◌⊎◌, ◌≤◌, ℕ, List, length, Option}
+use Rattle.std.specs.Io.KnownBytes.{Consumes, IsAtEnd}
+
+-- the first octets are read, at most one more than an input may have
+abbrev pub ReadsFirst : Option (List ℕ) → Option (List ℕ) → Type 0
+ReadsFirst old new = (first : List ℕ) × Consumes old new first × (length first ≤ 1048577)
+
+-- all octets are read, or 1,048,577, which are too many for an input
+abbrev pub ReadsAll : Option (List ℕ) → Option (List ℕ) → Type 0
+ReadsAll old new = (first : List ℕ) × Consumes old new first × (IsAtEnd new ⊎ (length first ≡ 1048577))
