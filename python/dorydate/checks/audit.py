@@ -166,7 +166,7 @@ TIMES = 500_000
 
 
 def check_long() -> list[str]:
-    """What is wrong with two logs of 36 million octets, one without a good line and one that is kept: logs have no limit."""
+    """What is wrong with two logs of 35 million octets and more, one without a good line and one that is kept: logs have no limit."""
     rows: list[tuple[bytes, End]] = [(b"x" * 36_000_000, (2, "", "arpasim: bad log line 1\n")), (PASSED * TIMES + b"end\n", (0, "kept\n", ""))]
     found = [(len(octets), owed, run(octets, "--audit")) for octets, owed in rows]
     print(f"check audit: logs of {' and '.join(f'{count:,}' for count, _, _ in found)} octets")
