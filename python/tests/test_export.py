@@ -20,7 +20,7 @@ from dorydate.export import chart, pcapng, perfetto, shiviz
 from dorydate.export.command import DISSECTOR, written
 from dorydate.export.leaders import body, leader, packet_of
 from dorydate.export.replayed import Happened, Line, Replayed, as_printed, output, replayed
-from dorydate.model.decode import text_in_words
+from dorydate.sentences.texts import text_in_words
 from dorydate.network import Host
 from dorydate.program import found
 from dorydate.script import Calm, Flow, Script, Text

@@ -17,7 +17,7 @@ from dorydate.explain.command import drawn
 from dorydate.explain.given import Input
 from dorydate.explain.inside import Inside, Told
 from dorydate.explain.runs import replay
-from dorydate.model.decode import text_in_words
+from dorydate.sentences.texts import text_in_words
 from dorydate.model.imp import Imp
 from dorydate.model.script import Event, read_event
 from dorydate.model.subnet import Subnet

@@ -9,7 +9,7 @@ from dataclasses import dataclass
 from dorydate.explain.inside import Inside, Told, TooLong
 from dorydate.explain.runs import Happened
 from dorydate.explain.waits import at_rest
-from dorydate.model.decode import raw_text_in_words, text_in_words
+from dorydate.sentences.texts import raw_text_in_words, text_in_words
 from dorydate.model.script import read_event
 from dorydate.model.topology import Topology
 

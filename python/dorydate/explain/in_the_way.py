@@ -252,5 +252,5 @@ class InTheWay:
         if number not in self.subnet.sites:
             return filled(REFUSED["no imp"], number=number)
         if self.subnet.imps[number] is None:
-            return f"IMP {number} is down, and holds no pieces."
+            return filled(REFUSED["no pieces, down"], imp=f"IMP {number}")
         return filled(REFUSED["no pieces"], imp=f"IMP {number}", message=f"flow {spell_flow(flow)}")

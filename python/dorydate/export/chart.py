@@ -8,7 +8,7 @@ from dataclasses import dataclass
 
 from dorydate.drawing import SIZE, drawn
 from dorydate.export.replayed import Happened, Line, Replayed
-from dorydate.model import decode
+from dorydate.sentences import texts as decode
 from dorydate.network import Host, Network
 from dorydate.script import Flow, Text
 from dorydate.state import State
