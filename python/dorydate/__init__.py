@@ -8,7 +8,8 @@ docs/python.md has a tutorial.
 
 from dorydate.network import BadNetwork, Host, Imp, Line, Network
 from dorydate.program import NoProgram, Program
-from dorydate.replay import Deed, Replay, Step, Stopped
+from dorydate.replay import Replay
+from dorydate.deeds import Deed, Step, Stopped
 from dorydate.script import BadLine, Event, Flow, Script, Text
 from dorydate.state import State
 

@@ -12,7 +12,8 @@ from pathlib import Path
 
 from dorydate.network import BadNetwork
 from dorydate.program import NoProgram, Program
-from dorydate.replay import Replay, Stopped
+from dorydate.deeds import Stopped
+from dorydate.replay import Replay
 from dorydate.script import BadLine, Entry, Script
 
 

@@ -7,89 +7,18 @@ tried here can be replayed, explained and audited without this package.
 from __future__ import annotations
 
 from collections.abc import Callable, Iterable, Sequence
-from dataclasses import dataclass
-from typing import Union
 
 from dorydate import script as events
-from dorydate import sentences
+from dorydate.deeds import Deed, Octets, Step, Stopped, text_of, together
 from dorydate.drawing import drawn
 from dorydate.inside import CannotFollow, state_of, trace_of
 from dorydate.network import Host, HostName, ImpName, Network
-from dorydate.printed import flow_of, kind_of, matches, refusal, without_text
+from dorydate.printed import flow_of, kind_of, matches, without_text
 from dorydate.program import Program, found
-from dorydate.script import Entry, Event, Flow, Script, Text
+from dorydate.script import Entry, Event, Flow, Script
 from dorydate.state import Frame, State
 
 MOST_ROUNDS = 200  # of one `settle`, `run_until` or `restart` where nothing else is said
-Octets = Union[bytes, str, Text]
-
-
-class Stopped(Exception):
-    """Why a replay can't continue."""
-
-
-@dataclass(frozen=True)
-class Step:
-    """A plain event with what it printed."""
-
-    event: Event
-    printed: tuple[str, ...]
-    texts: tuple[str, ...] = ()  # the same lines, with the octets of messages after them
-    why: str = ""
-
-    @property
-    def refused(self) -> str | None:
-        """The name of its refusal; it changed nothing then."""
-        return refusal(self.printed)
-
-    @property
-    def meanings(self) -> list[str]:
-        """What its lines mean, a sentence each; of an event that printed nothing, what that means."""
-        if not self.printed:
-            return [sentences.silence(str(self.event).split(" "))]
-        return [sentences.meaning(it) for it in self.printed]
-
-    def __str__(self) -> str:
-        return "\n".join([str(self.event), *(f"    {it}" for it in self.printed)])
-
-
-@dataclass(frozen=True)
-class Deed:
-    """What a call did: the plain events that it became, those that were tried and refused, and what is to be said of it."""
-
-    steps: tuple[Step, ...]
-    tried: tuple[Step, ...] = ()
-    note: str = ""
-
-    @property
-    def printed(self) -> list[str]:
-        return [line for step in self.steps for line in step.printed]
-
-    @property
-    def refused(self) -> str | None:
-        """The name of the refusal that it came to, None where all was done."""
-        return next((step.refused for step in (*self.steps, *self.tried[-1:] * (not self.steps)) if step.refused), None)
-
-    @property
-    def flow(self) -> Flow | None:
-        """The flow of the message that it sent."""
-        return next((flow_of(it) for it in self.printed if it.startswith("out ")), None)
-
-    def __bool__(self) -> bool:
-        return self.refused is None
-
-    def __str__(self) -> str:
-        tried = [f"(tried: {step.event}: {step.refused})" for step in self.tried]
-        return "\n".join([*map(str, self.steps), *tried, *([self.note] if self.note else [])])
-
-    def __repr__(self) -> str:
-        return str(self)
-
-
-def text_of(octets: Octets) -> Text:
-    if isinstance(octets, Text):
-        return octets
-    return Text.of(octets if isinstance(octets, bytes) else octets.encode("ascii"))
 
 
 class Replay:
@@ -433,8 +362,3 @@ class Replay:
         except CannotFollow:
             state = State(self.network, {})
         return drawn(self.network, state, self.unanswered())
-
-
-def together(deeds: Sequence[Deed]) -> Deed:
-    """Several deeds as one."""
-    return Deed(tuple(it for deed in deeds for it in deed.steps), tuple(it for deed in deeds for it in deed.tried), " ".join(it.note for it in deeds if it.note))

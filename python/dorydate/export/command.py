@@ -14,7 +14,7 @@ from dorydate.inside import CannotFollow, state_of
 from dorydate.network import BadNetwork
 from dorydate.printed import refusal
 from dorydate.program import MOST_OCTETS, NoProgram, Program, TookTooLong, found
-from dorydate.replay import Stopped
+from dorydate.deeds import Stopped
 from dorydate.script import BadLine, Script
 from dorydate.state import State
 from dorydate.trace import BadTrace

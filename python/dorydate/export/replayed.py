@@ -10,7 +10,8 @@ from typing import Any
 from dorydate.network import MOST_HOSTS, MOST_IMPS, Host, Network
 from dorydate.printed import CROSSINGS
 from dorydate.program import Program, found
-from dorydate.replay import Replay, Stopped
+from dorydate.deeds import Stopped
+from dorydate.replay import Replay
 from dorydate.script import Event, HostDown, Script
 from dorydate.trace import FORMAT, opening, records
 
