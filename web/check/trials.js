@@ -1,0 +1,526 @@
+/**
+ * What is tried in the page of the workbench: each function runs there, by itself, and is given what it may use.
+ *
+ * So none of them may use a name of this module. What is wrong is noted by `want`.
+ */
+
+/**
+ * @typedef {object} Page what a trial uses. Elements are of any kind, and have to be there
+ * @property {(id: string) => any} $ an element by its id
+ * @property {(selector: string) => any} one
+ * @property {(selector: string) => any[]} all
+ * @property {() => any} focused the element that has the focus
+ * @property {(milliseconds: number) => Promise<void>} pause
+ * @property {(holds: () => unknown, what: string) => Promise<void>} until
+ * @property {() => Promise<void>} ready waits until the page is ready
+ * @property {(does: () => void) => Promise<void>} changed does something, and waits until the script is replayed
+ * @property {(id: string) => void} press
+ * @property {(at: number) => void} slide goes to a step
+ * @property {(name: string) => Promise<void>} load opens a lesson
+ * @property {(name: string, on?: any, more?: object) => void} key
+ * @property {(holds: unknown, what: string) => void} want
+ * @property {string[]} wrong
+ */
+
+/**
+ * Makes what trials use, in the page.
+ *
+ * @returns {Page}
+ */
+export function makePage() {
+    /** @type {string[]} */
+    const wrong = [];
+    /** @type {Page} */
+    const page = {
+        wrong,
+        $: (id) => document.getElementById(id),
+        one: (selector) => document.querySelector(selector),
+        all: (selector) => [...document.querySelectorAll(selector)],
+        focused: () => document.activeElement,
+        pause: (milliseconds) => new Promise((go) => setTimeout(() => go(), milliseconds)),
+        async until(holds, what) {
+            for (let at = 0; at < 600; at += 1) {
+                if (holds()) return;
+                await page.pause(25);
+            }
+            throw new Error(`never: ${what}`);
+        },
+        ready() {
+            const { dataset } = document.documentElement;
+            return page.until(() => dataset.ready === "yes" && page.$("count").textContent, "the page is ready");
+        },
+        async changed(does) {
+            const { dataset } = document.documentElement;
+            const was = dataset.replays;
+            does();
+            await page.until(() => dataset.replays !== was, "the script is replayed");
+            await page.pause(20);
+        },
+        press: (id) => page.$(id).click(),
+        slide(at) {
+            page.$("slider").value = at;
+            page.$("slider").dispatchEvent(new Event("input"));
+        },
+        async load(name) {
+            await page.changed(() => {
+                page.$("lesson").value = name;
+                page.$("lesson").dispatchEvent(new Event("change"));
+            });
+            const isShown = page.$("lesson").value === name && page.$("count").textContent.startsWith("step 0");
+            page.want(isShown, `${name} is not shown`);
+        },
+        key(name, on = document.body, more = {}) {
+            on.dispatchEvent(new KeyboardEvent("keydown", { key: name, bubbles: true, cancelable: true, ...more }));
+        },
+        want(holds, what) {
+            if (!holds) wrong.push(what);
+        },
+    };
+    return page;
+}
+
+/**
+ * Goes through the steps of a lesson forth and back: each has its sentence, and it is the same both ways.
+ *
+ * @param {Page} page
+ * @param {string} name
+ */
+export function stepped({ $, one, press, slide, want }, name) {
+    const count = Number($("slider").max);
+    const seen = [];
+    const every = Math.max(1, Math.floor(count / 150));
+    for (let at = 0; at <= count; at += every) {
+        slide(at);
+        seen.push($("sentence").textContent);
+        want($("sentence").textContent.length > 3, name + ": a sentence at step " + at);
+        want($("count").textContent === "step " + at + " of " + count, name + ": the count at step " + at);
+    }
+    for (let at = seen.length - 1; at >= 0; at -= 1) {
+        slide(at * every);
+        want($("sentence").textContent === seen[at], name + ": another sentence on the way back at step " + at * every);
+    }
+    press("next");
+    want($("count").textContent.startsWith("step 1 "), name + ": next goes one step");
+    press("back");
+    want($("count").textContent.startsWith("step 0 "), name + ": back goes one step");
+}
+
+/**
+ * Nothing is cut at this size, and no text is on another.
+ *
+ * @param {Page} page
+ */
+export function measured({ $, all, want, wrong }) {
+    const room = { width: document.documentElement.clientWidth, height: document.documentElement.clientHeight };
+    want(
+        document.documentElement.scrollWidth <= room.width,
+        "the page is " + document.documentElement.scrollWidth + " wide at " + room.width,
+    );
+    for (const id of ["head", "told", "map", "tabs", "foot"]) {
+        const box = $(id).getBoundingClientRect();
+        want(box.width > 0 && box.height > 20, id + " is " + Math.round(box.width) + " by " + Math.round(box.height));
+        want(box.right <= room.width + 1 && box.left >= -1, id + " is cut at the side");
+    }
+    want(
+        $("sheet").getBoundingClientRect().height > 60 || $("pane").getBoundingClientRect().height > 60,
+        "neither the script nor a table has room",
+    );
+    want($("map").getBoundingClientRect().height > 100, "the map has no room");
+    for (const it of all("#head button, #foot button, #tabs button")) {
+        const box = it.getBoundingClientRect();
+        if (box.width && !it.closest("#rare:not(.open)")) {
+            want(
+                box.right <= room.width + 1 && box.left >= -1 || it.closest("#tabs"),
+                "the button " + it.textContent + " is cut",
+            );
+        }
+    }
+    /** @typedef {{text: string, box: DOMRect}} Seen */
+    const isSeen = (/** @type {any} */ it) =>
+        it.getBoundingClientRect().width && getComputedStyle(it).display !== "none";
+    /** @type {(selector: string) => Seen[]} */
+    const boxes = (selector) =>
+        all(selector)
+            .filter((it) => it.textContent.trim() && isSeen(it))
+            .map((it) => ({ text: it.textContent, box: it.getBoundingClientRect() }));
+    const isOn = (/** @type {DOMRect} */ a, /** @type {DOMRect} */ b) =>
+        Math.min(a.right, b.right) - Math.max(a.left, b.left) > 2 &&
+        Math.min(a.bottom, b.bottom) - Math.max(a.top, b.top) > 3;
+    const overlap = (/** @type {Seen[]} */ list, /** @type {string} */ what) =>
+        list.forEach((a, at) => {
+            for (const b of list.slice(at + 1)) want(!isOn(a.box, b.box), `${what}: ${a.text} on ${b.text}`);
+        });
+    overlap(boxes("#network text"), "map");
+    const frame = $("network").getBoundingClientRect();
+    for (const it of all("#network .arc, #network .box, #network .disc")) {
+        const box = it.getBoundingClientRect();
+        want(
+            box.top >= frame.top - 1
+                && box.bottom <= frame.bottom + 1
+                && box.left >= frame.left - 1
+                && box.right <= frame.right + 1,
+            "something is cut at the edge of the map: " + it.getAttribute("class"),
+        );
+    }
+    overlap(boxes(".chart .mark:not(.gone) text:not(.plate)"), "chart");
+    overlap(boxes("#sheet .row:not([hidden]) .text"), "rows");
+    overlap(boxes("#sheet .head"), "heads");
+}
+
+/**
+ * Texts that have to be read have contrast enough.
+ *
+ * @param {Page} page
+ */
+export function contrast({ all, want }) {
+    const parse = (/** @type {string} */ color) => (color.match(/[\d.]+/g) ?? []).map(Number);
+    const light = (/** @type {number[]} */ rgb) => {
+        const [r, g, b] = rgb.map((it) => {
+            const value = it / 255;
+            return value <= 0.03928 ? value / 12.92 : ((value + 0.055) / 1.055) ** 2.4;
+        });
+        return 0.2126 * r + 0.7152 * g + 0.0722 * b;
+    };
+    const ground = (/** @type {any} */ it) => {
+        for (let at = it; at; at = at.parentElement) {
+            const color = parse(getComputedStyle(at).backgroundColor);
+            if (color.length === 3 || color[3] > 0.99) return color.slice(0, 3);
+        }
+        return [255, 255, 255];
+    };
+    const read = ["#label", "#sentence", ".row .text", ".row .number", ".row .steps", ".head", ".soft", "#count"];
+    const more = ["#legend span", ".wait p", ".wait h3", "th", "td", "#tabs button"];
+    for (const it of all([...read, ...more].join())) {
+        if (!it.textContent.trim() || !it.getBoundingClientRect().width) continue;
+        const back = ground(it);
+        let opacity = 1;
+        for (let at = it; at; at = at.parentElement) opacity *= Number(getComputedStyle(at).opacity);
+        const front = parse(getComputedStyle(it).color).slice(0, 3).map(
+            (value, place) => value * opacity + back[place] * (1 - opacity),
+        );
+        const [a, b] = [light(front), light(back)].sort((x, y) => y - x);
+        const ratio = (a + 0.05) / (b + 0.05);
+        const what = `${it.id || it.className} ${it.textContent.slice(0, 30)}`;
+        want(ratio >= 4.45, `contrast ${ratio.toFixed(2)}: ${what}`);
+    }
+}
+
+/**
+ * Keys, the focus, names for who hears, and shapes that differ without colour.
+ *
+ * @param {Page} page
+ */
+export async function keys({ $, one, all, focused, load, key, want }) {
+    await load("first-message");
+    want($("sentence").getAttribute("aria-live") === "polite", "no live region");
+    $("next").focus();
+    $("next").click();
+    want(focused() === $("next"), "a step takes the focus from the button");
+    key(" ", $("next"));
+    want($("play").textContent === "Play", "space on a button plays");
+    key("ArrowRight");
+    want($("count").textContent.startsWith("step 2 "), "right goes a step");
+    key("ArrowLeft");
+    key("End");
+    want($("count").textContent === "step " + $("slider").max + " of " + $("slider").max, "End goes to the end");
+    key("Home");
+    want($("count").textContent.startsWith("step 0 "), "Home goes to the beginning");
+    want(/^step 0 of/.test($("slider").getAttribute("aria-valuetext")), "the slider has no text");
+    key("Enter", $("network"));
+    want(focused() && focused().closest("#network"), "Enter goes into the map");
+    const part = focused();
+    want(part.getAttribute("aria-label"), "a part without a name");
+    key("Enter", part);
+    want(!$("menu").hidden, "Enter opens the menu");
+    key("Escape", focused());
+    want($("menu").hidden && focused() === part, "Escape gives the focus back");
+    $("tab-waits").focus();
+    key("ArrowRight", $("tab-waits"));
+    want(
+        $("tab-distances").getAttribute("aria-selected") === "true" && focused() === $("tab-distances"),
+        "arrows do not go from tab to tab",
+    );
+    want(
+        all("#network .part").every(
+            (it) => it.querySelector("title").textContent === it.getAttribute("aria-label")
+                && it.getAttribute("aria-label"),
+        ),
+        "a part without a title for who points at it",
+    );
+    want(
+        all("th").every((it) => it.getAttribute("scope")),
+        "a head of a table without scope",
+    );
+    const signs = all("#legend .sign").map((it) => it.getAttribute("d"));
+    want(signs.length > 5 && new Set(signs).size === signs.length, "two kinds of frames have one shape");
+    want($("pace").options.length === 3, "there is no choice of speed");
+    want(
+        all("button, select, input:not([type=file])").every(
+            (it) => it.textContent.trim() || it.getAttribute("aria-label"),
+        ),
+        "a button without a name",
+    );
+}
+
+/**
+ * Taps change the script, Undo brings it back, and an address brings it elsewhere.
+ *
+ * @param {Page} page
+ */
+export async function tapped({ $, one, all, pause, changed, press, load, want, wrong }) {
+    await load("rerouted-over-a-triangle");
+    for (let at = 0; at < 14; at += 1) press("next");
+    const count = () => $("count").textContent;
+    const script = () => all(".row.event .text").map((it) => it.textContent).join("\n");
+    for (const kind of ["line", "imp", "host", "frame"]) {
+        const part = one("#network .part." + kind);
+        if (!part) {
+            wrong.push("no " + kind + " to tap");
+            continue;
+        }
+        const before = [count(), script()];
+        part.dispatchEvent(new MouseEvent("click", { bubbles: true }));
+        if (matchMedia("(pointer: coarse)").matches && one("#menu h2").textContent === "Which one?") {
+            one("#menu [role=menuitem]").click();
+        }
+        const items = all("#menu [role=menuitem]").filter((it) => it.querySelector("code"));
+        want(items.length > 0, kind + ": no choices");
+        const lines = items[0].querySelector("code").textContent.split(" · ");
+        await changed(() => items[0].click());
+        const isThere = (/** @type {string} */ line) => script().includes(line);
+        want(lines.every(isThere), `${kind}: the lines are not in the script: ${lines}`);
+        want(all(".row.added").length >= lines.length, kind + ": added lines are not marked");
+        await changed(() => press("undo"));
+        want(
+            count() === before[0] && script() === before[1],
+            kind + ": undo does not bring back the same script and step: " + count(),
+        );
+    }
+    await changed(() => press("round"));
+    press("share");
+    await pause(120);
+    const shared = { hash: location.hash, count: count(), sentence: $("sentence").textContent, script: script() };
+    want(/^#s=/.test(shared.hash), "no script in the address");
+    await load("first-message");
+    await changed(() => { location.hash = shared.hash; });
+    want(
+        count() === shared.count && script() === shared.script && $("sentence").textContent === shared.sentence,
+        "the address brings another script or step",
+    );
+}
+
+/**
+ * Two maps are beside each other after a change, at the same step, with what differs; and the index has all lessons.
+ *
+ * @param {Page} page
+ */
+export async function compared({ $, one, all, until, changed, press, load, want }) {
+    await load("rerouted-over-a-triangle");
+    press("tab-compare");
+    want(
+        $("was").hidden && /^Nothing was changed/.test($("pane").textContent),
+        "a script that was not changed is compared",
+    );
+    for (let at = 0; at < 4; at += 1) press("next");
+    const line = one("#network .part.line");
+    line.dispatchEvent(new MouseEvent("click", { bubbles: true }));
+    const cut = all("#menu [role=menuitem]").find((it) => /^(?:Cut|Line)/.test(it.textContent));
+    await changed(() => cut.click());
+    await until(() => !$("was").hidden, "the map as it was is shown");
+    want(
+        /^Not alike at this step: .*IMP 1/.test(one("#pane .parts").textContent),
+        "what differs is not said: " + one("#pane .parts").textContent,
+    );
+    want(all("#was .part.marked").length >= 2, "what differs is not marked");
+    want(
+        all("#network .half.down").length === 2
+            && all("#was .half.down").length === 0,
+        "the two maps are not as it is and as it was",
+    );
+    want(
+        /^as it was opened, line /.test($("was-words").textContent) && /^now, line /.test($("now-words").textContent),
+        "the maps have no captions",
+    );
+    want(all("#was [tabindex]").length === 0, "keys go through the map as it was");
+    press("last");
+    press("first");
+    want(/alike inside/.test(one("#pane .parts").textContent), "at the beginning both are alike");
+    await changed(() => press("undo"));
+    want($("was").hidden, "the map as it was stays after Undo");
+    press("tab-waits");
+    want($("was").hidden && $("now-words").hidden, "the map as it was stays beside another table");
+    $("lessons").focus();
+    press("lessons");
+    want(
+        $("index").open && all("#index [data-name]").length === $("lesson").options.length,
+        "the index has other lessons than the list",
+    );
+    want(
+        all("#index .lessons ul > li").filter((it) => !it.querySelector("ol")).length === 2,
+        "lessons without a question: " + all("#index .lessons ul > li").filter((it) => !it.querySelector("ol")).map(
+            (it) => it.querySelector("button").textContent,
+        ),
+    );
+    want(
+        all("#index .answer").every((it) => getComputedStyle(it).display === "none"),
+        "the index shows answers at once",
+    );
+    press("index-answers");
+    want(
+        all("#index .answer").every((it) => getComputedStyle(it).display !== "none"),
+        "the index shows no answers",
+    );
+    window.dispatchEvent(new Event("beforeprint"));
+    want(all("#handout .lessons li li").length > 60, "the index is not printed");
+    window.dispatchEvent(new Event("afterprint"));
+    press("index-answers");
+    await changed(() => one("#index [data-name=a-repeat-is-taken-once]").click());
+    want(!$("index").open && $("lesson").value === "a-repeat-is-taken-once" , "the index opens no lesson");
+}
+
+/**
+ * On paper each line of the script has what came of it; and a file that isn't UTF-8 is refused by name.
+ *
+ * @param {Page} page
+ */
+export async function printed({ $, one, all, until, load, want }) {
+    await load("lo-of-login");
+    window.dispatchEvent(new Event("beforeprint"));
+    const rows = all("#handout tbody tr:not(.note):not(.blank)").map(
+        (it) => [...it.children].map((cell) => cell.textContent),
+    );
+    const events = all("#sheet .row.event .number").map((it) => it.textContent);
+    want(
+        rows.filter((it) => it[0]).map((it) => it[0]).join() === events.join(),
+        "the handout has other lines than the script: " + rows.filter((it) => it[0]).map((it) => it[0]).join(),
+    );
+    want(rows.every((it) => it[1] && /[.”]$/.test(it[2])), "a row of the handout without its sentence");
+    want(
+        all("#handout .blank").length === 2 && one("#handout svg"),
+        "the handout has no room for answers, or no map",
+    );
+    window.dispatchEvent(new Event("afterprint"));
+    const given = new DataTransfer();
+    given.items.add(new File([new Uint8Array([0x23, 0xfc, 0x0a])], "latin.txt"));
+    $("file").files = given.files;
+    $("file").dispatchEvent(new Event("change"));
+    await until(() => /latin.txt is not UTF-8/.test($("toast").textContent), "that the file is not UTF-8");
+    want($("label").textContent !== "A script", "a file in Latin-1 is opened");
+}
+
+/**
+ * On paper nothing is beyond the edge, no text is on another, and the page itself is not there.
+ *
+ * @param {Page} page
+ */
+export function paper({ all, want }) {
+    window.dispatchEvent(new Event("beforeprint"));
+    const width = document.documentElement.clientWidth;
+    for (const it of all("body > *")) {
+        const box = it.getBoundingClientRect();
+        want(it.id === "handout" || box.height === 0, "on paper there is " + (it.id || it.tagName));
+    }
+    const cells = all("#handout td, #handout th, #handout h1, #handout p, #handout li > p").filter(
+        (it) => it.textContent.trim(),
+    );
+    want(cells.length > 4, "nothing is printed");
+    const boxes = cells.map((it) => {
+        const range = document.createRange();
+        range.selectNodeContents(it);
+        return {
+            text: it.textContent.slice(0, 40),
+            box: range.getBoundingClientRect(),
+            own: it.getBoundingClientRect(),
+        };
+    });
+    for (const { text, box, own } of boxes) {
+        want(box.right <= own.right + 1 && own.right <= width + 1, "cut on paper: " + text);
+    }
+    boxes.forEach((a, at) => {
+        for (const b of boxes.slice(at + 1, at + 8)) {
+            const width = Math.min(a.box.right, b.box.right) - Math.max(a.box.left, b.box.left);
+            const height = Math.min(a.box.bottom, b.box.bottom) - Math.max(a.box.top, b.box.top);
+            want(width < 2 || height < 3, `on paper: ${a.text} on ${b.text}`);
+        }
+    });
+    window.dispatchEvent(new Event("afterprint"));
+}
+
+/**
+ * What is to come is hidden, and questions are asked in place of the next step.
+ *
+ * @param {Page} page
+ */
+export async function hidden({ $, one, all, press, load, want }) {
+    await load("reassembly-lockup");
+    press("hide");
+    for (let at = 0; at < 3; at += 1) press("next");
+    const shown = all("#sheet .row:not([hidden])").filter(
+        (it) => it.getBoundingClientRect().height,
+    );
+    want(shown.every((it) => !it.classList.contains("future")), "a row of the future is shown");
+    want(
+        all(".chart [data-at]").every(
+            (it) => !it.classList.contains("future") || it.classList.contains("gone"),
+        ),
+        "an arrow of the future is shown",
+    );
+    want(
+        !/ of /.test($("count").textContent) && Number($("slider").max) <= 3,
+        "the count or the slider gives the length away",
+    );
+    press("edit");
+    want($("editor").hidden, "Edit shows the future");
+    await load("first-message");
+    press("next");
+    press("next");
+    want(!$("question").hidden && one("#question button"), "no question is asked");
+    want($("sentence").textContent === "", "the sentence is beside the question");
+    press("next");
+    want(
+        $("count").textContent === "step 2" && !$("question").hidden && $("sentence").textContent,
+        "the answer does not follow: " + $("count").textContent,
+    );
+    press("hide");
+}
+
+/**
+ * Faults are shown while one types, and nothing is lost on reload.
+ *
+ * @param {Page} page
+ */
+export async function typed({ $, one, all, changed, press, load, key, want }) {
+    await load("first-message");
+    await changed(() => press("round"));
+    await load("a-message-given-up");
+    await changed(() => press("undo"));
+    want(
+        all(".row.added .text").some((it) => it.textContent.startsWith("calm 1"))
+            && $("lesson").value === "first-message",
+        "what was changed is lost with another lesson",
+    );
+    await load("first-message");
+    press("edit");
+    want(!$("editor").hidden, "no editor");
+    const area = one("textarea");
+    const good = area.value;
+    area.value = good.replace("take 0/2", "tak 0/2");
+    await changed(() => area.dispatchEvent(new Event("input")));
+    want(
+        /Is .?take.? meant/.test(one(".fault").textContent),
+        "no fault while one types: " + one(".fault").textContent,
+    );
+    want(all(".gutter .bad").length === 1, "no line is marked");
+    want(JSON.parse(sessionStorage.getItem("dorydate") ?? "{}").text.includes("tak 0/2"), "what was typed is not kept");
+    area.value = good.replace("take 0/2", "calm 2");
+    area.dispatchEvent(new Event("input"));
+    await changed(() => key("Enter", area, { ctrlKey: true }));
+    want(
+        one(".fault").textContent === ""
+            && all(".row.event .text").some((it) => it.textContent.startsWith("calm 2")),
+        "what was typed is not replayed",
+    );
+    one(".editor-head button").click();
+    want($("editor").hidden && !$("sheet").hidden, "the editor stays");
+    await changed(() => press("undo"));
+}
