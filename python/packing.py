@@ -13,6 +13,7 @@ from typing import Any
 
 HERE = Path(__file__).resolve().parent
 TAG = "py3-none-any"
+OF_REPOSITORY = {"builds", "checks", "documents", "drawings", "measure"}  # parts that build, check and draw the repository
 
 
 def named(key: str) -> str:
@@ -31,7 +32,8 @@ def metadata() -> str:
 
 def sources() -> list[Path]:
     """The files of the package."""
-    return sorted(it for it in (HERE / "dorydate").rglob("*") if it.suffix in (".py", ".typed", ".lua", ".mjs"))
+    every = (it for it in (HERE / "dorydate").rglob("*") if it.relative_to(HERE).parts[1] not in OF_REPOSITORY)
+    return sorted(it for it in every if it.suffix in (".py", ".typed", ".lua", ".mjs"))
 
 
 def recorded(name: str, octets: bytes) -> str:
