@@ -1,15 +1,20 @@
 -- What `--trace` writes is the trace of the input's script.
-use Rattle.std.proofs.Common.{◌≡◌, ◌⊎◌, inl, inr, ℕ, List, Option, Some, None, IfSome, Result, Ok, Err, IfErr, MatchResult, OnOk, subst, sym}
+use Rattle.std.proofs.Common.{◌≡◌, ◌⊎◌, ◌∙◌, inl, inr, ℕ, suc, ◌+◌, Bool, true, false, List, [], ◌∷◌, Option, Some, None, IfSome, Result, Ok, Err, IfErr, MatchResult, OnOk, ap, filter, length, refl, subst, sym}
+use Rattle.std.proofs.lemmas.List.{length-map}
 use Rattle.std.specs.Io.KnownBytes.{Keeps}
 use Rattle.replay.specs.InTurn.{text_of}
 use Rattle.replay.specs.Replay.{Calls}
+use Rattle.script.specs.Script.{AskForAs, asks, lines_of}
+use Rattle.script.specs.Spelling.{IsEvent, spelling}
+use Rattle.script.proofs.lemmas.{parted_once}
 use Rattle.script.specs.declared.event.RawEvent.{RawEvent}
 use Rattle.topology.specs.Topology.{TopologyFields}
 use Rattle.topology.specs.declared.network.CarrierKind.{CarrierKind}
-use Rattle.trace.specs.Traces.{Inside, Traces, WritesTrace}
-use Rattle.command_line.specs.Events.{Asked, Raw}
+use Rattle.trace.specs.Traces.{AfterOpening, Inside, Traces, WritesTrace, asking_from, event_lines}
+use Rattle.world_script.specs.WorldSpelling.{IsWorldEvent, world_spelling}
+use Rattle.command_line.specs.Events.{Asked, AsksFor, Raw, World}
 use Rattle.command_line.specs.Input.{IsInput, IsInputFault, IsSomeInput}
-use Rattle.command_line.specs.Traced.{EndsOn, EndsOver, IsTraceFault, IsTracingFault, TraceStops, Traced, TracedInPart, TracesFrom, TracesInput, TracesOn, TracesOver}
+use Rattle.command_line.specs.Traced.{EndsOn, EndsOver, IsScriptOf, IsScripted, IsTraceFault, IsTracingFault, TraceStops, Traced, TracedInPart, TracesFrom, TracesInput, TracesOn, TracesOver, asked_count}
 use Rattle.command_line.proofs.Judged.{stays}
 use Rattle.command_line.specs.declared.fault.ScriptFault.{ScriptFault}
 use Rattle.command_line.specs.declared.fault.ScriptFault.TheVariants as fault
@@ -17,42 +22,68 @@ use Rattle.command_line.specs.declared.fault.ScriptFault.TheVariants as fault
 -- ---- over a carrier
 
 -- a trace that was written stays where it is handed on
-pub flushed_trace : {C : Type 0} (calls : Calls C) (inside : Inside C) (opening last : C) (events : List RawEvent) (a b c : Option (List ℕ)) → WritesTrace (Traces calls inside opening events last) a b → Keeps b c → TracesFrom calls inside opening events a c
-flushed_trace calls inside opening last events a b c w k = record { last = last; traced = record { shown = w.shown; is_shown = w.is_shown; written = stays a b c (text_of (λ line. line) w.shown) w.written k } }
+pub flushed_trace : {C : Type 0} (calls : Calls C) (inside : Inside C) (t : TopologyFields) (opening last : C) (lines : List ℕ) (events : List RawEvent) (a b c : Option (List ℕ))
+    → WritesTrace (AfterOpening inside t opening (Traces calls inside opening lines events last)) a b → Keeps b c → TracesFrom calls inside t opening lines events a c
+flushed_trace calls inside t opening last lines events a b c w k = record { last = last; traced = record { shown = w.shown; is_shown = w.is_shown; written = stays a b c (text_of (λ line. line) w.shown) w.written k } }
 
 -- ---- over the carrier of a topology
 
-pub traced_over : {A E : Type 0} (carrier : CarrierKind) (network : TopologyFields) (events : List RawEvent) (asked : Asked) (a b : Option (List ℕ)) (r : Result A E)
-    → network.carrier ≡ carrier → asked ≡ Raw events → OnOk r (TracesOver carrier network events a b) → OnOk r (TracesOn network asked a b)
-traced_over carrier network events asked a b r is raw h =
-    subst (λ (asked : Asked). OnOk r (TracesOn network asked a b)) (sym raw) (subst (λ (k : CarrierKind). OnOk r (TracesOver k network events a b)) (sym is) h)
+pub traced_over : {A E : Type 0} (carrier : CarrierKind) (network : TopologyFields) (lines : List ℕ) (events : List RawEvent) (asked : Asked) (a b : Option (List ℕ)) (r : Result A E)
+    → network.carrier ≡ carrier → asked ≡ Raw events → OnOk r (TracesOver carrier network lines events a b) → OnOk r (TracesOn network lines asked a b)
+traced_over carrier network lines events asked a b r is raw h =
+    subst (λ (asked : Asked). OnOk r (TracesOn network lines asked a b)) (sym raw) (subst (λ (k : CarrierKind). OnOk r (TracesOver k network lines events a b)) (sym is) h)
 
-pub ends_over : (carrier : CarrierKind) (network : TopologyFields) (events : List RawEvent) (asked : Asked) (a b : Option (List ℕ)) → network.carrier ≡ carrier → asked ≡ Raw events → EndsOver carrier network events a b → EndsOn network asked a b
-ends_over carrier network events asked a b is raw h =
-    subst (λ (asked : Asked). EndsOn network asked a b) (sym raw) (subst (λ (k : CarrierKind). EndsOver k network events a b) (sym is) h)
+pub ends_over : (carrier : CarrierKind) (network : TopologyFields) (lines : List ℕ) (events : List RawEvent) (asked : Asked) (a b : Option (List ℕ)) → network.carrier ≡ carrier → asked ≡ Raw events → EndsOver carrier network lines events a b → EndsOn network lines asked a b
+ends_over carrier network lines events asked a b is raw h =
+    subst (λ (asked : Asked). EndsOn network lines asked a b) (sym raw) (subst (λ (k : CarrierKind). EndsOver k network lines events a b) (sym is) h)
 
 -- ---- of known octets
 
-pub known_traced : (known : Option (List ℕ)) (octets : List ℕ) (network : TopologyFields) (events : Asked) (r : Result (Unit {0}) ScriptFault) (a b : Option (List ℕ))
-    → IfSome known (λ k. octets ≡ k) → IsInput octets network events → OnOk r (TracesOn network events a b) → OnOk r (IfSome known (λ k. TracesInput k a b))
-known_traced None octets network events (Ok done) a b same read h = tt
-known_traced (Some k) octets network events (Ok done) a b same read h = record { network = network; events = events; input = subst (λ o. IsInput o network events) same read; traced = h }
-known_traced known octets network events (Err f) a b same read h = tt
+pub known_traced : (known : Option (List ℕ)) (octets lines : List ℕ) (network : TopologyFields) (events : Asked) (r : Result (Unit {0}) ScriptFault) (a b : Option (List ℕ))
+    → IfSome known (λ k. octets ≡ k) → IsScripted octets network lines events → OnOk r (TracesOn network lines events a b) → OnOk r (IfSome known (λ k. TracesInput k a b))
+known_traced None octets lines network events (Ok done) a b same read h = tt
+known_traced (Some k) octets lines network events (Ok done) a b same read h = record { network = network; lines = lines; events = events; input = subst (λ o. IsScripted o network lines events) same read; traced = h }
+known_traced known octets lines network events (Err f) a b same read h = tt
 
-pub known_ends : (known : Option (List ℕ)) (octets : List ℕ) (network : TopologyFields) (events : Asked) (a b : Option (List ℕ)) → IfSome known (λ k. octets ≡ k) → IsInput octets network events
-    → (Keeps a b ⊎ EndsOn network events a b) → IfSome known (λ k. Keeps a b ⊎ TraceStops k a b)
-known_ends None octets network events a b same read h = tt
-known_ends (Some k) octets network events a b same read (inl kept) = inl kept
-known_ends (Some k) octets network events a b same read (inr h) = inr (record { network = network; events = events; input = subst (λ o. IsInput o network events) same read; stopped = h })
+pub known_ends : (known : Option (List ℕ)) (octets lines : List ℕ) (network : TopologyFields) (events : Asked) (a b : Option (List ℕ)) → IfSome known (λ k. octets ≡ k) → IsScripted octets network lines events
+    → (Keeps a b ⊎ EndsOn network lines events a b) → IfSome known (λ k. Keeps a b ⊎ TraceStops k a b)
+known_ends None octets lines network events a b same read h = tt
+known_ends (Some k) octets lines network events a b same read (inl kept) = inl kept
+known_ends (Some k) octets lines network events a b same read (inr h) = inr (record { network = network; lines = lines; events = events; input = subst (λ o. IsScripted o network lines events) same read; stopped = h })
 
 -- ---- of any octets
 
-pub traced : (network : TopologyFields) (events : Asked) (a b : Option (List ℕ)) → TracesOn network events a b → Traced a b
-traced network events a b h = record { network = network; events = events; traced = h }
+pub traced : (network : TopologyFields) (lines : List ℕ) (events : Asked) (a b : Option (List ℕ)) → TracesOn network lines events a b → Traced a b
+traced network lines events a b h = record { network = network; lines = lines; events = events; traced = h }
 
-pub traced_in_part : (network : TopologyFields) (events : Asked) (a b : Option (List ℕ)) → (Keeps a b ⊎ EndsOn network events a b) → Keeps a b ⊎ TracedInPart a b
-traced_in_part network events a b (inl kept) = inl kept
-traced_in_part network events a b (inr h) = inr (record { network = network; events = events; stopped = h })
+pub traced_in_part : (network : TopologyFields) (lines : List ℕ) (events : Asked) (a b : Option (List ℕ)) → (Keeps a b ⊎ EndsOn network lines events a b) → Keeps a b ⊎ TracedInPart a b
+traced_in_part network lines events a b (inl kept) = inl kept
+traced_in_part network lines events a b (inr h) = inr (record { network = network; lines = lines; events = events; stopped = h })
+
+-- ---- lines
+
+-- the lines that ask for events are as many as these
+asking_counts : (number : ℕ) (ls : List (List ℕ)) → length (asking_from number ls) ≡ length (filter asks ls)
+asking_counts number [] = refl
+asking_counts number (l ∷ ls) = by (asking_counts (number + 1) ls) (asks l) refl where
+  by : length (asking_from (number + 1) ls) ≡ length (filter asks ls) → (b : Bool) → asks l ≡ b → length (asking_from number (l ∷ ls)) ≡ length (filter asks (l ∷ ls))
+  by more true e = rw e (ap (λ (n : ℕ). suc n) more)
+  by more false e = rw e more
+
+as_many : {E : Type 0} (spell : E → List ℕ) (IsMeant : E → Type 0) (events : List E) (ls : List (List ℕ)) → AskForAs spell IsMeant events ls → length (asking_from 1 ls) ≡ length events
+as_many spell IsMeant events ls asked = asking_counts 1 ls ∙ sym (ap length asked.spelled) ∙ length-map events spell
+
+asked_many : (raw : Bool) (events : Asked) (script : List ℕ) → AsksFor raw events (lines_of script) → length (event_lines script) ≡ asked_count events
+asked_many true (Raw events) script asked = as_many spelling IsEvent events (lines_of script) asked
+asked_many true (World events) script asked = absurd asked
+asked_many false (Raw events) script asked = absurd asked
+asked_many false (World events) script asked = as_many world_spelling IsWorldEvent events (lines_of script) asked
+
+-- an input's script has a line for each event
+pub lines_fit : (octets script : List ℕ) (network : TopologyFields) (events : Asked) → IsInput octets network events → IsScriptOf octets script → length (event_lines script) ≡ asked_count events
+lines_fit octets script network events input parted =
+    let same = parted_once octets parted.document script input.document input.script parted.parted input.parted in
+    ap (λ ls. length (asking_from 1 ls)) same.scripts ∙ asked_many network.raw events input.script input.asked
 
 -- ---- faults
 

@@ -1,11 +1,11 @@
 //! The trace of a replay, in place of what it shows.
 
-ghost use Rattle.std.specs.Prelude.{◌≡◌, ◌≢◌, ◌⊎◌, ◌↔◌, Err, IfErr, IfSome, MatchResult, OnOk, false, true};
+ghost use Rattle.std.specs.Prelude.{◌≡◌, ◌≢◌, ◌⊎◌, ◌↔◌, ◌≤◌, Err, IfErr, IfOk, IfSome, MatchResult, OnOk, false, length, true};
 ghost use Rattle.std.specs.Io.KnownBytes.{Keeps};
 ghost use Rattle.command_line.specs.Events.{asked_of};
-ghost use Rattle.command_line.specs.Input.{IsSomeInput};
+ghost use Rattle.command_line.specs.Input.{IsInputFault, IsSomeInput};
 ghost use Rattle.command_line.specs.Steps.{IsReplayFault};
-ghost use Rattle.command_line.specs.Traced.{EndsFrom, EndsOn, IsTraceFault, IsTracingFault, TraceStops, Traced, TracedInPart, TracesFrom, TracesInput, TracesOn};
+ghost use Rattle.command_line.specs.Traced.{EndsFrom, EndsOn, IsTraceFault, IsTracingFault, IsScripted, TraceStops, Traced, TracedInPart, TracesFrom, TracesInput, TracesOn, asked_count};
 
 use crate::carriers::subnet_of;
 use crate::fault::ScriptFault;
@@ -13,14 +13,14 @@ use crate::input::{Events, Input, read_input, read_octets};
 use crate::source::Source;
 use leader1822::PlainBoxes;
 use replay::Output;
-use script::RawEvent;
+use script::{MAX_INPUT, RawEvent, split_input};
 use std::alloc::Global;
 use subnet_trace::TracedSubnet;
 use topology::{CarrierKind, Topology};
-use trace::{Inspect, trace_events};
+use trace::{Inspect, event_lines, trace_events};
 
-/// Reads a topology, the marker line `%` and a script, replays the script, and writes its trace: one line for each elementary
-/// event.
+/// Reads a topology, the marker line `%` and a script, replays the script, and writes its trace: a line with the network and
+/// all its parts, and one line for each elementary event.
 ///
 /// Errors, in this order:
 /// - `CannotRead`, `BadTopology` and `BadLine`, as [`crate::run_script`].
@@ -62,23 +62,66 @@ pub fn run_trace<R: Source, W: Output>(
     ensures first_part { result ≡ Err ScriptFault.OutOfMemory → IfSome (R.remaining reader.old) (λ octets. Keeps (W.contents writer.old) (W.contents writer.new) ⊎ TraceStops octets (W.contents writer.old) (W.contents writer.new)) }
 {
     let octets = read_octets(alloc, reader)?;
-    let Input { network, events } = read_input(alloc, &octets)?;
-    trace_on(alloc, &network, events, writer)
+    let Scripted {
+        network,
+        lines,
+        events,
+    } = read_scripted(alloc, &octets)?;
+    trace_on(alloc, &network, &lines, events, writer)
 }
 
-/// Replays events over the carrier that a topology names, and writes their trace.
+/// What an input asks for, with the lines of its script.
+#[derive(Drop)]
+struct Scripted {
+    /// Its topology.
+    network: Topology,
+    /// The numbers of the lines that ask for its events.
+    lines: Vec<usize>,
+    /// The events of its script.
+    events: Events,
+}
+
+/// Returns the input that these octets are, with the numbers of the lines that ask for its events.
+///
+/// Errors: `BadTopology`, `BadLine` and `OutOfMemory`, as [`read_input`].
+fn read_scripted(alloc: Global, octets: &[u8]) -> Result<Scripted, ScriptFault>
+    requires { length octets.now ≤ MAX_INPUT }
+    ensures read { IfOk result (λ input. IsScripted octets.now input.network input.lines.items (asked_of input.events)) }
+    ensures fault { IfErr result (IsInputFault octets.now) }
+    ensures read_only { IfErr result (λ f. f ≢ ScriptFault.CannotWrite) }
+{
+    let Some((_, script)) = split_input(octets) else {
+        return Err(ScriptFault::BadTopology);
+    };
+    let Input { network, events } = match read_input(alloc, octets) {
+        Ok(input) => input,
+        Err(fault) => return Err(fault),
+    };
+    let Ok(lines) = event_lines(alloc, script) else {
+        return Err(ScriptFault::OutOfMemory);
+    };
+    Ok(Scripted {
+        network,
+        lines,
+        events,
+    })
+}
+
+/// Replays events, which are in these lines of a script, over the carrier that a topology names, and writes their trace.
 ///
 /// Errors: `NoTrace` where the hosts have programs; `CannotWrite`; `OutOfMemory`, after which the first lines of the trace are
 /// written.
 fn trace_on<W: Output>(
     alloc: Global,
     network: &Topology,
+    lines: &[usize],
     events: Events,
     writer: &mut W,
 ) -> Result<(), ScriptFault>
-    requires { W.failed writer.old ≡ false }
-    ensures traced { OnOk result (TracesOn network.now (asked_of events) (W.contents writer.old) (W.contents writer.new)) }
-    ensures stopped { result ≡ Err ScriptFault.OutOfMemory → Keeps (W.contents writer.old) (W.contents writer.new) ⊎ EndsOn network.now (asked_of events) (W.contents writer.old) (W.contents writer.new) }
+    requires events { length lines.now ≡ asked_count (asked_of events) }
+    requires whole { W.failed writer.old ≡ false }
+    ensures traced { OnOk result (TracesOn network.now lines.now (asked_of events) (W.contents writer.old) (W.contents writer.new)) }
+    ensures stopped { result ≡ Err ScriptFault.OutOfMemory → Keeps (W.contents writer.old) (W.contents writer.new) ⊎ EndsOn network.now lines.now (asked_of events) (W.contents writer.old) (W.contents writer.new) }
     ensures fault { IfErr result (IsTracingFault network.now (asked_of events)) }
     ensures untouched { IfErr result (λ f. f ≢ ScriptFault.CannotWrite → f ≢ ScriptFault.OutOfMemory → writer.new ≡ writer.old) }
     ensures failed { (result ≡ Err ScriptFault.CannotWrite) ↔ (W.failed writer.new ≡ true) }
@@ -90,11 +133,17 @@ fn trace_on<W: Output>(
     match network.carrier() {
         CarrierKind::Plain => {
             let hosts = network.hosts(alloc)?;
-            trace_from(PlainBoxes::new(alloc, hosts), &events, writer)
+            trace_from(
+                network,
+                PlainBoxes::new(alloc, hosts),
+                lines,
+                &events,
+                writer,
+            )
         }
         CarrierKind::Subnet => {
             let subnet = subnet_of(alloc, network)?;
-            trace_from(TracedSubnet::new(subnet), &events, writer)
+            trace_from(network, TracedSubnet::new(subnet), lines, &events, writer)
         }
     }
 }
@@ -103,18 +152,21 @@ fn trace_on<W: Output>(
 ///
 /// Errors: `CannotWrite`; `OutOfMemory`, after which the first lines of the trace are written.
 fn trace_from<C: Inspect, W: Output>(
+    network: &Topology,
     mut carrier: C,
+    lines: &[usize],
     events: &[RawEvent],
     writer: &mut W,
 ) -> Result<(), ScriptFault>
-    requires { W.failed writer.old ≡ false }
-    ensures traced { OnOk result (TracesFrom (record { seen = C.seen; offers = C.offers; takes = C.takes; steps = C.steps; rounds = C.rounds }) (record { calm = C.calm; parts = C.parts }) carrier events.now (W.contents writer.old) (W.contents writer.new)) }
-    ensures stopped { result ≡ Err ScriptFault.OutOfMemory → EndsFrom (record { seen = C.seen; offers = C.offers; takes = C.takes; steps = C.steps; rounds = C.rounds }) (record { calm = C.calm; parts = C.parts }) carrier events.now (W.contents writer.old) (W.contents writer.new) }
+    requires events { length lines.now ≡ length events.now }
+    requires whole { W.failed writer.old ≡ false }
+    ensures traced { OnOk result (TracesFrom (record { seen = C.seen; offers = C.offers; takes = C.takes; steps = C.steps; rounds = C.rounds }) (record { calm = C.calm; whole = C.whole; parts = C.parts; fate = C.fate }) network.now carrier lines.now events.now (W.contents writer.old) (W.contents writer.new)) }
+    ensures stopped { result ≡ Err ScriptFault.OutOfMemory → EndsFrom (record { seen = C.seen; offers = C.offers; takes = C.takes; steps = C.steps; rounds = C.rounds }) (record { calm = C.calm; whole = C.whole; parts = C.parts; fate = C.fate }) network.now carrier lines.now events.now (W.contents writer.old) (W.contents writer.new) }
     ensures fault { IfErr result IsReplayFault }
     ensures failed { (result ≡ Err ScriptFault.CannotWrite) ↔ (W.failed writer.new ≡ true) }
     ensures flushed { OnOk result (W.flushed writer.new ≡ true) }
 {
-    match trace_events(&mut carrier, events, writer) {
+    match trace_events(network, &mut carrier, lines, events, writer) {
         Ok(()) => Ok(writer.flush()?),
         Err(fault) => Err(ScriptFault::from(fault)),
     }

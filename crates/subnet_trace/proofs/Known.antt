@@ -41,17 +41,9 @@ use Rattle.subnet_trace.specs.Told.{IsChannelTold, IsContentTold, IsFlowNamed, I
 use Rattle.subnet_trace.proofs.Knowing.{ContentFits, FrameFits, Knows, TurnKnows, abandon_knows, ask_knows, end_down_knows, end_up_knows, forget_knows, from_host_knows, from_line_knows, give_up_knows, host_down_knows, host_up_knows, opening_knows, resend_knows, route_knows, started_knows, to_host_knows}
 use Rattle.subnet_trace.proofs.Rest.{at_keeps, drop_keeps, opening, step_keeps}
 use Rattle.subnet_trace.proofs.Tables.{table_all}
+use Rattle.trace.proofs.lemmas.{flow_named}
 
 -- ---- what valid values are
-
-host_named : (h : Host) → IsHost h → IsHostNamed h
-host_named h is =
-    let imp : h.imp ≤ 63 = grind (arith, nat_tests) in
-    let host : h.host ≤ 3 = grind (arith, nat_tests) in
-    record { imp = omega (arith, imp); host = omega (arith, host) }
-
-pub flow_named : (f : Flow) → IsFlow f → IsFlowNamed f
-flow_named f is = let link : f.link.0 < 256 = is.2 in record { source = host_named f.source is.0; destination = host_named f.destination is.1; link = omega (arith, link) }
 
 packet_told : (p : PacketFields) → IsPacket p → IsPacketTold p
 packet_told p is = record {

@@ -1,9 +1,6 @@
-pub mod Left
 pub mod Members
 pub mod PrintedParts
 pub mod Printing
-pub mod Json
-pub mod Decimals
 pub mod Spelling
 pub mod Objects
 pub mod Whole
@@ -18,3 +15,4 @@ pub mod Nothing
 pub mod Calms
 pub mod Stages
 pub mod Onward
+pub mod Delivered

@@ -1,12 +1,12 @@
--- Texts of frames, hosts, ports and IMPs are closed, and no two alike.
+-- Texts of frames, hosts, ports and slots are closed, and no two alike.
 use Rattle.std.proofs.Common.{◌≡◌, ℕ, suc, ◌+◌, ◌<◌, ◌≤◌, ◌==◌, nat_lt, Bool, true, false, List, [], ◌∷◌, ◌++◌, codes, if◌then◌else◌, length, map, Option, Some, None, refl, sym, ap, ap₂, ◌∙◌, arith, lit<, append_assoc, subst}
 use Rattle.std.proofs.lemmas.Bool.Decides.{nat_tests}
 use Rattle.std.proofs.lemmas.List.Elements.{All-cons, All-head, All-nil, All-tail, All-weaker}
 use Rattle.std.specs.Fmt.{decimal}
-use Rattle.std.specs.List.{All, list_all, list_any}
-use Rattle.std.specs.Str.{bytes_eq}
+use Rattle.std.specs.List.{All}
 use Rattle.packetiser.specs.PacketFields.{PacketFields}
 use Rattle.packetiser.specs.Slots.{SlotState}
+use Rattle.routing.specs.RouteTable.{Table, next_of}
 use Rattle.routing.specs.Vector.{IsVector, infinite}
 use Rattle.imp_channel.specs.Carriage.{Carriage}
 use Rattle.imp_channel.specs.declared.frame.Content.{Content}
@@ -14,68 +14,16 @@ use Rattle.imp_channel.specs.declared.frame.Content.TheVariants as content
 use Rattle.imp_channel.specs.declared.frame.Frame.{Frame}
 use Rattle.imp_node.specs.State.{HostState}
 use Rattle.imp_node.specs.declared.port.Port.{Port}
-use Rattle.script.proofs.lemmas.{SameCut, same_cut, unmarked_where}
-use Rattle.trace.specs.Texts.{member, quoted, strings}
-use Rattle.trace.proofs.lemmas.{Words, strings_once}
-use Rattle.subnet_trace.specs.Texts.{bit_text, bits_text, bool_text, channel_text, content_members, distances_text, finite_from, frame_text, heard_text, host_object, packet_text, port_object, slot_text, told_text, whole_text}
-use Rattle.subnet_trace.specs.Told.{IsAnswerTold, IsChannelTold, IsContentTold, IsFrameTold, IsHeardTold, IsHostTold, IsMessageTold, IsPacketTold, IsPieceTold, IsPortTold, IsShort, IsSlotTold}
-use Rattle.subnet_trace.proofs.Decimals.{decimal_closed, decimal_lacks, short_once}
-use Rattle.subnet_trace.proofs.Json.{IsClosed, Spelled, array_closed, first_same, is_plain, member_closed, member_once, object_closed, object_once, plain_closed, rest_same, string_closed, strings_spelled}
-use Rattle.subnet_trace.proofs.Spelling.{Any, bit_once, bits_once, bits_plain, channel_words, packet_words, told_words, whole_words}
-
--- ---- plain words
-
-plain_all : (t : List ℕ) → list_all is_plain t ≡ true → All (λ c. is_plain c ≡ true) t
-plain_all [] h = All-nil (λ c. is_plain c ≡ true)
-plain_all (c ∷ t) h = by (λ k. plain_all t k) (is_plain c) refl h where
-  by : (list_all is_plain t ≡ true → All (λ x. is_plain x ≡ true) t) → (b : Bool) → is_plain c ≡ b → list_all is_plain (c ∷ t) ≡ true → All (λ x. is_plain x ≡ true) (c ∷ t)
-  by more true e all = All-cons (λ x. is_plain x ≡ true) c t e (more (rw e at all))
-  by more false e all = absurd (let bad : false ≡ true = rw e at all in cc)
-
-word_closed : (c : ℕ) (t : List ℕ) → list_all is_plain (c ∷ t) ≡ true → IsClosed (c ∷ t)
-word_closed c t plain = plain_closed (c ∷ t) (λ e. absurd (cc)) (plain_all (c ∷ t) plain)
-
-bit_spelled : Spelled bit_text Any
-bit_spelled = record { closed = closed; once = λ b c p q e. bit_once b c e } where
-  closed : (b : Bool) → Any b → IsClosed (bit_text b)
-  closed true any = word_closed 49 [] refl
-  closed false any = word_closed 48 [] refl
-
-is_true_word : List ℕ → Bool
-is_true_word word = bytes_eq word (codes "true")
-
-bool_again : (b : Bool) → is_true_word (bool_text b) ≡ b
-unfolding is_true_word
-bool_again true = refl
-bool_again false = refl
-
-bool_spelled : Spelled bool_text Any
-bool_spelled = record { closed = closed; once = λ b c p q e. sym (bool_again b) ∙ ap is_true_word e ∙ bool_again c } where
-  closed : (b : Bool) → Any b → IsClosed (bool_text b)
-  closed true any = word_closed 116 (codes "rue") refl
-  closed false any = word_closed 102 (codes "alse") refl
+use Rattle.script.proofs.lemmas.{SameCut, same_cut}
+use Rattle.trace.specs.Named.{IsShort}
+use Rattle.trace.specs.Texts.{array, bool_text, member, quoted}
+use Rattle.trace.proofs.lemmas.{AreClosed, IsClosed, Spelled, also_closed, decimal_closed, decimal_lacks, first_same, lists_spelled, member_closed, member_once, none_closed, object_closed, object_once, rest_same, short_once}
+use Rattle.subnet_trace.specs.Texts.{bit_text, bits_text, channel_text, content_members, distances_text, finite_from, frame_text, heard_text, host_object, next_from, next_members, packet_text, port_object, slot_text, told_text, whole_text}
+use Rattle.subnet_trace.specs.Told.{IsAnswerTold, IsChannelTold, IsContentTold, IsFrameTold, IsHeardTold, IsHostTold, IsMessageTold, IsPacketTold, IsPieceTold, IsPortTold, IsSlotTold}
+use Rattle.subnet_trace.proofs.Spelling.{bit_spelled, bits_spelled, bool_spelled, channel_spelled, packet_spelled, told_spelled, whole_spelled, word_closed}
 
 pub null_closed : IsClosed (codes "null")
 null_closed = word_closed 110 (codes "ull") refl
-
-bits_words : Words bits_text Any
-bits_words = record { plain = λ bits any. bits_plain bits; once = λ a b p q e. bits_once a b e }
-
-bits_spelled : Spelled (λ bits. quoted (bits_text bits)) Any
-bits_spelled = strings_spelled bits_text Any bits_words
-
--- ---- lists of strings
-
-each_quoted : {X : Type 0} (text : X → List ℕ) (IsValid : X → Type 0) → Words text IsValid → (xs : List X) → All IsValid xs → All IsClosed (map quoted (map text xs))
-each_quoted text IsValid words [] p = All-nil IsClosed
-each_quoted text IsValid words (x ∷ xs) p =
-    All-cons IsClosed (quoted (text x)) (map quoted (map text xs)) (string_closed (text x) (words.plain x (All-head IsValid x xs p))) (each_quoted text IsValid words xs (All-tail IsValid x xs p))
-
-pub lists_of_strings : {X : Type 0} (text : X → List ℕ) (IsValid : X → Type 0) → Words text IsValid → Spelled (λ xs. strings (map text xs)) (All IsValid)
-lists_of_strings text IsValid words = record {
-  closed = λ xs p. array_closed (map quoted (map text xs)) (each_quoted text IsValid words xs p);
-  once = λ xs ys p q e. (strings_once text IsValid words xs ys [] [] p q (ap (λ (t : List ℕ). t ++ []) e)).items;
-}
 
 -- ---- distances
 
@@ -130,14 +78,14 @@ finite_once i (x ∷ ds) (y ∷ es) long p q small e =
     by more false f true g h = absurd (later i (i + 1) (decimal y) ds (finite_from (i + 1) es) (omega arith) (omega (arith, small)) h)
     by more false f false g h = here (past x f (All-head P x ds p) ∙ sym (past y g (All-head P y es q))) (more h)
 
-finite_closed : (i : ℕ) (ds : List ℕ) → All IsClosed (finite_from i ds)
+pub finite_closed : (i : ℕ) (ds : List ℕ) → All IsClosed (finite_from i ds)
 finite_closed i [] = All-nil IsClosed
 finite_closed i (d ∷ ds) = by (finite_closed (i + 1) ds) (nat_lt d infinite) where
   by : All IsClosed (finite_from (i + 1) ds) → (finite : Bool) → All IsClosed (one_from finite i d ++ finite_from (i + 1) ds)
   by more true = All-cons IsClosed (member (decimal i) (decimal d)) (finite_from (i + 1) ds) (member_closed (decimal i) (decimal d) (decimal_lacks 34 i (lit< tt)) (decimal_closed d)) more
   by more false = more
 
-distances_spelled : Spelled distances_text IsVector
+pub distances_spelled : Spelled distances_text IsVector
 distances_spelled = record {
   closed = λ ds is. object_closed (finite_from 1 ds) (finite_closed 1 ds);
   once = λ ds es p q e. finite_once 1 ds es (p.one_each ∙ sym q.one_each) p.in_range q.in_range (omega (arith, p.one_each))
@@ -160,23 +108,19 @@ heard_once (Some ds) (Some es) p q e = ap (λ (zs : List ℕ). Some zs) (distanc
 pub heard_spelled : Spelled heard_text IsHeardTold
 heard_spelled = record { closed = heard_closed; once = heard_once }
 
--- ---- members
+-- ---- ports to IMPs
 
--- each of these texts is closed
-pub record AreClosed (texts : List (List ℕ)) : Type 0 where
-  pub all : All IsClosed texts
+next_closed : (t : Table) (imps : List ℕ) → All IsClosed (next_from t imps)
+next_closed t [] = All-nil IsClosed
+next_closed t (imp ∷ imps) = by (next_closed t imps) (next_of t imp) where
+  by : All IsClosed (next_from t imps) → (o : Option ℕ) → All IsClosed (next_members imp o ++ next_from t imps)
+  by more None = more
+  by more (Some port) = All-cons IsClosed (member (decimal imp) (decimal port)) (next_from t imps) (member_closed (decimal imp) (decimal port) (decimal_lacks 34 imp (lit< tt)) (decimal_closed port)) more
 
-pub none_closed : AreClosed []
-none_closed = record { all = All-nil IsClosed }
-
--- one member more, under a plain name
-pub also_closed : (name : List ℕ) {value : List ℕ} {others : List (List ℕ)} → list_any (λ c. c == 34) name ≡ false → IsClosed value → AreClosed others → AreClosed (member name value ∷ others)
-also_closed name {value} {others} plain closed more = record { all = All-cons IsClosed (member name value) others (member_closed name value (unmarked_where 34 name plain) closed) more.all }
+pub ports_closed : (t : Table) (imps : List ℕ) → AreClosed (next_from t imps)
+ports_closed t imps = record { all = next_closed t imps }
 
 -- ---- frames
-
-packet_spelled : Spelled (λ p. quoted (packet_text p)) IsPacketTold
-packet_spelled = strings_spelled packet_text IsPacketTold packet_words
 
 content_closed : (c : Content) → IsContentTold c → AreClosed (content_members c)
 content_closed (content.Packet carried) is =
@@ -189,8 +133,8 @@ content_closed (content.Routes distances) is = also_closed (codes "routes") refl
 carriage_once : (c d : Carriage) → IsContentTold (content.Packet c) → IsContentTold (content.Packet d) → content_members (content.Packet c) ≡ content_members (content.Packet d) → c ≡ d
 carriage_once c d p q e =
     let channel : c.channel ≡ d.channel = short_once c.channel d.channel p.channel q.channel (member_once (codes "channel") (decimal c.channel) (decimal d.channel) (first_same e)) in
-    let bit : c.bit ≡ d.bit = bit_once c.bit d.bit (member_once (codes "bit") (bit_text c.bit) (bit_text d.bit) (first_same (rest_same e))) in
-    let packet : c.packet ≡ d.packet = packet_spelled.once c.packet d.packet p.packet q.packet (member_once (codes "packet") (quoted (packet_text c.packet)) (quoted (packet_text d.packet)) (first_same (rest_same (rest_same e)))) in
+    let bit : c.bit ≡ d.bit = bit_spelled.once c.bit d.bit tt tt (member_once (codes "bit") (bit_text c.bit) (bit_text d.bit) (first_same (rest_same e))) in
+    let packet : c.packet ≡ d.packet = packet_spelled.once c.packet d.packet p.packet q.packet (member_once (codes "packet") (packet_text c.packet) (packet_text d.packet) (first_same (rest_same (rest_same e)))) in
     λ i. record { channel = channel i; bit = bit i; packet = packet i }
 
 content_once : (c d : Content) → IsContentTold c → IsContentTold d → content_members c ≡ content_members d → c ≡ d
@@ -222,14 +166,14 @@ frame_spelled = record { closed = λ f is. object_closed (frame_members f) (fram
 
 -- ---- hosts
 
-queue_spelled : Spelled (λ xs. strings (map whole_text xs)) (All IsMessageTold)
-queue_spelled = lists_of_strings whole_text IsMessageTold whole_words
+queue_spelled : Spelled (λ xs. array (map whole_text xs)) (All IsMessageTold)
+queue_spelled = lists_spelled whole_text IsMessageTold whole_spelled
 
-answers_spelled : Spelled (λ xs. strings (map told_text xs)) (All IsAnswerTold)
-answers_spelled = lists_of_strings told_text IsAnswerTold told_words
+answers_spelled : Spelled (λ xs. array (map told_text xs)) (All IsAnswerTold)
+answers_spelled = lists_spelled told_text IsAnswerTold told_spelled
 
 abbrev host_members : HostState → List (List ℕ)
-host_members h = member (codes "up") (bool_text h.up) ∷ member (codes "messages") (strings (map whole_text h.queue)) ∷ member (codes "answers") (strings (map told_text h.answers)) ∷ []
+host_members h = member (codes "up") (bool_text h.up) ∷ member (codes "messages") (array (map whole_text h.queue)) ∷ member (codes "answers") (array (map told_text h.answers)) ∷ []
 
 host_closed : (h : HostState) → IsHostTold h → AreClosed (host_members h)
 host_closed h is =
@@ -241,8 +185,8 @@ host_once : (g h : HostState) → IsHostTold g → IsHostTold h → host_object 
 host_once g h p q e =
     let all = object_once (host_members g) (host_members h) (host_closed g p).all (host_closed h q).all e in
     let up : g.up ≡ h.up = bool_spelled.once g.up h.up tt tt (member_once (codes "up") (bool_text g.up) (bool_text h.up) (first_same all)) in
-    let queue : g.queue ≡ h.queue = queue_spelled.once g.queue h.queue p.queue q.queue (member_once (codes "messages") (strings (map whole_text g.queue)) (strings (map whole_text h.queue)) (first_same (rest_same all))) in
-    let answers : g.answers ≡ h.answers = answers_spelled.once g.answers h.answers p.answers q.answers (member_once (codes "answers") (strings (map told_text g.answers)) (strings (map told_text h.answers)) (first_same (rest_same (rest_same all)))) in
+    let queue : g.queue ≡ h.queue = queue_spelled.once g.queue h.queue p.queue q.queue (member_once (codes "messages") (array (map whole_text g.queue)) (array (map whole_text h.queue)) (first_same (rest_same all))) in
+    let answers : g.answers ≡ h.answers = answers_spelled.once g.answers h.answers p.answers q.answers (member_once (codes "answers") (array (map told_text g.answers)) (array (map told_text h.answers)) (first_same (rest_same (rest_same all)))) in
     λ i. record { up = up i; answers = answers i; queue = queue i }
 
 pub host_spelled : Spelled host_object IsHostTold
@@ -250,11 +194,11 @@ host_spelled = record { closed = λ h is. object_closed (host_members h) (host_c
 
 -- ---- ports
 
-sending_spelled : Spelled (λ xs. strings (map channel_text xs)) (All IsChannelTold)
-sending_spelled = lists_of_strings channel_text IsChannelTold channel_words
+sending_spelled : Spelled (λ xs. array (map channel_text xs)) (All IsChannelTold)
+sending_spelled = lists_spelled channel_text IsChannelTold channel_spelled
 
 abbrev port_members : Port → List (List ℕ)
-port_members p = member (codes "up") (bool_text p.up) ∷ member (codes "sending") (strings (map channel_text p.line.sending)) ∷ member (codes "expected") (quoted (bits_text p.line.expected)) ∷ []
+port_members p = member (codes "up") (bool_text p.up) ∷ member (codes "sending") (array (map channel_text p.line.sending)) ∷ member (codes "expected") (quoted (bits_text p.line.expected)) ∷ []
 
 port_closed : (p : Port) → IsPortTold p → AreClosed (port_members p)
 port_closed p is =
@@ -266,7 +210,7 @@ port_once : (g h : Port) → IsPortTold g → IsPortTold h → port_object g ≡
 port_once g h p q e =
     let all = object_once (port_members g) (port_members h) (port_closed g p).all (port_closed h q).all e in
     let up : g.up ≡ h.up = bool_spelled.once g.up h.up tt tt (member_once (codes "up") (bool_text g.up) (bool_text h.up) (first_same all)) in
-    let sending : g.line.sending ≡ h.line.sending = sending_spelled.once g.line.sending h.line.sending p q (member_once (codes "sending") (strings (map channel_text g.line.sending)) (strings (map channel_text h.line.sending)) (first_same (rest_same all))) in
+    let sending : g.line.sending ≡ h.line.sending = sending_spelled.once g.line.sending h.line.sending p q (member_once (codes "sending") (array (map channel_text g.line.sending)) (array (map channel_text h.line.sending)) (first_same (rest_same all))) in
     let expected : g.line.expected ≡ h.line.expected = bits_spelled.once g.line.expected h.line.expected tt tt (member_once (codes "expected") (quoted (bits_text g.line.expected)) (quoted (bits_text h.line.expected)) (first_same (rest_same (rest_same all)))) in
     λ i. record { up = up i; line = record { sending = sending i; expected = expected i } }
 
@@ -275,8 +219,8 @@ port_spelled = record { closed = λ p is. object_closed (port_members p) (port_c
 
 -- ---- slots
 
-pub packets_spelled : Spelled (λ xs. strings (map packet_text xs)) (All IsPacketTold)
-packets_spelled = lists_of_strings packet_text IsPacketTold packet_words
+pub packets_spelled : Spelled (λ xs. array (map packet_text xs)) (All IsPacketTold)
+packets_spelled = lists_spelled packet_text IsPacketTold packet_spelled
 
 record SameMessage (s t : SlotState) : Type 0 where
   flow : s.flow ≡ t.flow

@@ -5,20 +5,17 @@ use Rattle.std.specs.Io.KnownBytes.{Appends}
 use Rattle.std.specs.List.{range_with_len}
 use Rattle.subnet.specs.Events.{is_imp}
 use Rattle.subnet.specs.Net.{Net, ends_at, wire_at}
-use Rattle.subnet_trace.specs.Parts.{Part, Imp, Line, imp_and_lines, lines_at, part_name, part_text, parts_text}
-use Rattle.subnet_trace.specs.Printing.{following, line_behind}
-use Rattle.subnet_trace.proofs.Left.{Remains, following_is, maybe_printed}
-use Rattle.trace.specs.Texts.{member, object}
+use Rattle.subnet_trace.specs.Parts.{Part, Imp, Line, all_parts, imp_and_lines, lines_at, parts_text}
+use Rattle.subnet_trace.specs.Printing.{line_behind, named, part_behind, place_behind}
+use Rattle.trace.specs.Joined.{mark}
+use Rattle.trace.specs.Texts.{further, object}
+use Rattle.trace.proofs.lemmas.{Remains, end_printed, left, maybe_printed}
 
 -- ---- lines of an IMP
 
--- a part with its name
-abbrev pub named : Net → Part → List ℕ
-named n p = member (part_name p) (part_text n p)
-
 -- the lines of an IMP that are left, from line `l` on
 abbrev pub lines_left : Net → ℕ → ℕ → List ℕ
-lines_left n i l = following (codes ",") (codes "}") (map (named n) (map (λ k. Line k) (filter (λ k. ends_at i (wire_at n.lines k)) (range_with_len l (length n.lines - l)))))
+lines_left n i l = further (codes "}") (map (named n) (map (λ k. Line k) (filter (λ k. ends_at i (wire_at n.lines k)) (range_with_len l (length n.lines - l)))))
 
 one_line : (n : Net) (i l : ℕ) (ls : List ℕ)
     → map (named n) (map (λ k. Line k) (filter (λ k. ends_at i (wire_at n.lines k)) (l ∷ ls)))
@@ -30,17 +27,17 @@ one_line n i l ls = by (ends_at i (wire_at n.lines l)) refl where
   by true e = rw e refl
   by false e = rw e refl
 
-maybe_line : (there : Bool) (x : List ℕ) (xs : List (List ℕ)) (whole : List ℕ) (a b c : Option (List ℕ)) → Remains a b (following (codes ",") (codes "}") ((if there then x ∷ [] else []) ++ xs)) whole
-    → Appends b c (if there then codes "," ++ x else []) → Remains a c (following (codes ",") (codes "}") xs) whole
-maybe_line true x xs whole a b c remains printed = maybe_printed (codes "{") (codes ",") (codes "}") true x xs 1 whole a b c remains printed
-maybe_line false x xs whole a b c remains printed = maybe_printed (codes "{") (codes ",") (codes "}") false x xs 1 whole a b c remains printed
+maybe_line : (there : Bool) (x : List ℕ) (xs : List (List ℕ)) (whole : List ℕ) (a b c : Option (List ℕ)) → Remains a b (further (codes "}") ((if there then x ∷ [] else []) ++ xs)) whole
+    → Appends b c (if there then codes "," ++ x else []) → Remains a c (further (codes "}") xs) whole
+maybe_line true x xs whole a b c remains printed = maybe_printed (codes "{") (codes "}") true x xs 1 whole a b c remains printed
+maybe_line false x xs whole a b c remains printed = maybe_printed (codes "{") (codes "}") false x xs 1 whole a b c remains printed
 
 pub line_printed : (n : Net) (i l : ℕ) (whole : List ℕ) (a b c : Option (List ℕ)) → l < length n.lines → Remains a b (lines_left n i l) whole → Appends b c (line_behind i l (wire_at n.lines l)) → Remains a c (lines_left n i (l + 1)) whole
 line_printed n i l whole a b c lt remains printed =
     let count : length n.lines - l ≡ suc (length n.lines - (l + 1)) = omega (arith, lt) in
     let ls = range_with_len (l + 1) (length n.lines - (l + 1)) in
-    let here : lines_left n i l ≡ following (codes ",") (codes "}") ((if ends_at i (wire_at n.lines l) then named n (Line l) ∷ [] else []) ++ map (named n) (map (λ k. Line k) (filter (λ k. ends_at i (wire_at n.lines k)) ls))) =
-    ap (λ (m : ℕ). following (codes ",") (codes "}") (map (named n) (map (λ k. Line k) (filter (λ k. ends_at i (wire_at n.lines k)) (range_with_len l m))))) count ∙ ap (following (codes ",") (codes "}")) (one_line n i l ls) in
+    let here : lines_left n i l ≡ further (codes "}") ((if ends_at i (wire_at n.lines l) then named n (Line l) ∷ [] else []) ++ map (named n) (map (λ k. Line k) (filter (λ k. ends_at i (wire_at n.lines k)) ls))) =
+    ap (λ (m : ℕ). further (codes "}") (map (named n) (map (λ k. Line k) (filter (λ k. ends_at i (wire_at n.lines k)) (range_with_len l m))))) count ∙ ap (further (codes "}")) (one_line n i l ls) in
     maybe_line (ends_at i (wire_at n.lines l)) (named n (Line l)) (map (named n) (map (λ k. Line k) (filter (λ k. ends_at i (wire_at n.lines k)) ls))) whole a b c (subst (λ zs. Remains a b zs whole) here remains) printed
 
 -- an IMP and its lines, all of which are left once the IMP is printed
@@ -50,11 +47,72 @@ with_lines n i = (codes "{" ++ named n (Imp i)) ++ lines_left n i 0
 pub lines_printed : (n : Net) (i l : ℕ) (a b c : Option (List ℕ)) → is_imp n i ≡ true → length n.lines ≤ l → Remains a b (lines_left n i l) (with_lines n i) → Appends b c (codes "}") → Appends a c (parts_text n (imp_and_lines n i))
 lines_printed n i l a b c there past remains last =
     let none : length n.lines - l ≡ 0 = omega (arith, past) in
-    let end : codes "}" ≡ lines_left n i l = ap (λ (m : ℕ). following (codes ",") (codes "}") (map (named n) (map (λ k. Line k) (filter (λ k. ends_at i (wire_at n.lines k)) (range_with_len l m))))) (sym none) in
+    let end : codes "}" ≡ lines_left n i l = ap (λ (m : ℕ). further (codes "}") (map (named n) (map (λ k. Line k) (filter (λ k. ends_at i (wire_at n.lines k)) (range_with_len l m))))) (sym none) in
     let all : length n.lines - 0 ≡ length n.lines = omega arith in
     let items = map (named n) (map (λ k. Line k) (lines_at n i)) in
     let whole : with_lines n i ≡ parts_text n (imp_and_lines n i) =
-    ap (λ (m : ℕ). (codes "{" ++ named n (Imp i)) ++ following (codes ",") (codes "}") (map (named n) (map (λ k. Line k) (filter (λ k. ends_at i (wire_at n.lines k)) (range_with_len 0 m))))) all
-    ∙ append_assoc (codes "{") (named n (Imp i)) (following (codes ",") (codes "}") items) ∙ ap (λ zs. codes "{" ++ (named n (Imp i) ++ zs)) (following_is (codes "}") items)
+    ap (λ (m : ℕ). (codes "{" ++ named n (Imp i)) ++ further (codes "}") (map (named n) (map (λ k. Line k) (filter (λ k. ends_at i (wire_at n.lines k)) (range_with_len 0 m))))) all
+    ∙ append_assoc (codes "{") (named n (Imp i)) (further (codes "}") items)
     ∙ ap (λ (t : Bool). object (map (named n) (if t then Imp i ∷ map (λ k. Line k) (lines_at n i) else []))) (sym there) in
     subst (Appends a c) whole (remains c (subst (Appends b c) end last))
+
+-- ---- all parts
+
+-- those that are left where so many of the places for IMPs were looked at
+abbrev imps_from : Net → ℕ → List Part
+imps_from n i = map (λ k. Imp k) (filter (is_imp n) (range_with_len i (length n.imps - i)))
+
+abbrev lines_from : Net → ℕ → List Part
+lines_from n l = map (λ k. Line k) (range_with_len l (length n.lines - l))
+
+abbrev pub whole_left : Net → ℕ → ℕ → List ℕ
+whole_left n place i = left (codes "{") (codes "}") place (map (named n) (imps_from n i ++ map (λ l. Line l) (range_with_len 0 (length n.lines))))
+
+abbrev pub rest_left : Net → ℕ → ℕ → List ℕ
+rest_left n place l = left (codes "{") (codes "}") place (map (named n) (lines_from n l))
+
+one_imp : (n : Net) (i : ℕ) (is : List ℕ) (others : List Part)
+    → map (named n) (map (λ k. Imp k) (filter (is_imp n) (i ∷ is)) ++ others) ≡ (if is_imp n i then named n (Imp i) ∷ [] else []) ++ map (named n) (map (λ k. Imp k) (filter (is_imp n) is) ++ others)
+one_imp n i is others = by (is_imp n i) refl where
+  by : (t : Bool) → is_imp n i ≡ t
+      → map (named n) (map (λ k. Imp k) (filter (is_imp n) (i ∷ is)) ++ others) ≡ (if is_imp n i then named n (Imp i) ∷ [] else []) ++ map (named n) (map (λ k. Imp k) (filter (is_imp n) is) ++ others)
+  by true e = rw e refl
+  by false e = rw e refl
+
+pub imp_printed : (n : Net) (i place : ℕ) (whole : List ℕ) (a b c : Option (List ℕ)) → i < length n.imps → Remains a b (whole_left n place i) whole → Appends b c (part_behind (is_imp n i) place (named n (Imp i))) → Remains a c (whole_left n (place_behind place (is_imp n i)) (i + 1)) whole
+imp_printed n i place whole a b c lt remains printed =
+    let count : length n.imps - i ≡ suc (length n.imps - (i + 1)) = omega (arith, lt) in
+    let is = range_with_len (i + 1) (length n.imps - (i + 1)) in
+    let others : List Part = map (λ l. Line l) (range_with_len 0 (length n.lines)) in
+    let here : whole_left n place i ≡ left (codes "{") (codes "}") place ((if is_imp n i then named n (Imp i) ∷ [] else []) ++ map (named n) (map (λ k. Imp k) (filter (is_imp n) is) ++ others)) =
+    ap (λ (m : ℕ). left (codes "{") (codes "}") place (map (named n) (map (λ k. Imp k) (filter (is_imp n) (range_with_len i m)) ++ others))) count ∙ ap (left (codes "{") (codes "}") place) (one_imp n i is others) in
+    maybe_printed (codes "{") (codes "}") (is_imp n i) (named n (Imp i)) (map (named n) (map (λ k. Imp k) (filter (is_imp n) is) ++ others)) place whole a b c (subst (λ zs. Remains a b zs whole) here remains) printed
+
+pub imps_done : (n : Net) (i place : ℕ) (whole : List ℕ) (a b : Option (List ℕ)) → length n.imps ≤ i → Remains a b (whole_left n place i) whole → Remains a b (rest_left n place 0) whole
+imps_done n i place whole a b past remains =
+    let none : length n.imps - i ≡ 0 = omega (arith, past) in
+    let all : length n.lines ≡ length n.lines - 0 = omega arith in
+    let here : whole_left n place i ≡ rest_left n place 0 =
+    ap (λ (m : ℕ). left (codes "{") (codes "}") place (map (named n) (map (λ k. Imp k) (filter (is_imp n) (range_with_len i m)) ++ map (λ l. Line l) (range_with_len 0 (length n.lines))))) none
+    ∙ ap (λ (m : ℕ). left (codes "{") (codes "}") place (map (named n) (map (λ l. Line l) (range_with_len 0 m)))) all in
+    subst (λ zs. Remains a b zs whole) here remains
+
+pub rest_printed : (n : Net) (l place : ℕ) (whole : List ℕ) (a b c : Option (List ℕ)) → l < length n.lines → Remains a b (rest_left n place l) whole → Appends b c (mark (codes "{") (codes ",") place ++ named n (Line l)) → Remains a c (rest_left n 1 (l + 1)) whole
+rest_printed n l place whole a b c lt remains printed =
+    let count : length n.lines - l ≡ suc (length n.lines - (l + 1)) = omega (arith, lt) in
+    let ls = map (named n) (map (λ k. Line k) (range_with_len (l + 1) (length n.lines - (l + 1)))) in
+    let here : rest_left n place l ≡ left (codes "{") (codes "}") place (named n (Line l) ∷ ls) = ap (λ (m : ℕ). left (codes "{") (codes "}") place (map (named n) (map (λ k. Line k) (range_with_len l m)))) count in
+    maybe_printed (codes "{") (codes "}") true (named n (Line l)) ls place whole a b c (subst (λ zs. Remains a b zs whole) here remains) printed
+
+-- the object of all parts is left at the beginning
+pub whole_begins : (n : Net) (a : Option (List ℕ)) → Remains a a (whole_left n 0 0) (parts_text n (all_parts n))
+whole_begins n a =
+    let all : length n.imps - 0 ≡ length n.imps = omega arith in
+    let here : whole_left n 0 0 ≡ parts_text n (all_parts n) = ap (λ (m : ℕ). object (map (named n) (map (λ k. Imp k) (filter (is_imp n) (range_with_len 0 m)) ++ map (λ l. Line l) (range_with_len 0 (length n.lines))))) all in
+    λ last printed. subst (Appends a last) here printed
+
+pub whole_printed : (n : Net) (l place : ℕ) (whole : List ℕ) (a b c : Option (List ℕ)) → length n.lines ≤ l → Remains a b (rest_left n place l) whole → Appends b c (mark (codes "{}") (codes "}") place) → Appends a c whole
+whole_printed n l place whole a b c past remains last =
+    let none : length n.lines - l ≡ 0 = omega (arith, past) in
+    let here : rest_left n place l ≡ left (codes "{") (codes "}") place [] = ap (λ (m : ℕ). left (codes "{") (codes "}") place (map (named n) (map (λ k. Line k) (range_with_len l m)))) none in
+    end_printed (codes "{") (codes "}") place whole a b c (subst (λ zs. Remains a b zs whole) here remains) last

@@ -1,51 +1,66 @@
 -- Parts of a subnet are printed item by item.
-use Rattle.std.proofs.Common.{◌≡◌, ℕ, Bool, true, false, ◌<◌, ◌≤◌, ◌+◌, List, [], ◌∷◌, ◌++◌, codes, drop, length, map, nat_lt, Option, sym, ap, subst, ◌∙◌}
+use Rattle.std.proofs.Common.{◌≡◌, ℕ, suc, Bool, true, false, ◌<◌, ◌≤◌, ◌+◌, ◌-◌, List, [], ◌∷◌, ◌++◌, codes, drop, length, map, nat_lt, Option, None, Some, sym, ap, subst, ◌∙◌, arith}
 use Rattle.std.proofs.lemmas.List.{append_assoc, at_drop_all, at_drop_more, drop_all, drop_more}
 use Rattle.std.specs.Io.KnownBytes.{Appends}
 use Rattle.std.specs.Prelude.{slice_index_or}
 use Rattle.std.specs.Fmt.{decimal}
-use Rattle.leader1822.specs.Printed.{flow_text}
+use Rattle.std.specs.List.{range_with_len}
+use Rattle.leader1822.specs.Host.{most_imps}
+use Rattle.leader1822.specs.Printed.{host_text}
 use Rattle.leader1822.specs.declared.address.Flow.{Flow}
 use Rattle.imp_channel.specs.Carriage.{Carriage}
 use Rattle.imp_channel.specs.declared.frame.Content.{Content}
 use Rattle.imp_channel.specs.declared.frame.Content.TheVariants as contents
 use Rattle.replay.proofs.lemmas.{appends_more}
+use Rattle.routing.specs.RouteTable.{Table, next_of}
 use Rattle.routing.specs.Vector.{infinite}
-use Rattle.subnet_trace.specs.Printing.{distance_behind, known_text, mark, place_behind}
-use Rattle.subnet_trace.specs.Texts.{bit_text, bits_text, content_members, distances_text, finite_from, packet_text}
-use Rattle.subnet_trace.proofs.Left.{Remains, end_printed, joined_is, left, maybe_printed}
-use Rattle.trace.specs.Texts.{further, member, quoted, strings}
+use Rattle.subnet_trace.specs.Printing.{distance_behind, known_text, next_behind, place_after, place_behind}
+use Rattle.subnet_trace.specs.Texts.{bit_text, bits_text, content_members, distances_text, finite_from, next_from, next_members, next_text, packet_text}
+use Rattle.trace.specs.Joined.{mark}
+use Rattle.trace.specs.Texts.{array, further, member, object, quoted}
+use Rattle.trace.proofs.lemmas.{Remains, end_printed, left, maybe_printed, three}
 
 -- ---- distances
 
 -- those that are left where so many IMPs were looked at and so many distances printed
 abbrev pub distances_left : ℕ → ℕ → List ℕ → List ℕ
-distances_left place i ds = left (codes "{") (codes ",") (codes "}") place (finite_from (i + 1) (drop i ds))
+distances_left place i ds = left (codes "{") (codes "}") place (finite_from (i + 1) (drop i ds))
 
 pub distance_printed : (ds : List ℕ) (i place : ℕ) (whole : List ℕ) (a b c : Option (List ℕ)) → i < length ds → Remains a b (distances_left place i ds) whole → Appends b c (distance_behind place (i + 1) (slice_index_or ds i 0))
-    → Remains a c (distances_left (place_behind place (slice_index_or ds i 0)) (i + 1) ds) whole
+    → Remains a c (distances_left (place_behind place (nat_lt (slice_index_or ds i 0) infinite)) (i + 1) ds) whole
 distance_printed ds i place whole a b c lt remains printed =
     let d = slice_index_or ds i 0 in
-    let here : Remains a b (left (codes "{") (codes ",") (codes "}") place (finite_from (i + 1) (d ∷ drop (i + 1) ds))) whole =
-    subst (λ zs. Remains a b (left (codes "{") (codes ",") (codes "}") place (finite_from (i + 1) zs)) whole) (drop_more ds i 0 lt) remains in
-    maybe_printed (codes "{") (codes ",") (codes "}") (nat_lt d infinite) (member (decimal (i + 1)) (decimal d)) (finite_from (i + 1 + 1) (drop (i + 1) ds)) place whole a b c here printed
+    let here : Remains a b (left (codes "{") (codes "}") place (finite_from (i + 1) (d ∷ drop (i + 1) ds))) whole =
+    subst (λ zs. Remains a b (left (codes "{") (codes "}") place (finite_from (i + 1) zs)) whole) (drop_more ds i 0 lt) remains in
+    maybe_printed (codes "{") (codes "}") (nat_lt d infinite) (member (decimal (i + 1)) (decimal d)) (finite_from (i + 1 + 1) (drop (i + 1) ds)) place whole a b c here printed
 
 pub distances_printed : (ds : List ℕ) (i place : ℕ) (a b c : Option (List ℕ)) → length ds ≤ i → Remains a b (distances_left place i ds) (distances_left 0 0 ds) → Appends b c (mark (codes "{}") (codes "}") place) → Appends a c (distances_text ds)
 distances_printed ds i place a b c past remains last =
     let none : finite_from (i + 1) (drop i ds) ≡ [] = ap (finite_from (i + 1)) (drop_all i ds past) in
-    let here : Remains a b (left (codes "{") (codes ",") (codes "}") place []) (distances_left 0 0 ds) = subst (λ zs. Remains a b (left (codes "{") (codes ",") (codes "}") place zs) (distances_left 0 0 ds)) none remains in
-    subst (Appends a c) (ap (λ zs. codes "{" ++ zs) (joined_is (codes "}") (finite_from 1 ds))) (end_printed (codes "{") (codes ",") (codes "}") place (distances_left 0 0 ds) a b c here last)
+    let here : Remains a b (left (codes "{") (codes "}") place []) (distances_left 0 0 ds) = subst (λ zs. Remains a b (left (codes "{") (codes "}") place zs) (distances_left 0 0 ds)) none remains in
+    (end_printed (codes "{") (codes "}") place (distances_left 0 0 ds) a b c here last)
 
--- ---- packets
+-- ---- ports to IMPs
 
-pub packet_printed : (words kind flow number place last count octets : List ℕ) (a b c d : Option (List ℕ)) → Appends a b (words ++ (kind ++ (codes " " ++ (flow ++ (codes " " ++ (number ++ codes " "))))))
-    → Appends b c (place ++ (codes " " ++ (last ++ (codes " " ++ (count ++ codes " "))))) → Appends c d octets
-    → Appends a d (words ++ (kind ++ (codes " " ++ (flow ++ (codes " " ++ (number ++ (codes " " ++ (place ++ (codes " " ++ (last ++ (codes " " ++ (count ++ (codes " " ++ octets)))))))))))))
-packet_printed words kind flow number place last count octets a b c d front middle behind =
-    let head : List ℕ = words ++ (kind ++ (codes " " ++ (flow ++ (codes " " ++ (number ++ codes " "))))) in
-    let rest : List ℕ = place ++ (codes " " ++ (last ++ (codes " " ++ (count ++ codes " ")))) in
-    let whole : head ++ (rest ++ octets) ≡ words ++ (kind ++ (codes " " ++ (flow ++ (codes " " ++ (number ++ (codes " " ++ (place ++ (codes " " ++ (last ++ (codes " " ++ (count ++ (codes " " ++ octets)))))))))))) = simp append_assoc in
-    subst (Appends a d) whole (appends_more a b d head (rest ++ octets) front (appends_more b c d rest octets middle behind))
+-- those that are left where so many IMPs were looked at and so many ports printed
+abbrev pub ports_left : Table → ℕ → ℕ → List ℕ
+ports_left t place i = left (codes "{") (codes "}") place (next_from t (range_with_len (i + 1) (most_imps - i)))
+
+pub next_printed : (t : Table) (i place : ℕ) (whole : List ℕ) (a b c : Option (List ℕ)) → i < most_imps → Remains a b (ports_left t place i) whole → Appends b c (next_behind place (i + 1) (next_of t (i + 1)))
+    → Remains a c (ports_left t (place_after place (next_of t (i + 1))) (i + 1)) whole
+next_printed t i place whole a b c lt remains printed =
+    let count : most_imps - i ≡ suc (most_imps - (i + 1)) = omega (arith, lt) in
+    let rest : List (List ℕ) = next_from t (range_with_len (i + 1 + 1) (most_imps - (i + 1))) in
+    by rest (next_of t (i + 1)) (subst (λ (m : ℕ). Remains a b (left (codes "{") (codes "}") place (next_from t (range_with_len (i + 1) m))) whole) count remains) printed where
+      by : (rest : List (List ℕ)) (o : Option ℕ) → Remains a b (left (codes "{") (codes "}") place (next_members (i + 1) o ++ rest)) whole → Appends b c (next_behind place (i + 1) o) → Remains a c (left (codes "{") (codes "}") (place_after place o) rest) whole
+      by rest None here none = maybe_printed (codes "{") (codes "}") false [] rest place whole a b c here none
+      by rest (Some port) here one = maybe_printed (codes "{") (codes "}") true (member (decimal (i + 1)) (decimal port)) rest place whole a b c here one
+
+pub ports_printed : (t : Table) (i place : ℕ) (a b c : Option (List ℕ)) → most_imps ≤ i → Remains a b (ports_left t place i) (next_text t) → Appends b c (mark (codes "{}") (codes "}") place) → Appends a c (next_text t)
+ports_printed t i place a b c past remains last =
+    let none : most_imps - i ≡ 0 = omega (arith, past) in
+    let here : Remains a b (left (codes "{") (codes "}") place []) (next_text t) = subst (λ (m : ℕ). Remains a b (left (codes "{") (codes "}") place (next_from t (range_with_len (i + 1) m))) (next_text t)) none remains in
+    end_printed (codes "{") (codes "}") place (next_text t) a b c here last
 
 -- ---- frames
 
@@ -54,15 +69,14 @@ abbrev behind_acks : Content → List ℕ
 behind_acks content = codes "\"" ++ further (codes "}") (content_members content)
 
 pub carried_printed : (content : Content) (carried : Carriage) (a b c d : Option (List ℕ)) → content ≡ contents.Packet carried
-    → Appends a b (codes "\",\"channel\":" ++ (decimal carried.channel ++ (codes ",\"bit\":" ++ (bit_text carried.bit ++ codes ",\"packet\":")))) → Appends b c (codes "\"" ++ packet_text carried.packet) → Appends c d (codes "\"}")
+    → Appends a b (codes "\",\"channel\":" ++ (decimal carried.channel ++ (codes ",\"bit\":" ++ (bit_text carried.bit ++ codes ",\"packet\":")))) → Appends b c (packet_text carried.packet) → Appends c d (codes "}")
     → Appends a d (behind_acks content)
 carried_printed content carried a b c d is front packet end =
     let head : List ℕ = codes "\",\"channel\":" ++ (decimal carried.channel ++ (codes ",\"bit\":" ++ (bit_text carried.bit ++ codes ",\"packet\":"))) in
-    let middle : List ℕ = codes "\"" ++ packet_text carried.packet in
-    let whole : head ++ (middle ++ codes "\"}") ≡ behind_acks (contents.Packet carried) = members (decimal carried.channel) (bit_text carried.bit) (packet_text carried.packet) in
-    subst (Appends a d) (whole ∙ ap behind_acks (sym is)) (appends_more a b d head (middle ++ codes "\"}") front (appends_more b c d middle (codes "\"}") packet end)) where
-      members : (channel bit packet : List ℕ) → (codes "\",\"channel\":" ++ (channel ++ (codes ",\"bit\":" ++ (bit ++ codes ",\"packet\":")))) ++ ((codes "\"" ++ packet) ++ codes "\"}")
-          ≡ codes "\"" ++ further (codes "}") (member (codes "channel") channel ∷ member (codes "bit") bit ∷ member (codes "packet") (quoted packet) ∷ [])
+    let whole : head ++ (packet_text carried.packet ++ codes "}") ≡ behind_acks (contents.Packet carried) = members (decimal carried.channel) (bit_text carried.bit) (packet_text carried.packet) in
+    subst (Appends a d) (whole ∙ ap behind_acks (sym is)) (three head (packet_text carried.packet) (codes "}") a b c d front packet end) where
+      members : (channel bit packet : List ℕ) → (codes "\",\"channel\":" ++ (channel ++ (codes ",\"bit\":" ++ (bit ++ codes ",\"packet\":")))) ++ (packet ++ codes "}")
+          ≡ codes "\"" ++ further (codes "}") (member (codes "channel") channel ∷ member (codes "bit") bit ∷ member (codes "packet") packet ∷ [])
       members channel bit packet = simp append_assoc
 
 pub routes_printed : (content : Content) (ds : List ℕ) (a b c d : Option (List ℕ)) → content ≡ contents.Routes ds → Appends a b (codes "\",\"routes\":") → Appends b c (distances_text ds) → Appends c d (codes "}") → Appends a d (behind_acks content)
@@ -72,20 +86,28 @@ routes_printed content ds a b c d is front routes end =
 -- ---- flows
 
 -- what is left of an array of what is known of flows, where so many were printed
-abbrev pub flows_left : {V : Type 0} → (V → List ℕ) → (V → ℕ) → ℕ → List (Flow × V) → List ℕ
-flows_left word number place es = left (codes "[") (codes ",") (codes "]") place (map quoted (map (known_text word number) es))
+abbrev pub flows_left : {V : Type 0} → List ℕ → (Flow → V → List ℕ) → (V → ℕ) → ℕ → List (Flow × V) → List ℕ
+flows_left name word number place es = left (codes "[") (codes "]") place (map (known_text name word number) es)
 
-pub flow_printed : {V : Type 0} (word : V → List ℕ) (number : V → ℕ) (place : ℕ) (e : Flow × V) (es : List (Flow × V)) (whole : List ℕ) (a b c : Option (List ℕ)) → Remains a b (flows_left word number place (e ∷ es)) whole
-    → Appends b c (mark (codes "[") (codes ",") place ++ (codes "\"" ++ (word e.1 ++ (codes " " ++ (flow_text e.0 ++ (codes " " ++ (decimal (number e.1) ++ codes "\""))))))) → Remains a c (flows_left word number 1 es) whole
-flow_printed word number place e es whole a b c remains printed =
-    let one : codes "\"" ++ (word e.1 ++ (codes " " ++ (flow_text e.0 ++ (codes " " ++ (decimal (number e.1) ++ codes "\""))))) ≡ quoted (known_text word number e) = simp append_assoc in
-    maybe_printed (codes "[") (codes ",") (codes "]") true (quoted (known_text word number e)) (map quoted (map (known_text word number) es)) place whole a b c remains
-    (subst (Appends b c) (ap (λ zs. mark (codes "[") (codes ",") place ++ zs) one) printed)
+-- what is printed of a flow, in two pieces
+pub known_printed : (name word source destination link number : List ℕ) (a b c : Option (List ℕ)) → Appends a b (codes "{\"" ++ (name ++ (codes "\":\"" ++ (word ++ (codes "\",\"from\":\"" ++ (source ++ codes "\","))))))
+    → Appends b c (codes "\"to\":\"" ++ (destination ++ (codes "\",\"link\":" ++ (link ++ (codes ",\"number\":" ++ (number ++ codes "}"))))))
+    → Appends a c (object (member name (quoted word) ∷ member (codes "from") (quoted source) ∷ member (codes "to") (quoted destination) ∷ member (codes "link") link ∷ member (codes "number") number ∷ []))
+known_printed name word source destination link number a b c front back =
+    let x : List ℕ = codes "{\"" ++ (name ++ (codes "\":\"" ++ (word ++ (codes "\",\"from\":\"" ++ (source ++ codes "\","))))) in
+    let y : List ℕ = codes "\"to\":\"" ++ (destination ++ (codes "\",\"link\":" ++ (link ++ (codes ",\"number\":" ++ (number ++ codes "}"))))) in
+    let whole : x ++ y ≡ object (member name (quoted word) ∷ member (codes "from") (quoted source) ∷ member (codes "to") (quoted destination) ∷ member (codes "link") link ∷ member (codes "number") number ∷ []) = simp append_assoc in
+    subst (Appends a c) whole (appends_more a b c x y front back)
 
-pub flows_printed : {V : Type 0} (word : V → List ℕ) (number : V → ℕ) (place : ℕ) (es : List (Flow × V)) (a b c : Option (List ℕ)) → Remains a b (flows_left word number place []) (flows_left word number 0 es)
-    → Appends b c (mark (codes "[]") (codes "]") place) → Appends a c (strings (map (known_text word number) es))
-flows_printed word number place es a b c remains last =
-    subst (Appends a c) (ap (λ zs. codes "[" ++ zs) (joined_is (codes "]") (map quoted (map (known_text word number) es)))) (end_printed (codes "[") (codes ",") (codes "]") place (flows_left word number 0 es) a b c remains last)
+pub flow_printed : {V : Type 0} (name : List ℕ) (word : Flow → V → List ℕ) (number : V → ℕ) (place : ℕ) (e : Flow × V) (es : List (Flow × V)) (whole : List ℕ) (a b c d : Option (List ℕ)) → Remains a b (flows_left name word number place (e ∷ es)) whole
+    → Appends b c (mark (codes "[") (codes ",") place) → Appends c d (known_text name word number e) → Remains a d (flows_left name word number 1 es) whole
+flow_printed name word number place e es whole a b c d remains first item =
+    maybe_printed (codes "[") (codes "]") true (known_text name word number e) (map (known_text name word number) es) place whole a b d remains
+    (appends_more b c d (mark (codes "[") (codes ",") place) (known_text name word number e) first item)
+
+pub flows_printed : {V : Type 0} (name : List ℕ) (word : Flow → V → List ℕ) (number : V → ℕ) (place : ℕ) (es : List (Flow × V)) (a b c : Option (List ℕ)) → Remains a b (flows_left name word number place []) (flows_left name word number 0 es)
+    → Appends b c (mark (codes "[]") (codes "]") place) → Appends a c (array (map (known_text name word number) es))
+flows_printed name word number place es a b c remains last = end_printed (codes "[") (codes "]") place (flows_left name word number 0 es) a b c remains last
 
 -- ---- bits
 

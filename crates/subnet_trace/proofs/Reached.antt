@@ -27,7 +27,8 @@ use Rattle.subnet.specs.declared.Ends.{Ends}
 use Rattle.subnet.proofs.lemmas.{offer_working, opening_working, round_working, step_working, take_working}
 use Rattle.subnet_trace.specs.Parts.{of_subnet}
 use Rattle.subnet_trace.specs.Told.{IsOneNetwork, IsReached, IsTold, SameTexts}
-use Rattle.subnet_trace.proofs.Known.{IsKnown, flow_named, offer_known, opening_known, round_known, step_known, take_known, told}
+use Rattle.trace.proofs.lemmas.{flow_named}
+use Rattle.subnet_trace.proofs.Known.{IsKnown, offer_known, opening_known, round_known, step_known, take_known, told}
 use Rattle.subnet_trace.proofs.Rest.{runs}
 use Rattle.subnet_trace.proofs.Whole.{whole}
 use Rattle.trace.proofs.lemmas.{goes_calmly}

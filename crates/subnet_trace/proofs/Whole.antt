@@ -1,20 +1,24 @@
 -- The texts of all parts tell a subnet, but for its log.
 use Rattle.std.proofs.Common.{◌≡◌, ℕ, suc, true, nat_lt, List, [], ◌∷◌, codes, length, map, Option, Some, None, is_some, slice_index_or, refl, sym, ap, ap₂, ◌∙◌, arith}
 use Rattle.std.proofs.lemmas.List.{get_or_default, same_lists}
-use Rattle.std.proofs.lemmas.List.Elements.{All-head, All-tail}
+use Rattle.std.proofs.lemmas.List.Elements.{All-cons, All-head, All-nil, All-tail}
 use Rattle.std.proofs.lemmas.Bool.Decides.{nat_tests}
 use Rattle.std.specs.FinMap as fin
-use Rattle.std.specs.List.{All}
+use Rattle.std.specs.List.{All, range_with_len}
 use Rattle.imp_node.specs.State.{State}
+use Rattle.leader1822.specs.declared.address.Flow.{Flow}
+use Rattle.link_table.specs.declared.source.Standing.{Standing}
 use Rattle.subnet.specs.Events.{is_imp, site_at}
 use Rattle.subnet.specs.Net.{Net, Wire, imp_at, wire_at}
-use Rattle.trace.specs.Texts.{array, member, object, strings}
+use Rattle.leader1822.specs.Host.{most_imps}
+use Rattle.routing.specs.RouteTable.{vector_of}
+use Rattle.trace.specs.Texts.{array, member, object}
+use Rattle.trace.proofs.lemmas.{AreClosed, IsClosed, Spelled, also_closed, array_closed, array_once, first_same, lists_spelled, member_once, none_closed, object_closed, object_once, rest_same}
 use Rattle.subnet_trace.specs.Parts.{Imp, Line}
-use Rattle.subnet_trace.specs.Texts.{frame_text, heard_text, host_object, imp_members, imp_text, kept_text, line_text, port_object, slot_text, source_text}
+use Rattle.subnet_trace.specs.Texts.{finite_from, frame_text, heard_text, host_object, imp_members, imp_text, kept_text, line_text, next_from, port_object, slot_text, source_text}
 use Rattle.subnet_trace.specs.Told.{IsFrameTold, IsHeardTold, IsHostTold, IsImpTold, IsKeptTold, IsLineTold, IsOneNetwork, IsPortTold, IsSlotTold, IsSourceTold, IsTold, IsToldAt, SameTexts, ends_of}
-use Rattle.subnet_trace.proofs.Json.{Spelled, first_same, lists_spelled, member_once, object_once, rest_same}
-use Rattle.subnet_trace.proofs.Objects.{AreClosed, also_closed, frame_spelled, heard_spelled, host_spelled, lists_of_strings, none_closed, not_null, packets_spelled, port_spelled, slot_spelled}
-use Rattle.subnet_trace.proofs.Spelling.{kept_words, source_words}
+use Rattle.subnet_trace.proofs.Objects.{finite_closed, frame_spelled, heard_spelled, host_spelled, not_null, packets_spelled, port_spelled, ports_closed, slot_spelled}
+use Rattle.subnet_trace.proofs.Spelling.{kept_is_spelled, source_is_closed, source_once}
 
 -- ---- an IMP
 
@@ -30,11 +34,25 @@ routes_spelled = lists_spelled heard_text IsHeardTold heard_spelled
 slots_spelled : Spelled (λ xs. array (map slot_text xs)) (All IsSlotTold)
 slots_spelled = lists_spelled slot_text IsSlotTold slot_spelled
 
-sources_spelled : Spelled (λ xs. strings (map source_text xs)) (All IsSourceTold)
-sources_spelled = lists_of_strings source_text IsSourceTold source_words
+each_source_closed : (s : State) (es : List (Flow × Standing)) → All IsSourceTold es → All IsClosed (map (source_text s) es)
+each_source_closed s [] p = All-nil IsClosed
+each_source_closed s (e ∷ es) p = All-cons IsClosed (source_text s e) (map (source_text s) es) (source_is_closed s e (All-head IsSourceTold e es p)) (each_source_closed s es (All-tail IsSourceTold e es p))
 
-kept_spelled : Spelled (λ xs. strings (map kept_text xs)) (All IsKeptTold)
-kept_spelled = lists_of_strings kept_text IsKeptTold kept_words
+each_source_once : (s t : State) (es fs : List (Flow × Standing)) → All IsSourceTold es → All IsSourceTold fs → map (source_text s) es ≡ map (source_text t) fs → es ≡ fs
+each_source_once s t [] [] p q h = refl
+each_source_once s t [] (f ∷ fs) p q h = absurd (cc)
+each_source_once s t (e ∷ es) [] p q h = absurd (cc)
+each_source_once s t (e ∷ es) (f ∷ fs) p q h =
+    ap₂ (λ (x : Flow × Standing) (xs : List (Flow × Standing)). x ∷ xs) (source_once s t e f (All-head IsSourceTold e es p) (All-head IsSourceTold f fs q) (first_same h)) (each_source_once s t es fs (All-tail IsSourceTold e es p) (All-tail IsSourceTold f fs q) (rest_same h))
+
+sources_closed : (s : State) (es : List (Flow × Standing)) → All IsSourceTold es → IsClosed (array (map (source_text s) es))
+sources_closed s es p = array_closed (map (source_text s) es) (each_source_closed s es p)
+
+sources_once : (s t : State) (es fs : List (Flow × Standing)) → All IsSourceTold es → All IsSourceTold fs → array (map (source_text s) es) ≡ array (map (source_text t) fs) → es ≡ fs
+sources_once s t es fs p q h = each_source_once s t es fs p q (array_once (map (source_text s) es) (map (source_text t) fs) (each_source_closed s es p) (each_source_closed t fs q) h)
+
+kept_spelled : Spelled (λ xs. array (map kept_text xs)) (All IsKeptTold)
+kept_spelled = lists_spelled kept_text IsKeptTold kept_is_spelled
 
 members_closed : (i : ℕ) (s : State) → IsImpTold i s → AreClosed (imp_members s)
 members_closed i s is =
@@ -43,8 +61,10 @@ members_closed i s is =
     (also_closed (codes "routes") refl (routes_spelled.closed s.routes.heard is.routes)
     (also_closed (codes "store") refl (packets_spelled.closed s.store is.store)
     (also_closed (codes "slots") refl (slots_spelled.closed s.slots is.slots)
-    (also_closed (codes "sources") refl (sources_spelled.closed (fin.entries s.sources) is.sources)
-    (also_closed (codes "kept") refl (kept_spelled.closed (fin.entries s.kept) is.kept) none_closed))))))
+    (also_closed (codes "sources") refl (sources_closed s (fin.entries s.sources) is.sources)
+    (also_closed (codes "kept") refl (kept_spelled.closed (fin.entries s.kept) is.kept)
+    (also_closed (codes "distances") refl (object_closed (finite_from 1 (vector_of s.routes)) (finite_closed 1 (vector_of s.routes)))
+    (also_closed (codes "next") refl (object_closed (next_from s.routes (range_with_len 1 most_imps)) (ports_closed s.routes (range_with_len 1 most_imps)).all) none_closed))))))))
 
 state_once : (i : ℕ) (s t : State) → IsImpTold i s → IsImpTold i t → object (imp_members s) ≡ object (imp_members t) → s ≡ t
 state_once i s t p q e =
@@ -60,7 +80,7 @@ state_once i s t p q e =
     let heard : s.routes.heard ≡ t.routes.heard = routes_spelled.once s.routes.heard t.routes.heard p.routes q.routes (member_once (codes "routes") _ _ (first_same three)) in
     let store : s.store ≡ t.store = packets_spelled.once s.store t.store p.store q.store (member_once (codes "store") _ _ (first_same four)) in
     let slots : s.slots ≡ t.slots = slots_spelled.once s.slots t.slots p.slots q.slots (member_once (codes "slots") _ _ (first_same five)) in
-    let sources : s.sources ≡ t.sources = fin.same_entries_map s.sources t.sources (sources_spelled.once (fin.entries s.sources) (fin.entries t.sources) p.sources q.sources (member_once (codes "sources") _ _ (first_same six))) in
+    let sources : s.sources ≡ t.sources = fin.same_entries_map s.sources t.sources (sources_once s t (fin.entries s.sources) (fin.entries t.sources) p.sources q.sources (member_once (codes "sources") _ _ (first_same six))) in
     let kept : s.kept ≡ t.kept = fin.same_entries_map s.kept t.kept (kept_spelled.once (fin.entries s.kept) (fin.entries t.kept) p.kept q.kept (member_once (codes "kept") _ _ (first_same seven))) in
     let own : s.routes.own ≡ t.routes.own = p.own ∙ sym q.own in
     let spent : s.spent ≡ t.spent = p.live ∙ sym q.live in

@@ -1,4 +1,5 @@
 pub mod Elements
+pub mod Fates
 pub mod Parts
 pub mod Printing
 pub mod Steps

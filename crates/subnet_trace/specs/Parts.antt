@@ -35,6 +35,10 @@ part_text n (Line l) = line_text (wire_at n.lines l)
 abbrev pub parts_text : Net → List Part → List ℕ
 parts_text n parts = object (map (λ p. member (part_name p) (part_text n p)) parts)
 
+-- all parts: the IMPs by rising number, and the lines in order
+abbrev pub all_parts : Net → List Part
+all_parts n = map (λ i. Imp i) (filter (is_imp n) (range_with_len 0 (length n.imps))) ++ map (λ l. Line l) (range_with_len 0 (length n.lines))
+
 -- ---- the parts that an event can change
 
 -- the lines that end at an IMP, in order

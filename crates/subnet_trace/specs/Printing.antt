@@ -1,48 +1,50 @@
 -- What the contracts of private functions say. No public clause cites this file.
-use Rattle.std.specs.Prelude.{ℕ, zero, suc, List, [], ◌∷◌, ◌++◌, codes, if◌then◌else◌, nat_lt}
+use Rattle.std.specs.Prelude.{ℕ, Bool, true, false, List, [], ◌∷◌, ◌++◌, Option, Some, None, codes, if◌then◌else◌, nat_lt}
 use Rattle.std.specs.Fmt.{decimal}
-use Rattle.leader1822.specs.Printed.{flow_text}
+use Rattle.imp_node.specs.Arrival.{Arrival, arrival_has_room}
+use Rattle.imp_node.specs.State.{State}
 use Rattle.leader1822.specs.declared.address.Flow.{Flow}
+use Rattle.packetiser.specs.PacketFields.{PacketFields}
 use Rattle.routing.specs.Vector.{infinite}
 use Rattle.subnet.specs.Net.{Net, Wire, ends_at}
-use Rattle.subnet_trace.specs.Parts.{Part, Line, imp_alone, imp_and_lines, line_alone, part_name}
-use Rattle.subnet_trace.specs.Texts.{line_text, words}
+use Rattle.subnet_trace.specs.Fates.{arrival_fate}
+use Rattle.subnet_trace.specs.Parts.{Part, Line, imp_alone, imp_and_lines, line_alone, part_name, part_text}
+use Rattle.subnet_trace.specs.Texts.{flow_object, line_text}
 use Rattle.subnet_trace.specs.declared.parts.Scope.{Scope}
 use Rattle.subnet_trace.specs.declared.parts.Scope.TheVariants as scope
+use Rattle.trace.specs.Joined.{mark}
 use Rattle.trace.specs.Texts.{member}
+use Rattle.trace.specs.declared.fate.Fate.{Fate}
+use Rattle.trace.specs.declared.fate.Fate.TheVariants as fates
 
--- ---- lists
+-- ---- distances and ports
 
--- what follows an item of a list: its end, or what is between two items, and the next one
-abbrev pub following : List ℕ → List ℕ → List (List ℕ) → List ℕ
-following between end [] = end
-following between end (x ∷ xs) = between ++ (x ++ following between end xs)
-
--- items with something between any two, and the end
-abbrev pub joined : List ℕ → List ℕ → List (List ℕ) → List ℕ
-joined between end [] = end
-joined between end (x ∷ xs) = x ++ following between end xs
-
--- one mark at place 0, and another at any other place
-abbrev pub mark : List ℕ → List ℕ → ℕ → List ℕ
-mark first other zero = first
-mark first other (suc place) = other
-
--- ---- distances
-
--- the distance to an IMP, after this many others; nothing where there is no way
-abbrev pub distance_behind : ℕ → ℕ → ℕ → List ℕ
-distance_behind place imp d = if nat_lt d infinite then mark (codes "{") (codes ",") place ++ member (decimal imp) (decimal d) else []
+-- a number under the number of an IMP, after this many others, if it is there
+abbrev pub number_behind : ℕ → ℕ → ℕ → Bool → List ℕ
+number_behind place imp number there = if there then mark (codes "{") (codes ",") place ++ member (decimal imp) (decimal number) else []
 
 -- the place behind it
-abbrev pub place_behind : ℕ → ℕ → ℕ
-place_behind place d = if nat_lt d infinite then 1 else place
+abbrev pub place_behind : ℕ → Bool → ℕ
+place_behind place there = if there then 1 else place
+
+-- the distance to an IMP; nothing where there is no way
+abbrev pub distance_behind : ℕ → ℕ → ℕ → List ℕ
+distance_behind place imp d = number_behind place imp d (nat_lt d infinite)
+
+-- the port to an IMP, if there is one
+abbrev pub next_behind : ℕ → ℕ → Option ℕ → List ℕ
+next_behind place imp None = []
+next_behind place imp (Some port) = mark (codes "{") (codes ",") place ++ member (decimal imp) (decimal port)
+
+abbrev pub place_after : ℕ → Option ℕ → ℕ
+place_after place None = place
+place_after place (Some port) = 1
 
 -- ---- flows
 
--- what is known of a flow: a word, the flow and a number
-abbrev pub known_text : {V : Type 0} → (V → List ℕ) → (V → ℕ) → Flow × V → List ℕ
-known_text word number e = words (word e.1 ∷ flow_text e.0 ∷ decimal (number e.1) ∷ [])
+-- what is known of a flow: a word with its name, the flow and a number
+abbrev pub known_text : {V : Type 0} → List ℕ → (Flow → V → List ℕ) → (V → ℕ) → Flow × V → List ℕ
+known_text name word number e = flow_object name (word e.0 e.1) e.0 (number e.1)
 
 -- ---- parts
 
@@ -56,3 +58,21 @@ parts_in n (scope.ImpAndLines i) = imp_and_lines n i
 parts_in n (scope.Imp i) = imp_alone n i
 parts_in n (scope.Line l) = line_alone n l
 parts_in n scope.Nothing = []
+
+-- a part with its name
+abbrev pub named : Net → Part → List ℕ
+named n p = member (part_name p) (part_text n p)
+
+-- after this many others, if it is there
+abbrev pub part_behind : Bool → ℕ → List ℕ → List ℕ
+part_behind there place text = if there then mark (codes "{") (codes ",") place ++ text else []
+
+-- ---- fates
+
+-- this fate where there is room
+abbrev pub fate_with_room : Bool → Fate → Fate
+fate_with_room room fate = if room then fate else fates.NoRoom
+
+-- what becomes of a fresh packet that is this to the IMP
+abbrev pub judged_with_room : Arrival → State → PacketFields → Fate
+judged_with_room a s p = fate_with_room (arrival_has_room a s p) (arrival_fate a s p)

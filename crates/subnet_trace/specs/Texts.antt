@@ -1,13 +1,15 @@
 -- How what is inside a subnet is spelled: a JSON text for each IMP and each line.
-use Rattle.std.specs.Prelude.{ℕ, ◌+◌, Bool, true, false, nat_lt, List, [], ◌∷◌, ◌++◌, Option, Some, None, codes, if◌then◌else◌, length, map}
+use Rattle.std.specs.Prelude.{ℕ, ◌+◌, Bool, true, false, nat_lt, List, [], ◌∷◌, ◌++◌, Option, Some, None, codes, if◌then◌else◌, map}
+use Rattle.std.specs.List.{list_any, range_with_len}
 use Rattle.std.specs.FinMap as fin
 use Rattle.std.specs.Fmt.{decimal}
-use Rattle.leader1822.specs.Printed.{flow_text}
+use Rattle.leader1822.specs.Host.{most_imps}
 use Rattle.leader1822.specs.declared.address.Flow.{Flow}
 use Rattle.packetiser.specs.PacketFields.{PacketFields, flow_of}
 use Rattle.packetiser.specs.Slots.{SlotState}
 use Rattle.packetiser.specs.declared.packet.PacketKind.{PacketKind}
 use Rattle.packetiser.specs.declared.packet.PacketKind.TheVariants as kind
+use Rattle.routing.specs.RouteTable.{Table, next_of, vector_of}
 use Rattle.routing.specs.Vector.{infinite}
 use Rattle.imp_channel.specs.declared.channel.Channel.{Channel}
 use Rattle.imp_channel.specs.declared.frame.Content.{Content}
@@ -19,21 +21,15 @@ use Rattle.link_table.specs.declared.destination.Fate.TheVariants as fate
 use Rattle.link_table.specs.declared.destination.Noted.{Noted}
 use Rattle.link_table.specs.declared.source.Standing.{Standing}
 use Rattle.link_table.specs.declared.source.Standing.TheVariants as standing
-use Rattle.imp_node.specs.State.{HostState, State}
+use Rattle.imp_node.specs.Flows.{is_about}
+use Rattle.imp_node.specs.State.{HostState, State, host_at}
 use Rattle.imp_node.specs.declared.port.Port.{Port}
 use Rattle.imp_node.specs.declared.waiting.Message.{Message}
 use Rattle.imp_node.specs.declared.waiting.Told.{Told}
-use Rattle.script.specs.Spelling.{octets_text}
 use Rattle.subnet.specs.Net.{Wire}
-use Rattle.trace.specs.Texts.{array, member, object, quoted, strings, waiting_answer_text}
+use Rattle.trace.specs.Texts.{answer_object, array, bits_members, bool_text, flow_members, member, object, quoted}
 
--- ---- words
-
--- words with single spaces between
-abbrev pub words : List (List ℕ) → List ℕ
-words [] = []
-words (word ∷ []) = word
-words (word ∷ next ∷ rest) = word ++ (codes " " ++ words (next ∷ rest))
+-- ---- bits
 
 abbrev pub bit_text : Bool → List ℕ
 bit_text true = codes "1"
@@ -44,10 +40,6 @@ abbrev pub bits_text : List Bool → List ℕ
 bits_text [] = []
 bits_text (bit ∷ bits) = bit_text bit ++ bits_text bits
 
-abbrev pub bool_text : Bool → List ℕ
-bool_text true = codes "true"
-bool_text false = codes "false"
-
 -- ---- packets and frames
 
 abbrev pub kind_word : PacketKind → List ℕ
@@ -57,15 +49,14 @@ kind_word kind.Dead = codes "dead"
 kind_word kind.Ask = codes "ask"
 kind_word kind.Never = codes "never"
 
-abbrev pub last_word : Bool → List ℕ
-last_word true = codes "last"
-last_word false = codes "more"
+-- what a packet has beside its kind and its flow
+abbrev pub piece_members : PacketFields → List (List ℕ)
+piece_members p = member (codes "number") (decimal p.number) ∷ member (codes "place") (decimal p.place) ∷ member (codes "last") (bool_text p.last) ∷ bits_members p.bits
 
--- a packet: its kind, its message's flow and number, the place of its piece, whether that is the last, and the piece's bits
 abbrev pub packet_text : PacketFields → List ℕ
-packet_text p = words (kind_word p.kind ∷ flow_text (flow_of p) ∷ decimal p.number ∷ decimal p.place ∷ last_word p.last ∷ decimal (length p.bits) ∷ octets_text p.bits ∷ [])
+packet_text p = object (member (codes "kind") (quoted (kind_word p.kind)) ∷ (flow_members (flow_of p) ++ piece_members p))
 
--- the finite ones of these distances, of which the first is to this IMP
+-- those of these distances that are less than 63, each with the number of its IMP, of which the first is this one
 abbrev pub finite_from : ℕ → List ℕ → List (List ℕ)
 finite_from imp [] = []
 finite_from imp (d ∷ distances) = (if nat_lt d infinite then member (decimal imp) (decimal d) ∷ [] else []) ++ finite_from (imp + 1) distances
@@ -77,7 +68,7 @@ distances_text distances = object (finite_from 1 distances)
 -- what a frame has beside its acknowledgement bits
 abbrev pub content_members : Content → List (List ℕ)
 content_members (content.Packet carried) =
-    member (codes "channel") (decimal carried.channel) ∷ member (codes "bit") (bit_text carried.bit) ∷ member (codes "packet") (quoted (packet_text carried.packet)) ∷ []
+    member (codes "channel") (decimal carried.channel) ∷ member (codes "bit") (bit_text carried.bit) ∷ member (codes "packet") (packet_text carried.packet) ∷ []
 content_members content.Nothing = []
 content_members (content.Routes distances) = member (codes "routes") (distances_text distances) ∷ []
 
@@ -86,26 +77,27 @@ frame_text f = object (member (codes "acks") (quoted (bits_text f.acks)) ∷ con
 
 -- ---- what an IMP keeps
 
--- a whole message that waits: its flow and number, and its text's bits
+-- a whole message that waits
 abbrev pub whole_text : Message → List ℕ
-whole_text m = words (flow_text m.flow ∷ decimal m.number ∷ decimal (length m.text) ∷ octets_text m.text ∷ [])
+whole_text m = object (flow_members m.flow ++ (member (codes "number") (decimal m.number) ∷ bits_members m.text))
 
 abbrev pub told_text : Told → List ℕ
-told_text t = waiting_answer_text (t.kind, t.flow)
+told_text t = answer_object (t.kind, t.flow)
 
 abbrev pub host_object : HostState → List ℕ
-host_object h = object (member (codes "up") (bool_text h.up) ∷ member (codes "messages") (strings (map whole_text h.queue)) ∷ member (codes "answers") (strings (map told_text h.answers)) ∷ [])
+host_object h = object (member (codes "up") (bool_text h.up) ∷ member (codes "messages") (array (map whole_text h.queue)) ∷ member (codes "answers") (array (map told_text h.answers)) ∷ [])
 
 -- the packet in a channel, if one waits there
-abbrev pub held_words : Option PacketFields → List (List ℕ)
-held_words None = []
-held_words (Some packet) = packet_text packet ∷ []
+abbrev pub held_members : Option PacketFields → List (List ℕ)
+held_members None = []
+held_members (Some packet) = member (codes "packet") (packet_text packet) ∷ []
 
+-- a channel: the bit of its packet or, if it is free, of the next one
 abbrev pub channel_text : Channel → List ℕ
-channel_text channel = words (bit_text channel.bit ∷ held_words channel.packet)
+channel_text channel = object (member (codes "bit") (bit_text channel.bit) ∷ held_members channel.packet)
 
 abbrev pub port_object : Port → List ℕ
-port_object p = object (member (codes "up") (bool_text p.up) ∷ member (codes "sending") (strings (map channel_text p.line.sending)) ∷ member (codes "expected") (quoted (bits_text p.line.expected)) ∷ [])
+port_object p = object (member (codes "up") (bool_text p.up) ∷ member (codes "sending") (array (map channel_text p.line.sending)) ∷ member (codes "expected") (quoted (bits_text p.line.expected)) ∷ [])
 
 -- what a neighbour announced last
 abbrev pub heard_text : Option (List ℕ) → List ℕ
@@ -114,16 +106,25 @@ heard_text (Some distances) = distances_text distances
 
 -- a message in reassembly: its pieces
 abbrev pub slot_text : SlotState → List ℕ
-slot_text s = strings (map packet_text s.pieces)
+slot_text s = array (map packet_text s.pieces)
 
-abbrev pub standing_word : Standing → List ℕ
-standing_word (standing.Idle l) = codes "idle"
-standing_word (standing.Outstanding l) = codes "outstanding"
-standing_word (standing.Answered l) = codes "answered"
+-- whether an answer about a flow waits for its source
+abbrev pub awaits_host : State → Flow → Bool
+awaits_host s f = list_any (is_about f) (host_at s f.source.host).answers
 
--- a flow at its source
-abbrev pub source_text : Flow × Standing → List ℕ
-source_text e = words (standing_word e.1 ∷ flow_text e.0 ∷ decimal (last_of e.1) ∷ [])
+-- a flow at its source. Where its last number is idle and an answer about it waits all the same, that is a Dead which was given at once
+abbrev pub standing_word : Bool → Standing → List ℕ
+standing_word waits (standing.Idle l) = if waits then codes "dead" else codes "idle"
+standing_word waits (standing.Outstanding l) = codes "outstanding"
+standing_word waits (standing.Answered l) = codes "answered"
+
+-- a word with its name, a flow, and a number
+abbrev pub flow_object : List ℕ → List ℕ → Flow → ℕ → List ℕ
+flow_object name word f number = object (member name (quoted word) ∷ (flow_members f ++ (member (codes "number") (decimal number) ∷ [])))
+
+-- a flow at its source, an IMP of this state
+abbrev pub source_text : State → Flow × Standing → List ℕ
+source_text s e = flow_object (codes "state") (standing_word (awaits_host s e.0) e.1) e.0 (last_of e.1)
 
 abbrev pub fate_word : Fate → List ℕ
 fate_word fate.Waits = codes "waits"
@@ -133,17 +134,34 @@ fate_word fate.Never = codes "never"
 
 -- a flow at its destination
 abbrev pub kept_text : Flow × Noted → List ℕ
-kept_text e = words (fate_word e.1.fate ∷ flow_text e.0 ∷ decimal e.1.number ∷ [])
+kept_text e = flow_object (codes "fate") (fate_word e.1.fate) e.0 e.1.number
 
+-- the port that packets to an IMP take, where a way leads there
+abbrev pub next_members : ℕ → Option ℕ → List (List ℕ)
+next_members imp None = []
+next_members imp (Some port) = member (decimal imp) (decimal port) ∷ []
+
+-- the ports to these IMPs
+abbrev pub next_from : Table → List ℕ → List (List ℕ)
+next_from t [] = []
+next_from t (imp ∷ imps) = next_members imp (next_of t imp) ++ next_from t imps
+
+-- the ports to IMP 1, 2 and so on
+abbrev pub next_text : Table → List ℕ
+next_text t = object (next_from t (range_with_len 1 most_imps))
+
+-- what an IMP keeps, and what it concludes of routes
 abbrev pub imp_members : State → List (List ℕ)
 imp_members s =
     member (codes "hosts") (array (map host_object s.hosts))
     ∷ member (codes "ports") (array (map port_object s.ports))
     ∷ member (codes "routes") (array (map heard_text s.routes.heard))
-    ∷ member (codes "store") (strings (map packet_text s.store))
+    ∷ member (codes "store") (array (map packet_text s.store))
     ∷ member (codes "slots") (array (map slot_text s.slots))
-    ∷ member (codes "sources") (strings (map source_text (fin.entries s.sources)))
-    ∷ member (codes "kept") (strings (map kept_text (fin.entries s.kept)))
+    ∷ member (codes "sources") (array (map (source_text s) (fin.entries s.sources)))
+    ∷ member (codes "kept") (array (map kept_text (fin.entries s.kept)))
+    ∷ member (codes "distances") (distances_text (vector_of s.routes))
+    ∷ member (codes "next") (next_text s.routes)
     ∷ []
 
 -- ---- parts

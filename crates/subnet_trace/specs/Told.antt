@@ -22,6 +22,7 @@ use Rattle.imp_node.specs.declared.waiting.Told.{Told}
 use Rattle.replay.specs.Output.{Shown}
 use Rattle.replay.specs.Replay.{Replays}
 use Rattle.script.specs.Spelling.{IsEvent}
+pub use Rattle.trace.specs.Named.{IsFlowNamed, IsHostNamed, IsShort}
 use Rattle.script.specs.declared.event.RawEvent.{RawEvent}
 use Rattle.subnet.specs.Calls.{Kept, running}
 use Rattle.subnet.specs.Events.{site_at}
@@ -31,19 +32,6 @@ use Rattle.subnet.specs.declared.Ends.{Ends}
 use Rattle.subnet_trace.specs.Parts.{Part, is_part, of_subnet, part_text}
 
 -- ---- values
-
--- a number of at most 64 digits: a decimal has no more
-abbrev pub IsShort : ℕ → Type 0
-IsShort n = n < 10 ^ 64
-
-pub record IsHostNamed (h : Host) : Type 0 where
-  pub imp : IsShort h.imp
-  pub host : IsShort h.host
-
-pub record IsFlowNamed (f : Flow) : Type 0 where
-  pub source : IsHostNamed f.source
-  pub destination : IsHostNamed f.destination
-  pub link : IsShort f.link.0
 
 -- its bits may be as many as they like: their octets tell how many there are to within eight, and the last digit of the decimal
 -- tells the rest

@@ -3,15 +3,20 @@ use Rattle.std.specs.Prelude.{ℕ, ◌^◌, true, false, List, [], ◌∷◌, Op
 use Rattle.leader1822.specs.Host.{Host}
 use Rattle.leader1822.specs.declared.address.Flow.{Flow}
 use Rattle.leader1822.specs.declared.event.Direction.{Direction}
+use Rattle.leader1822.specs.declared.event.Direction.TheVariants as way
 use Rattle.leader1822.specs.declared.event.NetEvent.TheVariants as net
 use Rattle.script.specs.declared.event.RawEvent.TheVariants as event
 use Rattle.imp_node.specs.Examples.{ack_frame, from_1, imp, packets_to}
 use Rattle.imp_node.specs.Flows.{answer_packet}
 use Rattle.imp_node.specs.Pump.{pump}
-use Rattle.imp_node.specs.State.{State}
-use Rattle.subnet.specs.Examples.{imp_1, ours, pair, past_one, sending_ours, serving_ours}
+use Rattle.imp_node.specs.State.{State, down_port, no_host, opening_node}
+use Rattle.leader1822.specs.declared.crossing.Answer.TheVariants as answer
+use Rattle.routing.specs.RouteTable.{Table}
+use Rattle.subnet.specs.Examples.{imp_1, imp_2, ours, pair, past_one, sending_ours, serving_ours}
 use Rattle.subnet.specs.Net.{Net}
+use Rattle.subnet_trace.specs.Fates.{fate_of}
 use Rattle.trace.specs.declared.element.Element.{Element}
+use Rattle.trace.specs.declared.fate.Fate.{Fate}
 use Rattle.packetiser.specs.PacketFields.{PacketFields}
 use Rattle.packetiser.specs.declared.packet.PacketKind.TheVariants as kind
 use Rattle.packetiser.specs.Slots.{SlotState}
@@ -36,6 +41,14 @@ rfnm = record { kind = kind.Rfnm; source = flow.source; destination = flow.desti
 
 abbrev pub slot : SlotState
 slot = record { flow = flow; number = 7; pieces = other_piece ∷ piece ∷ [] }
+
+-- IMP 1 with one host, for which a Dead about a flow waits
+abbrev pub with_dead : Flow → State
+with_dead f = record (opening_node 1 1 0) { hosts = record { up = true; answers = record { kind = answer.Dead; flow = f } ∷ []; queue = [] } ∷ [] }
+
+-- IMP 1 heard of IMP 3 on port 0, and of IMP 2 on port 1, which is as near to IMP 3
+abbrev pub heard_on_two : Table
+heard_on_two = record { own = 1; heard = Some (1 ∷ 63 ∷ 0 ∷ replicate 60 63) ∷ Some (1 ∷ 0 ∷ 0 ∷ replicate 60 63) ∷ [] }
 
 -- the least number of 65 digits
 abbrev pub long : ℕ
@@ -87,3 +100,26 @@ looping = record (pair (Some sending_ours) None [] []) { lines = record { a = 1;
 -- both IMPs down, and frames on two lines
 abbrev pub two_lines : Net
 two_lines = record (pair None None [] []) { lines = record { a = 1; b = 2; forward = ack_frame ∷ ack_frame ∷ []; back = ack_frame ∷ [] } ∷ record { a = 1; b = 2; forward = []; back = ack_frame ∷ [] } ∷ [] }
+
+-- ---- fates of frames that go from IMP 1 to IMP 2, of this state, and back
+
+abbrev pub fate_at_2 : Option State → Frame → Option Fate
+fate_at_2 s f = fate_of (pair None s (f ∷ []) []) (event.Net (net.Deliver 0 way.Forward 0))
+
+abbrev pub fate_at_1 : Option State → Frame → Option Fate
+fate_at_1 s f = fate_of (pair s None [] (f ∷ [])) (event.Net (net.Deliver 0 way.Back 0))
+
+-- IMP 2 with its end of the line down, and with both hosts down
+abbrev pub end_down_at_2 : State
+end_down_at_2 = record imp_2 { ports = down_port ∷ [] }
+
+abbrev pub hosts_down_at_2 : State
+hosts_down_at_2 = record imp_2 { hosts = no_host ∷ no_host ∷ [] }
+
+-- IMP 1 with a full store
+abbrev pub full_at_1 : State
+full_at_1 = record imp_1 { store = packets_to 2 32 }
+
+-- a frame with distances
+abbrev pub distances_frame : Frame
+distances_frame = record { acks = replicate 8 false; content = content.Routes from_1 }

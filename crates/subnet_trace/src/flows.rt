@@ -2,29 +2,32 @@
 
 ghost use Rattle.std.specs.Prelude.{◌≡◌, List, OnOk, false, map, ℕ};
 ghost use Rattle.std.specs.Io.KnownBytes.{Appends};
+ghost use Rattle.imp_node.specs.State.{State};
+ghost use Rattle.leader1822.specs.declared.address.Flow.{Flow};
 ghost use Rattle.link_table.specs.Flows.{last_of};
 ghost use Rattle.replay.specs.Failing.{TellsFailure};
 ghost use Rattle.subnet_trace.specs.Printing.{known_text};
-ghost use Rattle.subnet_trace.specs.Texts.{fate_word, standing_word};
-ghost use Rattle.trace.specs.Texts.{strings};
+ghost use Rattle.subnet_trace.specs.Texts.{awaits_host, fate_word, flow_object, standing_word};
+ghost use Rattle.trace.specs.Texts.{array};
 
-use crate::lists::mark;
+use imp_node::Imp;
 use leader1822::{Flow, Number};
 use link_table::{Fate, Noted, Standing};
 use replay::{Output, WriteFailed};
 use std::collections::btree_map;
+use trace::json::mark;
 
-/// What is known of a flow.
+/// What an IMP knows of a flow.
 pub(crate) trait Known {
-    /// Its word.
-    ghost word: { Self → List ℕ };
+    /// Its word, at an IMP of this state.
+    ghost word: { State → Flow → Self → List ℕ };
 
     /// The number that it is about.
     ghost number: { Self → ℕ };
 
     /// Returns its word.
-    fn word(&self) -> &'static str
-        ensures { result.now ≡ word self.now };
+    fn word(&self, imp: &Imp, flow: &Flow) -> &'static str
+        ensures { result.now ≡ word imp.now flow.now self.now };
 
     /// Returns the number that it is about.
     fn number(&self) -> Number
@@ -32,12 +35,13 @@ pub(crate) trait Known {
 }
 
 impl Known for Standing {
-    ghost word = { standing_word };
+    ghost word = { λ imp flow standing. standing_word (awaits_host imp flow) standing };
 
     ghost number = { last_of };
 
-    fn word(&self) -> &'static str {
+    fn word(&self, imp: &Imp, flow: &Flow) -> &'static str {
         match self {
+            Standing::Idle(_) if imp.has_answer_about(flow) => "dead",
             Standing::Idle(_) => "idle",
             Standing::Outstanding(_) => "outstanding",
             Standing::Answered(_) => "answered",
@@ -50,11 +54,11 @@ impl Known for Standing {
 }
 
 impl Known for Noted {
-    ghost word = { λ noted. fate_word noted.fate };
+    ghost word = { λ imp flow noted. fate_word noted.fate };
 
     ghost number = { λ noted. noted.number };
 
-    fn word(&self) -> &'static str {
+    fn word(&self, _imp: &Imp, _flow: &Flow) -> &'static str {
         match self.fate {
             Fate::Waits => "waits",
             Fate::Taken => "taken",
@@ -68,19 +72,41 @@ impl Known for Noted {
     }
 }
 
-/// Prints what is known of each of these flows, as an array of strings.
+/// Prints a word with its name, a flow and a number, as an object.
+fn print_known<W: Output>(
+    name: &str,
+    word: &str,
+    flow: &Flow,
+    number: Number,
+    writer: &mut W,
+) -> Result<(), WriteFailed>
+    requires { W.failed writer.old ≡ false }
+    ensures written { OnOk result (Appends (W.contents writer.old) (W.contents writer.new) (flow_object name.now word.now flow.now number)) }
+    ensures failed { TellsFailure result (W.failed writer.new) }
+{
+    let (source, destination, link) = (&flow.source, &flow.destination, flow.link.0);
+    write!(writer, "{{\"{name}\":\"{word}\",\"from\":\"{source}\",")?;
+    write!(
+        writer,
+        "\"to\":\"{destination}\",\"link\":{link},\"number\":{number}}}"
+    )
+}
+
+/// Prints what an IMP knows of each of these flows, as an array of objects, with the name of its word.
 pub(crate) fn print_flows<V: Known, W: Output>(
+    name: &str,
+    imp: &Imp,
     flows: btree_map::Iter<'_, Flow, V>,
     writer: &mut W,
 ) -> Result<(), WriteFailed>
     requires { W.failed writer.old ≡ false }
-    ensures written { OnOk result (Appends (W.contents writer.old) (W.contents writer.new) (strings (map (known_text V.word V.number) flows.entry))) }
+    ensures written { OnOk result (Appends (W.contents writer.old) (W.contents writer.new) (array (map (known_text name.now (V.word imp.now) V.number) flows.entry))) }
     ensures failed { TellsFailure result (W.failed writer.new) }
 {
     let mut place: usize = 0;
     for (flow, known) in flows {
-        let (first, word, number) = (mark("[", ",", place), known.word(), known.number());
-        write!(writer, "{first}\"{word} {flow} {number}\"")?;
+        writer.write_all(mark("[", ",", place).as_bytes())?;
+        print_known(name, known.word(imp, flow), flow, known.number(), writer)?;
         place = 1;
     }
     writer.write_all(mark("[]", "]", place).as_bytes())

@@ -4,24 +4,36 @@ ghost use Rattle.std.specs.Prelude.{◌≡◌, ◌++◌, OnOk, Some, codes, fals
 ghost use Rattle.std.specs.FinMap as fin;
 ghost use Rattle.std.specs.Io.KnownBytes.{Appends};
 ghost use Rattle.replay.specs.Failing.{TellsFailure};
-ghost use Rattle.subnet_trace.specs.Texts.{bool_text, channel_text, heard_text, host_object, imp_text, kept_text, packet_text, port_object, slot_text, source_text, told_text, whole_text};
-ghost use Rattle.trace.specs.Texts.{array, strings};
+ghost use Rattle.routing.specs.RouteTable.{vector_of};
+ghost use Rattle.subnet_trace.specs.Texts.{channel_text, distances_text, heard_text, host_object, imp_text, kept_text, next_text, packet_text, port_object, slot_text, source_text, told_text, whole_text};
+ghost use Rattle.trace.specs.Texts.{array};
 
 use crate::flows::print_flows;
-use crate::lists::{Item, Listed, print_array, print_strings};
-use crate::packets::{digits, print_packet, print_vector};
+use crate::lists::{All, Held};
+use crate::packets::{digit, digits, print_ports, print_vector};
 use imp_channel::Channel;
 use imp_node::{Host, Imp, Message, Port, Told};
 use packetiser::Reassembly;
-use replay::{Output, WriteFailed, print_text};
+use replay::{Output, WriteFailed};
 use routing::Vector;
-use trace::answer_word;
+use trace::json::{Listed, bool_word, print_array};
+use trace::{print_answer, print_octets};
 
-/// Returns the word of a truth value.
-fn word_of(up: bool) -> &'static str
-    ensures { result.now ≡ bool_text up }
-{
-    if up { "true" } else { "false" }
+impl Held for Message {
+    ghost text = { whole_text };
+
+    fn print<W: Output>(&self, writer: &mut W) -> Result<(), WriteFailed> {
+        let (source, destination) = (&self.flow.source, &self.flow.destination);
+        let (link, number) = (self.flow.link.0, self.number);
+        let bits = self.text.bits();
+        let count = bits.len();
+        write!(
+            writer,
+            "{{\"from\":\"{source}\",\"to\":\"{destination}\",\"link\":{link},\"number\":{number},\"bits\":{count},\"octets\":"
+        )?;
+        print_octets(bits, writer)?;
+        writer.write_all(b"}")
+    }
 }
 
 /// The messages that wait for a host.
@@ -39,9 +51,7 @@ impl Listed for Messages<'_> {
         let Some(message) = self.0.message_at(place) else {
             unreachable!();
         };
-        let (flow, number, bits) = (&message.flow, message.number, message.text.bits().len());
-        write!(writer, "{flow} {number} {bits} ")?;
-        print_text(&message.text, writer)
+        message.print(writer)
     }
 }
 
@@ -60,49 +70,51 @@ impl Listed for Answers<'_> {
         let Some(told) = self.0.answer_at(place) else {
             unreachable!();
         };
-        let (word, flow) = (answer_word(told.kind), &told.flow);
-        write!(writer, "{word} {flow}")
+        print_answer(told.kind, &told.flow, writer)
     }
 }
 
-impl Item for Host {
+impl Held for Host {
     ghost text = { host_object };
 
     fn print<W: Output>(&self, writer: &mut W) -> Result<(), WriteFailed> {
-        let up = word_of(self.is_up());
+        let up = bool_word(self.is_up());
         write!(writer, "{{\"up\":{up},\"messages\":")?;
-        print_strings(&Messages(self), writer)?;
+        print_array(&Messages(self), writer)?;
         writer.write_all(b",\"answers\":")?;
-        print_strings(&Answers(self), writer)?;
+        print_array(&Answers(self), writer)?;
         writer.write_all(b"}")
     }
 }
 
-impl Item for Channel {
+impl Held for Channel {
     ghost text = { channel_text };
 
     fn print<W: Output>(&self, writer: &mut W) -> Result<(), WriteFailed> {
+        let bit = digit(self.bit);
         let Some(packet) = &self.packet else {
-            return writer.write_all(if self.bit { b"1" } else { b"0" });
+            return write!(writer, "{{\"bit\":{bit}}}");
         };
-        print_packet(if self.bit { "1 " } else { "0 " }, packet, writer)
+        write!(writer, "{{\"bit\":{bit},\"packet\":")?;
+        packet.print(writer)?;
+        writer.write_all(b"}")
     }
 }
 
-impl Item for Port {
+impl Held for Port {
     ghost text = { port_object };
 
     fn print<W: Output>(&self, writer: &mut W) -> Result<(), WriteFailed> {
-        let up = word_of(self.up);
+        let up = bool_word(self.up);
         write!(writer, "{{\"up\":{up},\"sending\":")?;
-        print_strings(&self.line.channels(), writer)?;
+        print_array(&All(self.line.channels()), writer)?;
         writer.write_all(b",\"expected\":\"")?;
         writer.write_all(&digits(self.line.expected()))?;
         writer.write_all(b"\"}")
     }
 }
 
-impl Item for Option<Vector> {
+impl Held for Option<Vector> {
     ghost text = { heard_text };
 
     fn print<W: Output>(&self, writer: &mut W) -> Result<(), WriteFailed> {
@@ -125,7 +137,7 @@ impl Listed for Slots<'_> {
     }
 
     fn print_at<W: Output>(&self, place: usize, writer: &mut W) -> Result<(), WriteFailed> {
-        print_strings(&self.0.pieces_at(place), writer)
+        print_array(&All(self.0.pieces_at(place)), writer)
     }
 }
 
@@ -136,21 +148,21 @@ fn print_ends<W: Output>(imp: &Imp, writer: &mut W) -> Result<(), WriteFailed>
     ensures failed { TellsFailure result (W.failed writer.new) }
 {
     writer.write_all(b"{\"hosts\":")?;
-    print_array(&imp.hosts(), writer)?;
+    print_array(&All(imp.hosts()), writer)?;
     writer.write_all(b",\"ports\":")?;
-    print_array(&imp.ports(), writer)?;
+    print_array(&All(imp.ports()), writer)?;
     writer.write_all(b",\"routes\":")?;
-    print_array(&imp.routes().heard(), writer)
+    print_array(&All(imp.routes().heard()), writer)
 }
 
 /// Prints the packets that an IMP holds outside of channels: those that wait for one, and those of messages in reassembly.
 fn print_held<W: Output>(imp: &Imp, writer: &mut W) -> Result<(), WriteFailed>
     requires { W.failed writer.old ≡ false }
-    ensures written { OnOk result (Appends (W.contents writer.old) (W.contents writer.new) (codes ",\"store\":" ++ (strings (map packet_text imp.now.store) ++ (codes ",\"slots\":" ++ array (map slot_text imp.now.slots))))) }
+    ensures written { OnOk result (Appends (W.contents writer.old) (W.contents writer.new) (codes ",\"store\":" ++ (array (map packet_text imp.now.store) ++ (codes ",\"slots\":" ++ array (map slot_text imp.now.slots))))) }
     ensures failed { TellsFailure result (W.failed writer.new) }
 {
     writer.write_all(b",\"store\":")?;
-    print_strings(&imp.store(), writer)?;
+    print_array(&All(imp.store()), writer)?;
     writer.write_all(b",\"slots\":")?;
     print_array(&Slots(imp.slots()), writer)
 }
@@ -158,13 +170,25 @@ fn print_held<W: Output>(imp: &Imp, writer: &mut W) -> Result<(), WriteFailed>
 /// Prints what an IMP knows of flows.
 fn print_known<W: Output>(imp: &Imp, writer: &mut W) -> Result<(), WriteFailed>
     requires { W.failed writer.old ≡ false }
-    ensures written { OnOk result (Appends (W.contents writer.old) (W.contents writer.new) (codes ",\"sources\":" ++ (strings (map source_text (fin.entries imp.now.sources)) ++ (codes ",\"kept\":" ++ (strings (map kept_text (fin.entries imp.now.kept)) ++ codes "}"))))) }
+    ensures written { OnOk result (Appends (W.contents writer.old) (W.contents writer.new) (codes ",\"sources\":" ++ (array (map (source_text imp.now) (fin.entries imp.now.sources)) ++ (codes ",\"kept\":" ++ array (map kept_text (fin.entries imp.now.kept)))))) }
     ensures failed { TellsFailure result (W.failed writer.new) }
 {
     writer.write_all(b",\"sources\":")?;
-    print_flows(imp.sources().iter(), writer)?;
+    print_flows("state", imp, imp.sources().iter(), writer)?;
     writer.write_all(b",\"kept\":")?;
-    print_flows(imp.kept_flows().iter(), writer)?;
+    print_flows("fate", imp, imp.kept_flows().iter(), writer)
+}
+
+/// Prints what an IMP concludes of routes: its own distances, and the port that packets to each IMP take.
+fn print_concluded<W: Output>(imp: &Imp, writer: &mut W) -> Result<(), WriteFailed>
+    requires { W.failed writer.old ≡ false }
+    ensures written { OnOk result (Appends (W.contents writer.old) (W.contents writer.new) (codes ",\"distances\":" ++ (distances_text (vector_of imp.now.routes) ++ (codes ",\"next\":" ++ (next_text imp.now.routes ++ codes "}"))))) }
+    ensures failed { TellsFailure result (W.failed writer.new) }
+{
+    writer.write_all(b",\"distances\":")?;
+    print_vector(imp.routes().distances(), writer)?;
+    writer.write_all(b",\"next\":")?;
+    print_ports(imp.routes(), writer)?;
     writer.write_all(b"}")
 }
 
@@ -176,5 +200,6 @@ pub(crate) fn print_imp<W: Output>(imp: &Imp, writer: &mut W) -> Result<(), Writ
 {
     print_ends(imp, writer)?;
     print_held(imp, writer)?;
-    print_known(imp, writer)
+    print_known(imp, writer)?;
+    print_concluded(imp, writer)
 }

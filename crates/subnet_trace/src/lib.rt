@@ -10,10 +10,11 @@
 //!
 //! A reader of traces may rely on three laws ([`law`]). A calm is its elementary events one after another. What an event's
 //! parts do not name is as before. Of the subnets that replays come to, those with equal texts of all parts are equal, but
-//! for their logs, so over one network a trace leaves nothing out.
+//! for their logs; and the first line of a trace tells the network. So a trace leaves nothing out.
 #![tactic(auto)]
 
 mod calm;
+mod fates;
 mod flows;
 mod imp;
 pub mod law;
@@ -24,6 +25,6 @@ mod place;
 mod traced;
 pub mod worked;
 
-pub use parts::print_parts;
+pub use parts::{print_parts, print_whole};
 pub use place::{Place, Stage};
 pub use traced::TracedSubnet;

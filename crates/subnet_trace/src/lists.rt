@@ -1,16 +1,15 @@
-//! Lists of things that have texts, printed as JSON.
+//! Lists of what is inside a subnet.
 
-ghost use Rattle.std.specs.Prelude.{◌≡◌, ◌<◌, ◌≤◌, ◌++◌, [], List, OnOk, codes, false, length, slice_index_or, ℕ};
+ghost use Rattle.std.specs.Prelude.{◌≡◌, List, OnOk, false, ℕ};
 ghost use Rattle.std.specs.Io.KnownBytes.{Appends};
 ghost use Rattle.replay.specs.Failing.{TellsFailure};
-ghost use Rattle.subnet_trace.specs.Printing.{joined, mark};
-ghost use Rattle.trace.specs.Texts.{array, strings};
 
 use replay::{Output, WriteFailed};
 use std::collections::VecDeque;
+use trace::json::Listed;
 
-/// What has a text.
-pub(crate) trait Item {
+/// What is inside a subnet and has a JSON text. (`trace::json::Item` is of another crate, as the types are.)
+pub(crate) trait Held {
     /// Its text.
     ghost text: { Self → List ℕ };
 
@@ -21,102 +20,38 @@ pub(crate) trait Item {
         ensures failed { TellsFailure result (W.failed writer.new) };
 }
 
-/// A list of such things.
-pub(crate) trait Listed {
-    /// Their texts.
-    ghost texts: { Self → List (List ℕ) };
+/// A list of them.
+#[derive(Drop)]
+pub(crate) struct All<'a, T>(pub &'a [T]);
 
-    /// Returns how many there are.
-    fn count(&self) -> usize
-        ensures { result ≡ length (texts self.now) };
-
-    /// Prints the text of the one at a place.
-    fn print_at<W: Output>(&self, place: usize, writer: &mut W) -> Result<(), WriteFailed>
-        requires place { place < length (texts self.now) }
-        requires whole { W.failed writer.old ≡ false }
-        ensures written { OnOk result (Appends (W.contents writer.old) (W.contents writer.new) (slice_index_or (texts self.now) place [])) }
-        ensures failed { TellsFailure result (W.failed writer.new) };
-}
-
-impl<T: Item> Listed for &[T] {
+impl<T: Held> Listed for All<'_, T> {
     ghost use Rattle.std.specs.Prelude.{map};
 
-    ghost texts = { λ items. map T.text items.now };
+    ghost texts = { λ items. map T.text items.0.now };
 
     fn count(&self) -> usize {
-        self.len()
+        self.0.len()
     }
 
     fn print_at<W: Output>(&self, place: usize, writer: &mut W) -> Result<(), WriteFailed> {
-        self[place].print(writer)
+        self.0[place].print(writer)
     }
 }
 
-impl<T: Item> Listed for &VecDeque<T> {
+/// A queue of them, the oldest first.
+#[derive(Drop)]
+pub(crate) struct InLine<'a, T>(pub &'a VecDeque<T>);
+
+impl<T: Held> Listed for InLine<'_, T> {
     ghost use Rattle.std.specs.Prelude.{map};
 
-    ghost texts = { λ items. map T.text items.now.items };
+    ghost texts = { λ items. map T.text items.0.now.items };
 
     fn count(&self) -> usize {
-        self.len()
+        self.0.len()
     }
 
     fn print_at<W: Output>(&self, place: usize, writer: &mut W) -> Result<(), WriteFailed> {
-        self[place].print(writer)
+        self.0[place].print(writer)
     }
-}
-
-/// Returns one mark at place 0, and another at any other place.
-pub(crate) fn mark<'a>(first: &'a str, other: &'a str, place: usize) -> &'a str
-    ensures { result.now ≡ mark first.now other.now place }
-{
-    if place == 0 { first } else { other }
-}
-
-/// Prints the items of a list that isn't empty, with its beginning, what is between two items, and its end.
-fn print_joined<L: Listed, W: Output>(
-    list: &L,
-    begin: &str,
-    between: &str,
-    end: &str,
-    writer: &mut W,
-) -> Result<(), WriteFailed>
-    requires some { 0 < length (L.texts list.now) }
-    requires whole { W.failed writer.old ≡ false }
-    ensures written { OnOk result (Appends (W.contents writer.old) (W.contents writer.new) (begin.now ++ joined between.now end.now (L.texts list.now))) }
-    ensures failed { TellsFailure result (W.failed writer.new) }
-{
-    for place in 0..list.count() {
-        writer.write_all(mark(begin, between, place).as_bytes())?;
-        list.print_at(place, writer)?;
-    }
-    writer.write_all(end.as_bytes())
-}
-
-/// Prints an array of what has JSON texts.
-#[tactic(auto, using(crate::proofs::Left::joined_is))]
-pub(crate) fn print_array<L: Listed, W: Output>(list: &L, writer: &mut W) -> Result<(), WriteFailed>
-    requires { W.failed writer.old ≡ false }
-    ensures written { OnOk result (Appends (W.contents writer.old) (W.contents writer.new) (array (L.texts list.now))) }
-    ensures failed { TellsFailure result (W.failed writer.new) }
-{
-    if list.count() == 0 {
-        return writer.write_all(b"[]");
-    }
-    print_joined(list, "[", ",", "]", writer)
-}
-
-/// Prints an array of strings.
-pub(crate) fn print_strings<L: Listed, W: Output>(
-    list: &L,
-    writer: &mut W,
-) -> Result<(), WriteFailed>
-    requires { W.failed writer.old ≡ false }
-    ensures written { OnOk result (Appends (W.contents writer.old) (W.contents writer.new) (strings (L.texts list.now))) }
-    ensures failed { TellsFailure result (W.failed writer.new) }
-{
-    if list.count() == 0 {
-        return writer.write_all(b"[]");
-    }
-    print_joined(list, "[\"", "\",\"", "\"]", writer)
 }

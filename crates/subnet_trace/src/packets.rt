@@ -1,17 +1,21 @@
 //! Packets and frames, printed.
 
-ghost use Rattle.std.specs.Prelude.{◌≡◌, ◌∷◌, ◌++◌, [], IfOk, OnOk, codes, false};
+ghost use Rattle.std.specs.Prelude.{◌≡◌, ◌∷◌, ◌++◌, [], IfOk, OnOk, codes, false, nat_lt};
 ghost use Rattle.std.specs.Io.KnownBytes.{Appends};
 ghost use Rattle.replay.specs.Failing.{TellsFailure};
-ghost use Rattle.subnet_trace.specs.Printing.{distance_behind, place_behind};
-ghost use Rattle.subnet_trace.specs.Texts.{bit_text, bits_text, content_members, distances_text, frame_text, kind_word, last_word, packet_text};
+ghost use Rattle.routing.specs.Vector.{infinite};
+ghost use Rattle.subnet_trace.specs.Printing.{distance_behind, next_behind, place_after, place_behind};
+ghost use Rattle.subnet_trace.specs.Texts.{bit_text, bits_text, content_members, distances_text, frame_text, kind_word, next_text, packet_text};
 ghost use Rattle.trace.specs.Texts.{further};
 
-use crate::lists::{Item, mark};
+use crate::lists::Held;
 use imp_channel::{ACKS, Content, Frame};
+use leader1822::MOST_IMPS;
 use packetiser::{Packet, PacketKind};
-use replay::{Output, WriteFailed, print_bits};
-use routing::{INFINITE, Vector};
+use replay::{Output, WriteFailed};
+use routing::{INFINITE, RouteTable, Vector};
+use trace::json::{bool_word, mark};
+use trace::print_octets;
 
 /// Returns the word of a kind of packet.
 fn word_of(kind: PacketKind) -> &'static str
@@ -24,13 +28,6 @@ fn word_of(kind: PacketKind) -> &'static str
         PacketKind::Ask => "ask",
         PacketKind::Never => "never",
     }
-}
-
-/// Returns the word that tells whether a packet has the last piece of its message.
-fn last_word(last: bool) -> &'static str
-    ensures { result.now ≡ last_word last }
-{
-    if last { "last" } else { "more" }
 }
 
 /// Returns a bit as a digit.
@@ -64,30 +61,22 @@ pub(crate) fn digits(bits: &[bool; ACKS]) -> [u8; ACKS]
     ]
 }
 
-/// Prints a packet after these words.
-pub(crate) fn print_packet<W: Output>(
-    words: &str,
-    packet: &Packet,
-    writer: &mut W,
-) -> Result<(), WriteFailed>
-    requires { W.failed writer.old ≡ false }
-    ensures written { OnOk result (Appends (W.contents writer.old) (W.contents writer.new) (words.now ++ packet_text packet.now)) }
-    ensures failed { TellsFailure result (W.failed writer.new) }
-{
-    let (kind, last) = (word_of(packet.kind()), last_word(packet.is_last()));
-    let (flow, number, place) = (packet.flow(), packet.number(), packet.place());
-    let bits = packet.bits();
-    let count = bits.len();
-    write!(writer, "{words}{kind} {flow} {number} ")?;
-    write!(writer, "{place} {last} {count} ")?;
-    print_bits(bits, writer)
-}
-
-impl Item for Packet {
+impl Held for Packet {
     ghost text = { packet_text };
 
     fn print<W: Output>(&self, writer: &mut W) -> Result<(), WriteFailed> {
-        print_packet("", self, writer)
+        let kind = word_of(self.kind());
+        let flow = self.flow();
+        let (source, destination, link) = (flow.source, flow.destination, flow.link.0);
+        let (number, place, last) = (self.number(), self.place(), bool_word(self.is_last()));
+        let bits = self.bits();
+        let count = bits.len();
+        write!(writer, "{{\"kind\":\"{kind}\",\"from\":\"{source}\",")?;
+        write!(writer, "\"to\":\"{destination}\",\"link\":{link},")?;
+        write!(writer, "\"number\":{number},\"place\":{place},")?;
+        write!(writer, "\"last\":{last},\"bits\":{count},\"octets\":")?;
+        print_octets(bits, writer)?;
+        writer.write_all(b"}")
     }
 }
 
@@ -100,7 +89,7 @@ fn print_distance<W: Output>(
 ) -> Result<usize, WriteFailed>
     requires { W.failed writer.old ≡ false }
     ensures written { OnOk result (Appends (W.contents writer.old) (W.contents writer.new) (distance_behind place imp distance)) }
-    ensures place { IfOk result (λ next. next ≡ place_behind place distance) }
+    ensures place { IfOk result (λ next. next ≡ place_behind place (nat_lt distance infinite)) }
     ensures failed { TellsFailure result (W.failed writer.new) }
 {
     if distance >= INFINITE {
@@ -143,8 +132,8 @@ fn print_content<W: Output>(content: &Content, writer: &mut W) -> Result<(), Wri
         Content::Packet(carried) => {
             let (channel, bit) = (carried.channel(), digit(carried.bit()));
             write!(writer, "\",\"channel\":{channel},\"bit\":{bit},\"packet\":")?;
-            print_packet("\"", carried.packet(), writer)?;
-            writer.write_all(b"\"}")
+            carried.packet().print(writer)?;
+            writer.write_all(b"}")
         }
         Content::Nothing => writer.write_all(b"\"}"),
         Content::Routes(vector) => {
@@ -155,7 +144,7 @@ fn print_content<W: Output>(content: &Content, writer: &mut W) -> Result<(), Wri
     }
 }
 
-impl Item for Frame {
+impl Held for Frame {
     ghost text = { frame_text };
 
     fn print<W: Output>(&self, writer: &mut W) -> Result<(), WriteFailed> {
@@ -163,4 +152,38 @@ impl Item for Frame {
         writer.write_all(&digits(&self.acks))?;
         print_content(&self.content, writer)
     }
+}
+
+/// Prints the port to an IMP behind this many others, and nothing where no way leads there. Returns the place behind it.
+fn print_next<W: Output>(
+    place: usize,
+    imp: u8,
+    port: Option<usize>,
+    writer: &mut W,
+) -> Result<usize, WriteFailed>
+    requires { W.failed writer.old ≡ false }
+    ensures written { OnOk result (Appends (W.contents writer.old) (W.contents writer.new) (next_behind place imp port)) }
+    ensures place { IfOk result (λ next. next ≡ place_after place port) }
+    ensures failed { TellsFailure result (W.failed writer.new) }
+{
+    let Some(port) = port else {
+        return Ok(place);
+    };
+    let first = mark("{", ",", place);
+    write!(writer, "{first}\"{imp}\":{port}")?;
+    Ok(1)
+}
+
+/// Prints the ports to IMP 1, 2 and so on, where ways lead there.
+pub(crate) fn print_ports<W: Output>(routes: &RouteTable, writer: &mut W) -> Result<(), WriteFailed>
+    requires { W.failed writer.old ≡ false }
+    ensures written { OnOk result (Appends (W.contents writer.old) (W.contents writer.new) (next_text routes.now)) }
+    ensures failed { TellsFailure result (W.failed writer.new) }
+{
+    let mut place: usize = 0;
+    for index in 0..MOST_IMPS as u8 {
+        let imp = index + 1;
+        place = print_next(place, imp, routes.next(imp), writer)?;
+    }
+    writer.write_all(mark("{}", "}", place).as_bytes())
 }

@@ -1,20 +1,22 @@
 //! The parts of a subnet that an event can change, looked at and printed.
 
-ghost use Rattle.std.specs.Prelude.{◌≡◌, OnOk, false};
+ghost use Rattle.std.specs.Prelude.{◌≡◌, IfOk, OnOk, false};
 ghost use Rattle.std.specs.Io.KnownBytes.{Appends};
 ghost use Rattle.replay.specs.Failing.{TellsFailure};
 ghost use Rattle.script.specs.declared.event.RawEvent.TheVariants as raw;
-ghost use Rattle.subnet_trace.specs.Parts.{Imp, Line, far_end_of, imp_alone, imp_and_lines, line_alone, part_name, part_text, parts_of, parts_text};
-ghost use Rattle.subnet_trace.specs.Printing.{line_behind, parts_in};
+ghost use Rattle.subnet_trace.specs.Parts.{Imp, Line, far_end_of, imp_alone, imp_and_lines, line_alone, part_name, part_text, parts_of, parts_text, all_parts};
+ghost use Rattle.subnet.specs.Events.{is_imp};
+ghost use Rattle.subnet_trace.specs.Printing.{line_behind, named, part_behind, parts_in, place_behind};
 ghost use Rattle.subnet_trace.specs.Texts.{line_text};
 ghost use Rattle.trace.specs.Texts.{member};
 
 use crate::imp::print_imp;
-use crate::lists::print_array;
+use crate::lists::InLine;
 use leader1822::{Direction, NetEvent};
 use replay::{Output, WriteFailed};
 use script::RawEvent;
 use subnet::{Subnet, Wire};
+use trace::json::{mark, print_array};
 
 /// Which parts an event can change.
 #[derive(Clone, Copy)]
@@ -104,9 +106,9 @@ fn print_named_line<W: Output>(
     ensures failed { TellsFailure result (W.failed writer.new) }
 {
     write!(writer, "\"line {number}\":{{\"+\":")?;
-    print_array(&line.frames(Direction::Forward), writer)?;
+    print_array(&InLine(line.frames(Direction::Forward)), writer)?;
     writer.write_all(b",\"-\":")?;
-    print_array(&line.frames(Direction::Back), writer)?;
+    print_array(&InLine(line.frames(Direction::Back)), writer)?;
     writer.write_all(b"}")
 }
 
@@ -202,4 +204,45 @@ pub fn print_parts<W: Output>(
         Scope::Line(line) => print_line_alone(subnet, line, writer),
         Scope::Nothing => writer.write_all(b"{}"),
     }
+}
+
+/// Prints an IMP behind this many other parts. It prints nothing where there is none of this number. Returns the place behind it.
+fn print_imp_of<W: Output>(
+    place: usize,
+    subnet: &Subnet,
+    number: u8,
+    writer: &mut W,
+) -> Result<usize, WriteFailed>
+    requires { W.failed writer.old ≡ false }
+    ensures written { OnOk result (Appends (W.contents writer.old) (W.contents writer.new) (part_behind (is_imp subnet.now.net number) place (named subnet.now.net (Imp number)))) }
+    ensures place { IfOk result (λ next. next ≡ place_behind place (is_imp subnet.now.net number)) }
+    ensures failed { TellsFailure result (W.failed writer.new) }
+{
+    if !subnet.is_imp(number) {
+        return Ok(place);
+    }
+    writer.write_all(mark("{", ",", place).as_bytes())?;
+    print_named_imp(subnet, number, writer)?;
+    Ok(1)
+}
+
+/// Prints all parts, as a JSON object: the IMPs by rising number, and the lines in order.
+///
+/// Errors: `WriteFailed`.
+pub fn print_whole<W: Output>(subnet: &Subnet, writer: &mut W) -> Result<(), WriteFailed>
+    requires { W.failed writer.old ≡ false }
+    ensures written { OnOk result (Appends (W.contents writer.old) (W.contents writer.new) (parts_text subnet.now.net (all_parts subnet.now.net))) }
+    ensures failed { TellsFailure result (W.failed writer.new) }
+{
+    let mut place: usize = 0;
+    for imp in 0..subnet.imp_places() {
+        place = print_imp_of(place, subnet, imp, writer)?;
+    }
+    let lines = subnet.lines();
+    for number in 0..lines.len() {
+        writer.write_all(mark("{", ",", place).as_bytes())?;
+        print_named_line(number, &lines[number], writer)?;
+        place = 1;
+    }
+    writer.write_all(mark("{}", "}", place).as_bytes())
 }

@@ -3,17 +3,19 @@
 ghost use Rattle.std.specs.Prelude.{◌≡◌};
 ghost use Rattle.subnet.specs.Working.{SubnetOffer, SubnetRound, SubnetStep, SubnetTake, seen_of};
 ghost use Rattle.subnet_trace.specs.Elements.{calm_left, calm_of};
-ghost use Rattle.subnet_trace.specs.Parts.{parts_of, parts_text};
+ghost use Rattle.subnet_trace.specs.Fates as fates;
+ghost use Rattle.subnet_trace.specs.Parts.{all_parts, parts_of, parts_text};
 
 use crate::calm::next_in_calm;
-use crate::parts::print_parts;
+use crate::fates::fate_of;
+use crate::parts::{print_parts, print_whole};
 use crate::place::{Place, Stage};
 use leader1822::{Carrier, CarrierFault, Crossing, HostAddr, HostMessage, Inbound, NetEvent};
 use replay::{Output, WriteFailed};
 use script::RawEvent;
 use std::marker::Model;
 use subnet::Subnet;
-use trace::{Element, Inspect};
+use trace::{Element, Fate, Inspect};
 
 /// A subnet whose inside can be traced: the subnet itself, and nothing else.
 ///
@@ -93,7 +95,11 @@ impl Inspect for TracedSubnet {
 
     ghost left = { λ k place. calm_left k.net place };
 
+    ghost whole = { λ k. parts_text k.net (all_parts k.net) };
+
     ghost parts = { λ k e crossings. parts_text k.net (parts_of k.net e) };
+
+    ghost fate = { λ k e. fates.fate_of k.net e };
 
     fn begin_calm(&self, rounds: u32) -> Place {
         Place {
@@ -105,6 +111,14 @@ impl Inspect for TracedSubnet {
 
     fn next_in_calm(&self, place: Place) -> Option<(Element, Place)> {
         next_in_calm(&self.subnet, place)
+    }
+
+    fn fate(&self, event: &RawEvent) -> Option<Fate> {
+        fate_of(&self.subnet, event)
+    }
+
+    fn print_whole<W: Output>(&self, writer: &mut W) -> Result<(), WriteFailed> {
+        print_whole(&self.subnet, writer)
     }
 
     /// What crossed in the event does not matter: an event only tells which parts it can change.

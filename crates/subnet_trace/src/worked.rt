@@ -8,28 +8,33 @@ ghost use Rattle.imp_node.specs.Examples.{ack_frame, host};
 ghost use Rattle.imp_node.specs.State.{State, opening_node};
 ghost use Rattle.leader1822.specs.declared.crossing.Answer.TheVariants as answer;
 ghost use Rattle.leader1822.specs.declared.event.Direction.TheVariants as way;
+ghost use Rattle.leader1822.specs.declared.event.NetEvent.TheVariants as net;
 ghost use Rattle.link_table.specs.declared.destination.Fate.TheVariants as fate;
 ghost use Rattle.link_table.specs.declared.source.Standing.TheVariants as standing;
-ghost use Rattle.subnet.specs.Examples.{data_frame, imp_1, imp_2, opened_pair, pair, past_one, sending_ours, serving_ours};
+ghost use Rattle.subnet.specs.Examples.{ask_frame, data_frame, imp_1, imp_2, opened_pair, pair, passing_frame, past_one, rfnm_frame, sending_ours, serving_ours};
 ghost use Rattle.subnet_trace.specs.Elements.{calm_left, calm_of};
-ghost use Rattle.subnet_trace.specs.Parts.{Part, is_part};
+ghost use Rattle.script.specs.declared.event.RawEvent.TheVariants as event;
+ghost use Rattle.subnet_trace.specs.Fates.{fate_of};
+ghost use Rattle.subnet_trace.specs.Parts.{Part, Imp, Line, SamePart, is_named, is_part};
+ghost use Rattle.subnet_trace.specs.Told.{IsOneNetwork, SameTexts};
 ghost use Rattle.subnet_trace.specs.declared.place.Stage.TheVariants as stage;
-ghost use Rattle.subnet_trace.specs.Texts.{channel_text, frame_text, heard_text, host_object, imp_text, kept_text, line_text, packet_text, port_object, slot_text, source_text, told_text, whole_text};
-ghost use Rattle.subnet_trace.specs.Worked.{arrives, flow, frame_on, full_at_2, gone, long, looping, nowhere, other_piece, past_at_1, piece, rfnm, sending_at_2, sends, slot, takes, tells, two_lines};
+ghost use Rattle.trace.specs.declared.fate.Fate.TheVariants as fates;
+ghost use Rattle.subnet_trace.specs.Texts.{channel_text, frame_text, heard_text, host_object, imp_text, kept_text, line_text, next_text, packet_text, port_object, slot_text, source_text, told_text, whole_text};
+ghost use Rattle.subnet_trace.specs.Worked.{arrives, distances_frame, end_down_at_2, fate_at_1, fate_at_2, flow, frame_on, full_at_1, full_at_2, gone, heard_on_two, hosts_down_at_2, long, looping, nowhere, other_piece, past_at_1, piece, rfnm, sending_at_2, sends, slot, takes, tells, two_lines, with_dead};
 
 /// Packets, channels, slots and frames.
 pub fn worked_packets()
-    ensures piece { packet_text piece ≡ codes "data 0/1 1/2 5 7 3 last 16 8000" }
-    ensures rfnm { packet_text rfnm ≡ codes "rfnm 0/1 1/2 5 7 0 last 0 -" }
+    ensures piece { packet_text piece ≡ codes "{\"kind\":\"data\",\"from\":\"0/1\",\"to\":\"1/2\",\"link\":5,\"number\":7,\"place\":3,\"last\":true,\"bits\":16,\"octets\":\"8000\"}" }
+    ensures rfnm { packet_text rfnm ≡ codes "{\"kind\":\"rfnm\",\"from\":\"0/1\",\"to\":\"1/2\",\"link\":5,\"number\":7,\"place\":0,\"last\":true,\"bits\":0,\"octets\":\"\"}" }
 
     // a free channel has the bit of its next packet only
-    ensures free { channel_text (record { bit = true; packet = None }) ≡ codes "1" }
-    ensures busy { channel_text (record { bit = false; packet = Some rfnm }) ≡ codes "0 rfnm 0/1 1/2 5 7 0 last 0 -" }
-    ensures slot { slot_text slot ≡ codes "[\"data 0/1 1/2 5 7 1 more 16 8000\",\"data 0/1 1/2 5 7 3 last 16 8000\"]" }
+    ensures free { channel_text (record { bit = true; packet = None }) ≡ codes "{\"bit\":1}" }
+    ensures busy { channel_text (record { bit = false; packet = Some rfnm }) ≡ codes "{\"bit\":0,\"packet\":{\"kind\":\"rfnm\",\"from\":\"0/1\",\"to\":\"1/2\",\"link\":5,\"number\":7,\"place\":0,\"last\":true,\"bits\":0,\"octets\":\"\"}}" }
+    ensures slot { slot_text slot ≡ codes "[{\"kind\":\"data\",\"from\":\"0/1\",\"to\":\"1/2\",\"link\":5,\"number\":7,\"place\":1,\"last\":false,\"bits\":16,\"octets\":\"8000\"},{\"kind\":\"data\",\"from\":\"0/1\",\"to\":\"1/2\",\"link\":5,\"number\":7,\"place\":3,\"last\":true,\"bits\":16,\"octets\":\"8000\"}]" }
 
     // acknowledgement bits are in the order of their channels
     ensures acks { frame_text (record { acks = true ∷ replicate 7 false; content = content.Nothing }) ≡ codes "{\"acks\":\"10000000\"}" }
-    ensures packet { frame_text (record { acks = replicate 8 false; content = content.Packet (record { channel = 3; bit = true; packet = rfnm }) }) ≡ codes "{\"acks\":\"00000000\",\"channel\":3,\"bit\":1,\"packet\":\"rfnm 0/1 1/2 5 7 0 last 0 -\"}" }
+    ensures packet { frame_text (record { acks = replicate 8 false; content = content.Packet (record { channel = 3; bit = true; packet = rfnm }) }) ≡ codes "{\"acks\":\"00000000\",\"channel\":3,\"bit\":1,\"packet\":{\"kind\":\"rfnm\",\"from\":\"0/1\",\"to\":\"1/2\",\"link\":5,\"number\":7,\"place\":0,\"last\":true,\"bits\":0,\"octets\":\"\"}}" }
 
     // the second of these distances is infinite
     ensures routes { frame_text (record { acks = replicate 8 false; content = content.Routes (1 ∷ 63 ∷ 0 ∷ []) }) ≡ codes "{\"acks\":\"00000000\",\"routes\":{\"1\":1,\"3\":0}}" }
@@ -37,13 +42,20 @@ pub fn worked_packets()
 
 /// Hosts, ports, flows, IMPs and lines.
 pub fn worked_parts()
-    ensures source { source_text (flow, standing.Outstanding 7) ≡ codes "outstanding 0/1 1/2 5 7" }
-    ensures kept { kept_text (flow, record { number = 7; fate = fate.Waits }) ≡ codes "waits 0/1 1/2 5 7" }
-    ensures host { host_object (record { up = true; answers = record { kind = answer.NotTaken; flow = flow } ∷ []; queue = record { flow = flow; number = 7; text = true ∷ [] } ∷ [] }) ≡ codes "{\"up\":true,\"messages\":[\"0/1 1/2 5 7 1 80\"],\"answers\":[\"nottaken 0/1 1/2 5\"]}" }
-    ensures port { port_object (record { up = false; line = opening_end }) ≡ codes "{\"up\":false,\"sending\":[\"0\",\"0\",\"0\",\"0\",\"0\",\"0\",\"0\",\"0\"],\"expected\":\"00000000\"}" }
+    ensures source { source_text (opening_node 1 1 0) (flow, standing.Outstanding 7) ≡ codes "{\"state\":\"outstanding\",\"from\":\"0/1\",\"to\":\"1/2\",\"link\":5,\"number\":7}" }
+    ensures idle { source_text (opening_node 1 1 0) (flow, standing.Idle 7) ≡ codes "{\"state\":\"idle\",\"from\":\"0/1\",\"to\":\"1/2\",\"link\":5,\"number\":7}" }
+
+    // a Dead that was given at once waits: the flow is not idle, though its last number is. A Dead of another flow doesn't matter
+    ensures dead { source_text (with_dead flow) (flow, standing.Idle 7) ≡ codes "{\"state\":\"dead\",\"from\":\"0/1\",\"to\":\"1/2\",\"link\":5,\"number\":7}" }
+    ensures other_dead { source_text (with_dead (record flow { link = record { 0 = 6 } })) (flow, standing.Idle 7) ≡ codes "{\"state\":\"idle\",\"from\":\"0/1\",\"to\":\"1/2\",\"link\":5,\"number\":7}" }
+    ensures answered { source_text (with_dead flow) (flow, standing.Answered 7) ≡ codes "{\"state\":\"answered\",\"from\":\"0/1\",\"to\":\"1/2\",\"link\":5,\"number\":7}" }
+    ensures kept { kept_text (flow, record { number = 7; fate = fate.Waits }) ≡ codes "{\"fate\":\"waits\",\"from\":\"0/1\",\"to\":\"1/2\",\"link\":5,\"number\":7}" }
+    ensures host { host_object (record { up = true; answers = record { kind = answer.NotTaken; flow = flow } ∷ []; queue = record { flow = flow; number = 7; text = true ∷ [] } ∷ [] }) ≡ codes "{\"up\":true,\"messages\":[{\"from\":\"0/1\",\"to\":\"1/2\",\"link\":5,\"number\":7,\"bits\":1,\"octets\":\"80\"}],\"answers\":[{\"kind\":\"nottaken\",\"from\":\"0/1\",\"to\":\"1/2\",\"link\":5}]}" }
+    ensures port { port_object (record { up = false; line = opening_end }) ≡ codes "{\"up\":false,\"sending\":[{\"bit\":0},{\"bit\":0},{\"bit\":0},{\"bit\":0},{\"bit\":0},{\"bit\":0},{\"bit\":0},{\"bit\":0}],\"expected\":\"00000000\"}" }
     ensures heard { heard_text (Some (0 ∷ 62 ∷ [])) ≡ codes "{\"1\":0,\"2\":62}" }
     ensures nothing_heard { heard_text None ≡ codes "null" }
-    ensures imp { imp_text (Some (opening_node 1 0 1)) ≡ codes "{\"hosts\":[],\"ports\":[{\"up\":true,\"sending\":[\"0\",\"0\",\"0\",\"0\",\"0\",\"0\",\"0\",\"0\"],\"expected\":\"00000000\"}],\"routes\":[null],\"store\":[],\"slots\":[],\"sources\":[],\"kept\":[]}" }
+    ensures imp { imp_text (Some (opening_node 1 0 1)) ≡ codes "{\"hosts\":[],\"ports\":[{\"up\":true,\"sending\":[{\"bit\":0},{\"bit\":0},{\"bit\":0},{\"bit\":0},{\"bit\":0},{\"bit\":0},{\"bit\":0},{\"bit\":0}],\"expected\":\"00000000\"}],\"routes\":[null],\"store\":[],\"slots\":[],\"sources\":[],\"kept\":[],\"distances\":{\"1\":0},\"next\":{}}" }
+    ensures next { next_text heard_on_two ≡ codes "{\"2\":1,\"3\":0}" }
     ensures imp_down { imp_text None ≡ codes "null" }
     ensures line { line_text (record { a = 1; b = 2; forward = []; back = record { acks = replicate 8 false; content = content.Nothing } ∷ [] }) ≡ codes "{\"+\":[],\"-\":[{\"acks\":\"00000000\"}]}" }
 {}
@@ -59,7 +71,7 @@ pub fn worked_untold()
     ensures channel { frame_text (frame_on long) ≡ frame_text (frame_on (2 * long)) }
     ensures message { whole_text (record { flow = flow; number = long; text = [] }) ≡ whole_text (record { flow = flow; number = 2 * long; text = [] }) }
     ensures answer { told_text (record { kind = answer.Dead; flow = record flow { link = record { 0 = long } } }) ≡ told_text (record { kind = answer.Dead; flow = record flow { link = record { 0 = 2 * long } } }) }
-    ensures begun { source_text (flow, standing.Idle long) ≡ source_text (flow, standing.Idle (2 * long)) }
+    ensures begun { source_text (opening_node 1 1 0) (flow, standing.Idle long) ≡ source_text (opening_node 1 1 0) (flow, standing.Idle (2 * long)) }
     ensures noted { kept_text (flow, record { number = long; fate = fate.Waits }) ≡ kept_text (flow, record { number = 2 * long; fate = fate.Waits }) }
 
     // a distance of 64 is not printed, as one of 63 isn't, nor that the last ones are missing
@@ -71,12 +83,58 @@ pub fn worked_untold()
     ensures slot_number { slot_text slot ≡ slot_text (record slot { number = 8 }) }
     ensures slot_flow { slot_text slot ≡ slot_text (record slot { flow = record flow { link = record { 0 = 6 } } }) }
 
-    // an IMP's own number is not printed, nor that memory ran out in it
-    ensures own { imp_text (Some (opening_node 1 0 1)) ≡ imp_text (Some (opening_node 2 0 1)) }
+    // that memory ran out in an IMP is not printed
     ensures spent { imp_text (Some (opening_node 1 0 1)) ≡ imp_text (Some (record (opening_node 1 0 1) { spent = true })) }
 
     // a network without IMPs and lines has no parts, however many places for IMPs there are, and whatever is there
     ensures nowhere { (imps : List (Option State)) (p : Part) → is_part (nowhere imps) p ≡ false }
+{}
+
+/// What becomes of frames.
+pub fn worked_fates()
+    // at an IMP or an end of a line that is down
+    ensures imp_down { fate_at_2 None (data_frame 0) ≡ Some fates.ImpDown }
+    ensures end_down { fate_at_2 (Some end_down_at_2) (data_frame 0) ≡ Some fates.EndDown }
+
+    // frames without a packet
+    ensures acks { fate_at_2 (Some imp_2) ack_frame ≡ Some fates.Acks }
+    ensures distances { fate_at_2 (Some imp_2) distances_frame ≡ Some fates.Distances }
+
+    // the same packet, where its bit is expected and where it is not
+    ensures whole { fate_at_2 (Some imp_2) (data_frame 0) ≡ Some fates.Whole }
+    ensures repeat { fate_at_2 (Some past_one) (data_frame 0) ≡ Some fates.Repeat }
+
+    // a packet for another IMP, with room and without
+    ensures passing { fate_at_1 (Some imp_1) passing_frame ≡ Some fates.Passing }
+    ensures no_room { fate_at_1 (Some full_at_1) passing_frame ≡ Some fates.NoRoom }
+
+    // a piece for a host that is down, and a question about a message that never came
+    ensures dead { fate_at_2 (Some hosts_down_at_2) (data_frame 0) ≡ Some fates.Dead }
+    ensures never { fate_at_2 (Some imp_2) (ask_frame 0) ≡ Some fates.Never }
+
+    // an answer to no outstanding message
+    ensures stale { fate_at_1 (Some imp_1) (rfnm_frame 0) ≡ Some fates.Stale }
+
+    // no frame, and a frame that is lost
+    ensures none { fate_of (pair None (Some imp_2) [] []) (event.Net (net.Deliver 0 way.Forward 0)) ≡ None }
+    ensures dropped { fate_of (pair None (Some imp_2) (data_frame 0 ∷ []) []) (event.Net (net.Drop 0 way.Forward 0)) ≡ None }
+{}
+
+/// Which parts are named, and what it means that parts, texts and networks are the same.
+pub fn worked_names()
+    // an IMP and a line of one number are two parts
+    ensures named { (is_named (Imp 2) (Line 0 ∷ Imp 2 ∷ []) ≡ true) × (is_named (Line 1) (Imp 1 ∷ Line 0 ∷ Line 1 ∷ []) ≡ true) }
+    ensures not_named { (is_named (Imp 1) (Line 1 ∷ Imp 2 ∷ []) ≡ false) × (is_named (Line 2) (Imp 2 ∷ Line 1 ∷ []) ≡ false) × (is_named (Line 0) [] ≡ false) }
+
+    // an IMP that stopped, and a line with a frame more
+    ensures other_imp { SamePart (Imp 1) (pair (Some imp_1) None [] []) (pair None None [] []) → ⊥ }
+    ensures other_line { SamePart (Line 0) (pair None None [] []) (pair None None (ack_frame ∷ []) []) → ⊥ }
+    ensures other_text { SameTexts (pair None None [] []) (pair None None (ack_frame ∷ []) []) → ⊥ }
+
+    // other hosts, other IMPs, and a line that goes the other way
+    ensures other_hosts { IsOneNetwork (pair None None [] []) (record (pair None None [] []) { hosts = [] }) → ⊥ }
+    ensures other_sites { IsOneNetwork (pair None None [] []) (record (pair None None [] []) { sites = [] }) → ⊥ }
+    ensures other_ends { IsOneNetwork (pair None None [] []) (record (pair None None [] []) { lines = record { a = 2; b = 1; forward = []; back = [] } ∷ [] }) → ⊥ }
 {}
 
 /// The elementary events of calms.

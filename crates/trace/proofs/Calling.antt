@@ -14,6 +14,7 @@ use Rattle.replay.proofs.lemmas.{crossings_shown, gained, grew_offer, grew_take,
 use Rattle.script.specs.Input.{ended_line}
 use Rattle.script.specs.declared.event.RawEvent.TheVariants as event
 use Rattle.trace.specs.declared.element.Element.{Element}
+use Rattle.trace.specs.declared.element.Spot.{Spot}
 use Rattle.trace.specs.Steps.{Called}
 use Rattle.trace.specs.Texts.{trace_line}
 use Rattle.trace.specs.Traces.{Inside, TellsElement, WritesTrace}
@@ -28,16 +29,16 @@ called_take calls old new h answer gives shown = record { gives = (answer, gives
 
 -- ---- its line
 
-pub tells : {C : Type 0} (calls : Calls C) (inside : Inside C) (number : ℕ) (old new : C) (x : Element) (r : Result (Unit {0}) CarrierFault) (before after : List Crossing) (a b : Option (List ℕ))
+pub tells : {C : Type 0} (calls : Calls C) (inside : Inside C) (spot : Spot) (old new : C) (x : Element) (r : Result (Unit {0}) CarrierFault) (before after : List Crossing) (a b : Option (List ℕ))
     → Called calls old x.event r new → GoesOn r → before ≡ reverse (calls.seen old).log → after ≡ reverse (calls.seen new).log
-    → Appends a b (ended_line (trace_line number x (shown_crossings (drop (length before) after) ++ shown_refusal r) (inside.parts new x.event (drop (length before) after))))
-    → WritesTrace (TellsElement calls inside number old x new) a b
-tells calls inside number old new x r before after a b called goes was is written =
+    → Appends a b (ended_line (trace_line spot x (inside.fate old x.event) (shown_crossings (drop (length before) after) ++ shown_refusal r) (inside.parts new x.event (drop (length before) after))))
+    → WritesTrace (TellsElement calls inside spot old x new) a b
+tells calls inside spot old new x r before after a b called goes was is written =
     let cs : List Crossing = drop (length before) after in
     let shown : List Shown = shown_crossings cs ++ shown_refusal r in
     let happens : Happens calls old x.event new shown =
     record { outcome = r; gives = called.gives; goes_on = goes; crossings = cs; grown = gained (calls.seen old) (calls.seen new) before after called.grew was is; lines = refl } in
-    let line : List ℕ = trace_line number x shown (inside.parts new x.event (crossings_of shown)) in
-    let same : ended_line (trace_line number x shown (inside.parts new x.event cs)) ≡ ended_line line ++ [] =
-    ap (λ (crossed : List Crossing). ended_line (trace_line number x shown (inside.parts new x.event crossed))) (sym (crossings_shown cs r)) ∙ sym (append-nil (ended_line line)) in
+    let line : List ℕ = trace_line spot x (inside.fate old x.event) shown (inside.parts new x.event (crossings_of shown)) in
+    let same : ended_line (trace_line spot x (inside.fate old x.event) shown (inside.parts new x.event cs)) ≡ ended_line line ++ [] =
+    ap (λ (crossed : List Crossing). ended_line (trace_line spot x (inside.fate old x.event) shown (inside.parts new x.event crossed))) (sym (crossings_shown cs r)) ∙ sym (append-nil (ended_line line)) in
     record { shown = line ∷ []; is_shown = (shown, happens, refl); written = subst (Appends a b) same written }

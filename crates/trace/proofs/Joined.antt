@@ -1,5 +1,5 @@
 -- Items are printed one after the other, with commas between.
-use Rattle.std.proofs.Common.{◌≡◌, ℕ, zero, suc, ◌<◌, ◌≤◌, ◌+◌, List, [], ◌∷◌, ◌++◌, codes, get_or, length, map, take, Option, Some, option_map, Result, Ok, Err, slice_get, refl, sym, ap, subst, ◌∙◌, arith}
+use Rattle.std.proofs.Common.{◌≡◌, ℕ, zero, suc, ◌<◌, ◌≤◌, ◌+◌, List, [], ◌∷◌, ◌++◌, codes, get_or, length, map, take, Option, None, Some, option_map, Result, Ok, Err, slice_get, refl, sym, ap, subst, ◌∙◌, arith}
 use Rattle.std.proofs.lemmas.List.{append_assoc, append-nil, length-map, length-take-le, map-append, take_all, take_more}
 use Rattle.std.proofs.lemmas.Option.{slice_get-get_or, slice_get_within}
 use Rattle.std.specs.Fmt.{decimal}
@@ -9,9 +9,14 @@ use Rattle.leader1822.specs.declared.carrier.CarrierFault.{CarrierFault}
 use Rattle.leader1822.specs.declared.crossing.Crossing.{Crossing}
 use Rattle.replay.specs.Output.{Crossed, Refused, Shown, shown_crossings, shown_refusal, shown_text}
 use Rattle.replay.specs.declared.print.Detail.TheVariants.{Sizes}
-use Rattle.replay.proofs.lemmas.{appends_more}
-use Rattle.trace.specs.Joined.{comma_before, joined_from, refused_text}
-use Rattle.trace.specs.Texts.{array, further, listed, quoted, strings}
+use Rattle.replay.proofs.lemmas.{appends_more, crossings_shown}
+use Rattle.script.specs.Spelling.{spelling}
+use Rattle.script.specs.declared.event.RawEvent.{RawEvent}
+use Rattle.topology.specs.Topology.{TopologyFields}
+use Rattle.trace.specs.Joined.{comma_before, fate_text, head_text, joined_from, network_front, outcome_text, refused_text}
+use Rattle.trace.specs.Texts.{array, bool_text, carrier_word, crossing_object, ends_text, fate_word, further, listed, member, object, opening_line, quoted, site_text, strings, trace_line}
+use Rattle.trace.specs.declared.element.Spot.{Spot}
+use Rattle.trace.specs.declared.fate.Fate.{Fate}
 
 -- one more item
 pub joined_more : (place : ℕ) (xs : List (List ℕ)) (x : List ℕ) → joined_from place (xs ++ x ∷ []) ≡ joined_from place xs ++ (comma_before (place + length xs) ++ x)
@@ -95,16 +100,73 @@ shown_printed cs (Err f) i a b c d is before refused end =
 
 -- ---- a line
 
-pub one_line : (number round : ℕ) (event shown parts : List ℕ)
-    → (codes "{\"number\":" ++ (decimal number ++ (codes ",\"round\":" ++ (decimal round ++ (codes ",\"event\":" ++ quoted event))))) ++ (codes ",\"printed\":" ++ (shown ++ (codes ",\"parts\":" ++ (parts ++ codes "}\n"))))
-    ≡ ended_line (codes "{\"number\":" ++ (decimal number ++ (codes ",\"round\":" ++ (decimal round ++ (codes ",\"event\":" ++ (quoted event ++ (codes ",\"printed\":" ++ (shown ++ (codes ",\"parts\":" ++ (parts ++ codes "}"))))))))))
-one_line number round event shown parts = simp append_assoc
-
-pub line_printed : (head shown parts : List ℕ) (a b c d e f g : Option (List ℕ)) → Appends a b head → Appends b c (codes ",\"printed\":") → Appends c d shown → Appends d e (codes ",\"parts\":") → Appends e f parts → Appends f g (codes "}\n")
-    → Appends a g (head ++ (codes ",\"printed\":" ++ (shown ++ (codes ",\"parts\":" ++ (parts ++ codes "}\n")))))
-line_printed head shown parts a b c d e f g h0 h1 h2 h3 h4 h5 =
-    appends_more a b g head (codes ",\"printed\":" ++ (shown ++ (codes ",\"parts\":" ++ (parts ++ codes "}\n")))) h0
-    (appends_more b c g (codes ",\"printed\":") (shown ++ (codes ",\"parts\":" ++ (parts ++ codes "}\n"))) h1
-    (appends_more c d g shown (codes ",\"parts\":" ++ (parts ++ codes "}\n")) h2
+pub line_printed : (head fate outcome parts : List ℕ) (a b c d e f g : Option (List ℕ)) → Appends a b head → Appends b c fate → Appends c d outcome → Appends d e (codes ",\"parts\":") → Appends e f parts → Appends f g (codes "}\n")
+    → Appends a g (head ++ (fate ++ (outcome ++ (codes ",\"parts\":" ++ (parts ++ codes "}\n")))))
+line_printed head fate outcome parts a b c d e f g h0 h1 h2 h3 h4 h5 =
+    appends_more a b g head (fate ++ (outcome ++ (codes ",\"parts\":" ++ (parts ++ codes "}\n")))) h0
+    (appends_more b c g fate (outcome ++ (codes ",\"parts\":" ++ (parts ++ codes "}\n"))) h1
+    (appends_more c d g outcome (codes ",\"parts\":" ++ (parts ++ codes "}\n")) h2
     (appends_more d e g (codes ",\"parts\":") (parts ++ codes "}\n") h3
     (appends_more e f g parts (codes "}\n") h4 h5))))
+
+abbrev front : (line number round event : List ℕ) → List ℕ
+front line number round event = codes "{\"line\":" ++ (line ++ (codes ",\"number\":" ++ (number ++ (codes ",\"round\":" ++ (round ++ (codes ",\"event\":" ++ quoted event))))))
+
+-- a line of this front, with its end
+ended_parts : (head outcome parts : List ℕ) → head ++ (outcome ++ (codes ",\"parts\":" ++ (parts ++ codes "}\n"))) ≡ (head ++ (outcome ++ (codes ",\"parts\":" ++ (parts ++ codes "}")))) ++ 10 ∷ []
+ended_parts head outcome parts = simp append_assoc
+
+plain_object : (line number round event crossed printed parts : List ℕ) → front line number round event ++ ((codes ",\"crossed\":" ++ (crossed ++ (codes ",\"printed\":" ++ printed))) ++ (codes ",\"parts\":" ++ (parts ++ codes "}")))
+    ≡ object (member (codes "line") line ∷ member (codes "number") number ∷ member (codes "round") round ∷ member (codes "event") (quoted event) ∷ member (codes "crossed") crossed ∷ member (codes "printed") printed ∷ member (codes "parts") parts ∷ [])
+plain_object line number round event crossed printed parts = simp append_assoc
+
+plain_line : (line number round event crossed printed parts : List ℕ) → front line number round event ++ ((codes ",\"crossed\":" ++ (crossed ++ (codes ",\"printed\":" ++ printed))) ++ (codes ",\"parts\":" ++ (parts ++ codes "}\n")))
+    ≡ ended_line (object (member (codes "line") line ∷ member (codes "number") number ∷ member (codes "round") round ∷ member (codes "event") (quoted event) ∷ member (codes "crossed") crossed ∷ member (codes "printed") printed ∷ member (codes "parts") parts ∷ []))
+plain_line line number round event crossed printed parts =
+    ended_parts (front line number round event) (codes ",\"crossed\":" ++ (crossed ++ (codes ",\"printed\":" ++ printed))) parts ∙ ap ended_line (plain_object line number round event crossed printed parts)
+
+fated_object : (line number round event fate crossed printed parts : List ℕ)
+    → front line number round event ++ ((codes ",\"fate\":\"" ++ (fate ++ codes "\"")) ++ ((codes ",\"crossed\":" ++ (crossed ++ (codes ",\"printed\":" ++ printed))) ++ (codes ",\"parts\":" ++ (parts ++ codes "}"))))
+    ≡ object (member (codes "line") line ∷ member (codes "number") number ∷ member (codes "round") round ∷ member (codes "event") (quoted event) ∷ member (codes "fate") (quoted fate) ∷ member (codes "crossed") crossed ∷ member (codes "printed") printed ∷ member (codes "parts") parts ∷ [])
+fated_object line number round event fate crossed printed parts = simp append_assoc
+
+ended_fate : (head fate outcome parts : List ℕ) → head ++ (fate ++ (outcome ++ (codes ",\"parts\":" ++ (parts ++ codes "}\n")))) ≡ (head ++ (fate ++ (outcome ++ (codes ",\"parts\":" ++ (parts ++ codes "}"))))) ++ 10 ∷ []
+ended_fate head fate outcome parts = simp append_assoc
+
+fated_line : (line number round event fate crossed printed parts : List ℕ)
+    → front line number round event ++ ((codes ",\"fate\":\"" ++ (fate ++ codes "\"")) ++ ((codes ",\"crossed\":" ++ (crossed ++ (codes ",\"printed\":" ++ printed))) ++ (codes ",\"parts\":" ++ (parts ++ codes "}\n"))))
+    ≡ ended_line (object (member (codes "line") line ∷ member (codes "number") number ∷ member (codes "round") round ∷ member (codes "event") (quoted event) ∷ member (codes "fate") (quoted fate) ∷ member (codes "crossed") crossed ∷ member (codes "printed") printed ∷ member (codes "parts") parts ∷ []))
+fated_line line number round event fate crossed printed parts =
+    ended_fate (front line number round event) (codes ",\"fate\":\"" ++ (fate ++ codes "\"")) (codes ",\"crossed\":" ++ (crossed ++ (codes ",\"printed\":" ++ printed))) parts ∙ ap ended_line (fated_object line number round event fate crossed printed parts)
+
+pub line_is : (spot : Spot) (round : ℕ) (e : RawEvent) (fate : Option Fate) (cs : List Crossing) (r : Result (Unit {0}) CarrierFault) (parts : List ℕ)
+    → head_text spot round e ++ (fate_text fate ++ (outcome_text cs r ++ (codes ",\"parts\":" ++ (parts ++ codes "}\n")))) ≡ ended_line (trace_line spot (record { round = round; event = e }) fate (shown_crossings cs ++ shown_refusal r) parts)
+line_is spot round e None cs r parts =
+    plain_line (decimal spot.line) (decimal spot.number) (decimal round) (spelling e) (array (map crossing_object cs)) (strings (map (shown_text Sizes) (shown_crossings cs ++ shown_refusal r))) parts
+    ∙ ap (λ (crossed : List Crossing). ended_line (object (member (codes "line") (decimal spot.line) ∷ member (codes "number") (decimal spot.number) ∷ member (codes "round") (decimal round) ∷ member (codes "event") (quoted (spelling e))
+    ∷ member (codes "crossed") (array (map crossing_object crossed)) ∷ member (codes "printed") (strings (map (shown_text Sizes) (shown_crossings cs ++ shown_refusal r))) ∷ member (codes "parts") parts ∷ []))) (sym (crossings_shown cs r))
+line_is spot round e (Some f) cs r parts =
+    fated_line (decimal spot.line) (decimal spot.number) (decimal round) (spelling e) (fate_word f) (array (map crossing_object cs)) (strings (map (shown_text Sizes) (shown_crossings cs ++ shown_refusal r))) parts
+    ∙ ap (λ (crossed : List Crossing). ended_line (object (member (codes "line") (decimal spot.line) ∷ member (codes "number") (decimal spot.number) ∷ member (codes "round") (decimal round) ∷ member (codes "event") (quoted (spelling e))
+    ∷ member (codes "fate") (quoted (fate_word f)) ∷ member (codes "crossed") (array (map crossing_object crossed)) ∷ member (codes "printed") (strings (map (shown_text Sizes) (shown_crossings cs ++ shown_refusal r))) ∷ member (codes "parts") parts ∷ []))) (sym (crossings_shown cs r))
+
+-- ---- the first line
+
+-- after its front come the parts and the end
+pub opening_is : (t : TopologyFields) (parts : List ℕ) → network_front t ++ (parts ++ codes "}\n") ≡ ended_line (opening_line t parts)
+opening_is t parts = whole (carrier_word t.carrier) (bool_text t.raw) (array (map site_text t.imps)) (array (map ends_text t.lines)) where
+  ended : (front : List ℕ) → front ++ (parts ++ codes "}\n") ≡ (front ++ (parts ++ codes "}")) ++ 10 ∷ []
+  ended front = simp append_assoc
+
+  flat : (carrier raw imps lines : List ℕ) → (codes "{\"trace\":2,\"carrier\":\"" ++ (carrier ++ (codes "\",\"raw\":" ++ (raw ++ (codes ",\"imps\":" ++ (imps ++ (codes ",\"lines\":" ++ (lines ++ codes ",\"parts\":")))))))) ++ (parts ++ codes "}")
+      ≡ object (member (codes "trace") (codes "2") ∷ member (codes "carrier") (quoted carrier) ∷ member (codes "raw") raw ∷ member (codes "imps") imps ∷ member (codes "lines") lines ∷ member (codes "parts") parts ∷ [])
+  flat carrier raw imps lines = simp append_assoc
+
+  whole : (carrier raw imps lines : List ℕ) → (codes "{\"trace\":2,\"carrier\":\"" ++ (carrier ++ (codes "\",\"raw\":" ++ (raw ++ (codes ",\"imps\":" ++ (imps ++ (codes ",\"lines\":" ++ (lines ++ codes ",\"parts\":")))))))) ++ (parts ++ codes "}\n")
+      ≡ ended_line (object (member (codes "trace") (codes "2") ∷ member (codes "carrier") (quoted carrier) ∷ member (codes "raw") raw ∷ member (codes "imps") imps ∷ member (codes "lines") lines ∷ member (codes "parts") parts ∷ []))
+  whole carrier raw imps lines =
+      ended (codes "{\"trace\":2,\"carrier\":\"" ++ (carrier ++ (codes "\",\"raw\":" ++ (raw ++ (codes ",\"imps\":" ++ (imps ++ (codes ",\"lines\":" ++ (lines ++ codes ",\"parts\":")))))))) ∙ ap ended_line (flat carrier raw imps lines)
+
+pub network_is : (carrier raw imps lines : List ℕ) → (codes "{\"trace\":2,\"carrier\":\"" ++ (carrier ++ (codes "\",\"raw\":" ++ (raw ++ codes ",\"imps\":")))) ++ (imps ++ (codes ",\"lines\":" ++ (lines ++ codes ",\"parts\":")))
+    ≡ codes "{\"trace\":2,\"carrier\":\"" ++ (carrier ++ (codes "\",\"raw\":" ++ (raw ++ (codes ",\"imps\":" ++ (imps ++ (codes ",\"lines\":" ++ (lines ++ codes ",\"parts\":")))))))
+network_is carrier raw imps lines = simp append_assoc

@@ -1,5 +1,11 @@
 pub mod Queues
-pub mod Strings
+pub mod Closed
+pub mod Decimals
+pub mod Left
+pub mod Named
+pub mod Printed
+pub mod Asking
+pub mod FirstLine
 pub mod Whole
 pub mod Each
 pub mod Rest

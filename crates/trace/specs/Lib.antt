@@ -1,6 +1,7 @@
 pub mod Elements
 pub mod Joined
 pub mod Kept
+pub mod Named
 pub mod Parts
 pub mod Steps
 pub mod Texts

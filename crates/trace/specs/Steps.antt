@@ -13,6 +13,7 @@ use Rattle.leader1822.specs.Host.{Host}
 use Rattle.script.specs.declared.event.RawEvent.TheVariants as event
 use Rattle.trace.specs.Elements.{from_boxes, is_given, no_course, round_left, taking, takings_from, then_course}
 use Rattle.trace.specs.declared.element.Element.{Element}
+use Rattle.trace.specs.declared.element.Spot.{Spot}
 use Rattle.trace.specs.declared.turn.Turn.{Turn}
 
 -- a call of the carrier went as the carrier says, and as it shows
@@ -27,11 +28,11 @@ EndsAs Happens Stops Fails old e (Ok done) new before after = WritesTrace (Happe
 EndsAs Happens Stops Fails old e (Err fault.OutOfMemory) new before after = WritesTrace (Stops old e new) before after
 EndsAs Happens Stops Fails old e (Err fault.CannotWrite) new before after = (lines : List (List ℕ)) × Fails old e new lines
 
--- an elementary event, and an event with its number
-abbrev pub ElementEnds : {C : Type 0} → Calls C → Inside C → ℕ → C → Element → Result (Unit {0}) ReplayFault → C → Option (List ℕ) → Option (List ℕ) → Type 0
-ElementEnds calls inside number old x r new before after = EndsAs (TellsElement calls inside number) (StopsElement calls) (MayTell calls) old x r new before after
+-- an elementary event, and an event of a script
+abbrev pub ElementEnds : {C : Type 0} → Calls C → Inside C → Spot → C → Element → Result (Unit {0}) ReplayFault → C → Option (List ℕ) → Option (List ℕ) → Type 0
+ElementEnds calls inside spot old x r new before after = EndsAs (TellsElement calls inside spot) (StopsElement calls) (MayTell calls) old x r new before after
 
-abbrev pub EventEnds : {C : Type 0} → Calls C → Inside C → C → (ℕ × RawEvent) → Result (Unit {0}) ReplayFault → C → Option (List ℕ) → Option (List ℕ) → Type 0
+abbrev pub EventEnds : {C : Type 0} → Calls C → Inside C → C → (Spot × RawEvent) → Result (Unit {0}) ReplayFault → C → Option (List ℕ) → Option (List ℕ) → Type 0
 EventEnds calls inside old e r new before after =
     EndsAs (TellsEvent calls inside) (EndsEvent calls inside (StopsElement calls)) (EndsEvent calls inside (MayTell calls)) old e r new before after
 

@@ -1,37 +1,60 @@
 -- What is written as a trace, over any carrier whose inside can be traced.
-use Rattle.std.specs.Prelude.{◌≡◌, ℕ, suc, List, [], ◌∷◌, Option, Some, None}
+use Rattle.std.specs.Prelude.{◌≡◌, ℕ, suc, ◌+◌, ◌-◌, List, [], ◌∷◌, ◌++◌, Option, Some, None, if◌then◌else◌, slice_index_or}
 use Rattle.leader1822.specs.declared.crossing.Crossing.{Crossing}
 use Rattle.replay.specs.InTurn.{EndsInTurn, Happening, InTurn, WritesLines}
 use Rattle.replay.specs.Output.{Shown, crossings_of}
 use Rattle.replay.specs.Replay.{Calls, Happens, IsOneCall, MayDo, StopsIn}
 use Rattle.script.specs.declared.event.RawEvent.{RawEvent}
+use Rattle.script.specs.Script.{asks, lines_of}
+use Rattle.topology.specs.Topology.{TopologyFields}
 use Rattle.trace.specs.declared.element.Element.{Element}
+use Rattle.trace.specs.declared.element.Spot.{Spot}
+use Rattle.trace.specs.declared.fate.Fate.{Fate}
 use Rattle.trace.specs.Elements.{elements_in}
-use Rattle.trace.specs.Texts.{trace_line}
+use Rattle.trace.specs.Texts.{opening_line, trace_line}
 
--- what a carrier tells of its inside: the elementary events of a calm of this many rounds, and the object of the parts that an
--- event can change in which this crossed
+-- what a carrier tells of its inside: the elementary events of a calm of this many rounds; the object of all parts, and that of the
+-- parts that an event can change in which this crossed; and, before an event, what becomes of the frame that it delivers
 pub record Inside (C : Type 0) : Type 0 where
   pub calm : C → ℕ → List Element
+  pub whole : C → List ℕ
   pub parts : C → RawEvent → List Crossing → List ℕ
+  pub fate : C → RawEvent → Option Fate
 
--- events with their numbers, from this one on
-abbrev pub numbered_from : ℕ → List RawEvent → List (ℕ × RawEvent)
-numbered_from number [] = []
-numbered_from number (e ∷ events) = (number, e) ∷ numbered_from (suc number) events
+-- ---- lines of a script
+
+-- the numbers of those of these lines that ask for an event, of which the first line has this number
+abbrev pub asking_from : ℕ → List (List ℕ) → List ℕ
+asking_from number [] = []
+asking_from number (line ∷ lines) = (if asks line then number ∷ [] else []) ++ asking_from (number + 1) lines
+
+-- those of a script, counted from 1
+abbrev pub event_lines : List ℕ → List ℕ
+event_lines script = asking_from 1 (lines_of script)
+
+-- events with their numbers, from this one on, and the numbers of their lines
+abbrev pub numbered_from : List ℕ → ℕ → List RawEvent → List (Spot × RawEvent)
+numbered_from lines number [] = []
+numbered_from lines number (e ∷ events) = (record { line = slice_index_or lines (number - 1) 0; number = number }, e) ∷ numbered_from lines (suc number) events
+
+-- ---- a trace
 
 -- an elementary event happens, and has one line, over the state after it
-abbrev pub TellsElement : {C : Type 0} → Calls C → Inside C → ℕ → Happening C Element (List ℕ)
-TellsElement calls inside number old x new lines =
-    (shown : List Shown) × Happens calls old x.event new shown × (lines ≡ trace_line number x shown (inside.parts new x.event (crossings_of shown)) ∷ [])
+abbrev pub TellsElement : {C : Type 0} → Calls C → Inside C → Spot → Happening C Element (List ℕ)
+TellsElement calls inside spot old x new lines =
+    (shown : List Shown) × Happens calls old x.event new shown × (lines ≡ trace_line spot x (inside.fate old x.event) shown (inside.parts new x.event (crossings_of shown)) ∷ [])
 
--- the elementary events of an event, with its number, happen one after the other
-abbrev pub TellsEvent : {C : Type 0} → Calls C → Inside C → Happening C (ℕ × RawEvent) (List ℕ)
+-- the elementary events of an event of a script happen one after the other
+abbrev pub TellsEvent : {C : Type 0} → Calls C → Inside C → Happening C (Spot × RawEvent) (List ℕ)
 TellsEvent calls inside old e new lines = InTurn (TellsElement calls inside e.0) old (elements_in (inside.calm old) e.1) new lines
 
--- the lines are the trace of these events, numbered from 1
-abbrev pub Traces : {C : Type 0} → Calls C → Inside C → C → List RawEvent → C → List (List ℕ) → Type 0
-Traces calls inside old events new lines = InTurn (TellsEvent calls inside) old (numbered_from 1 events) new lines
+-- the lines are those of these events, numbered from 1, which are in these lines of a script
+abbrev pub Traces : {C : Type 0} → Calls C → Inside C → C → List ℕ → List RawEvent → C → List (List ℕ) → Type 0
+Traces calls inside old numbers events new lines = InTurn (TellsEvent calls inside) old (numbered_from numbers 1 events) new lines
+
+-- the lines after the first, which is the network with all parts at the opening
+abbrev pub AfterOpening : {C : Type 0} → Inside C → TopologyFields → C → (List (List ℕ) → Type 0) → List (List ℕ) → Type 0
+AfterOpening inside t opening AreLines lines = (others : List (List ℕ)) × (lines ≡ opening_line t (inside.whole opening) ∷ others) × AreLines others
 
 -- ---- a trace that ends early, in one of the elementary events
 
@@ -44,11 +67,11 @@ abbrev pub MayTell : {C : Type 0} → Calls C → Happening C Element (List ℕ)
 MayTell calls old x new lines = MayDo calls old x.event new [] × (lines ≡ [])
 
 -- the elementary events before one happened, and that one went as is said
-abbrev pub EndsEvent : {C : Type 0} → Calls C → Inside C → Happening C Element (List ℕ) → Happening C (ℕ × RawEvent) (List ℕ)
+abbrev pub EndsEvent : {C : Type 0} → Calls C → Inside C → Happening C Element (List ℕ) → Happening C (Spot × RawEvent) (List ℕ)
 EndsEvent calls inside Goes old e new lines = EndsInTurn (TellsElement calls inside e.0) Goes old (elements_in (inside.calm old) e.1) new lines
 
-abbrev pub TraceEnds : {C : Type 0} → Calls C → Inside C → Happening C Element (List ℕ) → C → List RawEvent → C → List (List ℕ) → Type 0
-TraceEnds calls inside Goes old events new lines = EndsInTurn (TellsEvent calls inside) (EndsEvent calls inside Goes) old (numbered_from 1 events) new lines
+abbrev pub TraceEnds : {C : Type 0} → Calls C → Inside C → Happening C Element (List ℕ) → C → List ℕ → List RawEvent → C → List (List ℕ) → Type 0
+TraceEnds calls inside Goes old numbers events new lines = EndsInTurn (TellsEvent calls inside) (EndsEvent calls inside Goes) old (numbered_from numbers 1 events) new lines
 
 -- ---- writing
 

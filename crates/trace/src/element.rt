@@ -1,4 +1,4 @@
-//! Elementary events.
+//! Elementary events, and where they come from.
 
 use script::RawEvent;
 
@@ -9,4 +9,13 @@ pub struct Element {
     pub round: u32,
     /// The event, which is one call of the carrier.
     pub event: RawEvent,
+}
+
+/// Where in a script an event is.
+#[derive(Clone, Copy, Debug)]
+pub struct Spot {
+    /// The number of its line, counted from 1.
+    pub line: usize,
+    /// Its number among the events, counted from 1.
+    pub number: usize,
 }

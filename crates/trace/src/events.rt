@@ -1,88 +1,117 @@
 //! Tracing a script's events over a carrier.
 
 ghost use Rattle.std.specs.Bool.{OnFalse, OnTrue};
-ghost use Rattle.std.specs.Prelude.{◌≡◌, Err, IfErr, IfOk, OnOk, List, ℕ, false};
+ghost use Rattle.std.specs.Prelude.{◌≡◌, ◌⊎◌, Err, IfErr, IfOk, OnOk, List, ℕ, false, length};
 ghost use Rattle.replay.specs.Failing.{TellsCannotWrite};
 ghost use Rattle.replay.specs.Replay.{GoesOn, Halts, IsCopied, IsOneCall};
 ghost use Rattle.script.specs.declared.event.RawEvent.TheVariants as script_event;
 ghost use Rattle.trace.specs.Steps.{Called, ElementEnds, EventEnds};
-ghost use Rattle.trace.specs.Traces.{MayTell, StopsElement, TraceEnds, Traces, WritesTrace};
+ghost use Rattle.trace.specs.Traces.{AfterOpening, MayTell, StopsElement, TraceEnds, Traces, WritesTrace};
 
+use crate::element::Spot;
 use crate::inspect::Inspect;
 use crate::line::print_line;
+use crate::opening::print_opening;
 use leader1822::{Carrier, CarrierFault};
 use replay::{Output, ReplayFault};
 use script::RawEvent;
 use std::alloc::AllocError;
+use topology::Topology;
 
-/// Hands each elementary event of each event to the carrier in order, and prints one line for each: a JSON object with the
-/// number of the event, the round of its calm, the elementary event, what it printed, and the parts that it can change, as they
-/// are after it.
+/// Prints the network and all parts of its carrier, hands each elementary event of each event to the carrier in order, and prints
+/// one line for each: a JSON object with the place of the event in the script, the elementary event, what it printed, and the
+/// parts that it can change, as they are after it. `lines` has the numbers of the events' lines in the script.
 ///
 /// A refused event changes nothing, and has a line too.
 ///
 /// Errors:
-/// - `OutOfMemory`: memory ran out at one elementary event. The lines of those before it were written, and none of its own.
+/// - `OutOfMemory`: memory ran out at one elementary event. The first line and those of the events before it were written, and
+///   none of its own.
 /// - `CannotWrite`: a write failed. The carrier had already processed the elementary event whose line it was. Nothing more was
 ///   asked of the writer, which is the only one to know how much of its last lines it wrote.
 pub fn trace_events<C: Inspect, W: Output>(
+    network: &Topology,
     carrier: &mut C,
+    lines: &[usize],
     events: &[RawEvent],
     writer: &mut W,
 ) -> Result<(), ReplayFault>
-    requires { W.failed writer.old ≡ false }
+    requires events { length lines.now ≡ length events.now }
+    requires whole { W.failed writer.old ≡ false }
 
-    // each elementary event in turn went as the carrier says that its calls may go, and its line was written
-    ensures traced { OnOk result (WritesTrace (Traces (record { seen = C.seen; offers = C.offers; takes = C.takes; steps = C.steps; rounds = C.rounds }) (record { calm = C.calm; parts = C.parts }) carrier.old events.now carrier.new) (W.contents writer.old) (W.contents writer.new)) }
+    // first the network, and then each elementary event in turn went as the carrier says that its calls may go, and its line was written
+    ensures traced { OnOk result (WritesTrace (AfterOpening (record { calm = C.calm; whole = C.whole; parts = C.parts; fate = C.fate }) network.now carrier.old (Traces (record { seen = C.seen; offers = C.offers; takes = C.takes; steps = C.steps; rounds = C.rounds }) (record { calm = C.calm; whole = C.whole; parts = C.parts; fate = C.fate }) carrier.old lines.now events.now carrier.new)) (W.contents writer.old) (W.contents writer.new)) }
 
-    // memory ran out at one of them: the lines of those before it were written, and nothing else
-    ensures memory { result ≡ Err ReplayFault.OutOfMemory → WritesTrace (TraceEnds (record { seen = C.seen; offers = C.offers; takes = C.takes; steps = C.steps; rounds = C.rounds }) (record { calm = C.calm; parts = C.parts }) (StopsElement (record { seen = C.seen; offers = C.offers; takes = C.takes; steps = C.steps; rounds = C.rounds })) carrier.old events.now carrier.new) (W.contents writer.old) (W.contents writer.new) }
+    // memory ran out at one of them: the first line and those before it were written, and nothing else
+    ensures memory { result ≡ Err ReplayFault.OutOfMemory → WritesTrace (AfterOpening (record { calm = C.calm; whole = C.whole; parts = C.parts; fate = C.fate }) network.now carrier.old (TraceEnds (record { seen = C.seen; offers = C.offers; takes = C.takes; steps = C.steps; rounds = C.rounds }) (record { calm = C.calm; whole = C.whole; parts = C.parts; fate = C.fate }) (StopsElement (record { seen = C.seen; offers = C.offers; takes = C.takes; steps = C.steps; rounds = C.rounds })) carrier.old lines.now events.now carrier.new)) (W.contents writer.old) (W.contents writer.new) }
 
     // `CannotWrite` is answered where a write failed, and nowhere else
     ensures failed { TellsCannotWrite result (W.failed writer.new) }
 
-    // a write failed: the carrier had already processed that elementary event
-    ensures cannot_write { result ≡ Err ReplayFault.CannotWrite → (lines : List (List ℕ)) × TraceEnds (record { seen = C.seen; offers = C.offers; takes = C.takes; steps = C.steps; rounds = C.rounds }) (record { calm = C.calm; parts = C.parts }) (MayTell (record { seen = C.seen; offers = C.offers; takes = C.takes; steps = C.steps; rounds = C.rounds })) carrier.old events.now carrier.new lines }
+    // a write failed: the carrier had already processed that elementary event, or none
+    ensures cannot_write { result ≡ Err ReplayFault.CannotWrite → (carrier.new ≡ carrier.old) ⊎ ((others : List (List ℕ)) × TraceEnds (record { seen = C.seen; offers = C.offers; takes = C.takes; steps = C.steps; rounds = C.rounds }) (record { calm = C.calm; whole = C.whole; parts = C.parts; fate = C.fate }) (MayTell (record { seen = C.seen; offers = C.offers; takes = C.takes; steps = C.steps; rounds = C.rounds })) carrier.old lines.now events.now carrier.new others) }
+{
+    print_opening(network, carrier, writer)?;
+    trace_all(carrier, lines, events, writer)
+}
+
+/// Traces all events, which are in these lines of a script.
+fn trace_all<C: Inspect, W: Output>(
+    carrier: &mut C,
+    lines: &[usize],
+    events: &[RawEvent],
+    writer: &mut W,
+) -> Result<(), ReplayFault>
+    requires events { length lines.now ≡ length events.now }
+    requires whole { W.failed writer.old ≡ false }
+    ensures traced { OnOk result (WritesTrace (Traces (record { seen = C.seen; offers = C.offers; takes = C.takes; steps = C.steps; rounds = C.rounds }) (record { calm = C.calm; whole = C.whole; parts = C.parts; fate = C.fate }) carrier.old lines.now events.now carrier.new) (W.contents writer.old) (W.contents writer.new)) }
+    ensures memory { result ≡ Err ReplayFault.OutOfMemory → WritesTrace (TraceEnds (record { seen = C.seen; offers = C.offers; takes = C.takes; steps = C.steps; rounds = C.rounds }) (record { calm = C.calm; whole = C.whole; parts = C.parts; fate = C.fate }) (StopsElement (record { seen = C.seen; offers = C.offers; takes = C.takes; steps = C.steps; rounds = C.rounds })) carrier.old lines.now events.now carrier.new) (W.contents writer.old) (W.contents writer.new) }
+    ensures failed { TellsCannotWrite result (W.failed writer.new) }
+    ensures cannot_write { result ≡ Err ReplayFault.CannotWrite → (others : List (List ℕ)) × TraceEnds (record { seen = C.seen; offers = C.offers; takes = C.takes; steps = C.steps; rounds = C.rounds }) (record { calm = C.calm; whole = C.whole; parts = C.parts; fate = C.fate }) (MayTell (record { seen = C.seen; offers = C.offers; takes = C.takes; steps = C.steps; rounds = C.rounds })) carrier.old lines.now events.now carrier.new others }
 {
     for place in 0..events.len() {
-        trace_event(carrier, place + 1, &events[place], writer)?;
+        let spot = Spot {
+            line: lines[place],
+            number: place + 1,
+        };
+        trace_event(carrier, spot, &events[place], writer)?;
     }
     Ok(())
 }
 
-/// Traces one event, with its number.
+/// Traces one event, which is at this spot of a script.
 fn trace_event<C: Inspect, W: Output>(
     carrier: &mut C,
-    number: usize,
+    spot: Spot,
     event: &RawEvent,
     writer: &mut W,
 ) -> Result<(), ReplayFault>
     requires { W.failed writer.old ≡ false }
-    ensures ends { EventEnds (record { seen = C.seen; offers = C.offers; takes = C.takes; steps = C.steps; rounds = C.rounds }) (record { calm = C.calm; parts = C.parts }) carrier.old (number, event.now) result carrier.new (W.contents writer.old) (W.contents writer.new) }
+    ensures ends { EventEnds (record { seen = C.seen; offers = C.offers; takes = C.takes; steps = C.steps; rounds = C.rounds }) (record { calm = C.calm; whole = C.whole; parts = C.parts; fate = C.fate }) carrier.old (spot, event.now) result carrier.new (W.contents writer.old) (W.contents writer.new) }
     ensures failed { TellsCannotWrite result (W.failed writer.new) }
 {
     match event {
         RawEvent::Out(_) | RawEvent::Take(_) | RawEvent::Net(_) => {
-            trace_element(carrier, number, 0, event, writer)
+            trace_element(carrier, spot, 0, event, writer)
         }
-        RawEvent::Calm(rounds) => trace_calm(carrier, number, *rounds, writer),
+        RawEvent::Calm(rounds) => trace_calm(carrier, spot, *rounds, writer),
     }
 }
 
 /// Traces a calm: one of its elementary events after another.
 fn trace_calm<C: Inspect, W: Output>(
     carrier: &mut C,
-    number: usize,
+    spot: Spot,
     rounds: u32,
     writer: &mut W,
 ) -> Result<(), ReplayFault>
     requires { W.failed writer.old ≡ false }
-    ensures ends { EventEnds (record { seen = C.seen; offers = C.offers; takes = C.takes; steps = C.steps; rounds = C.rounds }) (record { calm = C.calm; parts = C.parts }) carrier.old (number, script_event.Calm rounds) result carrier.new (W.contents writer.old) (W.contents writer.new) }
+    ensures ends { EventEnds (record { seen = C.seen; offers = C.offers; takes = C.takes; steps = C.steps; rounds = C.rounds }) (record { calm = C.calm; whole = C.whole; parts = C.parts; fate = C.fate }) carrier.old (spot, script_event.Calm rounds) result carrier.new (W.contents writer.old) (W.contents writer.new) }
     ensures failed { TellsCannotWrite result (W.failed writer.new) }
 {
     let mut place = carrier.begin_calm(rounds);
     'elements: while let Some((element, next)) = carrier.next_in_calm(place) {
-        trace_element(carrier, number, element.round, &element.event, writer)?;
+        trace_element(carrier, spot, element.round, &element.event, writer)?;
         place = next;
     }
     Ok(())
@@ -91,23 +120,26 @@ fn trace_calm<C: Inspect, W: Output>(
 /// Hands an elementary event to the carrier, and prints its line.
 fn trace_element<C: Inspect, W: Output>(
     carrier: &mut C,
-    number: usize,
+    spot: Spot,
     round: u32,
     event: &RawEvent,
     writer: &mut W,
 ) -> Result<(), ReplayFault>
     requires one_call { IsOneCall event.now }
     requires whole { W.failed writer.old ≡ false }
-    ensures ends { ElementEnds (record { seen = C.seen; offers = C.offers; takes = C.takes; steps = C.steps; rounds = C.rounds }) (record { calm = C.calm; parts = C.parts }) number carrier.old (record { round = round; event = event.now }) result carrier.new (W.contents writer.old) (W.contents writer.new) }
+    ensures ends { ElementEnds (record { seen = C.seen; offers = C.offers; takes = C.takes; steps = C.steps; rounds = C.rounds }) (record { calm = C.calm; whole = C.whole; parts = C.parts; fate = C.fate }) spot carrier.old (record { round = round; event = event.now }) result carrier.new (W.contents writer.old) (W.contents writer.new) }
     ensures failed { TellsCannotWrite result (W.failed writer.new) }
 {
     let booked = carrier.log().len();
+    let fate = carrier.fate(event);
     let outcome = call(carrier, event)?;
     if has_halted(outcome) {
         return Err(ReplayFault::OutOfMemory);
     }
     let (_, crossings) = carrier.log().split_at(booked);
-    Ok(print_line(carrier, number, round, event, crossings, outcome, writer)?)
+    Ok(print_line(
+        carrier, spot, round, event, fate, crossings, outcome, writer,
+    )?)
 }
 
 /// Returns whether running out of memory has stopped the carrier.

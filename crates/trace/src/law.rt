@@ -1,6 +1,6 @@
 //! What traces promise, as laws over their definitions. The functions here do nothing: each clause is the law.
 
-ghost use Rattle.std.specs.Prelude.{◌≡◌, List, false};
+ghost use Rattle.std.specs.Prelude.{◌≡◌, ℕ, List, false};
 ghost use Rattle.std.specs.List.{All};
 ghost use Rattle.leader1822.specs.Boxes.{Boxes, opening_boxes};
 ghost use Rattle.leader1822.specs.Host.{Host};
@@ -11,7 +11,8 @@ ghost use Rattle.script.specs.declared.event.RawEvent.{RawEvent};
 ghost use Rattle.trace.specs.Elements.{elements_of, events_of, plain};
 ghost use Rattle.trace.specs.Kept.{IsTold};
 ghost use Rattle.trace.specs.Parts.{Part, IsPart, SamePart, is_named, parts_of};
-ghost use Rattle.trace.specs.Texts.{part_text};
+ghost use Rattle.topology.specs.Topology.{IsTopology, TopologyFields};
+ghost use Rattle.trace.specs.Texts.{opening_line, part_text};
 
 /// An event of a script is its elementary events one after another: each of them only, as a line of a script,
 /// leaves what the event leaves and prints what it prints. So a calm is a list of takings.
@@ -34,4 +35,9 @@ pub fn whole()
 
     // the events are those that a script may ask for
     ensures reached { (hosts : List Host) (events : List RawEvent) (new : Boxes) (shown : List Shown) → All IsEvent events → Replays plain (opening_boxes hosts) events new shown → IsTold new }
+{}
+
+/// The first line of a trace tells the network: which carrier it has, its IMPs with their hosts, and its lines in their order.
+pub fn network()
+    ensures one { (one other : TopologyFields) (parts rest : List ℕ) → IsTopology one → IsTopology other → opening_line one parts ≡ opening_line other rest → one ≡ other }
 {}

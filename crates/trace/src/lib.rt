@@ -1,31 +1,38 @@
 //! Traces: what happens inside a network, event by event.
 //!
-//! A replay prints what crosses the interfaces of hosts. A trace tells the rest: it goes through the
-//! *elementary events* of a replay, an event of the script or within a calm each of its parts, and tells for
-//! each what the *parts* of the network are that it can change. [`trace_events`] prints a trace, one JSON object a
-//! line, over any carrier whose inside can be traced ([`Inspect`]). Plain mailboxes are one: here are their elementary
-//! events, their parts, and the JSON text of each part.
+//! A replay prints what crosses the interfaces of hosts. A trace tells the rest: first the network with all its *parts*, and
+//! then, for each *elementary event* of a replay, an event of the script or within a calm each of its parts, what the parts of the
+//! network are that it can change. [`trace_events`] prints a trace, one JSON object a line, over any carrier whose inside can be
+//! traced ([`Inspect`]). Plain mailboxes are one: here are their elementary events, their parts, and the JSON text of each part.
 //!
-//! A reader of traces may rely on three laws ([`law`]). A calm is its elementary events one after another.
-//! What an event's parts do not name is as before. States with equal texts of all parts are equal, but for
-//! their logs, so over one network a trace leaves nothing out.
+//! A reader of traces may rely on these laws ([`law`]). A calm is its elementary events one after another. What an event's
+//! parts do not name is as before. The first line tells the network, and states with equal texts of all parts are equal,
+//! but for their logs: so a trace leaves nothing out.
 #![tactic(auto)]
 
 mod element;
 mod events;
+mod fate;
 mod inspect;
+pub mod json;
 pub mod law;
 mod line;
+mod numbers;
+mod opening;
 mod parts;
 mod plain;
 mod print;
 mod spelling;
 mod turn;
+mod values;
 pub mod worked;
 
-pub use element::Element;
+pub use element::{Element, Spot};
 pub use events::trace_events;
+pub use fate::Fate;
 pub use inspect::Inspect;
-pub use parts::print_parts;
-pub use print::answer_word;
+pub use numbers::event_lines;
+pub use opening::print_network;
+pub use parts::{print_parts, print_whole};
 pub use turn::Turn;
+pub use values::{answer_word, print_answer, print_octets};

@@ -1,7 +1,6 @@
 //! Printing the line of an elementary event.
 
-ghost use Rattle.std.specs.Prelude.{◌≡◌, ◌++◌, ◌∷◌, OnOk, codes, false, length, map};
-ghost use Rattle.std.specs.Fmt.{decimal};
+ghost use Rattle.std.specs.Prelude.{◌≡◌, ◌++◌, OnOk, false, map};
 ghost use Rattle.std.specs.Io.KnownBytes.{Appends};
 ghost use Rattle.leader1822.specs.Printed.{crossing_text};
 ghost use Rattle.replay.specs.Failing.{TellsFailure};
@@ -9,34 +8,50 @@ ghost use Rattle.replay.specs.Output.{shown_crossings, shown_refusal, shown_text
 ghost use Rattle.replay.specs.Replay.{GoesOn};
 ghost use Rattle.replay.specs.declared.print.Detail.TheVariants.{Sizes};
 ghost use Rattle.script.specs.Input.{ended_line};
-ghost use Rattle.script.specs.Spelling.{spelling};
-ghost use Rattle.trace.specs.Joined.{refused_text};
+ghost use Rattle.trace.specs.Joined.{fate_text, head_text, outcome_text, refused_text};
 ghost use Rattle.trace.specs.Texts.{quoted, strings, trace_line};
 
+use crate::element::Spot;
+use crate::fate::Fate;
 use crate::inspect::Inspect;
+use crate::json::print_array;
 use crate::print::print_comma;
 use crate::spelling::print_event;
 use leader1822::{CarrierFault, Crossing};
 use replay::{Output, WriteFailed, carrier_refusal};
 use script::RawEvent;
 
-/// Prints the number of an event, the round of its calm, and an elementary event of it.
+/// Prints where an event is, the round of its calm, and an elementary event of it.
 fn print_head<W: Output>(
-    number: usize,
+    spot: Spot,
     round: u32,
     event: &RawEvent,
     writer: &mut W,
 ) -> Result<(), WriteFailed>
     requires { W.failed writer.old ≡ false }
-    ensures written { OnOk result (Appends (W.contents writer.old) (W.contents writer.new) (codes "{\"number\":" ++ (decimal number ++ (codes ",\"round\":" ++ (decimal round ++ (codes ",\"event\":" ++ quoted (spelling event.now))))))) }
+    ensures written { OnOk result (Appends (W.contents writer.old) (W.contents writer.new) (head_text spot round event.now)) }
     ensures failed { TellsFailure result (W.failed writer.new) }
 {
+    let (line, number) = (spot.line, spot.number);
     write!(
         writer,
-        "{{\"number\":{number},\"round\":{round},\"event\":\""
+        "{{\"line\":{line},\"number\":{number},\"round\":{round},\"event\":\""
     )?;
     print_event(event, writer)?;
     writer.write_all(b"\"")
+}
+
+/// Prints what became of a frame after other members. It prints nothing for what delivers none.
+fn print_fate<W: Output>(fate: Option<Fate>, writer: &mut W) -> Result<(), WriteFailed>
+    requires { W.failed writer.old ≡ false }
+    ensures written { OnOk result (Appends (W.contents writer.old) (W.contents writer.new) (fate_text fate)) }
+    ensures failed { TellsFailure result (W.failed writer.new) }
+{
+    let Some(fate) = fate else {
+        return Ok(());
+    };
+    let word = fate.word();
+    write!(writer, ",\"fate\":\"{word}\"")
 }
 
 /// Prints what crossed, as a string.
@@ -89,24 +104,42 @@ fn print_shown<W: Output>(
     writer.write_all(b"]")
 }
 
-/// Prints the line of an elementary event in which this crossed, or which was refused.
-pub(crate) fn print_line<C: Inspect, W: Output>(
-    carrier: &C,
-    number: usize,
-    round: u32,
-    event: &RawEvent,
+/// Prints what crossed in an event, and the lines that a replay prints for it, after other members.
+fn print_outcome<W: Output>(
     crossings: &[Crossing],
     outcome: Result<(), CarrierFault>,
     writer: &mut W,
 ) -> Result<(), WriteFailed>
     requires goes_on { GoesOn outcome }
     requires whole { W.failed writer.old ≡ false }
-    ensures written { OnOk result (Appends (W.contents writer.old) (W.contents writer.new) (ended_line (trace_line number (record { round = round; event = event.now }) (shown_crossings crossings.now ++ shown_refusal outcome) (C.parts carrier.now event.now crossings.now)))) }
+    ensures written { OnOk result (Appends (W.contents writer.old) (W.contents writer.new) (outcome_text crossings.now outcome)) }
     ensures failed { TellsFailure result (W.failed writer.new) }
 {
-    print_head(number, round, event, writer)?;
+    writer.write_all(b",\"crossed\":")?;
+    print_array(&crossings, writer)?;
     writer.write_all(b",\"printed\":")?;
-    print_shown(crossings, outcome, writer)?;
+    print_shown(crossings, outcome, writer)
+}
+
+/// Prints the line of an elementary event in which this crossed, or which was refused.
+pub(crate) fn print_line<C: Inspect, W: Output>(
+    carrier: &C,
+    spot: Spot,
+    round: u32,
+    event: &RawEvent,
+    fate: Option<Fate>,
+    crossings: &[Crossing],
+    outcome: Result<(), CarrierFault>,
+    writer: &mut W,
+) -> Result<(), WriteFailed>
+    requires goes_on { GoesOn outcome }
+    requires whole { W.failed writer.old ≡ false }
+    ensures written { OnOk result (Appends (W.contents writer.old) (W.contents writer.new) (ended_line (trace_line spot (record { round = round; event = event.now }) fate (shown_crossings crossings.now ++ shown_refusal outcome) (C.parts carrier.now event.now crossings.now)))) }
+    ensures failed { TellsFailure result (W.failed writer.new) }
+{
+    print_head(spot, round, event, writer)?;
+    print_fate(fate, writer)?;
+    print_outcome(crossings, outcome, writer)?;
     writer.write_all(b",\"parts\":")?;
     carrier.print_parts(event, crossings, writer)?;
     writer.write_all(b"}\n")

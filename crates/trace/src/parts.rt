@@ -5,9 +5,10 @@ ghost use Rattle.std.specs.Io.KnownBytes.{Appends};
 ghost use Rattle.replay.specs.Failing.{TellsFailure};
 ghost use Rattle.trace.specs.Joined.{begun};
 ghost use Rattle.trace.specs.Parts.{Down, Waiting, is_source, moves_host, reaches};
-ghost use Rattle.trace.specs.Texts.{changed_text, member, part_name, part_text};
+ghost use Rattle.trace.specs.Texts.{changed_text, member, part_name, part_text, whole_text};
 
-use crate::print::{print_comma, print_down, print_waiting};
+use crate::json::print_array;
+use crate::print::{print_comma, print_waiting};
 use leader1822::{Carrier, Crossing, HostAddr, NetEvent, PlainBoxes};
 use replay::{Output, WriteFailed};
 use script::RawEvent;
@@ -75,7 +76,7 @@ fn open_parts<W: Output>(boxes: &PlainBoxes, moves: bool, writer: &mut W) -> Res
         return writer.write_all(b"{");
     }
     writer.write_all(b"{\"down\":")?;
-    print_down(boxes, writer)
+    print_array(&boxes.down(), writer)
 }
 
 /// Prints the parts that an event can change, which let these cross.
@@ -98,6 +99,20 @@ pub fn print_parts<W: Output>(
             print_host_part(boxes, host, writer)?;
             place = 1;
         }
+    }
+    writer.write_all(b"}")
+}
+
+/// Prints all parts.
+pub fn print_whole<W: Output>(boxes: &PlainBoxes, writer: &mut W) -> Result<(), WriteFailed>
+    requires { W.failed writer.old ≡ false }
+    ensures written { OnOk result (Appends (W.contents writer.old) (W.contents writer.new) (whole_text boxes.now)) }
+    ensures failed { TellsFailure result (W.failed writer.new) }
+{
+    open_parts(boxes, true, writer)?;
+    for host in boxes.hosts() {
+        writer.write_all(b",")?;
+        print_host_part(boxes, host, writer)?;
     }
     writer.write_all(b"}")
 }

@@ -1,14 +1,15 @@
 //! The inside of plain mailboxes.
 
-ghost use Rattle.std.specs.Prelude.{◌≡◌, true};
+ghost use Rattle.std.specs.Prelude.{◌≡◌, None, true};
 ghost use Rattle.leader1822.specs.Host.{is_host};
 ghost use Rattle.trace.specs.Elements.{calm_left, calm_of, is_given};
-ghost use Rattle.trace.specs.Texts.{changed_text};
+ghost use Rattle.trace.specs.Texts.{changed_text, whole_text};
 ghost use Rattle.trace.specs.Steps.{IsNext};
 
 use crate::element::Element;
+use crate::fate::Fate;
 use crate::inspect::Inspect;
-use crate::parts::print_parts;
+use crate::parts::{print_parts, print_whole};
 use crate::turn::Turn;
 use leader1822::{Carrier, Crossing, HostAddr, PlainBoxes};
 use replay::{Output, WriteFailed};
@@ -59,7 +60,11 @@ impl Inspect for PlainBoxes {
 
     ghost left = { calm_left };
 
+    ghost whole = { whole_text };
+
     ghost parts = { changed_text };
+
+    ghost fate = { λ boxes event. None };
 
     fn begin_calm(&self, rounds: u32) -> Turn {
         Turn {
@@ -85,6 +90,15 @@ impl Inspect for PlainBoxes {
             ..place
         };
         next_taking(self, turn)
+    }
+
+    /// Plain mailboxes have no frames.
+    fn fate(&self, _event: &RawEvent) -> Option<Fate> {
+        None
+    }
+
+    fn print_whole<W: Output>(&self, writer: &mut W) -> Result<(), WriteFailed> {
+        print_whole(self, writer)
     }
 
     fn print_parts<W: Output>(

@@ -21,10 +21,7 @@ fn word_of(direction: Direction) -> &'static str
 }
 
 /// Prints a message: its flow, how many bits its text has, and their octets.
-pub(crate) fn print_message<W: Output>(
-    message: &HostMessage,
-    writer: &mut W,
-) -> Result<(), WriteFailed>
+fn print_message<W: Output>(message: &HostMessage, writer: &mut W) -> Result<(), WriteFailed>
     requires { W.failed writer.old ≡ false }
     ensures written { OnOk result (Appends (W.contents writer.old) (W.contents writer.new) (message_text message.now)) }
     ensures failed { TellsFailure result (W.failed writer.new) }

@@ -1,6 +1,6 @@
 //! Worked examples of traces. The functions here do nothing: each clause is a row, computed over the definitions.
 
-ghost use Rattle.std.specs.Prelude.{◌≡◌, List, [], ◌∷◌, codes, true, false};
+ghost use Rattle.std.specs.Prelude.{◌≡◌, List, [], ◌∷◌, None, Some, codes, true, false};
 ghost use Rattle.std.specs.FinMap as map;
 ghost use Rattle.leader1822.specs.declared.carrier.CarrierFault.TheVariants as fault;
 ghost use Rattle.leader1822.specs.declared.crossing.Answer.TheVariants as answer;
@@ -11,8 +11,11 @@ ghost use Rattle.replay.specs.Output.{Crossed, Refused};
 ghost use Rattle.script.specs.declared.event.RawEvent.TheVariants as event;
 ghost use Rattle.trace.specs.Elements.{elements_of};
 ghost use Rattle.trace.specs.Parts.{Down, Waiting, SamePart, is_named, parts_of};
-ghost use Rattle.trace.specs.Texts.{changed_text, part_name, part_text, queues_text, trace_line, waiting_answer_text};
+ghost use Rattle.topology.specs.declared.network.CarrierKind.TheVariants as kind;
+ghost use Rattle.trace.specs.Texts.{answer_object, changed_text, crossing_object, opening_line, part_name, part_text, queues_text, trace_line, whole_text};
+ghost use Rattle.trace.specs.Traces.{asking_from, numbered_from};
 ghost use Rattle.trace.specs.Worked.{empty, first, flow, hosts, one_waits, second, short, third, with_down};
+ghost use Rattle.trace.specs.declared.fate.Fate.TheVariants as fate;
 
 /// The text of each part.
 pub fn worked_texts()
@@ -21,12 +24,16 @@ pub fn worked_texts()
     ensures none_down { part_text (with_down []) Down ≡ codes "[]" }
 
     // what waits, oldest first: messages with their texts, and answers
-    ensures queues { queues_text (short ∷ empty ∷ []) ((answer.Rfnm, flow) ∷ (answer.Dead, flow) ∷ []) ≡ codes "{\"messages\":[\"0/1 0/2 5 3 A0\",\"0/1 0/2 6 0 -\"],\"answers\":[\"rfnm 0/1 0/2 5\",\"dead 0/1 0/2 5\"]}" }
+    ensures queues { queues_text (short ∷ empty ∷ []) ((answer.Rfnm, flow) ∷ (answer.Dead, flow) ∷ []) ≡ codes "{\"messages\":[{\"from\":\"0/1\",\"to\":\"0/2\",\"link\":5,\"bits\":3,\"octets\":\"A0\"},{\"from\":\"0/1\",\"to\":\"0/2\",\"link\":6,\"bits\":0,\"octets\":\"\"}],\"answers\":[{\"kind\":\"rfnm\",\"from\":\"0/1\",\"to\":\"0/2\",\"link\":5},{\"kind\":\"dead\",\"from\":\"0/1\",\"to\":\"0/2\",\"link\":5}]}" }
     ensures no_queues { queues_text [] [] ≡ codes "{\"messages\":[],\"answers\":[]}" }
 
     // two answers that hosts are told alike are told apart
-    ensures incomplete { waiting_answer_text (answer.Incomplete, flow) ≡ codes "incomplete 0/1 0/2 5" }
-    ensures not_taken { waiting_answer_text (answer.NotTaken, flow) ≡ codes "nottaken 0/1 0/2 5" }
+    ensures incomplete { answer_object (answer.Incomplete, flow) ≡ codes "{\"kind\":\"incomplete\",\"from\":\"0/1\",\"to\":\"0/2\",\"link\":5}" }
+    ensures not_taken { crossing_object (crossing.Answer answer.NotTaken flow) ≡ codes "{\"kind\":\"nottaken\",\"from\":\"0/1\",\"to\":\"0/2\",\"link\":5}" }
+
+    // what else crosses
+    ensures went_out { crossing_object (crossing.Out short) ≡ codes "{\"kind\":\"out\",\"from\":\"0/1\",\"to\":\"0/2\",\"link\":5,\"bits\":3,\"octets\":\"A0\"}" }
+    ensures stopped { crossing_object (crossing.Down second) ≡ codes "{\"kind\":\"down\",\"host\":\"1/1\"}" }
 
     // their names
     ensures down_name { part_name Down ≡ codes "down" }
@@ -67,11 +74,22 @@ pub fn worked_names()
     ensures other_answers { SamePart (Waiting first) (opening_boxes hosts) (record (opening_boxes hosts) { answers = with_queue map.empty first ((answer.Rfnm, flow) ∷ []) }) → ⊥ }
 {}
 
-/// A line of a trace.
+/// Lines of a trace.
 pub fn worked_lines()
-    ensures start { trace_line 7 (record { round = 0; event = event.Net (net.HostUp third) }) (Crossed (crossing.Up third) ∷ []) (changed_text (with_down (first ∷ [])) (event.Net (net.HostUp third)) (crossing.Up third ∷ [])) ≡ codes "{\"number\":7,\"round\":0,\"event\":\"hostup 0/2\",\"printed\":[\"up 0/2\"],\"parts\":{\"down\":[\"0/1\"]}}" }
-    ensures refused { trace_line 12 (record { round = 0; event = event.Net (net.Resend 1) }) (Refused fault.NoSuch ∷ []) (changed_text (with_down []) (event.Net (net.Resend 1)) []) ≡ codes "{\"number\":12,\"round\":0,\"event\":\"resend 1\",\"printed\":[\"refused NoSuch\"],\"parts\":{}}" }
-    ensures taken { trace_line 3 (record { round = 2; event = event.Take third }) (Crossed (crossing.In short) ∷ []) (changed_text (opening_boxes hosts) (event.Take third) (crossing.In short ∷ [])) ≡ codes "{\"number\":3,\"round\":2,\"event\":\"take 0/2\",\"printed\":[\"in 0/1 0/2 5 3\"],\"parts\":{\"host 0/1\":{\"messages\":[],\"answers\":[]},\"host 0/2\":{\"messages\":[],\"answers\":[]}}}" }
+    // the network: the order of its lines tells which of them line 0 is, and which way `+` is
+    ensures opening { opening_line (record { carrier = kind.Subnet; raw = true; imps = record { imp = 1; hosts = 2 } ∷ record { imp = 3; hosts = 0 } ∷ []; lines = record { a = 3; b = 1 } ∷ [] }) (codes "{}") ≡ codes "{\"trace\":2,\"carrier\":\"subnet\",\"raw\":true,\"imps\":[[1,2],[3,0]],\"lines\":[[3,1]],\"parts\":{}}" }
+    ensures all_parts { whole_text (opening_boxes (third ∷ [])) ≡ codes "{\"down\":[],\"host 0/2\":{\"messages\":[],\"answers\":[]}}" }
+
+    // lines that ask for nothing are counted, and their numbers passed over
+    ensures numbers { asking_from 1 (codes "calm 1" ∷ [] ∷ codes "# then" ∷ codes "take 0/1" ∷ []) ≡ 1 ∷ 4 ∷ [] }
+    ensures numbered { numbered_from (1 ∷ 4 ∷ []) 1 (event.Calm 1 ∷ event.Take first ∷ []) ≡ (record { line = 1; number = 1 }, event.Calm 1) ∷ (record { line = 4; number = 2 }, event.Take first) ∷ [] }
+
+    ensures start { trace_line (record { line = 9; number = 7 }) (record { round = 0; event = event.Net (net.HostUp third) }) None (Crossed (crossing.Up third) ∷ []) (changed_text (with_down (first ∷ [])) (event.Net (net.HostUp third)) (crossing.Up third ∷ [])) ≡ codes "{\"line\":9,\"number\":7,\"round\":0,\"event\":\"hostup 0/2\",\"crossed\":[{\"kind\":\"up\",\"host\":\"0/2\"}],\"printed\":[\"up 0/2\"],\"parts\":{\"down\":[\"0/1\"]}}" }
+    ensures refused { trace_line (record { line = 12; number = 12 }) (record { round = 0; event = event.Net (net.Resend 1) }) None (Refused fault.NoSuch ∷ []) (changed_text (with_down []) (event.Net (net.Resend 1)) []) ≡ codes "{\"line\":12,\"number\":12,\"round\":0,\"event\":\"resend 1\",\"crossed\":[],\"printed\":[\"refused NoSuch\"],\"parts\":{}}" }
+    ensures taken { trace_line (record { line = 3; number = 3 }) (record { round = 2; event = event.Take third }) None (Crossed (crossing.In short) ∷ []) (changed_text (opening_boxes hosts) (event.Take third) (crossing.In short ∷ [])) ≡ codes "{\"line\":3,\"number\":3,\"round\":2,\"event\":\"take 0/2\",\"crossed\":[{\"kind\":\"in\",\"from\":\"0/1\",\"to\":\"0/2\",\"link\":5,\"bits\":3,\"octets\":\"A0\"}],\"printed\":[\"in 0/1 0/2 5 3\"],\"parts\":{\"host 0/1\":{\"messages\":[],\"answers\":[]},\"host 0/2\":{\"messages\":[],\"answers\":[]}}}" }
+
+    // the fate of a frame stands before what crossed
+    ensures delivered { trace_line (record { line = 1; number = 1 }) (record { round = 1; event = event.Calm 0 }) (Some fate.NoRoom) [] (codes "{}") ≡ codes "{\"line\":1,\"number\":1,\"round\":1,\"event\":\"calm 0\",\"fate\":\"noroom\",\"crossed\":[],\"printed\":[],\"parts\":{}}" }
 {}
 
 /// The elementary events of a calm.

@@ -1,7 +1,9 @@
-use Rattle.std.proofs.Common.{◌≡◌, Err, ap, rules, subst}
+use Rattle.std.proofs.Common.{◌≡◌, ◌⊎◌, Err, OnOk, ap, rules, subst}
+use Rattle.std.specs.Io.KnownBytes.{Keeps}
 use Rattle.replay.proofs.lemmas.{on_ok}
 use Rattle.command_line.specs.Events.{asked_of}
 use Rattle.command_line.specs.Input.{IsInput}
+use Rattle.command_line.specs.Traced.{EndsOn, IsScripted, TracesOn}
 use Rattle.command_line.proofs.Faults.{unread, unwritten}
 use Rattle.command_line.proofs.Traced.{known_ends, known_read, known_traced, read_as, traced, traced_in_part}
 use Rattle.command_line.proofs.tracing.run_trace.Goals as goal
@@ -9,28 +11,32 @@ use Rattle.command_line.proofs.tracing.run_trace.Goals as goal
 pub returns-clause-read : goal.returns-clause-read
 returns-clause-read g c = λ whole.
     known_read (g.R.Source.remaining c.args.reader.now) c.in_ok-octets.octets.items c.in_ok-network.field-0.network (asked_of c.in_ok-network.field-0.events) c.trace_on.result
-    c.in_ok-octets.ensures.whole (subst (λ o. IsInput o c.in_ok-network.field-0.network (asked_of c.in_ok-network.field-0.events)) c.deref.ensures.value c.in_ok-network.ensures.read)
+    c.in_ok-octets.ensures.whole (subst (λ o. IsInput o c.in_ok-network.field-0.network (asked_of c.in_ok-network.field-0.events)) c.deref.ensures.value c.in_ok-network.ensures.read.input)
     c.trace_on.ensures.fault
 
 pub returns-clause-traced : goal.returns-clause-traced
 returns-clause-traced g c =
-    known_traced (g.R.Source.remaining c.args.reader.now) c.in_ok-octets.octets.items c.in_ok-network.field-0.network (asked_of c.in_ok-network.field-0.events) c.trace_on.result
+    known_traced (g.R.Source.remaining c.args.reader.now) c.in_ok-octets.octets.items c.in_ok-network.field-0.lines.items c.in_ok-network.field-0.network (asked_of c.in_ok-network.field-0.events) c.trace_on.result
     (g.W.Output.contents c.args.writer.now) (g.W.Output.contents c.trace_on.new.writer) c.in_ok-octets.ensures.whole
-    (subst (λ o. IsInput o c.in_ok-network.field-0.network (asked_of c.in_ok-network.field-0.events)) c.deref.ensures.value c.in_ok-network.ensures.read) c.trace_on.ensures.traced
+    (subst (λ o. IsScripted o c.in_ok-network.field-0.network c.in_ok-network.field-0.lines.items (asked_of c.in_ok-network.field-0.events)) c.deref.ensures.value c.in_ok-network.ensures.read)
+    (subst (λ ls. OnOk c.trace_on.result (TracesOn c.in_ok-network.field-0.network ls (asked_of c.in_ok-network.field-0.events) (g.W.Output.contents c.args.writer.now) (g.W.Output.contents c.trace_on.new.writer))) c.deref-2.ensures.value c.trace_on.ensures.traced)
 
 pub returns-clause-ran : goal.returns-clause-ran
 returns-clause-ran g c =
-    on_ok c.trace_on.result (traced c.in_ok-network.field-0.network (asked_of c.in_ok-network.field-0.events) (g.W.Output.contents c.args.writer.now) (g.W.Output.contents c.trace_on.new.writer)) c.trace_on.ensures.traced
+    on_ok c.trace_on.result (traced c.in_ok-network.field-0.network c.in_ok-network.field-0.lines.items (asked_of c.in_ok-network.field-0.events) (g.W.Output.contents c.args.writer.now) (g.W.Output.contents c.trace_on.new.writer))
+    (subst (λ ls. OnOk c.trace_on.result (TracesOn c.in_ok-network.field-0.network ls (asked_of c.in_ok-network.field-0.events) (g.W.Output.contents c.args.writer.now) (g.W.Output.contents c.trace_on.new.writer))) c.deref-2.ensures.value c.trace_on.ensures.traced)
 
 pub returns-clause-ran_in_part : goal.returns-clause-ran_in_part
 returns-clause-ran_in_part g c = λ e.
-    traced_in_part c.in_ok-network.field-0.network (asked_of c.in_ok-network.field-0.events) (g.W.Output.contents c.args.writer.now) (g.W.Output.contents c.trace_on.new.writer) (c.trace_on.ensures.stopped e)
+    traced_in_part c.in_ok-network.field-0.network c.in_ok-network.field-0.lines.items (asked_of c.in_ok-network.field-0.events) (g.W.Output.contents c.args.writer.now) (g.W.Output.contents c.trace_on.new.writer)
+    (subst (λ ls. Keeps (g.W.Output.contents c.args.writer.now) (g.W.Output.contents c.trace_on.new.writer) ⊎ EndsOn c.in_ok-network.field-0.network ls (asked_of c.in_ok-network.field-0.events) (g.W.Output.contents c.args.writer.now) (g.W.Output.contents c.trace_on.new.writer)) c.deref-2.ensures.value (c.trace_on.ensures.stopped e))
 
 pub returns-clause-first_part : goal.returns-clause-first_part
 returns-clause-first_part g c = λ e.
-    known_ends (g.R.Source.remaining c.args.reader.now) c.in_ok-octets.octets.items c.in_ok-network.field-0.network (asked_of c.in_ok-network.field-0.events)
+    known_ends (g.R.Source.remaining c.args.reader.now) c.in_ok-octets.octets.items c.in_ok-network.field-0.lines.items c.in_ok-network.field-0.network (asked_of c.in_ok-network.field-0.events)
     (g.W.Output.contents c.args.writer.now) (g.W.Output.contents c.trace_on.new.writer) c.in_ok-octets.ensures.whole
-    (subst (λ o. IsInput o c.in_ok-network.field-0.network (asked_of c.in_ok-network.field-0.events)) c.deref.ensures.value c.in_ok-network.ensures.read) (c.trace_on.ensures.stopped e)
+    (subst (λ o. IsScripted o c.in_ok-network.field-0.network c.in_ok-network.field-0.lines.items (asked_of c.in_ok-network.field-0.events)) c.deref.ensures.value c.in_ok-network.ensures.read)
+    (subst (λ ls. Keeps (g.W.Output.contents c.args.writer.now) (g.W.Output.contents c.trace_on.new.writer) ⊎ EndsOn c.in_ok-network.field-0.network ls (asked_of c.in_ok-network.field-0.events) (g.W.Output.contents c.args.writer.now) (g.W.Output.contents c.trace_on.new.writer)) c.deref-2.ensures.value (c.trace_on.ensures.stopped e))
 
 pub returns-in_err-octets-clause-read : goal.returns-in_err-octets-clause-read
 returns-in_err-octets-clause-read g c = λ whole.

@@ -3,7 +3,7 @@ use Rattle.std.specs.Io.KnownBytes.{Appends}
 use Rattle.replay.proofs.lemmas.{appends_more, on_ok}
 use Rattle.routing.specs.RouteTable.{Table}
 use Rattle.subnet_trace.specs.Texts.{heard_text, host_object, port_object}
-use Rattle.subnet_trace.proofs.Members.{five}
+use Rattle.trace.proofs.lemmas.{five}
 use Rattle.subnet_trace.proofs.imp.print_ends.Goals as goal
 use Rattle.trace.specs.Texts.{array}
 

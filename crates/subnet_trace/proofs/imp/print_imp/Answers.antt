@@ -1,15 +1,16 @@
 use Rattle.std.proofs.Common.{map}
 use Rattle.std.specs.FinMap as fin
 use Rattle.replay.proofs.lemmas.{on_ok}
-use Rattle.subnet_trace.specs.Texts.{heard_text, host_object, kept_text, packet_text, port_object, slot_text, source_text}
+use Rattle.routing.specs.RouteTable.{vector_of}
+use Rattle.subnet_trace.specs.Texts.{distances_text, heard_text, host_object, kept_text, next_text, packet_text, port_object, slot_text, source_text}
 use Rattle.subnet_trace.proofs.Members.{imp_printed}
 use Rattle.subnet_trace.proofs.imp.print_imp.Goals as goal
-use Rattle.trace.specs.Texts.{array, strings}
+use Rattle.trace.specs.Texts.{array}
 
 pub returns-clause-written : goal.returns-clause-written
 returns-clause-written g c =
     let s = c.args.imp.now in
-    on_ok c.print_known.result
-    (λ known. imp_printed (array (map host_object s.hosts)) (array (map port_object s.ports)) (array (map heard_text s.routes.heard)) (strings (map packet_text s.store)) (array (map slot_text s.slots)) (strings (map source_text (fin.entries s.sources))) (strings (map kept_text (fin.entries s.kept)))
-    (g.W.Output.contents c.args.writer.now) (g.W.Output.contents c.print_ends.new.writer) (g.W.Output.contents c.print_held.new.writer) (g.W.Output.contents c.print_known.new.writer) c.in_ok-print_ends.ensures.written c.in_ok-print_held.ensures.written known)
-    c.print_known.ensures.written
+    on_ok c.print_concluded.result
+    (λ concluded. imp_printed (array (map host_object s.hosts)) (array (map port_object s.ports)) (array (map heard_text s.routes.heard)) (array (map packet_text s.store)) (array (map slot_text s.slots)) (array (map (source_text s) (fin.entries s.sources))) (array (map kept_text (fin.entries s.kept))) (distances_text (vector_of s.routes)) (next_text s.routes)
+    (g.W.Output.contents c.args.writer.now) (g.W.Output.contents c.print_ends.new.writer) (g.W.Output.contents c.print_held.new.writer) (g.W.Output.contents c.print_known.new.writer) (g.W.Output.contents c.print_concluded.new.writer) c.in_ok-print_ends.ensures.written c.in_ok-print_held.ensures.written c.in_ok-print_known.ensures.written concluded)
+    c.print_concluded.ensures.written

@@ -1,20 +1,21 @@
-use Rattle.std.proofs.Common.{◌≡◌, ap, codes, map, subst, ◌∙◌}
+use Rattle.std.proofs.Common.{◌≡◌, ◌++◌, ap, codes, map, subst, ◌∙◌}
 use Rattle.std.specs.FinMap as fin
 use Rattle.std.specs.Io.KnownBytes.{Appends}
-use Rattle.replay.proofs.lemmas.{on_ok}
+use Rattle.replay.proofs.lemmas.{appends_more, on_ok}
 use Rattle.subnet_trace.specs.Texts.{kept_text, source_text}
-use Rattle.subnet_trace.proofs.Members.{five}
 use Rattle.subnet_trace.proofs.imp.print_known.Goals as goal
-use Rattle.trace.specs.Texts.{strings}
+use Rattle.trace.proofs.lemmas.{three}
+use Rattle.trace.specs.Texts.{array}
 
 pub returns-clause-written : goal.returns-clause-written
 returns-clause-written g c =
     let s = c.args.imp.now in
     let sources : c.iter.result ≡ fin.entries s.sources = c.iter.ensures ∙ ap fin.entries c.sources.ensures in
     let kept : c.iter-2.result ≡ fin.entries s.kept = c.iter-2.ensures ∙ ap fin.entries c.kept_flows.ensures in
-    on_ok c.write_all-3.result
-    (λ end. five (codes ",\"sources\":") (strings (map source_text (fin.entries s.sources))) (codes ",\"kept\":") (strings (map kept_text (fin.entries s.kept))) (codes "}")
-    (g.W.Output.contents c.args.writer.now) (g.W.Output.contents c.write_all.new.self) (g.W.Output.contents c.print_flows.new.writer) (g.W.Output.contents c.write_all-2.new.self) (g.W.Output.contents c.print_flows-2.new.writer) (g.W.Output.contents c.write_all-3.new.self)
-    c.in_ok-write_all.ensures.written (subst (λ es. Appends (g.W.Output.contents c.write_all.new.self) (g.W.Output.contents c.print_flows.new.writer) (strings (map source_text es))) sources c.in_ok-print_flows.ensures.written)
-    c.in_ok-write_all-2.ensures.written (subst (λ es. Appends (g.W.Output.contents c.write_all-2.new.self) (g.W.Output.contents c.print_flows-2.new.writer) (strings (map kept_text es))) kept c.in_ok-print_flows-2.ensures.written) end)
-    c.write_all-3.ensures.written
+    on_ok c.print_flows-2.result
+    (λ end. appends_more (g.W.Output.contents c.args.writer.now) (g.W.Output.contents c.write_all.new.self) (g.W.Output.contents c.print_flows-2.new.writer) (codes ",\"sources\":") (array (map (source_text s) (fin.entries s.sources)) ++ (codes ",\"kept\":" ++ array (map kept_text (fin.entries s.kept))))
+    c.in_ok-write_all.ensures.written
+    (three (array (map (source_text s) (fin.entries s.sources))) (codes ",\"kept\":") (array (map kept_text (fin.entries s.kept))) (g.W.Output.contents c.write_all.new.self) (g.W.Output.contents c.print_flows.new.writer) (g.W.Output.contents c.write_all-2.new.self) (g.W.Output.contents c.print_flows-2.new.writer)
+    (subst (λ es. Appends (g.W.Output.contents c.write_all.new.self) (g.W.Output.contents c.print_flows.new.writer) (array (map (source_text s) es))) sources c.in_ok-print_flows.ensures.written) c.in_ok-write_all-2.ensures.written
+    (subst (λ es. Appends (g.W.Output.contents c.write_all-2.new.self) (g.W.Output.contents c.print_flows-2.new.writer) (array (map kept_text es))) kept end)))
+    c.print_flows-2.ensures.written

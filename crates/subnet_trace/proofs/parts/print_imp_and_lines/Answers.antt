@@ -5,9 +5,9 @@ use Rattle.replay.proofs.lemmas.{appends_more, on_ok}
 use Rattle.subnet.specs.Events.{is_imp}
 use Rattle.subnet.specs.Net.{Net, no_wire, wire_at}
 use Rattle.subnet_trace.specs.Parts.{Imp}
-use Rattle.subnet_trace.specs.Printing.{line_behind}
-use Rattle.subnet_trace.proofs.Left.{begun}
-use Rattle.subnet_trace.proofs.PrintedParts.{line_printed, lines_left, lines_printed, named, with_lines}
+use Rattle.subnet_trace.specs.Printing.{line_behind, named}
+use Rattle.trace.proofs.lemmas.{begun}
+use Rattle.subnet_trace.proofs.PrintedParts.{line_printed, lines_left, lines_printed, with_lines}
 use Rattle.subnet_trace.proofs.parts.print_imp_and_lines.Goals as goal
 
 pub loop-number-init : goal.loop-number-init

@@ -1,5 +1,5 @@
 use Rattle.std.proofs.Common.{◌≡◌, false, length}
-use Rattle.subnet_trace.proofs.Left.{Remains}
+use Rattle.trace.proofs.lemmas.{Remains}
 use Rattle.subnet_trace.proofs.PrintedParts.{lines_left, with_lines}
 use Rattle.subnet_trace.proofs.parts.print_imp_and_lines.Given as goal
 

@@ -3,6 +3,7 @@ use Rattle.std.specs.FinMap as fin
 use Rattle.link_table.specs.Keys.{flow_cmp}
 use Rattle.link_table.specs.declared.destination.Noted.{Noted}
 use Rattle.link_table.specs.declared.source.Standing.{Standing}
+use Rattle.routing.specs.RouteTable.{distance_to, next_of, vector_of}
 use Rattle.std.specs.Fmt.{digits}
 use Rattle.hex.specs.Hex.{encode_with}
 use Rattle.bit_messages.specs.Octets.{octets_of}
@@ -40,8 +41,28 @@ unfolding digits encode_with octets_of
 returns-clause-nothing_heard c = refl
 
 pub returns-clause-imp : goal.returns-clause-imp
-unfolding digits encode_with octets_of
+unfolding digits encode_with octets_of vector_of distance_to next_of
 returns-clause-imp c = rw (no_entries Standing, no_entries Noted) refl
+
+pub returns-clause-next : goal.returns-clause-next
+unfolding digits next_of distance_to
+returns-clause-next c = refl
+
+pub returns-clause-idle : goal.returns-clause-idle
+unfolding digits
+returns-clause-idle c = refl
+
+pub returns-clause-dead : goal.returns-clause-dead
+unfolding digits
+returns-clause-dead c = refl
+
+pub returns-clause-other_dead : goal.returns-clause-other_dead
+unfolding digits
+returns-clause-other_dead c = refl
+
+pub returns-clause-answered : goal.returns-clause-answered
+unfolding digits
+returns-clause-answered c = refl
 
 pub returns-clause-imp_down : goal.returns-clause-imp_down
 unfolding digits encode_with octets_of

@@ -68,9 +68,6 @@ pub returns-clause-slot_flow : goal.returns-clause-slot_flow
 unfolding digits encode_with octets_of
 returns-clause-slot_flow c = refl
 
-pub returns-clause-own : goal.returns-clause-own
-returns-clause-own c = refl
-
 pub returns-clause-spent : goal.returns-clause-spent
 returns-clause-spent c = refl
 

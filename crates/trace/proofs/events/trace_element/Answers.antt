@@ -1,4 +1,4 @@
-use Rattle.std.proofs.Common.{◌++◌, List, subst}
+use Rattle.std.proofs.Common.{◌++◌, List, Option, drop, length, subst}
 use Rattle.std.specs.Io.KnownBytes.{Appends}
 use Rattle.leader1822.specs.declared.crossing.Crossing.{Crossing}
 use Rattle.replay.specs.Output.{shown_crossings, shown_refusal}
@@ -7,15 +7,17 @@ use Rattle.script.specs.Input.{ended_line}
 use Rattle.trace.specs.Texts.{trace_line}
 use Rattle.trace.specs.Traces.{Inside}
 use Rattle.trace.specs.declared.element.Element.{Element}
+use Rattle.trace.specs.declared.fate.Fate.{Fate}
 use Rattle.trace.proofs.Calling.{tells}
 use Rattle.trace.proofs.events.trace_element.Goals as goal
 
 pub returns-clause-ends : goal.returns-clause-ends
 returns-clause-ends g c =
     let calls : Calls g.row.C.Denot = record { seen = g.C.Carrier.seen; offers = g.C.Carrier.offers; takes = g.C.Carrier.takes; steps = g.C.Carrier.steps; rounds = g.C.Carrier.rounds } in
-    let inside : Inside g.row.C.Denot = record { calm = g.C.Inspect.calm; parts = g.C.Inspect.parts } in
+    let inside : Inside g.row.C.Denot = record { calm = g.C.Inspect.calm; whole = g.C.Inspect.whole; parts = g.C.Inspect.parts; fate = g.C.Inspect.fate } in
     let x : Element = record { round = c.args.round; event = c.args.event.now } in
-    tells calls inside c.args.number c.args.carrier.now c.call.new.carrier x c.in_ok-outcome.outcome c.log-booked.result.now c.log.result.now (g.W.Output.contents c.args.writer.now) (g.W.Output.contents c.print_line.new.writer)
+    tells calls inside c.args.spot c.args.carrier.now c.call.new.carrier x c.in_ok-outcome.outcome c.log-booked.result.now c.log.result.now (g.W.Output.contents c.args.writer.now) (g.W.Output.contents c.print_line.new.writer)
     c.in_ok-outcome.ensures.called c.if-has_halted.ensures.goes_on c.log-booked.ensures.value c.log.ensures.value
-    (subst (λ (cs : List Crossing). Appends (g.W.Output.contents c.args.writer.now) (g.W.Output.contents c.print_line.new.writer) (ended_line (trace_line c.args.number x (shown_crossings cs ++ shown_refusal c.in_ok-outcome.outcome) (inside.parts c.call.new.carrier c.args.event.now cs))))
-    c.split_at.ensures.back c.in_ok-print_line.ensures.written)
+    (subst (λ (f : Option Fate). Appends (g.W.Output.contents c.args.writer.now) (g.W.Output.contents c.print_line.new.writer) (ended_line (trace_line c.args.spot x f (shown_crossings (drop (length c.log-booked.result.now) c.log.result.now) ++ shown_refusal c.in_ok-outcome.outcome) (inside.parts c.call.new.carrier c.args.event.now (drop (length c.log-booked.result.now) c.log.result.now))))) c.fate-fate.ensures
+    (subst (λ (cs : List Crossing). Appends (g.W.Output.contents c.args.writer.now) (g.W.Output.contents c.print_line.new.writer) (ended_line (trace_line c.args.spot x c.fate-fate.result (shown_crossings cs ++ shown_refusal c.in_ok-outcome.outcome) (inside.parts c.call.new.carrier c.args.event.now cs))))
+    c.split_at.ensures.back c.in_ok-print_line.ensures.written))

@@ -1,10 +1,30 @@
 use Rattle.std.proofs.Common.{refl}
 use Rattle.std.specs.Fmt.{digits}
+use Rattle.hex.specs.Hex.{encode_with}
+use Rattle.bit_messages.specs.Octets.{octets_of}
 use Rattle.leader1822.specs.Boxes.{WaitingAnswer}
 use Rattle.leader1822.specs.declared.message.HostMessage.{HostMessage}
 use Rattle.trace.specs.Worked.{first, third}
 use Rattle.trace.proofs.Queues.{none_for}
 use Rattle.trace.proofs.worked.worked_lines.Goals as goal
+
+pub returns-clause-opening : goal.returns-clause-opening
+unfolding digits
+returns-clause-opening c = refl
+
+pub returns-clause-all_parts : goal.returns-clause-all_parts
+unfolding digits
+returns-clause-all_parts c = rw (none_for {A = WaitingAnswer} third, none_for {A = HostMessage} third) refl
+
+pub returns-clause-numbers : goal.returns-clause-numbers
+returns-clause-numbers c = refl
+
+pub returns-clause-numbered : goal.returns-clause-numbered
+returns-clause-numbered c = refl
+
+pub returns-clause-delivered : goal.returns-clause-delivered
+unfolding digits
+returns-clause-delivered c = refl
 
 pub returns-clause-start : goal.returns-clause-start
 unfolding digits
@@ -15,5 +35,5 @@ unfolding digits
 returns-clause-refused c = refl
 
 pub returns-clause-taken : goal.returns-clause-taken
-unfolding digits
+unfolding digits encode_with octets_of
 returns-clause-taken c = rw (none_for {A = WaitingAnswer} first, none_for {A = HostMessage} first, none_for {A = WaitingAnswer} third, none_for {A = HostMessage} third) refl

@@ -28,6 +28,14 @@ pub returns-clause-not_taken : goal.returns-clause-not_taken
 unfolding digits
 returns-clause-not_taken c = refl
 
+pub returns-clause-went_out : goal.returns-clause-went_out
+unfolding digits encode_with octets_of
+returns-clause-went_out c = refl
+
+pub returns-clause-stopped : goal.returns-clause-stopped
+unfolding digits
+returns-clause-stopped c = refl
+
 pub returns-clause-down_name : goal.returns-clause-down_name
 unfolding digits
 returns-clause-down_name c = refl

@@ -1,0 +1,19 @@
+use Rattle.std.proofs.Common.{◌≡◌, ◌++◌, ◌∷◌, Some, ap, codes, subst, sym, ◌∙◌}
+use Rattle.std.specs.Io.KnownBytes.{Appends}
+use Rattle.replay.proofs.lemmas.{on_ok}
+use Rattle.subnet_trace.specs.Texts.{bit_text, held_members, packet_text}
+use Rattle.subnet_trace.proofs.Members.{channel_printed}
+use Rattle.subnet_trace.proofs.imp.ChannelHeld.print.Goals as goal
+use Rattle.trace.specs.Texts.{member, object}
+
+pub returns-clause-written : goal.returns-clause-written
+returns-clause-written g c =
+    let channel = c.args.self.now in
+    let bit = bit_text channel.bit in
+    let whole = ap (λ o. object (member (codes "bit") bit ∷ held_members o)) (sym c.in-Some.is) in
+    on_ok c.write_all.result
+    (λ end. subst (Appends (g.W.Output.contents c.args.writer.now) (g.W.Output.contents c.write_all.new.self)) whole
+    (channel_printed bit (packet_text c.in-Some.packet) (g.W.Output.contents c.args.writer.now) (g.W.Output.contents c.write-2.new.self) (g.W.Output.contents c.print.new.writer) (g.W.Output.contents c.write_all.new.self)
+    (subst (λ word. Appends (g.W.Output.contents c.args.writer.now) (g.W.Output.contents c.write-2.new.self) (codes "{\"bit\":" ++ (word ++ codes ",\"packet\":"))) c.digit-bit.ensures c.in_ok-write.ensures.written)
+    c.in_ok-print.ensures.written end))
+    c.write_all.ensures.written

@@ -1,0 +1,18 @@
+use Rattle.std.proofs.Common.{◌≡◌, ◌++◌, ap, codes, map, subst, ◌∙◌}
+use Rattle.std.specs.Io.KnownBytes.{Appends}
+use Rattle.replay.proofs.lemmas.{on_ok}
+use Rattle.subnet_trace.specs.Texts.{bits_text, channel_text}
+use Rattle.subnet_trace.proofs.Members.{port_printed}
+use Rattle.subnet_trace.proofs.imp.PortHeld.print.Goals as goal
+use Rattle.trace.specs.Texts.{array, bool_text}
+
+pub returns-clause-written : goal.returns-clause-written
+returns-clause-written g c =
+    let p = c.args.self.now in
+    let digits : c.digits.result ≡ bits_text p.line.expected = c.digits.ensures ∙ ap bits_text c.expected.ensures in
+    on_ok c.write_all-3.result
+    (λ end. port_printed (bool_text p.up) (array (map channel_text p.line.sending)) (bits_text p.line.expected) (g.W.Output.contents c.args.writer.now) (g.W.Output.contents c.write.new.self) (g.W.Output.contents c.print_array.new.writer) (g.W.Output.contents c.write_all.new.self) (g.W.Output.contents c.write_all-2.new.self) (g.W.Output.contents c.write_all-3.new.self)
+    (subst (λ word. Appends (g.W.Output.contents c.args.writer.now) (g.W.Output.contents c.write.new.self) (codes "{\"up\":" ++ (word ++ codes ",\"sending\":"))) c.bool_word-up.ensures c.in_ok-write.ensures.written)
+    (subst (λ channels. Appends (g.W.Output.contents c.write.new.self) (g.W.Output.contents c.print_array.new.writer) (array (map channel_text channels))) c.channels.ensures c.in_ok-print_array.ensures.written)
+    c.in_ok-write_all.ensures.written (subst (Appends (g.W.Output.contents c.write_all.new.self) (g.W.Output.contents c.write_all-2.new.self)) digits c.in_ok-write_all-2.ensures.written) end)
+    c.write_all-3.ensures.written

@@ -1,0 +1,29 @@
+//! The numbers of a script's lines.
+
+ghost use Rattle.std.specs.Prelude.{◌≡◌, ◌≤◌, IfOk, length};
+ghost use Rattle.trace.specs.Traces.{event_lines};
+
+use script::MAX_INPUT;
+use script::reading::{first_line, is_passed_over};
+use std::alloc::{AllocError, Global};
+
+/// Returns the numbers of the lines that ask for an event, in order. Lines are counted from 1.
+///
+/// Errors: `AllocError`.
+pub fn event_lines(alloc: Global, script: &[u8]) -> Result<Vec<usize>, AllocError>
+    requires { length script.now ≤ MAX_INPUT }
+    ensures { IfOk result (λ numbers. numbers.items ≡ event_lines script.now) }
+{
+    let mut numbers = Vec::new(alloc);
+    let mut passed = 0;
+    let mut rest = Some(script);
+    'lines: while let Some(left) = rest {
+        let (line, more) = first_line(left);
+        if !is_passed_over(line) {
+            numbers.push(passed + 1)?;
+        }
+        passed += 1;
+        rest = more;
+    }
+    Ok(numbers)
+}
