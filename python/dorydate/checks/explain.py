@@ -35,7 +35,7 @@ from dorydate.checks.explain_given import Wrong, example, same, told
 from dorydate.checks.explain_inside import check_full_store, check_inside, check_stalls, check_thrown_away
 from dorydate.checks.explain_pages import check_pages
 from dorydate.checks.explain_rows import REFUSALS
-from dorydate.checks.model import changed, some_network, some_script
+from dorydate.model.chance.inputs import changed, some_network, some_script
 from dorydate.explain.command import diagnose
 from dorydate.explain.faults import wrong_with_line
 from dorydate.explain.given import Input, is_event

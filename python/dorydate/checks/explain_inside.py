@@ -10,7 +10,7 @@ from unittest import mock
 
 from dorydate.checks.explain_given import Wrong, events_of, example, line_of, same, told
 from dorydate.checks.explain_rows import DRAWN, INSIDES, LOST, PLAIN_PAIR, RAW_PAIR, REPEAT, STALLS, TEXTS, THROWN_AWAY
-from dorydate.checks.subnet import Chance
+from dorydate.model.chance.subnets import Chance
 from dorydate.explain import frames
 from dorydate.explain.charts import chart, short_chart
 from dorydate.explain.command import drawn

@@ -15,6 +15,7 @@ from dorydate.model.names import Flow, HostName, Refused
 from dorydate.model.packets import INFINITE, MOST_IMPS, REQUESTS, Content, Kind, Packet
 
 SLOTS, STORE, QUEUE = 8, 32, 16
+FARTHER: list[int] = [*range(1, INFINITE + 1), INFINITE]  # of each distance: that from one line farther away
 
 Fate = Literal["waits", "taken", "dead", "never"]
 
@@ -91,7 +92,7 @@ class ImpState:
     def distance(self, port: int, imp: int) -> int:
         """The distance to another IMP by way of a port."""
         heard = self.ports[port].heard
-        return INFINITE if heard is None else min(INFINITE, heard[imp - 1] + 1)
+        return INFINITE if heard is None else FARTHER[heard[imp - 1]]
 
     def route(self, imp: int) -> int | None:
         """The port that leads to an IMP."""
@@ -104,8 +105,10 @@ class ImpState:
     def vector(self) -> list[int]:
         """The distances to all IMPs, as it tells them to its neighbours."""
         heard = [port.heard for port in self.ports if port.heard is not None]
-        least = [min(distances) for distances in zip(*heard)] or [INFINITE] * MOST_IMPS
-        return [0 if imp == self.number else min(INFINITE, distance + 1) for imp, distance in enumerate(least, 1)]
+        least = heard[0] if len(heard) == 1 else [min(told) for told in zip(*heard)] if heard else [INFINITE] * MOST_IMPS
+        distances = [FARTHER[it] for it in least]
+        distances[self.number - 1] = 0
+        return distances
 
     def packets(self) -> list[Packet]:
         """The packets in store and channels."""
