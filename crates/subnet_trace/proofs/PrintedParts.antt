@@ -58,7 +58,7 @@ lines_printed n i l a b c there past remains last =
 
 -- ---- all parts
 
--- those that are left where so many of the places for IMPs were looked at
+-- those that are left, from this place for IMPs on
 abbrev imps_from : Net → ℕ → List Part
 imps_from n i = map (λ k. Imp k) (filter (is_imp n) (range_with_len i (length n.imps - i)))
 

@@ -22,7 +22,7 @@ use Rattle.trace.proofs.lemmas.{Remains, end_printed, left, maybe_printed, three
 
 -- ---- distances
 
--- those that are left where so many IMPs were looked at and so many distances printed
+-- those that are left from this IMP on, after this many distances
 abbrev pub distances_left : ℕ → ℕ → List ℕ → List ℕ
 distances_left place i ds = left (codes "{") (codes "}") place (finite_from (i + 1) (drop i ds))
 
@@ -42,7 +42,7 @@ distances_printed ds i place a b c past remains last =
 
 -- ---- ports to IMPs
 
--- those that are left where so many IMPs were looked at and so many ports printed
+-- those that are left from this IMP on, after this many ports
 abbrev pub ports_left : Table → ℕ → ℕ → List ℕ
 ports_left t place i = left (codes "{") (codes "}") place (next_from t (range_with_len (i + 1) (most_imps - i)))
 
@@ -85,7 +85,7 @@ routes_printed content ds a b c d is front routes end =
 
 -- ---- flows
 
--- what is left of an array of what is known of flows, where so many were printed
+-- what is left of an array of what is known of flows, after this many
 abbrev pub flows_left : {V : Type 0} → List ℕ → (Flow → V → List ℕ) → (V → ℕ) → ℕ → List (Flow × V) → List ℕ
 flows_left name word number place es = left (codes "[") (codes "]") place (map (known_text name word number) es)
 

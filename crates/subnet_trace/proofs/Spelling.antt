@@ -1,4 +1,4 @@
--- Words, bits, packets, messages, channels and what is known of flows are told by their texts.
+-- Words, bits, packets, messages, channels and what is known of flows have texts of their own.
 use Rattle.std.proofs.Common.{◌≡◌, ℕ, ◌==◌, Bool, true, false, List, [], ◌∷◌, ◌++◌, codes, if◌then◌else◌, Option, Some, None, IfSome, refl, sym, ap, ap₂, ◌∙◌}
 use Rattle.std.proofs.lemmas.List.Elements.{All-append, All-cons, All-nil}
 use Rattle.std.specs.Fmt.{decimal}

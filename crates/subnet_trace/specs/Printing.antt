@@ -23,7 +23,7 @@ use Rattle.trace.specs.declared.fate.Fate.TheVariants as fates
 abbrev pub number_behind : ℕ → ℕ → ℕ → Bool → List ℕ
 number_behind place imp number there = if there then mark (codes "{") (codes ",") place ++ member (decimal imp) (decimal number) else []
 
--- the place behind it
+-- the place after it
 abbrev pub place_behind : ℕ → Bool → ℕ
 place_behind place there = if there then 1 else place
 

@@ -80,7 +80,7 @@ impl Held for Packet {
     }
 }
 
-/// Prints the distance to an IMP behind this many others, and nothing where there is no way. Returns the place behind it.
+/// Prints the distance to an IMP after this many others, and nothing where there is no way. Returns the place after it.
 fn print_distance<W: Output>(
     place: usize,
     imp: usize,
@@ -154,7 +154,7 @@ impl Held for Frame {
     }
 }
 
-/// Prints the port to an IMP behind this many others, and nothing where no way leads there. Returns the place behind it.
+/// Prints the port to an IMP after this many others, and nothing where no way leads there. Returns the place after it.
 fn print_next<W: Output>(
     place: usize,
     imp: u8,

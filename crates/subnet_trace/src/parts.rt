@@ -206,7 +206,7 @@ pub fn print_parts<W: Output>(
     }
 }
 
-/// Prints an IMP behind this many other parts. It prints nothing where there is none of this number. Returns the place behind it.
+/// Prints an IMP after this many other parts. It prints nothing where there is none of this number. Returns the place after it.
 fn print_imp_of<W: Output>(
     place: usize,
     subnet: &Subnet,

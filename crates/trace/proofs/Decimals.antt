@@ -1,5 +1,5 @@
--- Decimals of any number, and octets of any bits: they have no marks. Short numbers are told by their decimals, and bits by
--- the decimal of their length and their octets.
+-- Decimals of any number, and octets of any bits: they have no marks. Short numbers have decimals of their own, and bits the decimal
+-- of their length and their octets together.
 use Rattle.std.proofs.Common.{◌≡◌, ℕ, zero, suc, ◌+◌, ◌*◌, ◌/◌, ◌%◌, ◌<◌, ◌≤◌, ◌==◌, nat_lt, Bool, true, false, List, [], ◌∷◌, ◌++◌, if◌then◌else◌, length, replicate, Ok, refl, sym, ap, ◌∙◌, arith, lit<, append_assoc, length-append}
 use Rattle.std.proofs.lemmas.Bool.Decides.{nat_tests}
 use Rattle.std.proofs.lemmas.Fmt.{decimal_is_IsNumeral_wide}

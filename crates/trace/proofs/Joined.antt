@@ -112,7 +112,7 @@ line_printed head fate outcome parts a b c d e f g h0 h1 h2 h3 h4 h5 =
 abbrev front : (line number round event : List ℕ) → List ℕ
 front line number round event = codes "{\"line\":" ++ (line ++ (codes ",\"number\":" ++ (number ++ (codes ",\"round\":" ++ (round ++ (codes ",\"event\":" ++ quoted event))))))
 
--- a line of this front, with its end
+-- a line, with its end
 ended_parts : (head outcome parts : List ℕ) → head ++ (outcome ++ (codes ",\"parts\":" ++ (parts ++ codes "}\n"))) ≡ (head ++ (outcome ++ (codes ",\"parts\":" ++ (parts ++ codes "}")))) ++ 10 ∷ []
 ended_parts head outcome parts = simp append_assoc
 
@@ -152,7 +152,7 @@ line_is spot round e (Some f) cs r parts =
 
 -- ---- the first line
 
--- after its front come the parts and the end
+-- after its beginning come the parts and the end
 pub opening_is : (t : TopologyFields) (parts : List ℕ) → network_front t ++ (parts ++ codes "}\n") ≡ ended_line (opening_line t parts)
 opening_is t parts = whole (carrier_word t.carrier) (bool_text t.raw) (array (map site_text t.imps)) (array (map ends_text t.lines)) where
   ended : (front : List ℕ) → front ++ (parts ++ codes "}\n") ≡ (front ++ (parts ++ codes "}")) ++ 10 ∷ []

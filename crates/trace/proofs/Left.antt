@@ -8,7 +8,7 @@ use Rattle.replay.proofs.lemmas.{appends_more}
 use Rattle.trace.specs.Joined.{mark}
 use Rattle.trace.specs.Texts.{further, listed}
 
--- what is left of a list where so many items of it are printed
+-- what is left of a list, after this many items
 abbrev pub left : List ℕ → List ℕ → ℕ → List (List ℕ) → List ℕ
 left begin end zero xs = begin ++ listed end xs
 left begin end (suc place) xs = further end xs
@@ -29,7 +29,7 @@ more_printed x rest whole a b c remains printed = λ last more. remains last (ap
 pub begun : (x rest : List ℕ) (a b : Option (List ℕ)) → Appends a b x → Remains a b rest (x ++ rest)
 begun x rest a b printed = λ last more. appends_more a b last x rest printed more
 
--- the next item is printed, behind what stands before it
+-- the next item is printed, after what comes before it
 pub next_printed : (begin end x : List ℕ) (xs : List (List ℕ)) (place : ℕ) (whole : List ℕ) (a b c d : Option (List ℕ))
     → Remains a b (left begin end place (x ∷ xs)) whole → Appends b c (mark begin (codes ",") place) → Appends c d x → Remains a d (left begin end (suc place) xs) whole
 next_printed begin end x xs place whole a b c d remains first item =

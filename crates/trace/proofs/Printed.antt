@@ -43,12 +43,6 @@ crossed_printed word source destination link count octets a b c d p1 p2 p3 =
     ≡ object (member (codes "kind") (quoted word) ∷ member (codes "from") (quoted source) ∷ member (codes "to") (quoted destination) ∷ member (codes "link") link ∷ member (codes "bits") count ∷ member (codes "octets") octets ∷ []) = simp append_assoc in
     subst (Appends a d) whole (three (crossed_front word source destination link count) octets (codes "}") a b c d p1 p2 p3)
 
--- ---- answers
-
-pub answer_is : (word source destination link : List ℕ) → codes "{\"kind\":\"" ++ (word ++ (codes "\",\"from\":\"" ++ (source ++ (codes "\",\"to\":\"" ++ (destination ++ (codes "\",\"link\":" ++ (link ++ codes "}")))))))
-    ≡ object (member (codes "kind") (quoted word) ∷ member (codes "from") (quoted source) ∷ member (codes "to") (quoted destination) ∷ member (codes "link") link ∷ [])
-answer_is word source destination link = simp append_assoc
-
 -- ---- hosts that stop and start
 
 pub down_is : (host : List ℕ) → codes "{\"kind\":\"down\",\"host\":\"" ++ (host ++ codes "\"}") ≡ object (member (codes "kind") (quoted (codes "down")) ∷ member (codes "host") (quoted host) ∷ [])

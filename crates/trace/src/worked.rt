@@ -88,7 +88,7 @@ pub fn worked_lines()
     ensures refused { trace_line (record { line = 12; number = 12 }) (record { round = 0; event = event.Net (net.Resend 1) }) None (Refused fault.NoSuch ∷ []) (changed_text (with_down []) (event.Net (net.Resend 1)) []) ≡ codes "{\"line\":12,\"number\":12,\"round\":0,\"event\":\"resend 1\",\"crossed\":[],\"printed\":[\"refused NoSuch\"],\"parts\":{}}" }
     ensures taken { trace_line (record { line = 3; number = 3 }) (record { round = 2; event = event.Take third }) None (Crossed (crossing.In short) ∷ []) (changed_text (opening_boxes hosts) (event.Take third) (crossing.In short ∷ [])) ≡ codes "{\"line\":3,\"number\":3,\"round\":2,\"event\":\"take 0/2\",\"crossed\":[{\"kind\":\"in\",\"from\":\"0/1\",\"to\":\"0/2\",\"link\":5,\"bits\":3,\"octets\":\"A0\"}],\"printed\":[\"in 0/1 0/2 5 3\"],\"parts\":{\"host 0/1\":{\"messages\":[],\"answers\":[]},\"host 0/2\":{\"messages\":[],\"answers\":[]}}}" }
 
-    // the fate of a frame stands before what crossed
+    // the fate of a frame comes before what crossed
     ensures delivered { trace_line (record { line = 1; number = 1 }) (record { round = 1; event = event.Calm 0 }) (Some fate.NoRoom) [] (codes "{}") ≡ codes "{\"line\":1,\"number\":1,\"round\":1,\"event\":\"calm 0\",\"fate\":\"noroom\",\"crossed\":[],\"printed\":[],\"parts\":{}}" }
 {}
 
