@@ -15,6 +15,7 @@ from dorydate.network import Network
 from dorydate.program import Program
 from dorydate.script import IN_THE_NETWORK, Calm, Event, GiveUp, HostDown, HostUp, Offer, Script, Take
 from dorydate.state import State, folded
+from dorydate.trace import records
 
 MOST_ROUNDS = 3000  # of a script of programs that are followed
 CROSSES = ("out", "in", "answer", "down", "up")
@@ -92,7 +93,7 @@ def of_round(program: Program, network: Network, lines: Sequence[str], crossed: 
     if kinds == sorted(kinds, reverse=True):
         return ["calm 1", *(as_event(it) for it in crossed if it.startswith("out "))]
     number = len(lines) + 1
-    found = [json.loads(it) for it in traced(program, network, [*lines, "calm 1"]).splitlines()]
+    found = [json.loads(it) for it in records(traced(program, network, [*lines, "calm 1"]))]
     quiet = [it["event"] for it in found if it["number"] == number and not it["event"].startswith("take ")]
     return [*quiet, *map(as_event, crossed)]
 

@@ -9,6 +9,19 @@ from typing import Any
 
 from dorydate.network import Host, Network
 from dorydate.script import Flow, Text
+from dorydate.trace import opening
+
+Value = Mapping[str, Any]  # an object of a trace
+
+
+def flow_in(value: Value) -> Flow:
+    """The flow that an object names."""
+    return Flow(Host.read(value["from"]), Host.read(value["to"]), value["link"])
+
+
+def text_in(value: Value) -> Text:
+    """The text that an object has."""
+    return Text(bytes.fromhex(value["octets"]), value["bits"])
 
 
 @dataclass(frozen=True)
@@ -23,9 +36,8 @@ class Packet:
     text: Text
 
     @staticmethod
-    def read(words: str) -> Packet:
-        kind, source, destination, link, number, place, last, bits, octets = words.split(" ")
-        return Packet(kind, Flow.read(source, destination, link), int(number), int(place), last == "last", Text.read(bits, octets))
+    def read(value: Value) -> Packet:
+        return Packet(value["kind"], flow_in(value), value["number"], value["place"], value["last"], text_in(value))
 
     def __str__(self) -> str:
         what = {"data": "message", "rfnm": "the RFNM for message", "dead": "the Dead for message", "ask": "the question about message", "never": "the Never for message"}
@@ -67,12 +79,41 @@ class Held:
 
 
 @dataclass(frozen=True)
+class Waiting:
+    """A message that waits for its host; in plain mailboxes it has no number."""
+
+    flow: Flow
+    number: int | None
+    text: Text
+
+    @staticmethod
+    def read(value: Value) -> Waiting:
+        return Waiting(flow_in(value), value.get("number"), text_in(value))
+
+
+@dataclass(frozen=True)
+class Answer:
+    """An answer that waits for the source of a flow: rfnm, dead, incomplete or nottaken."""
+
+    kind: str
+    flow: Flow
+
+    @staticmethod
+    def read(value: Value) -> Answer:
+        return Answer(value["kind"], flow_in(value))
+
+
+@dataclass(frozen=True)
 class HostState:
-    """A host as its IMP sees it: whether it is up, and what waits for it."""
+    """A host as its IMP sees it: whether it is up, and what waits for it, the oldest first."""
 
     up: bool
-    messages: tuple[str, ...]
-    answers: tuple[str, ...]
+    messages: tuple[Waiting, ...]
+    answers: tuple[Answer, ...]
+
+    @staticmethod
+    def read(value: Value) -> HostState:
+        return HostState(value["up"], tuple(map(Waiting.read, value["messages"])), tuple(map(Answer.read, value["answers"])))
 
 
 @dataclass(frozen=True)
@@ -85,40 +126,42 @@ class ImpState:
     routes: tuple[Mapping[str, int] | None, ...]
     store: tuple[Packet, ...]
     slots: tuple[tuple[Packet, ...], ...]  # the pieces of each message in reassembly
-    sources: Mapping[Flow, tuple[str, int]]  # of each flow from here: idle, outstanding or answered, and the last number
+    sources: Mapping[Flow, tuple[str, int]]  # of each flow from here: idle, outstanding, answered or dead, and the last number
     kept: Mapping[Flow, tuple[str, int]]  # of each flow to here: the fate of its last message, and its number
+    distances: Mapping[int, int]  # its own to each IMP that it knows a way to, itself among them
+    next: Mapping[int, int]  # to each such IMP but itself the place among its lines of the one that packets take
 
     @staticmethod
-    def read(part: Mapping[str, Any]) -> ImpState:
-        hosts = tuple(HostState(it["up"], tuple(it["messages"]), tuple(it["answers"])) for it in part["hosts"])
-        sending = tuple(tuple(Packet.read(it[2:]) for it in port["sending"] if len(it) > 1) for port in part["ports"])
+    def read(part: Value) -> ImpState:
+        sending = tuple(tuple(Packet.read(it["packet"]) for it in port["sending"] if "packet" in it) for port in part["ports"])
         return ImpState(
-            hosts,
+            tuple(map(HostState.read, part["hosts"])),
             tuple(port["up"] for port in part["ports"]),
             sending,
             tuple(part["routes"]),
             tuple(map(Packet.read, part["store"])),
             tuple(tuple(map(Packet.read, slot)) for slot in part["slots"]),
-            flows_of(part["sources"]),
-            flows_of(part["kept"]),
+            flows_of(part["sources"], "state"),
+            flows_of(part["kept"], "fate"),
+            {int(imp): it for imp, it in part["distances"].items()},
+            {int(imp): it for imp, it in part["next"].items()},
         )
 
 
-def flows_of(words: Iterable[str]) -> dict[Flow, tuple[str, int]]:
+def flows_of(notes: Iterable[Value], key: str) -> dict[Flow, tuple[str, int]]:
     """What is noted of flows: a word and a number each."""
-    split = (it.split(" ") for it in words)
-    return {Flow.read(*flow): (word, int(number)) for word, *flow, number in split}
+    return {flow_in(it): (it[key], it["number"]) for it in notes}
 
 
 @dataclass(frozen=True)
 class State:
-    """The parts of a network. One that no event has changed since the start is not there."""
+    """The parts of a network."""
 
     network: Network
     parts: Mapping[str, Any]
 
     def imp(self, number: int) -> ImpState | None:
-        """An IMP; None where it is down, or nothing has happened at it yet."""
+        """An IMP; None where it is down, or nothing is known of it."""
         part = self.parts.get(f"imp {number}")
         return ImpState.read(part) if part else None
 
@@ -157,10 +200,9 @@ class State:
         return found
 
     def distances(self, imp: int) -> dict[int, int]:
-        """The least distance that an IMP knows to each IMP that it knows a way to."""
+        """The distance of an IMP to each other one that it knows a way to."""
         state = self.imp(imp)
-        heard = [it for it in (state.routes if state else ()) if it is not None]
-        return {to: 1 + min(it[str(to)] for it in heard if str(to) in it) for to in sorted({int(to) for it in heard for to in it}) if to != imp}
+        return {to: distance for to, distance in (state.distances if state else {}).items() if to != imp}
 
 
 def held_by(number: int, state: ImpState, network: Network) -> Iterator[Held]:
@@ -174,19 +216,18 @@ def held_by(number: int, state: ImpState, network: Network) -> Iterator[Held]:
         for it in slot:
             yield Held(str(it), it.flow, it.number, f"in a slot of IMP {number}")
     for host, waits in enumerate(state.hosts):
-        for words in waits.messages:
-            source, destination, link, message, *_ = words.split(" ")
-            yield Held(f"message {message} of flow {source} {destination} {link}", Flow.read(source, destination, link), int(message), f"waiting for host {Host(host, number)}")
+        for message in waits.messages:
+            yield Held(f"message {message.number} of flow {message.flow}", message.flow, message.number or 0, f"waiting for host {Host(host, number)}")
 
 
 def folded(network: Network, trace: str) -> State:
-    """The state after a trace: of each part its last text. The trace is read from its end, until all parts are there."""
-    wanted = {f"imp {it.number}" for it in network.imps} | {f"line {it}" for it in range(len(network.lines))}
+    """The state after a trace: of each part its last value. The trace is read from its end, until all parts are there."""
+    first = opening(trace)["parts"]
     parts: dict[str, Any] = {}
     end = len(trace)
-    while end > 0 and not wanted <= parts.keys():
+    while end > 0 and parts.keys() != first.keys():
         begin = trace.rfind("\n", 0, end - 1) + 1
         for name, part in json.loads(trace[begin:end])["parts"].items():
             parts.setdefault(name, part)
         end = begin
-    return State(network, parts)
+    return State(network, {name: parts[name] for name in first})

@@ -24,6 +24,8 @@ from dorydate.sentences.texts import text_in_words
 from dorydate.network import Host
 from dorydate.program import found
 from dorydate.script import Calm, Flow, Script, Text
+from dorydate.state import folded
+from dorydate.trace import records
 
 ROOT = Path(__file__).resolve().parents[2]
 REFUSED = {"a-bad-line", "an-unknown-event"}  # examples of scripts that the program refuses
@@ -172,7 +174,7 @@ TRACED = ("first-message", "rerouted-over-a-triangle", "a-cut-line-and-the-way-r
 
 
 class Timelines(unittest.TestCase):
-    """What the document *Trace Event Format* asks for."""
+    """What the document *Trace Event Format* asks for, and what the trace of the program says."""
 
     def events(self, name: str) -> tuple[Replayed, list[dict[str, Any]]]:
         what = replayed(examples()[name], None, True)
@@ -201,6 +203,24 @@ class Timelines(unittest.TestCase):
             self.assertEqual(len(flows), sum(it[0] == "out" for it in words), name)
             answers = sorted(it["args"]["answer"] for it in flows if "answer" in it["args"])
             self.assertEqual(answers, sorted(it[1] for it in words if it[0] == "answer"), name)
+
+    def test_counters_end_as_the_state_says(self) -> None:
+        for name in TRACED[1:4]:
+            what, events = self.events(name)
+            state = folded(what.network, what.trace)
+            last = {it["name"]: it["args"] for it in events if it["ph"] == "C"}
+            for imp in what.network.imps:
+                known = state.imp(imp.number)
+                assert known
+                distances = {int(to): distance for to, distance in last[f"imp {imp.number}: distances"].items() if distance < perfetto.FAR}
+                self.assertEqual(distances, known.distances)
+                self.assertEqual(last[f"imp {imp.number}: packets"], {"store": len(known.store), "channels": sum(map(len, known.sending))})
+            self.assertEqual(last["messages without answer"]["messages"], len(state.outstanding()))
+
+    def test_frames_have_the_fates_of_the_trace(self) -> None:
+        what, events = self.events("rerouted-over-a-triangle")
+        told = [it["name"] for it in events if it["ph"] == "i" and it["pid"] == perfetto.LINES and it["name"] != "drop"]
+        self.assertEqual(told, [it["fate"] for it in map(json.loads, records(what.trace)) if "fate" in it])
 
 
 class Slides(unittest.TestCase):

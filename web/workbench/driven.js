@@ -16,6 +16,7 @@ import { readTrace } from "./trace.js";
 /** @typedef {import("./runs.js").Moment} Moment */
 /** @typedef {import("./runs.js").Step} Step */
 /** @typedef {import("./trace.js").Record} Record */
+/** @typedef {import("./trace.js").Trace} Trace */
 /** @typedef {{seconds: number, octets: number}} Limits */
 
 /** A line of a raw script, the step that it belongs to, and whether it is of the network's part of a round. */
@@ -43,7 +44,7 @@ const INNER = [
 ];
 
 /**
- * The moments of a replay with what is inside, or null where that can't be had.
+ * The moments of a replay with what is inside, and the parts at its opening; or null where that can't be had.
  *
  * @param {Runner["run"]} run
  * @param {Input} input
@@ -51,15 +52,16 @@ const INNER = [
  * @param {{part: Step, printed: string[]}[]} told what each step printed
  * @param {Moment[]} moments
  * @param {Limits} limits
- * @returns {Promise<Moment[] | null>}
+ * @returns {Promise<{moments: Moment[], opening: Trace["opening"]} | null>}
  */
 export async function driven(run, input, network, told, moments, limits) {
     const head = rawHead(input);
     const frames = await framesOfRounds(run, head, network, told, limits);
     if (!frames) return null;
     const lines = rawScript(network, told, frames);
-    const records = await traceOf(run, head, lines, limits);
-    return records && joinedMoments(lines, records, moments);
+    const trace = await traceOf(run, head, lines, limits);
+    const joined = trace && joinedMoments(lines, trace.records, moments);
+    return joined && { moments: joined, opening: trace.opening };
 }
 
 /**
@@ -238,7 +240,7 @@ function counted(lines, ways, most) {
  * @param {string[]} head
  * @param {Line[]} lines
  * @param {Limits} limits
- * @returns {Promise<Record[] | null>}
+ * @returns {Promise<Trace | null>}
  */
 async function traceOf(run, head, lines, limits) {
     const text = [...head, ...lines.map((line) => line.text), ""].join("\n");
@@ -290,14 +292,26 @@ export function joinedMoments(lines, records, moments) {
         before = moment;
         const wanted = crossed(moment.printed);
         while (left.length && left[0].printed.length === 0 && moment.round) {
-            found.push({ ...moment, words: left[0].words, printed: [], parts: (left.shift() ?? left[0]).parts });
+            found.push(withInside({ ...moment, printed: [] }, left.shift()));
         }
         const record = isOfNetwork(moment) ? left.shift() : undefined;
         if (record && JSON.stringify(record.printed) !== JSON.stringify(wanted)) return null;
         if (!record && wanted.some((line) => !line.startsWith("refused "))) return null;
-        if (moment.words[0] !== "calm") found.push({ ...moment, parts: record?.parts ?? [] });
+        if (moment.words[0] !== "calm") found.push(withInside(moment, record && { ...record, words: moment.words }));
     }
     return left.length ? null : found;
+}
+
+/**
+ * A moment with the event, the fate and the parts of a record.
+ *
+ * @param {Moment} moment
+ * @param {Record | undefined} record
+ * @returns {Moment}
+ */
+function withInside(moment, record) {
+    if (!record) return { ...moment, parts: [] };
+    return { ...moment, words: record.words, fate: record.fate, parts: record.parts };
 }
 
 /**

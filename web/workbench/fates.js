@@ -56,32 +56,38 @@ export function noteOf(moment, before, after, accepted) {
     const isRefused = moment.printed.some((line) => line.startsWith("refused "));
     if (kind === "impup" && !isRefused) accepted.start(Number(rest[0]));
     const isFrame = (kind === "deliver" || kind === "drop") && !isRefused && moment.parts.length > 0;
-    const note = isFrame ? frameNote(kind, rest, before, after, accepted) : { ...NOTHING };
+    const note = isFrame ? frameNote(moment, before, after, accepted) : { ...NOTHING };
     note.sent = sentBy(moment, before, after);
     note.weight = weightOf(moment, note);
     return note;
 }
 
 /**
- * @param {string} kind
- * @param {string[]} words
+ * @param {Moment} moment
  * @param {State} before
  * @param {State} after
  * @param {Accepted} accepted
  * @returns {MomentNote}
  */
-function frameNote(kind, [number, way, place], before, after, accepted) {
+function frameNote({ words: [kind, number, way, place], fate }, before, after, accepted) {
     const line = Number(number);
     const [from, to] = wayOf(before.network, line, way);
     const frame = before.line(line)[way === "+" ? "+" : "-"][Number(place)] ?? null;
     const note = { ...NOTHING, frame, line, from, to };
     if (kind === "drop" || !frame) return note;
-    note.fate = fateOf(frame, line, to, before, after, accepted);
+    note.fate = fateOf(fate, frame, line, to, before, after, accepted);
     note.freed = freedBy(line, to, before, after);
     return note;
 }
 
+/** What the page calls the fates of a trace; each that is not here is that of a fresh packet. */
+const FATES = /** @type {{[fate: string]: Fate}} */ ({ impdown: "imp", enddown: "end", acks: "ack", noroom: "full" });
+
 /**
+ * What became of a frame, by what the program says; of distances whether they are news, and of a packet with the
+ * channel's other bit whether it came before.
+ *
+ * @param {string} told
  * @param {Frame} frame
  * @param {number} line
  * @param {number} to
@@ -90,17 +96,10 @@ function frameNote(kind, [number, way, place], before, after, accepted) {
  * @param {Accepted} accepted
  * @returns {Fate}
  */
-function fateOf(frame, line, to, before, after, accepted) {
-    const was = before.port(to, line);
-    const is = after.port(to, line);
-    if (!before.imp(to) || !was || !is) return "imp";
-    if (!was.up) return "end";
-    if (frame.routes) return hasNews(to, before, after) ? "news" : "same";
-    if (!frame.packet) return "ack";
-    if (Number(was.expected[frame.channel]) !== frame.bit) {
-        return accepted.at(to, line).has(frame.packet.key) ? "repeat" : "lost";
-    }
-    if (is.expected[frame.channel] === was.expected[frame.channel]) return "full";
+function fateOf(told, frame, line, to, before, after, accepted) {
+    if (told === "distances") return hasNews(to, before, after) ? "news" : "same";
+    if (FATES[told] || !frame.packet) return FATES[told] ?? "ack";
+    if (told === "repeat") return accepted.at(to, line).has(frame.packet.key) ? "repeat" : "lost";
     accepted.add(to, line, frame.packet.key);
     return "fresh";
 }

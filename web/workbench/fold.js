@@ -6,7 +6,6 @@
 
 import { noteOf } from "./fates.js";
 import { State } from "./state.js";
-import { openingParts } from "./trace.js";
 
 /** @typedef {import("./runs.js").Replay} Replay */
 /** @typedef {import("./runs.js").Moment} Moment */
@@ -35,7 +34,7 @@ export class History {
 
     fold() {
         const { moments } = this.replay;
-        let parts = openingParts(this.network);
+        let parts = this.replay.opening;
         /** @type {Accepted} */
         const accepted = new Accepted(this.network);
         /** @type {Moment[]} */

@@ -23,6 +23,7 @@ import { readTrace } from "./trace.js";
  * @property {number} round the round of its calm, from 1; 0 in no calm
  * @property {string[]} words the elementary event. In a round without an inside it may be `calm`
  * @property {string[]} printed
+ * @property {string} fate of a frame that was delivered, as the program judged it; "" of anything else
  * @property {[string, Part][]} parts the parts that it left
  */
 
@@ -31,6 +32,7 @@ import { readTrace } from "./trace.js";
  * @property {Input} input
  * @property {Network} network
  * @property {Moment[]} moments
+ * @property {{[name: string]: Part}} opening the parts before the first moment; none where the inside is not known
  * @property {boolean} inside whether the moments tell what is inside the network
  * @property {string} cut why there is less than the whole replay, "" if all is there
  */
@@ -43,7 +45,7 @@ import { readTrace } from "./trace.js";
  */
 
 /** How long a run may take and how much it may print. */
-export const LIMITS = { seconds: 8, octets: 24_000_000 };
+export const LIMITS = { seconds: 8, octets: 36_000_000 };
 
 /** The most rounds of an input with host programs that are followed one by one. */
 export const MOST_ROUNDS = 2_000;
@@ -97,8 +99,10 @@ export function whyCut(outcome, limits) {
 async function rawReplay(run, input, network, limits) {
     const outcome = await run(["--trace"], octetsOf(input.text), limits);
     const printed = textOf(outcome);
-    const moments = readTrace(printed.slice(0, printed.lastIndexOf("\n") + 1));
-    return { input, network, moments, inside: true, cut: whyCut(outcome, limits) };
+    const cut = whyCut(outcome, limits);
+    if (!printed.includes("\n")) return { input, network, moments: [], opening: {}, inside: false, cut };
+    const { opening, records } = readTrace(printed);
+    return { input, network, moments: records, opening, inside: true, cut };
 }
 
 /**
@@ -118,7 +122,8 @@ async function programReplay(run, input, network, limits) {
     const moments = told.flatMap(({ part, printed }) => crossingMoments(part, printed));
     const inside = cut || outcome.ended !== "exit" ? null : await driven(run, input, network, told, moments, limits);
     const why = whyCut(outcome, limits) || cut;
-    return { input, network, moments: inside ?? moments, inside: inside !== null, cut: why };
+    const known = inside ?? { moments, opening: {} };
+    return { input, network, ...known, inside: inside !== null, cut: why };
 }
 
 /**
@@ -194,14 +199,15 @@ export function tied(parts, lines) {
  * @returns {Moment[]}
  */
 export function crossingMoments(part, printed) {
-    if (part.words[0] !== "calm") return [{ ...part, printed, parts: [] }];
+    const nothing = { ...part, fate: "", parts: [] };
+    if (part.words[0] !== "calm") return [{ ...nothing, printed }];
     /** @type {Moment[]} */
     const moments = [];
     for (const line of printed) {
         const words = line.split(" ");
         const deed = words[0] === "in" ? ["take", words[2]] : words[0] === "answer" ? ["take", words[2]] : words[0] === "out" ? ["offer", words[1]] : null;
-        if (deed || moments.length === 0) moments.push({ ...part, words: deed ?? part.words, printed: [line], parts: [] });
+        if (deed || moments.length === 0) moments.push({ ...nothing, words: deed ?? part.words, printed: [line] });
         else moments[moments.length - 1].printed.push(line);
     }
-    return moments.length ? moments : [{ ...part, printed: [], parts: [] }];
+    return moments.length ? moments : [{ ...nothing, printed: [] }];
 }

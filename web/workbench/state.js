@@ -85,8 +85,7 @@ export class State {
     }
 
     /**
-     * An IMP's own distance to another one and the line that it takes: the least that a neighbour told, plus one, over the first such
-     * line.
+     * An IMP's own distance to another one, and the line that it takes.
      *
      * @param {number} imp
      * @param {number} to
@@ -95,13 +94,8 @@ export class State {
     way(imp, to) {
         if (imp === to) return { distance: 0, line: -1 };
         const it = this.imp(imp);
-        const lines = linesOf(this.network, imp);
-        let found = { distance: FAR, line: -1 };
-        it?.ports.forEach((port, place) => {
-            const heard = it.routes[place]?.[to];
-            if (port.up && heard !== undefined && heard + 1 < found.distance) found = { distance: heard + 1, line: lines[place] };
-        });
-        return found;
+        const port = it?.next[to];
+        return { distance: it?.distances[to] ?? FAR, line: port === undefined ? -1 : linesOf(this.network, imp)[port] };
     }
 
     /**

@@ -1,12 +1,13 @@
 /**
- * Reads the program's trace (docs/trace.md): the elementary events of a raw network, what each printed, and the parts that it left.
+ * Reads the program's trace (docs/trace.md): the parts of a raw network at its opening, its elementary events, what
+ * each printed, and the parts that it left.
  *
- * Packets, frames and flows become objects here, so that no other module knows how a trace spells them.
+ * Packets, frames and flows get the form here in which the page asks for them, so that no other module knows that of a
+ * trace.
  */
 
-import { linesOf } from "./topology.js";
-
-/** @typedef {import("./topology.js").Network} Network */
+/** The format that is read. */
+const FORMAT = 2;
 
 /**
  * @typedef {object} Packet
@@ -67,6 +68,8 @@ import { linesOf } from "./topology.js";
  * @property {Packet[][]} slots
  * @property {{state: string, flow: string, number: number}[]} sources
  * @property {{fate: string, flow: string, number: number}[]} kept
+ * @property {Distances} distances its own
+ * @property {{[imp: string]: number}} next for each IMP to which a way leads the place of its port
  */
 
 /** @typedef {{"+": Frame[], "-": Frame[]}} Line */
@@ -79,38 +82,32 @@ import { linesOf } from "./topology.js";
  * @property {number} round 0 in no calm
  * @property {string[]} words the elementary event
  * @property {string[]} printed
+ * @property {string} fate of a frame that was delivered, as the program judged it; "" of any other event
  * @property {[string, Part][]} parts
  */
 
-/** @type {Map<string, Packet>} */
-const packets = new Map();
+/** @typedef {{opening: {[name: string]: Part}, records: Record[]}} Trace */
 
 /**
- * A packet as a trace spells it.
+ * The flow of something, as a script spells it.
  *
- * @param {string} text
+ * @param {any} told
+ */
+function flowIn(told) {
+    return `${told.from} ${told.to} ${told.link}`;
+}
+
+/**
+ * A packet of a trace.
+ *
+ * @param {any} told
  * @returns {Packet}
  */
-export function packetIn(text) {
-    const known = packets.get(text);
-    if (known) return known;
-    const [kind, source, destination, link, number, place, last, bits, octets] = text.split(" ");
-    const flow = `${source} ${destination} ${link}`;
-    const packet = {
-        kind: /** @type {Packet["kind"]} */ (kind),
-        flow,
-        source,
-        destination,
-        link: Number(link),
-        number: Number(number),
-        place: Number(place),
-        last: last === "last",
-        bits: Number(bits),
-        octets,
-        key: `${kind} ${flow} ${number} ${place}`,
-    };
-    packets.set(text, packet);
-    return packet;
+function packetIn(told) {
+    const { kind, from, to, link, number, place, last, bits, octets } = told;
+    const flow = flowIn(told);
+    const key = `${kind} ${flow} ${number} ${place}`;
+    return { kind, flow, source: from, destination: to, link, number, place, last, bits, octets: octets || "-", key };
 }
 
 /**
@@ -123,25 +120,21 @@ function frameIn(told) {
 }
 
 /**
- * @param {string} text
+ * @param {any} told
  * @returns {Answer}
  */
-function answerIn(text) {
-    const [kind, ...flow] = text.split(" ");
-    return { kind: /** @type {Answer["kind"]} */ (kind), flow: flow.join(" ") };
+function answerIn(told) {
+    return { kind: told.kind, flow: flowIn(told) };
 }
 
 /**
  * A message that waits: with its number in a subnet.
  *
- * @param {string} text
+ * @param {any} told
  * @returns {Waiting}
  */
-function waitingIn(text) {
-    const words = text.split(" ");
-    const octets = words.pop() ?? "-";
-    const bits = Number(words.pop());
-    return { flow: words.slice(0, 3).join(" "), number: words.length > 3 ? Number(words[3]) : -1, bits, octets };
+function waitingIn(told) {
+    return { flow: flowIn(told), number: told.number ?? -1, bits: told.bits, octets: told.octets || "-" };
 }
 
 /**
@@ -152,15 +145,21 @@ function boxIn(told) {
     return { up: told.up ?? true, messages: told.messages.map(waitingIn), answers: told.answers.map(answerIn) };
 }
 
-/** @param {string} text */
-function channelIn(text) {
-    return { bit: Number(text[0]), packet: text.length > 1 ? packetIn(text.slice(2)) : null };
+/**
+ * @param {any} told
+ * @returns {{bit: number, packet: Packet | null}}
+ */
+function channelIn(told) {
+    return { bit: told.bit, packet: told.packet ? packetIn(told.packet) : null };
 }
 
-/** @param {string} text */
-function flowIn(text) {
-    const [word, source, destination, link, number] = text.split(" ");
-    return { word, flow: `${source} ${destination} ${link}`, number: Number(number) };
+/**
+ * What an IMP notes of a flow.
+ *
+ * @param {any} told
+ */
+function noted(told) {
+    return { flow: flowIn(told), number: told.number };
 }
 
 /**
@@ -174,9 +173,11 @@ function impIn(told) {
         ports: told.ports.map((/** @type {any} */ it) => ({ up: it.up, sending: it.sending.map(channelIn), expected: it.expected })),
         routes: told.routes,
         store: told.store.map(packetIn),
-        slots: told.slots.map((/** @type {string[]} */ it) => it.map(packetIn)),
-        sources: told.sources.map(flowIn).map((/** @type {any} */ it) => ({ state: it.word, flow: it.flow, number: it.number })),
-        kept: told.kept.map(flowIn).map((/** @type {any} */ it) => ({ fate: it.word, flow: it.flow, number: it.number })),
+        slots: told.slots.map((/** @type {any[]} */ it) => it.map(packetIn)),
+        sources: told.sources.map((/** @type {any} */ it) => ({ ...noted(it), state: it.state })),
+        kept: told.kept.map((/** @type {any} */ it) => ({ ...noted(it), fate: it.fate })),
+        distances: told.distances,
+        next: told.next,
     };
 }
 
@@ -193,60 +194,38 @@ export function partIn(name, told) {
 }
 
 /**
- * The records of a trace.
+ * @param {any} told
+ * @returns {[string, Part][]}
+ */
+function partsIn(told) {
+    return Object.keys(told).map((name) => [name, partIn(name, told[name])]);
+}
+
+/**
+ * A trace: the parts at the opening, and the records. A last line that was cut off is left out.
  *
- * @param {string} text what `--trace` printed
- * @returns {Record[]}
+ * @param {string} text what `--trace` printed, with its first line whole
+ * @returns {Trace}
  */
 export function readTrace(text) {
+    const end = text.indexOf("\n");
+    const first = JSON.parse(text.slice(0, end));
+    if (first.trace !== FORMAT) {
+        throw new Error(`The trace is not of format ${FORMAT}: the page and its program are of different sources.`);
+    }
     /** @type {Record[]} */
-    const found = [];
-    for (const line of text.split("\n")) {
+    const records = [];
+    for (const line of text.slice(end + 1, text.lastIndexOf("\n")).split("\n")) {
         if (line === "") continue;
-        const told = JSON.parse(line);
-        /** @type {[string, Part][]} */
-        const parts = Object.keys(told.parts).map((name) => [name, partIn(name, told.parts[name])]);
-        found.push({ event: told.number - 1, round: told.round, words: told.event.split(" "), printed: told.printed, parts });
+        const { number, round, event, printed, fate, parts } = JSON.parse(line);
+        records.push({
+            event: number - 1,
+            round,
+            words: event.split(" "),
+            printed,
+            fate: fate ?? "",
+            parts: partsIn(parts),
+        });
     }
-    return found;
-}
-
-/**
- * @param {boolean} up
- * @returns {Box}
- */
-function emptyBox(up) {
-    return { up, messages: [], answers: [] };
-}
-
-/**
- * The parts of a network before its first event: all is up, nothing waits, no distance was heard.
- *
- * @param {Network} network
- * @returns {{[name: string]: Part}}
- */
-export function openingParts(network) {
-    /** @type {{[name: string]: Part}} */
-    const parts = {};
-    if (network.plain) {
-        parts.down = [];
-        for (const host of network.hosts) parts[`host ${host}`] = emptyBox(true);
-        return parts;
-    }
-    for (const site of network.sites) {
-        const ports = linesOf(network, site.number);
-        parts[`imp ${site.number}`] = {
-            hosts: Array.from({ length: site.hosts }, () => emptyBox(true)),
-            ports: ports.map(() => ({ up: true, sending: Array.from({ length: 8 }, () => ({ bit: 0, packet: null })), expected: "00000000" })),
-            routes: ports.map(() => null),
-            store: [],
-            slots: [],
-            sources: [],
-            kept: [],
-        };
-    }
-    network.lines.forEach((_, line) => {
-        parts[`line ${line}`] = { "+": [], "-": [] };
-    });
-    return parts;
+    return { opening: Object.fromEntries(partsIn(first.parts)), records };
 }

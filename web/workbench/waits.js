@@ -65,16 +65,17 @@ function messageWaits(state, talk, inside) {
     /** @type {Wait[]} */
     const found = [];
     for (const site of network.sites) {
-        for (const it of state.imp(site.number)?.sources ?? []) {
-            if (it.state === "answered") {
-                found.push({
-                    ...wait(`The answer to ${messageName(network, it.flow)}`),
-                    where: impName(network, site.number),
-                    for: `${hostName(network, it.flow.split(" ")[0])} to take it`,
-                    flow: it.flow,
-                });
-            }
+        const imp = state.imp(site.number);
+        for (const it of imp?.sources ?? []) {
             if (it.state === "outstanding") found.push(outstanding(state, it.flow, it.number, everything));
+        }
+        for (const { flow } of imp?.hosts.flatMap((box) => box.answers) ?? []) {
+            found.push({
+                ...wait(`The answer to ${messageName(network, flow)}`),
+                where: impName(network, site.number),
+                for: `${hostName(network, flow.split(" ")[0])} to take it`,
+                flow,
+            });
         }
     }
     return found;

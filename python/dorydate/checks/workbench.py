@@ -21,6 +21,7 @@ import shutil
 import subprocess
 import sys
 import tempfile
+from typing import Any
 
 from dorydate.model.runs import opened
 from dorydate.model.script import read_event
@@ -41,7 +42,7 @@ def node() -> str | None:
     return shutil.which("node") or shutil.which("nodejs")
 
 
-def states_of(text: bytes) -> list[dict[str, object]] | None:
+def states_of(text: bytes) -> list[dict[str, dict[str, Any] | None]] | None:
     """The parts of a subnet after each event of an input, by the independent model; None for plain mailboxes and long calms."""
     head, _, script = text.decode().partition("\n%\n")
     network = topology.read(head.encode())

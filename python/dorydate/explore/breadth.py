@@ -24,6 +24,7 @@ from dorydate.explore.shrink import Script as Events
 from dorydate.network import Network
 from dorydate.program import Program
 from dorydate.script import Calm, Event, Script, read_event
+from dorydate.trace import records
 
 NUMBERS = re.compile(r'([0-3])/(\d+)|"(imp|line) (\d+)"|"(\d+)":')
 
@@ -110,20 +111,20 @@ class Walk:
         ran = self.many.program.run(text.encode("ascii"), "--trace")
         if ran.status:
             raise CannotRun(f"the program says: {ran.said.strip()} (status {ran.status})")
-        return ran.output.splitlines()
+        return records(ran.output)
 
     def after_events(self, some: Sequence[tuple[Node, Event]]) -> Iterator[Node]:
-        records = self.traced([(*node.lines, event) for node, event in some], False)
+        told = self.traced([(*node.lines, event) for node, event in some], False)
         end = 0
         for copy, (node, event) in enumerate(some):
             end += len(node.lines) + 1
-            yield self.after(node, event, (event,), [self.own(copy, records[end - 1])])
+            yield self.after(node, event, (event,), [self.own(copy, told[end - 1])])
 
     def after_calm(self, nodes: Sequence[Node]) -> Iterator[Node]:
         """What a quiet round leads to: the elementary events of it that are a network's own."""
-        records = self.traced([node.lines for node in nodes], True)[sum(len(node.lines) for node in nodes) :]
+        told = self.traced([node.lines for node in nodes], True)[sum(len(node.lines) for node in nodes) :]
         own: list[list[str]] = [[] for _ in nodes]
-        for record in records:
+        for record in told:
             name = re.search(r'"(imp|line) (\d+)"', record)
             if name:
                 copy = (int(name[2]) - 1) // self.many.size if name[1] == "imp" else int(name[2]) // self.many.line_count
@@ -153,14 +154,14 @@ class Walk:
         changed = {name: getattr(event, name) - by for name, by in (("imp", imps), ("other", imps), ("line", lines)) if hasattr(event, name)}
         return replace(event, **changed) if changed else event
 
-    def after(self, node: Node, event: Event, lines: tuple[Event, ...], records: Sequence[str]) -> Node:
+    def after(self, node: Node, event: Event, lines: tuple[Event, ...], told: Sequence[str]) -> Node:
         """The node after these records."""
         seen = Seen(self.network)
         parts = dict(node.parts)
         seen.parts = {name: json.loads(text) for name, text in node.parts} if self.pattern.needs_trace() else {}
         seen.arrived = set(node.arrived)
         reached = list(node.reached)
-        for own, record in zip(lines, records):
+        for own, record in zip(lines, told):
             read = json.loads(record)
             read["event"] = str(own)
             if self.pattern.needs_trace():

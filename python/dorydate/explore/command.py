@@ -24,6 +24,7 @@ from dorydate.explore.shrink import Script as Found
 from dorydate.network import BadNetwork, Network
 from dorydate.program import NoProgram, Program, found
 from dorydate.script import BadLine, Calm, Script
+from dorydate.trace import BadTrace
 
 MOST_EXPECTED = 40  # lines of one event that are written as its expectation
 FOUND, NOT_FOUND, WRONG = 0, 1, 2  # exit statuses; with --never the first two are exchanged
@@ -173,7 +174,7 @@ def main(options: Sequence[str] | None = None) -> int:
     except NotKept as why:
         print(f"explore: {why}", file=sys.stderr)
         return WRONG
-    except (OSError, Wrong, BadPattern, BadNetwork, BadLine, CannotRun, NoProgram) as why:
+    except (OSError, Wrong, BadPattern, BadNetwork, BadLine, BadTrace, CannotRun, NoProgram) as why:
         print(f"explore: {why}", file=sys.stderr)
         return WRONG
 

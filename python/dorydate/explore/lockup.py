@@ -14,7 +14,7 @@ import random
 import re
 import sys
 import time
-from collections.abc import Sequence
+from collections.abc import Iterable, Sequence
 from typing import Any
 
 from dorydate.explore.many import CannotRun, Many, One
@@ -23,6 +23,7 @@ from dorydate.explore.shrink import Shrinker
 from dorydate.network import Host, Network
 from dorydate.program import Program
 from dorydate.script import Calm, Deliver, Event, Flow, Out, Script, Text
+from dorydate.trace import opening
 
 WHAT = "eight messages hold all slots of an IMP, and their pieces can never come: by a measure from the trace"
 NETWORK = Network.joined("WEST-MIDDLE-EAST", raw=True)
@@ -49,17 +50,28 @@ def frames() -> list[Event]:
     return [Deliver(line, way, place) for line in (0, 1) for way in "+-" for place in range(PLACES)]
 
 
-PACKET = re.compile(r"data (\d/\d+ \d/\d+ \d+ \d+) (\d+) (?:last|more) ")
+Piece = tuple[str, int]  # flow and number of its message, and its place
 
 
-def packets_of(part: Any) -> set[tuple[str, int]]:
-    """The pieces of messages in a part of an IMP: flow and number, and the place of the piece."""
-    return {(found[0], int(found[1])) for found in PACKET.findall(json.dumps(part))}
+def pieces_of(packets: Iterable[Any]) -> set[Piece]:
+    """The pieces of messages among packets."""
+    return {(f"{it['from']} {it['to']} {it['link']} {it['number']}", it["place"]) for it in packets if it["kind"] == "data"}
 
 
-def held_by(imp: Any) -> set[tuple[str, int]]:
+def leaving(imp: Any) -> set[Piece]:
+    """The pieces that wait in the store and in channels of an IMP."""
+    busy = [it["packet"] for port in imp["ports"] for it in port["sending"] if "packet" in it]
+    return pieces_of([*busy, *imp["store"]])
+
+
+def in_slots(imp: Any) -> set[Piece]:
+    """The pieces of messages in reassembly at an IMP."""
+    return pieces_of(it for slot in imp["slots"] for it in slot)
+
+
+def held_by(imp: Any) -> set[Piece]:
     """The pieces that an IMP holds."""
-    return packets_of([imp["ports"], imp["store"], imp["slots"]]) if imp else set()
+    return leaving(imp) | in_slots(imp) if imp else set()
 
 
 def torn(imps: Sequence[Any]) -> int:
@@ -72,7 +84,7 @@ def torn(imps: Sequence[Any]) -> int:
 def measure(imps: Sequence[Any]) -> int:
     """How near the lockup is: messages that are torn, one for each slot; and then, how much of another waits beside the destination."""
     apart = min(torn(imps), 5 * SLOTS)
-    waiting = packets_of([imps[1]["store"], imps[1]["ports"]]) if imps[1] and apart >= 4 * SLOTS else set()
+    waiting = leaving(imps[1]) if imps[1] and apart >= 4 * SLOTS else set()
     return apart + sum(piece >= 2 for _, piece in waiting)
 
 
@@ -80,8 +92,8 @@ def is_locked(imps: Sequence[Any]) -> bool:
     """Whether all slots of the destination are held, and of each message a piece that it lacks is still alive before it."""
     if any(imp is None for imp in imps) or len(imps[-1]["slots"]) < SLOTS:
         return False
-    before = {piece for imp in imps[:-1] for piece in packets_of([imp["ports"], imp["store"]])}
-    held = packets_of(imps[-1]["slots"])
+    before = {piece for imp in imps[:-1] for piece in leaving(imp)}
+    held = in_slots(imps[-1])
     return all(any(other == message and (other, piece) not in held for other, piece in before) for message in {it for it, _ in held})
 
 
@@ -97,7 +109,7 @@ class Climb:
     # ---- what a script comes to
 
     def traced(self, many: Many, scripts: Sequence[Events], last: int = 0) -> list[str]:
-        """The records of scripts side by side, with a calm after all of them perhaps."""
+        """The lines of a trace of scripts side by side, with a calm after all of them perhaps."""
         lines = [many.spelled(copy, it) for copy, script in enumerate(scripts) for it in script]
         text = [f"calm {OPENING.rounds}", *lines, *([f"calm {last}"] if last else [])]
         ran = many.program.run((many.head + "".join(f"{it}\n" for it in text)).encode("ascii"), "--trace")
@@ -183,17 +195,18 @@ class Climb:
         return shrinker.shrink(script), shrinker.runs
 
 
-def imps_at(records: Sequence[str], many: Many) -> list[Any]:
-    """The last part of each IMP in these records, read from their end."""
+def imps_at(trace: Sequence[str], many: Many) -> list[Any]:
+    """The last part of each IMP in the lines of a trace, which are read from their end."""
     wanted = many.copies * many.size
     found: dict[int, Any] = {}
-    for record in reversed(records):
+    for record in reversed(trace[1:]):
         if len(found) == wanted:
             break
         number = int(name[1]) if (name := re.search(r'"imp (\d+)"', record)) else 0
         if 0 < number <= wanted and number not in found:
             found[number] = json.loads(record)["parts"][f"imp {number}"]
-    return [found.get(number) for number in range(1, wanted + 1)]
+    first = opening(f"{trace[0]}\n")["parts"]
+    return [found[it] if it in found else first[f"imp {it}"] for it in range(1, wanted + 1)]
 
 
 def command(program: Program, seed: int, seconds: float) -> int:

@@ -15,6 +15,7 @@ from dorydate.explore.seen import Seen
 from dorydate.explore.shrink import Script, Shrinker, cost
 from dorydate.network import Network
 from dorydate.program import Program
+from dorydate.trace import records
 
 MATCHES = 5  # matches that are shrunk; the best is taken
 SAMPLED = 16  # one batch of these shows how deep the pattern was reached
@@ -158,7 +159,7 @@ def traced(many: Many, parts: Sequence[Sequence[Sequence[str]]], calms: Sequence
     if ran.status:
         raise CannotRun(f"the program says: {ran.said.strip()} (status {ran.status})")
     found: list[list[str]] = [[] for _ in range(many.copies)]
-    for name, lines in Seen(many.topology()).lines(ran.output.splitlines()):
+    for name, lines in Seen(many.topology()).lines(records(ran.output)):
         kind, _, number = name.partition(" ")
         copy = (int(number) - 1) // many.size if kind == "imp" else int(number) // max(many.line_count, 1) if kind == "line" else -1
         if 0 <= copy < many.copies:

@@ -32,7 +32,7 @@ class Seen:
             read = json.loads(record)
             name = next(iter(read["parts"]), "")
             found = list(read["printed"])
-            if read["event"].startswith("deliver "):
+            if read.get("fate", "impdown") not in ("impdown", "enddown"):
                 found += self.arrivals(read["event"])
             for part, value in read["parts"].items():
                 if part.startswith("imp "):
@@ -44,22 +44,20 @@ class Seen:
         """What a frame brings to an IMP that it is for, for the first time."""
         _, line, way, place = event.split(" ")
         ends = self.network.lines[int(line)]
-        far = ends.b if way == "+" else ends.a
-        frames = self.parts.get(f"line {line}", {}).get(way, [])
-        packet = frames[int(place)].get("packet") if int(place) < len(frames) else None
-        imp = self.parts.get(f"imp {far}", {})
-        if packet is None or imp is None or (imp and not imp["ports"][self.network.lines_of(far).index(int(line))]["up"]):
+        packet = self.parts[f"line {line}"][way][int(place)].get("packet")
+        if packet is None:
             return
-        kind, source, destination, link, number, piece, *_ = packet.split(" ")
-        if (destination if kind in ("data", "ask") else source).endswith(f"/{far}") and f"{kind} {packet}" not in self.arrived:
-            self.arrived.add(f"{kind} {packet}")
-            yield f"arrives {kind} {source} {destination} {link} {number}"
+        target = packet["to"] if packet["kind"] in ("data", "ask") else packet["from"]
+        key = json.dumps(packet)
+        if target.endswith(f"/{ends.b if way == '+' else ends.a}") and key not in self.arrived:
+            self.arrived.add(key)
+            yield f"arrives {packet['kind']} {packet['from']} {packet['to']} {packet['link']} {packet['number']}"
 
     def changes(self, part: str, value: Any) -> Iterator[str]:
         """What is new in an IMP."""
         before, now = self.parts.get(part) or {"kept": [], "slots": []}, value or {"kept": [], "slots": []}
         for it in now["kept"]:
             if it not in before["kept"]:
-                yield f"noted {it}"
+                yield f"noted {it['fate']} {it['from']} {it['to']} {it['link']} {it['number']}"
         if len(now["slots"]) != len(before["slots"]):
             yield f"slots {part[4:]} {len(now['slots'])}"

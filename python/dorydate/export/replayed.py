@@ -13,7 +13,7 @@ from dorydate.program import Program, found
 from dorydate.deeds import Stopped
 from dorydate.replay import Replay
 from dorydate.script import Event, HostDown, Script
-from dorydate.trace import FORMAT, opening, records
+from dorydate.trace import opening, records
 
 MICROSECONDS = 1_000_000  # of a second, which is the time of an event
 NO_SUCH = "refused NoSuch"
@@ -110,11 +110,11 @@ def replayed(script: Script, program: Program | None = None, with_trace: bool = 
 
 
 def traced(program: Program, script: Script) -> str:
-    """The trace of a script, empty where the program has none of such a network, or one of an older format."""
+    """The trace of a script, empty where the program has none of such a network."""
     ran = program.run(script.text().encode("latin-1"), "--trace")
     if ran.status and "no trace" not in ran.said:
         raise Stopped(f"the program says: {ran.said.strip()} (status {ran.status})")
-    return ran.output if ran.output.startswith(f'{{"trace":{FORMAT},') else ""
+    return ran.output
 
 
 def as_printed(line: str) -> str:

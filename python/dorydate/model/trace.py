@@ -2,26 +2,31 @@
 
 It was written from docs/trace.md, in another language and another form than the definitions: mailboxes and subnets are those
 of dorydate.model.boxes and dorydate.model.subnet, and a trace is told from what they are after each event. The parts of a
-subnet are in dorydate.model.trace_subnet. `check trace` uses it.
+subnet are in dorydate.model.trace_subnet, and values in dorydate.model.trace_values. `check trace` uses it.
 """
 
 from __future__ import annotations
 
 import json
-from collections.abc import Iterable
+from collections.abc import Iterable, Iterator, Mapping, Sequence
+from typing import Any
 
 from dorydate.model import trace_subnet
-from dorydate.model.boxes import TAKES, Boxes
 from dorydate.model.bits import spelled_text
-from dorydate.model.crossings import Reply, Turned
-from dorydate.model.names import Flow, read_host, spell_flow, spell_host
-from dorydate.model.runs import End, opened
-from dorydate.model.script import read_line
+from dorydate.model.boxes import TAKES, Boxes
+from dorydate.model.crossings import Carrier, Crossing, Passed, Turned
+from dorydate.model.names import HostName, read_host, spell_flow, spell_host
+from dorydate.model.runs import End, opened_carrier
+from dorydate.model.script import Event, read_line
 from dorydate.model.topology import Topology
 from dorydate.model.trace_subnet import subnet_of
+from dorydate.model.trace_values import Object, answer_in, answer_of, crossing_of, flow_in, message_of, text_in
+
+FORMAT = 2
+Part = Any  # the value of a part: an object, a list, or None
 
 
-def spelled(event):
+def spelled(event: Event) -> str:
     """An event as a line of a script."""
     kind, *parts = event
     match kind:
@@ -37,72 +42,77 @@ def spelled(event):
 # ---- the parts of mailboxes
 
 
-def queues(boxes, host):
+def queues(boxes: Boxes, host: HostName) -> Object:
     """What waits for a host, oldest first."""
-    messages = [f"{spell_flow(flow)} {len(text)} {spelled_text(text)}" for flow, text in boxes.messages if flow[1] == host]
-    answers = [f"{kind} {spell_flow(flow)}" for kind, flow in boxes.answers if flow[0] == host]
+    messages = [message_of(*it) for it in boxes.messages if it[0][1] == host]
+    answers = [answer_of(it) for it in boxes.answers if it.flow.source == host]
     return {"messages": messages, "answers": answers}
 
 
-def down(boxes):
+def down(boxes: Boxes) -> list[str]:
     """The hosts that are down, in the order in which they went down: the last to go down has the newest such crossing."""
-    newest = {parts[0]: place for place, (kind, *parts) in enumerate(boxes.log) if kind == "down"}
-    return [spell_host(host) for host in sorted(newest, key=newest.get) if not boxes.is_up[host]]
+    newest = {it.host: place for place, it in enumerate(boxes.log) if isinstance(it, Turned) and it.kind == "down"}
+    return [spell_host(host) for host in sorted(newest, key=lambda host: newest[host]) if not boxes.is_up[host]]
 
 
-def in_order(place):
-    return sorted(place.hosts(), key=lambda host: (host[1], host[0]))
+def in_order(place: Carrier) -> list[HostName]:
+    return sorted(place.hosts(), key=lambda host: (host.imp, host.number))
 
 
 class OfBoxes:
     """What plain mailboxes have of a trace."""
 
     @staticmethod
-    def part(boxes, name):
+    def part(boxes: Boxes, name: str) -> Part:
         """A part, by its name."""
-        return down(boxes) if name == "down" else queues(boxes, host_of(name.split(" ")[1]))
+        return down(boxes) if name == "down" else queues(boxes, read_host(name.split(" ")[1]))
 
     @staticmethod
-    def every_name(boxes):
+    def every_name(boxes: Boxes) -> list[str]:
         return ["down", *(f"host {spell_host(host)}" for host in in_order(boxes))]
 
     @staticmethod
-    def names(boxes, event, crossed):
+    def names(boxes: Boxes, event: Event, crossed: Sequence[Crossing]) -> list[str]:
         """The parts that an event can change, which crossed these."""
         kind, *parts = event
-        touched = set()
+        touched: set[HostName] = set()
         match kind:
             case "out" | "giveup":
-                touched = {*parts[0][:2]}
+                touched = {parts[0].source, parts[0].destination}
             case "take":
-                touched = {parts[0], *(it[1][0] for it in crossed if it[0] == "in")}
+                touched = {parts[0], *(it.flow.source for it in crossed if isinstance(it, Passed) and it.kind == "in")}
             case "hostdown":
                 touched = {*boxes.hosts()}
         named = ["down"] if kind in ("hostdown", "hostup") else []
         return named + [f"host {spell_host(host)}" for host in in_order(boxes) if host in touched]
 
     @staticmethod
-    def in_quiet_round(boxes):
+    def fate(boxes: Boxes, event: Event) -> str | None:
+        """What becomes of a frame: there are none."""
+        return None
+
+    @staticmethod
+    def in_quiet_round(boxes: Boxes) -> Iterable[Event]:
         """The elementary events of a quiet round: there are none."""
         return ()
 
     @staticmethod
-    def is_given(boxes, host):
+    def is_given(boxes: Boxes, host: HostName) -> bool:
         """Whether a host that takes gets something."""
         return boxes.is_up[host] and any(queues(boxes, host).values())
 
     @staticmethod
-    def is_settled(boxes, crossed):
+    def is_settled(boxes: Boxes, crossed: Sequence[Crossing]) -> bool:
         """Whether a round in which so much crossed leaves nothing for later ones."""
         return not crossed
 
 
-def of(place):
+def of(place: Carrier) -> Any:
     """What a carrier of this kind has of a trace."""
     return OfBoxes if isinstance(place, Boxes) else trace_subnet
 
 
-def all_parts(place):
+def all_parts(place: Carrier) -> dict[str, Part]:
     """Every part of a network, by name."""
     return {name: of(place).part(place, name) for name in of(place).every_name(place)}
 
@@ -111,56 +121,75 @@ def all_parts(place):
 
 
 class Traced:
-    """The trace of a script over a raw network: a record for each elementary event, told as it happens."""
+    """The trace of a script over a raw network: a record for each elementary event, written as it happens."""
 
-    def __init__(self, place):
+    def __init__(self, place: Carrier) -> None:
         self.place, self.of = place, of(place)
 
-    def happen(self, number, event):
-        """The records of an event of the script."""
+    def happen(self, line: int, number: int, event: Event) -> Iterator[Object]:
+        """The records of an event of the script: its line, and which event it is."""
         if event[0] == "calm":
-            yield from self.calm(number, event[1])
+            yield from self.calm((line, number), event[1])
         else:
-            yield self.tell(number, 0, event)
+            yield self.tell((line, number), 0, event)
 
-    def tell(self, number, number_of_round, event):
+    def tell(self, numbers: tuple[int, int], number_of_round: int, event: Event) -> Object:
         """Lets an elementary event happen, and gives its record."""
-        shown, crossed = len(self.place.printed), len(self.place.log)
+        shown, before = len(self.place.printed), len(self.place.log)
+        fate = self.of.fate(self.place, event)
         self.place.happen(*event)
-        named = self.of.names(self.place, event, self.place.log[crossed:])
+        crossed = self.place.log[before:]
         return {
-            "number": number,
+            "line": numbers[0],
+            "number": numbers[1],
             "round": number_of_round,
             "event": spelled(event),
+            **({"fate": fate} if fate else {}),
+            "crossed": [crossing_of(it) for it in crossed],
             "printed": self.place.printed[shown:],
-            "parts": {name: self.of.part(self.place, name) for name in named},
+            "parts": {name: self.of.part(self.place, name) for name in self.of.names(self.place, event, crossed)},
         }
 
-    def calm(self, number, rounds):
+    def calm(self, numbers: tuple[int, int], rounds: int) -> Iterator[Object]:
         """A calm: what its quiet rounds do, and the takings that give something."""
         for number_of_round in range(1, rounds + 1):
             before = len(self.place.log)
             for event in self.quiet_round():
-                yield self.tell(number, number_of_round, event)
+                yield self.tell(numbers, number_of_round, event)
             for host in in_order(self.place):
                 for _ in range(TAKES):
                     if self.of.is_given(self.place, host):
-                        yield self.tell(number, number_of_round, ("take", host))
+                        yield self.tell(numbers, number_of_round, ("take", host))
             if self.of.is_settled(self.place, self.place.log[before:]):
                 return
 
-    def quiet_round(self):
-        return self.of.in_quiet_round(self.place)
+    def quiet_round(self) -> Iterator[Event]:
+        """The elementary events of a quiet round."""
+        yield from self.of.in_quiet_round(self.place)
 
 
-def traced(place, lines):
+def traced(place: Carrier, lines: Iterable[str]) -> Iterator[Object]:
     """The trace of a script, record by record, over a raw network that is at its opening: each happens when it is asked for."""
     trace = Traced(place)
-    for number, event in enumerate(filter(None, map(read_line, lines)), 1):
-        yield from trace.happen(number, event)
+    events = [(line, event) for line, event in enumerate(map(read_line, lines), 1) if event]
+    for number, (line, event) in enumerate(events, 1):
+        yield from trace.happen(line, number, event)
 
 
-def text(record):
+def opening(network: Topology, place: Carrier) -> Object:
+    """The first record of a trace: the network, and all its parts at its opening."""
+    carrier, raw, imps, lines = network
+    return {
+        "trace": FORMAT,
+        "carrier": carrier,
+        "raw": raw,
+        "imps": [[*it] for it in sorted(imps)],
+        "lines": [[*it] for it in lines],
+        "parts": all_parts(place),
+    }
+
+
+def text(record: Object) -> str:
     """The line of a record."""
     return json.dumps(record, separators=(",", ":"))
 
@@ -168,36 +197,30 @@ def text(record):
 # ---- a network from its parts
 
 
-def made_of(network, parts):
+def network_in(first: Object) -> Topology:
+    """The network of a trace's first record."""
+    return Topology(first["carrier"], first["raw"], [(number, hosts) for number, hosts in first["imps"]], [(a, b) for a, b in first["lines"]])
+
+
+def made_of(network: Topology, parts: Mapping[str, Part]) -> Carrier:
     """A network's state that has these parts, with an empty log."""
-    return boxes_of(network[2], parts) if network[0] == "plain" else subnet_of(*network[2:], parts)
+    if network.carrier == "plain":
+        return boxes_of(network.imps, parts)
+    return subnet_of(network.imps, network.lines, parts)
 
 
-def flow_of(words):
-    source, destination, link = words
-    return Flow(host_of(source), host_of(destination), int(link))
-
-
-def host_of(word):
-    return read_host(word)
-
-
-def boxes_of(imps, parts):
+def boxes_of(imps: Sequence[tuple[int, int]], parts: Mapping[str, Part]) -> Boxes:
     """Mailboxes that have these parts, with an empty log."""
     boxes = Boxes(imps)
     for name, part in parts.items():
         if name == "down":
             # the log has nothing but their going down, in this order
             for host in part:
-                boxes.is_up[host_of(host)] = False
-                boxes.cross(Turned("down", host_of(host)))
+                boxes.is_up[read_host(host)] = False
+                boxes.cross(Turned("down", read_host(host)))
             continue
-        for line in part["messages"]:
-            _, flow, bits = read_line(f"out {line}")
-            boxes.messages.append((flow, bits))
-        for line in part["answers"]:
-            kind, *words = line.split(" ")
-            boxes.answers.append(Reply(kind, flow_of(words)))
+        boxes.messages += [(flow_in(it), text_in(it)) for it in part["messages"]]
+        boxes.answers += map(answer_in, part["answers"])
     boxes.printed.clear()
     return boxes
 
@@ -206,4 +229,6 @@ def ends_trace(network: Topology, lines: Iterable[str]) -> End:
     """How the program ends when it is asked for the trace of a network and a script."""
     if not network[1]:
         return 1, "", "arpasim: no trace of such a network\n"
-    return 0, "".join(f"{text(it)}\n" for it in traced(opened(network), lines)), ""
+    place = opened_carrier(network)
+    first = text(opening(network, place))
+    return 0, "".join(f"{it}\n" for it in [first, *map(text, traced(place, lines))]), ""

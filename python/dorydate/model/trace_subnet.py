@@ -3,132 +3,154 @@
 It was written from docs/trace.md over the independent model of the subnet. `trace` uses it.
 """
 
+from __future__ import annotations
+
+from collections.abc import Iterator, Mapping, Sequence
 from functools import cache
 
-from dorydate.model.names import in_order, spell_flow
-from dorydate.model.packets import ASK, CHANNELS, DATA, DEAD, INFINITE, MOST_IMPS, NEVER, RFNM, Carried, Frame, Packet, Routes
-from dorydate.model.crossings import Reply
-from dorydate.model.imp_state import Arrived
-from dorydate.model.bits import read_bits, spelled_text
-from dorydate.model.script import read_flow
-from dorydate.model.subnet import Subnet
+from dorydate.model.channels import Channels
+from dorydate.model.crossings import Crossing
+from dorydate.model.imp import Imp
+from dorydate.model.imp_state import QUEUE, SLOTS, Arrived, HostPort, ImpState, Pieces, Port
+from dorydate.model.names import Flow, HostName, in_order
+from dorydate.model.packets import ASK, CHANNELS, DATA, DEAD, INFINITE, MOST_IMPS, NEVER, RFNM, Carried, Content, Frame, Packet, Routes, target
+from dorydate.model.script import Event
+from dorydate.model.subnet import FAR, Subnet
+from dorydate.model.trace_values import Object, answer_in, answer_of, flow_in, flow_of, message_of, text_in, text_of
 
 KINDS = {DATA: "data", RFNM: "rfnm", DEAD: "dead", ASK: "ask", NEVER: "never"}
 OF_WORDS = {word: kind for kind, word in KINDS.items()}
+NOTHING: Pieces = {}
+FATES = "impdown enddown acks distances repeat noroom passing piece whole unmarked old dead never replied answer stale".split()
 
 
 # ---- texts
 
 
-def bits_text(bits):
+def bits_text(bits: Sequence[int]) -> str:
     return "".join(str(bit) for bit in bits)
 
 
-def packet_text(packet):
+def packet_of(packet: Packet) -> Object:
     kind, flow, number, place, last, bits = packet
-    return f"{KINDS[kind]} {spell_flow(flow)} {number} {place} {'last' if last else 'more'} {len(bits)} {spelled_text(bits)}"
+    return {"kind": KINDS[kind], **flow_of(flow), "number": number, "place": place, "last": last, **text_of(bits)}
 
 
-def distances_of(vector):
+def distances_of(vector: Sequence[int]) -> dict[str, int]:
     """The distances to the IMPs that can be reached."""
     return finite(tuple(vector))
 
 
 @cache
-def finite(vector):
+def finite(vector: tuple[int, ...]) -> dict[str, int]:
     return {str(imp): distance for imp, distance in enumerate(vector, 1) if distance < INFINITE}
 
 
-def frame_of(acknowledged, content):
-    frame = {"acks": f"{acknowledged:0{CHANNELS}b}"[::-1]}
+def frame_of(acknowledged: int, content: Content) -> Object:
+    frame: Object = {"acks": f"{acknowledged:0{CHANNELS}b}"[::-1]}
     if content is None:
         return frame
     if isinstance(content, Routes):
         return {**frame, "routes": distances_of(content.distances)}
     channel, bit, packet = content
-    return {**frame, "channel": channel, "bit": bit, "packet": packet_text(packet)}
+    return {**frame, "channel": channel, "bit": bit, "packet": packet_of(packet)}
 
 
-def host_of(host):
-    messages = [f"{spell_flow(flow)} {number} {len(text)} {spelled_text(text)}" for flow, number, text in host.messages]
-    return {"up": host.is_up, "messages": messages, "answers": [f"{kind} {spell_flow(flow)}" for kind, flow in host.answers]}
+def host_of(host: HostPort) -> Object:
+    messages = [message_of(flow, text, number) for flow, number, text in host.messages]
+    return {"up": host.is_up, "messages": messages, "answers": [answer_of(it) for it in host.answers]}
 
 
-def port_of(port):
-    channels = zip(port.line.next_bit, port.line.busy)
-    sending = [str(bit) if packet is None else f"{bit} {packet_text(packet)}" for bit, packet in channels]
+def channel_of(bit: int, packet: Packet | None) -> Object:
+    return {"bit": bit} if packet is None else {"bit": bit, "packet": packet_of(packet)}
+
+
+def port_of(port: Port) -> Object:
+    sending = [channel_of(*it) for it in zip(port.line.next_bit, port.line.busy)]
     return {"up": port.is_up, "sending": sending, "expected": bits_text(port.line.expected)}
 
 
-def slot_of(flow, number, pieces):
-    return [packet_text((DATA, flow, number, place, *pieces[place])) for place in sorted(pieces)]
+def slot_of(flow: Flow, number: int, pieces: Pieces) -> list[Object]:
+    return [packet_of(Packet(DATA, flow, number, place, *pieces[place])) for place in sorted(pieces)]
 
 
-def standing(imp, flow):
-    """What a flow's message begun last has come to, at its source."""
-    return "outstanding" if flow in imp.outstanding else "answered" if flow in imp.answered else "idle"
+def standing(imp: ImpState, flow: Flow) -> str:
+    """What a flow's message begun last has come to, at its source; `dead` where a Dead without a number waits after that."""
+    if flow in imp.outstanding or flow in imp.answered:
+        return "outstanding" if flow in imp.outstanding else "answered"
+    return "dead" if imp.answer_waits(flow) else "idle"
 
 
-def imp_of(imp):
-    return imp and {
+def ports_to(imp: ImpState) -> dict[str, int]:
+    """For each IMP to which a way leads its port."""
+    ways = {number: imp.route(number) for number in range(1, MOST_IMPS + 1)}
+    return {str(number): port for number, port in ways.items() if port is not None}
+
+
+def imp_of(imp: ImpState) -> Object:
+    return {
         "hosts": [host_of(host) for host in imp.hosts],
         "ports": [port_of(port) for port in imp.ports],
         "routes": [port.heard and distances_of(port.heard) for port in imp.ports],
-        "store": [packet_text(packet) for packet in imp.store],
+        "store": [packet_of(packet) for packet in imp.store],
         "slots": [slot_of(flow, *imp.slots[flow]) for flow in in_order(imp.slots)],
-        "sources": [f"{standing(imp, flow)} {spell_flow(flow)} {imp.last[flow]}" for flow in in_order(imp.last)],
-        "kept": [f"{imp.fates[flow]} {spell_flow(flow)} {imp.kept[flow]}" for flow in in_order(imp.kept)],
+        "sources": [{"state": standing(imp, flow), **flow_of(flow), "number": imp.last[flow]} for flow in in_order(imp.last)],
+        "kept": [{"fate": imp.fates[flow], **flow_of(flow), "number": imp.kept[flow]} for flow in in_order(imp.kept)],
+        "distances": distances_of(imp.vector()),
+        "next": ports_to(imp),
     }
 
 
 # ---- parts
 
 
-def part(subnet, name):
+def part(subnet: Subnet, name: str) -> Object | None:
     """A part of a subnet, by its name."""
     kind, number = name.split(" ")
     if kind == "imp":
-        return imp_of(subnet.imps[int(number)])
+        imp = subnet.imps[int(number)]
+        return None if imp is None else imp_of(imp)
     return {way: [frame_of(*frame) for frame in frames] for way, frames in subnet.live[int(number)].items()}
 
 
-def every_name(subnet):
+def every_name(subnet: Subnet) -> list[str]:
     return [*(f"imp {number}" for number in subnet.sites), *(f"line {line}" for line in range(len(subnet.ends)))]
 
 
-def imp_named(subnet, event):
+def imp_named(subnet: Subnet, event: Event) -> int | None:
     """The IMP that an event is of."""
     kind, *parts = event
+    number: int = parts[0] if isinstance(parts[0], int) else 0
     match kind:
         case "deliver":
             line, way, _ = parts
-            return subnet.ends[line]["+-".index(way) ^ 1] if line < len(subnet.ends) else None
+            return subnet.ends[line][FAR[way]] if line < len(subnet.ends) else None
         case "take" | "hostdown" | "hostup":
-            return parts[0][1]
+            number = parts[0].imp
         case "out" | "giveup" | "ask":
-            return parts[0][0][1]
+            number = parts[0].source.imp
         case "abandon":
-            return parts[0][1][1]
-    return parts[0]
+            number = parts[0].destination.imp
+    return number
 
 
-def names(subnet, event, _):
+def names(subnet: Subnet, event: Event, _: Sequence[Crossing]) -> list[str]:
     """The parts that an event can change."""
     if event[0] == "drop":
         return [f"line {event[1]}"] if event[1] < len(subnet.ends) else []
     number = imp_named(subnet, event)
-    if number not in subnet.sites:
+    if number is None or number not in subnet.sites:
         return []
     lines = [] if event[0] in ("impdown", "impup") else subnet.lines_of(number)
     return [f"imp {number}", *(f"line {line}" for line in lines)]
 
 
-def in_quiet_round(subnet):
+def in_quiet_round(subnet: Subnet) -> Iterator[Event]:
     """The elementary events of a quiet round. Each has to happen before the next is asked for."""
     for number in subnet.sites:
-        if subnet.imps[number] is not None:
+        if imp := subnet.imps[number]:
             yield "route", number
-            if subnet.imps[number].packets():
+            if imp.packets():
                 yield "resend", number
     for line, (a, b) in enumerate(subnet.ends):
         for way, far in ("+", b), ("-", a):
@@ -138,51 +160,102 @@ def in_quiet_round(subnet):
                 yield "drop", line, way, 0
 
 
-def is_given(subnet, host):
+def is_given(subnet: Subnet, host: HostName) -> bool:
     """Whether a host that takes gets something: it is up, an answer waits, or a message whose RFNM has room."""
-    imp = subnet.imps[host[1]]
-    waits = imp and imp.hosts[host[0]]
-    if not waits or not waits.is_up:
+    imp = subnet.imps[host.imp]
+    if imp is None or not imp.runs(host):
         return False
+    waits = imp.hosts[host.number]
     if waits.answers or not waits.messages:
         return bool(waits.answers)
-    source = waits.messages[0][0][0][1]
+    source = waits.messages[0].flow.source.imp
     return source == imp.number or imp.route(source) is None or imp.room(1)
 
 
-def is_settled(subnet, crossed):
+def is_settled(subnet: Subnet, crossed: Sequence[Crossing]) -> bool:
     """Whether a round leaves nothing for later ones: never known of a subnet."""
     return False
+
+
+# ---- what becomes of frames
+
+
+def fate(subnet: Subnet, event: Event) -> str | None:
+    """What is to become of a frame that arrives, before it does; None of any other event, and where no such frame is live."""
+    if event[0] != "deliver":
+        return None
+    _, line, way, place = event
+    if place >= len(subnet.way(line, way)):
+        return None
+    imp = subnet.imps[subnet.ends[line][FAR[way]]]
+    if imp is None:
+        return "impdown"
+    end = imp.ports[subnet.port_of(imp.number, line)]
+    content = subnet.way(line, way)[place].content
+    if not end.is_up:
+        return "enddown"
+    if content is None:
+        return "acks"
+    return "distances" if isinstance(content, Routes) else fate_of_packet(imp, end, *content)
+
+
+def fate_of_packet(imp: ImpState, end: Port, channel: int, bit: int, packet: Packet) -> str:
+    """What becomes of a packet on a channel."""
+    if bit != end.line.expected[channel]:
+        return "repeat"
+    if target(packet) != imp.number:
+        has_place = imp.room(1) or imp.route(target(packet)) is None
+        return "passing" if has_place else "noroom"
+    kind, flow, number = packet[:3]
+    if kind not in (DATA, ASK):
+        return "answer" if imp.outstanding.get(flow) == number else "stale"
+    value = asked(imp, flow, number) if kind == ASK else came(imp, packet)
+    is_sent = value in ("dead", "never", "replied") and imp.route(flow.source.imp) is not None
+    return "noroom" if is_sent and not imp.room(1) else value
+
+
+def asked(imp: ImpState, flow: Flow, number: int) -> str:
+    """What becomes of a question."""
+    if imp.is_new(flow, number):
+        return "never"
+    return "replied" if imp.kept[flow] == number and imp.fates[flow] != "waits" else "old"
+
+
+def came(imp: ImpState, packet: Packet) -> str:
+    """What becomes of a piece that is for a host here."""
+    _, flow, number, place, last, bits = packet
+    if not imp.is_new(flow, number):
+        return "old"
+    if not imp.runs(flow.destination):
+        return "dead"
+    begun, pieces = imp.slots.get(flow, (number, NOTHING))
+    held = pieces if begun == number else NOTHING
+    ends = [at for at, (is_last, _) in held.items() if is_last]
+    if place in held or any(at < place for at in ends) or last and any(at > place for at in held):
+        return "old"
+    if not last and not ends or len(held) < (place if last else ends[0]):
+        return "piece" if flow in imp.slots or len(imp.slots) < SLOTS else "noroom"
+    if "1" not in bits and not any("1" in it for _, it in held.values()):
+        return "unmarked"
+    return "whole" if len(imp.hosts[flow.destination.number].messages) < QUEUE else "noroom"
 
 
 # ---- a subnet from its parts
 
 
-def words_of(text):
-    """A word, the flow behind it, and the words behind that."""
-    first, *words = text.split(" ")
-    return first, flow_in(words[:3]), words[3:]
+def packet_in(value: Object) -> Packet:
+    return Packet(OF_WORDS[value["kind"]], flow_in(value), value["number"], value["place"], value["last"], text_in(value))
 
 
-def flow_in(words):
-    source, destination, link = words
-    return read_flow([*source.split("/"), *destination.split("/"), link])
-
-
-def packet_in(text):
-    kind, flow, (number, place, last, count, octets) = words_of(text)
-    return Packet(OF_WORDS[kind], flow, int(number), int(place), last == "last", read_bits(count, octets))
-
-
-def bits_in(text):
+def bits_in(text: str) -> list[int]:
     return [int(bit) for bit in text]
 
 
-def vector_in(distances):
+def vector_in(distances: Mapping[str, int]) -> list[int]:
     return [distances.get(str(imp), INFINITE) for imp in range(1, MOST_IMPS + 1)]
 
 
-def frame_in(frame):
+def frame_in(frame: Object) -> Frame:
     acknowledged = sum(bit << channel for channel, bit in enumerate(bits_in(frame["acks"])))
     if "routes" in frame:
         return Frame(acknowledged, Routes(vector_in(frame["routes"])))
@@ -191,62 +264,57 @@ def frame_in(frame):
     return Frame(acknowledged, None)
 
 
-def fill_host(host, told):
-    host.is_up = told["up"]
-    host.answers = [Reply(*words_of(answer)[:2]) for answer in told["answers"]]
-    for message in told["messages"]:
-        *flow, number, count, octets = message.split(" ")
-        host.messages.append(Arrived(flow_in(flow), int(number), read_bits(count, octets)))
+def fill_host(host: HostPort, value: Object) -> None:
+    host.is_up = value["up"]
+    host.answers = [answer_in(it) for it in value["answers"]]
+    host.messages = [Arrived(flow_in(it), it["number"], text_in(it)) for it in value["messages"]]
 
 
-def fill_line(line, told):
-    line.next_bit = [int(channel[0]) for channel in told["sending"]]
-    line.busy = [packet_in(channel[2:]) if channel[1:] else None for channel in told["sending"]]
-    line.expected = bits_in(told["expected"])
+def fill_line(line: Channels, value: Object) -> None:
+    line.next_bit = [it["bit"] for it in value["sending"]]
+    line.busy = [packet_in(it["packet"]) if "packet" in it else None for it in value["sending"]]
+    line.expected = bits_in(value["expected"])
 
 
-def fill_flows(imp, told):
+def fill_flows(imp: Imp, value: Object) -> None:
     """What an IMP knows of the flows from here and to here."""
-    for text in told["sources"]:
-        word, flow, (number,) = words_of(text)
-        imp.last[flow] = int(number)
-        if word == "outstanding":
-            imp.outstanding[flow] = int(number)
-        elif word == "answered":
+    for it in value["sources"]:
+        flow, number = flow_in(it), it["number"]
+        imp.last[flow] = number
+        if it["state"] == "outstanding":
+            imp.outstanding[flow] = number
+        elif it["state"] == "answered":
             imp.answered.add(flow)
-    for text in told["kept"]:
-        fate, flow, (number,) = words_of(text)
-        imp.note(flow, int(number), fate)
+    for it in value["kept"]:
+        imp.note(flow_in(it), it["number"], it["fate"])
 
 
-def fill_imp(imp, told):
-    for host, it in zip(imp.hosts, told["hosts"], strict=True):
+def fill_imp(imp: Imp, value: Object) -> None:
+    for host, it in zip(imp.hosts, value["hosts"], strict=True):
         fill_host(host, it)
-    for port, it, heard in zip(imp.ports, told["ports"], told["routes"], strict=True):
+    for port, it, heard in zip(imp.ports, value["ports"], value["routes"], strict=True):
         port.is_up, port.heard = it["up"], heard if heard is None else vector_in(heard)
         fill_line(port.line, it)
-    imp.store = [packet_in(text) for text in told["store"]]
-    for pieces in map(lambda it: [packet_in(text) for text in it], told["slots"]):
-        _, flow, number = pieces[0][:3]
-        imp.slots[flow] = number, {place: (last, bits) for *_, place, last, bits in pieces}
-    fill_flows(imp, told)
+    imp.store = [packet_in(it) for it in value["store"]]
+    for pieces in ([packet_in(it) for it in slot] for slot in value["slots"]):
+        imp.slots[pieces[0].flow] = pieces[0].number, {it.place: (it.last, it.bits) for it in pieces}
+    fill_flows(imp, value)
 
 
-def put(subnet, name, told):
+def put(subnet: Subnet, name: str, value: Object | None) -> None:
     """Puts a part in the place of the one that a subnet has."""
     kind, number = name.split(" ")[0], int(name.split(" ")[1])
-    if kind == "line":
-        subnet.live[number] = {way: [frame_in(frame) for frame in told[way]] for way in "+-"}
+    if kind == "line" and value is not None:
+        subnet.live[number] = {way: [frame_in(frame) for frame in value[way]] for way in "+-"}
         return
-    subnet.imps[number] = None
-    if told is not None:
-        subnet.imps[number] = subnet.imp_of(number)
-        fill_imp(subnet.imps[number], told)
+    imp = subnet.imps[number] = None if value is None else subnet.imp_of(number)
+    if imp is not None and value is not None:
+        fill_imp(imp, value)
 
 
-def subnet_of(imps, lines, parts):
+def subnet_of(imps: Sequence[tuple[int, int]], lines: Sequence[tuple[int, ...]], parts: Mapping[str, Object | None]) -> Subnet:
     """A subnet that has these parts, with an empty log."""
     subnet = Subnet(imps, lines)
-    for name, told in parts.items():
-        put(subnet, name, told)
+    for name, value in parts.items():
+        put(subnet, name, value)
     return subnet
