@@ -82,8 +82,11 @@ class Questions:
             return self.trouble()
         if chance < 0.3 and (flows := self.outstanding()):
             return self.question(self.chance.choice(flows))
-        kinds = {"frame": 30, "take": 12, "out": 12, "lose": 8, "resend": 4, "calm": 2, "recover": 6, "row": self.rows}
-        getattr(self, f"some_{self.chance.choices([*kinds], [*kinds.values()])[0]}")()
+        ways: dict[Callable[[], None], int] = {
+            self.some_frame: 30, self.some_take: 12, self.some_out: 12, self.some_lose: 8, self.some_resend: 4, self.some_calm: 2,
+            self.some_recover: 6, self.some_row: self.rows,
+        }  # fmt: skip
+        self.chance.choices([*ways], [*ways.values()])[0]()
 
     def question(self, flow: Flow) -> None:
         """A message is asked for, as a rule; else it is given up."""
