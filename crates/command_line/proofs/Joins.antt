@@ -1,4 +1,4 @@
--- An input has one log, and its outputs tell one replay.
+-- An input has one log, and its outputs are of one replay.
 use Rattle.std.proofs.Common.{◌≡◌, Bool, List, [], ◌++◌, Some, codes, reverse, sym, ap, ap₂, subst, ◌∙◌, ℕ}
 use Rattle.std.proofs.lemmas.List.{reverse-reverse}
 use Rattle.book_log.specs.Log.{log_text}

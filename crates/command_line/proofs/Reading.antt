@@ -1,5 +1,5 @@
 -- What is read further is read of the same octets.
-use Rattle.std.proofs.Common.{◌≡◌, ◌≤◌, ◌+◌, ℕ, List, [], ◌++◌, Option, Some, None, length, take, refl, sym, ap, subst, ◌∙◌, arith}
+use Rattle.std.proofs.Common.{◌≡◌, ◌≤◌, ◌+◌, ℕ, List, ◌++◌, Option, Some, None, length, take, sym, ap, ◌∙◌, arith}
 use Rattle.std.proofs.lemmas.List.{append_assoc, length-append, length-take-le}
 use Rattle.std.specs.Io.KnownBytes.{Consumes}
 use Rattle.command_line.specs.Reading.{ReadsFirst}
@@ -15,8 +15,3 @@ reads_more a b c xs buf count h k few room =
     let long : length (xs ++ take count buf) ≡ length xs + length (take count buf) = length-append xs (take count buf) in
     let taken : length (take count buf) ≡ count = length-take-le count buf few in
     (xs ++ take count buf, consumes_more a b c xs (take count buf) h k, omega (arith, long, taken, few, room))
-
--- nothing is read
-pub reads_none : (a b : Option (List ℕ)) → b ≡ a → ReadsFirst a b
-reads_none None b same = ([], tt, omega arith)
-reads_none (Some xs) b same = ([], subst (λ (c : Option (List ℕ)). Consumes (Some xs) c []) (sym same) refl, omega arith)

@@ -1,4 +1,4 @@
--- That several outputs tell one replay.
+-- That several outputs are of one replay.
 use Rattle.std.specs.Prelude.{◌≡◌, ℕ, Bool, List, ◌++◌, codes}
 use Rattle.book_log.specs.Log.{Book, IsLog}
 use Rattle.net_sim.specs.declared.life.Life.{Life}

@@ -19,8 +19,8 @@ abbrev pub all_lives_told : List Told → List Life → List Life
 all_lives_told [] lives = lives
 all_lives_told (t ∷ told) lives = all_lives_told told (lives_told t.host t.notice lives)
 
--- the lives that crossings, newest first, and notices make, except for grants: one begins with each notice that an end is open, carries what notices of data
--- tell, and ends with the notice that its end is over, that its pair is reset, or where its host stops
+-- the lives that crossings, newest first, and notices make, except for grants: one begins with each notice that an end is open, carries what its notices of
+-- data have, and ends with the notice that its end is over, that its pair is reset, or where its host stops
 abbrev pub lives_in : List Crossing → List Told → List Life
 lives_in [] told = all_lives_told (told_at 0 told) []
 lives_in (c ∷ log) told = all_lives_told (told_at (suc (length log)) told) (lives_crossed c (lives_in log told))

@@ -29,7 +29,7 @@ pub record AreRaw (shown : List Shown) (lives : List Life) : Type 0 where
   pub no_reports : reports_of shown ≡ []
   pub no_lives : lives ≡ []
 
--- these lines, with these lives, are one book. It is formed, of messages that crossed; its notices of data tell of such messages, unless there are no host
+-- these lines, with these lives, are one book. It is formed, of messages that crossed; its notices of data are of such messages, unless there are no host
 -- programs; it is safe; its initial connections are joined; what crossed is a run of the mailboxes; and its lives are those that crossings and notices make
 pub record AreOneBook (shown : List Shown) (lives : List Life) : Type 0 where
   pub handed : List (List Bool)

@@ -85,7 +85,7 @@ pub record EndsAudit (s : Sides) (r : Result Audit AuditFault) : Type 0 where
   pub says : IfOk r (λ said. IfSome s.input (λ octets. AuditsLog octets said s.before s.after))
   pub read : s.unread ≡ false → IfSome s.input (λ octets. MatchResult r (λ _. IsSomeLog octets) (IsAuditFault octets))
 
--- this was written when it ended so, and it is handed on. Where memory ran out and that fails, the failed write is told
+-- this was written when it ended so, and it is handed on. Where memory ran out and that fails, the failed write is reported
 abbrev pub HandsOn : Result (Unit {0}) ScriptFault → Option (List ℕ) → Option (List ℕ) → Result Done ProgramFault → Type 0
 HandsOn ended written after r = ((r ≡ finished_as ended) × Keeps written after) ⊎ ((ended ≡ Err script.OutOfMemory) × (r ≡ Err (fault.Script script.CannotWrite)))
 
@@ -110,7 +110,7 @@ TellsUnread r = (r ≡ Err (fault.Script script.CannotRead)) ⊎ (r ≡ Err (fau
 abbrev pub TellsUnwritten : Result Done ProgramFault → Type 0
 TellsUnwritten r = (r ≡ Err (fault.Script script.CannotWrite)) ⊎ (r ≡ Err (fault.Audit log.CannotWrite))
 
--- however it ends: a failed read is told, and a failed write, and neither where none failed. Where no write failed all that was written is handed
+-- however it ends: a failed read is reported, and a failed write, and neither where none failed. Where no write failed all that was written is handed
 -- on, if anything was; and a fault with another status than 3 leaves nothing written
 pub record Closes (r : Result Done ProgramFault) (unread unwritten flushed : Bool) (Untouched : Type 0) : Type 0 where
   pub cannot_read : TellsUnread r ↔ (unread ≡ true)
@@ -126,7 +126,7 @@ fault_text (fault.Audit f) = audit_text f
 
 -- ---- what the contract of a private function says
 
--- after memory ran out: what was written is handed on, or the failed write is told
+-- after memory ran out: what was written is handed on, or the failed write is reported
 abbrev pub Handed : Result Done ProgramFault → Bool → Bool → Type 0
 Handed r unwritten flushed =
     ((r ≡ Err (fault.Script script.OutOfMemory)) × (unwritten ≡ false) × (flushed ≡ true)) ⊎ ((r ≡ Err (fault.Script script.CannotWrite)) × (unwritten ≡ true))

@@ -12,7 +12,7 @@ use thiserror::Error;
 /// Why the simulator ends with a fault. Where several apply, the first one of this list is given. Only
 /// `OutOfMemory` may come in place of any other.
 ///
-/// A user can't tell `OutOfMemory` from `CannotWrite`: text and status are the same. A caller can, and knows
+/// A user can't distinguish `OutOfMemory` from `CannotWrite`: text and status are the same. A caller can, and knows
 /// more of the output after `OutOfMemory`.
 #[derive(Clone, Copy, Debug, Drop, PartialEq, Eq, Error)]
 pub enum ScriptFault {

@@ -51,7 +51,7 @@ pub fn one_log()
     ensures { (input before after other : List ℕ) → LogsInput input (Some before) (Some after) → LogsInput input (Some before) (Some other) → after ≡ other }
 {}
 
-/// The outputs of one input tell one replay. Whether the book and texts are asked for only decides how much of it is printed; and the log is that of the
+/// The outputs of one input are of one replay. Whether the book and texts are asked for only decides how much of it is printed; and the log is that of the
 /// crossings and the lives that are printed.
 pub fn one_replay()
     ensures options { (book other : Bool) (detail more : Detail) (input one two : List ℕ) → ReplaysInput book detail input (Some []) (Some one) → ReplaysInput other more input (Some []) (Some two) → PrintTheSame book other detail more one two }
@@ -87,7 +87,7 @@ pub fn worked_lines()
     // a notice that an end is open, without its life
     ensures no_life { (h peer : Host) (socket foreign own partner : ℕ) → AreOneBook (lines.Noticed (record { host = h; place = 0; notice = notice.Opened socket peer foreign own partner }) ∷ []) [] → ⊥ }
 
-    // a life of which no notice tells
+    // a life without a notice
     ensures no_notice { (life : Life) (lives : List Life) → AreOneBook [] (life ∷ lives) → ⊥ }
 {}
 

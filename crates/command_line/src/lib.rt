@@ -8,7 +8,7 @@
 //! replayed or refused by name, with the first fault of the list. What is written is what the replay shows.
 //! After memory has run out the output is a prefix of that.
 //!
-//! It reads from a [`Source`] and prints to an [`Output`], which tell whether a read or a write failed. So `CannotRead`
+//! It reads from a [`Source`] and prints to an [`Output`], which say whether a read or a write failed. So `CannotRead`
 //! and `CannotWrite` are answered where one failed, and nowhere else, and after that no more is asked of either.
 //!
 //! Nothing here knows where words and octets come from, nor what becomes of a fault.

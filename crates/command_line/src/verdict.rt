@@ -1,4 +1,4 @@
-//! The line that tells what an audit says.
+//! The line of what an audit says.
 
 ghost use Rattle.std.specs.Prelude.{◌≡◌, OnOk, false, true};
 ghost use Rattle.replay.specs.Failing.{TellsFailure};

@@ -1,5 +1,5 @@
 //! The whole program on its words and an input: what it writes, how it ends, and what standard error says. Bad words, a
-//! bad topology, a bad line of a script and a bad line of a log are named, and never told as running out of memory.
+//! bad topology, a bad line of a script and a bad line of a log are named, and never taken for running out of memory.
 
 use command_line::{Printer, Reader, exit_status, run_program};
 use std::alloc::{AllocError, Global};
