@@ -1,0 +1,4 @@
+mod Ends
+mod Lines
+mod Lists
+mod Telling

@@ -1,0 +1,209 @@
+-- Events are traced one after the other, and one of them may be the last.
+use Rattle.std.proofs.Common.{◌≡◌, ◌⊎◌, inl, inr, ℕ, zero, suc, ◌<◌, ◌≤◌, ◌+◌, ◌-◌, List, [], ◌∷◌, ◌++◌, drop, get_or, length, reverse, slice_index_or, Option, Some, Result, Ok, Err, arith, refl, sym, ap, subst, ◌∙◌}
+use Rattle.std.proofs.lemmas.Bool.{cases_lt}
+use Rattle.std.proofs.lemmas.List.{append_assoc, append-nil, length-append, length-reverse, reverse-append, reverse-reverse}
+use Rattle.std.proofs.Math.Seq.{drop-append_seam}
+use Rattle.std.specs.Io.KnownBytes.{Appends}
+use Rattle.leader1822.specs.declared.crossing.Crossing.{Crossing}
+use Rattle.net_sim.specs.World.{CalmGives, Calls, WorldState}
+use Rattle.net_sim.specs.declared.event.Event.{Event}
+use Rattle.replay.proofs.lemmas.{appends_more, appends_none, last_shown, last_written, one_written}
+use Rattle.replay.specs.InTurn.{EndsInTurn, Happening, InTurn, text_of}
+use Rattle.replay.specs.declared.events.ReplayFault.{ReplayFault}
+use Rattle.replay.specs.declared.events.ReplayFault.TheVariants as fault
+use Rattle.replay.specs.declared.print.Detail.TheVariants.{Sizes}
+use Rattle.script.specs.Input.{ended_line}
+use Rattle.topology.specs.Topology.{TopologyFields}
+use Rattle.trace.specs.Traces.{WritesTrace}
+use Rattle.trace.specs.declared.element.Spot.{Spot}
+use Rattle.world_replay.specs.Output.{Shown, Writes, output}
+use Rattle.world_replay.specs.Replay.{BeginsWith, EndsIn, Happens, MayDo, Replays, StopsIn}
+use Rattle.world_script.specs.declared.event.WorldEvent.{WorldEvent}
+use Rattle.world_script.specs.declared.event.WorldEvent.TheVariants as world
+use Rattle.world_trace.specs.Steps.{EventEnds, OneEnds, Shows}
+use Rattle.world_trace.specs.Texts.{event_text, line_of, opening_text}
+use Rattle.world_trace.specs.Traces.{AfterOpening, EndsAt, MayTell, StopsOne, TellsAt, TellsCalm, TellsOne, TellsRound, first_rounds, numbered_from, spot_of, state_of}
+
+-- ---- one event
+
+-- a list of one has nothing before its last
+none_before : {E : Type 0} (e last : E) (done left : List E) → e ∷ [] ≡ done ++ last ∷ left → done ≡ []
+none_before e last [] left is = refl
+none_before e last (x ∷ done) left is =
+    let long : length (e ∷ []) ≡ length (x ∷ (done ++ last ∷ left)) = ap length is in
+    let count : length (done ++ last ∷ left) ≡ length done + suc (length left) = length-append done (last ∷ left) in
+    absurd (omega (arith, long, count))
+
+the_last : {E : Type 0} (e last : E) (done left : List E) → e ∷ [] ≡ done ++ last ∷ left → done ≡ [] → e ≡ last
+the_last e last done left is none = ap (λ es. get_or es 0 last) (is ∙ ap (λ ds. ds ++ last ∷ left) none)
+
+-- what a replay says of one event
+replayed : {C : Type 0} (calls : Calls C) (old new : WorldState C) (e : WorldEvent) (shown : List Shown) → Replays calls old (e ∷ []) new shown → Happens calls old e new shown
+replayed calls old new e shown (mid, first, rest, one, (same, none), all) =
+    let whole : shown ≡ first = all ∙ ap (λ xs. first ++ xs) none ∙ append-nil first in
+    subst (λ xs. Happens calls old e new xs) (sym whole) (subst (λ w. Happens calls old e w first) (sym same) one)
+
+-- an event that ends as is said, in a list of one
+last_one : {C : Type 0} (calls : Calls C) (Goes : Happening (WorldState C) WorldEvent Shown) (old new : WorldState C) (e : WorldEvent) (shown : List Shown) → EndsIn calls Goes old (e ∷ []) new shown → (own : List Shown) × Goes old e new own
+last_one {C} calls Goes old new e shown h =
+    let none : h.done ≡ [] = none_before e h.last h.done h.left h.parts in
+    let is : e ≡ h.last = the_last e h.last h.done h.left h.parts none in
+    let first : InTurn (Happens calls) old [] h.mid h.front = subst (λ (es : List WorldEvent). InTurn (Happens calls) old es h.mid h.front) none h.before in
+    (h.own, subst (λ (w : WorldState C). Goes w e new h.own) first.0 (subst (λ (x : WorldEvent). Goes h.mid x new h.own) (sym is) h.goes))
+
+whole_event : (e : WorldEvent) → BeginsWith e e
+whole_event (world.Happen e) = refl
+whole_event (world.Calm rounds) = (rounds, refl, omega arith)
+
+pub stopped : {C : Type 0} (calls : Calls C) (old new : WorldState C) (e : WorldEvent) (shown : List Shown) → EndsIn calls (StopsIn calls) old (e ∷ []) new shown → MayTell calls old e new []
+stopped calls old new e shown h =
+    let (own, stops) = last_one calls (StopsIn calls) old new e shown h in
+    (refl, record { processed = e; begins = whole_event e; outcome = stops.outcome; gives = stops.gives; unknown = refl })
+
+pub unwritten : {C : Type 0} (calls : Calls C) (old new : WorldState C) (e : WorldEvent) (shown : List Shown) → EndsIn calls (MayDo calls) old (e ∷ []) new shown → MayTell calls old e new []
+unwritten calls old new e shown h =
+    let (own, may) = last_one calls (MayDo calls) old new e shown h in
+    (refl, subst (λ xs. MayDo calls old e new xs) may.unknown may)
+
+pub shows : {C : Type 0} (calls : Calls C) (old new : WorldState C) (e : WorldEvent) (written : List ℕ) → Writes Sizes (Replays calls old (e ∷ []) new) (Some []) (Some written) → Shows calls old e new written
+shows calls old new e written h = (h.shown, replayed calls old new e h.shown h.is_shown, h.written)
+
+-- ---- its line
+
+-- what crossed in it
+pub crossings_gained : (old new cs : List Crossing) → new ≡ reverse cs ++ old → drop (length old) (reverse new) ≡ cs
+crossings_gained old new cs is =
+    let all : reverse new ≡ reverse old ++ cs = ap reverse is ∙ reverse-append (reverse cs) old ∙ ap (λ xs. reverse old ++ xs) (reverse-reverse cs) in
+    ap (λ n. drop n (reverse new)) (sym (length-reverse old)) ∙ ap (drop (length (reverse old))) all ∙ drop-append_seam (reverse old) cs
+
+-- one line is written
+pub one_line : (line : List ℕ) (IsLine : List (List ℕ) → Type 0) (a b : Option (List ℕ)) → IsLine (line ∷ []) → Appends a b (ended_line line) → WritesTrace IsLine a b
+one_line line IsLine a b is written = record { shown = line ∷ []; is_shown = is; written = subst (Appends a b) (sym (append-nil (ended_line line))) written }
+
+pub no_line : (AreLines : List (List ℕ) → Type 0) (a : Option (List ℕ)) → AreLines [] → WritesTrace AreLines a a
+no_line AreLines a is = record { shown = []; is_shown = is; written = appends_none a }
+
+pub tells : {C : Type 0} (calls : Calls C) (whole : C → List ℕ) (spot : Spot) (round : ℕ) (old new : WorldState C) (e : WorldEvent) (text printed : List ℕ) (before after crossings : List Crossing) (a b : Option (List ℕ))
+    → text ≡ event_text e → Shows calls old e new printed → length before ≡ length old.kept.book.crossings → after ≡ reverse new.kept.book.crossings → crossings ≡ drop (length before) after
+    → Appends a b (ended_line (line_of spot round text crossings printed (state_of whole new))) → WritesTrace (TellsOne calls whole spot round old e new) a b
+tells {C} calls whole spot round old new e text printed before after crossings a b spelled (shown, h, is) was now cut written =
+    let same : crossings ≡ h.gains.crossings =
+    cut ∙ ap (drop (length before)) now ∙ ap (λ n. drop n (reverse new.kept.book.crossings)) was ∙ crossings_gained old.kept.book.crossings new.kept.book.crossings h.gains.crossings h.gains.crossed in
+    one_line (line_of spot round (event_text e) h.gains.crossings (output Sizes shown) (state_of whole new)) (TellsOne calls whole spot round old e new) a b (shown, h, refl)
+    (subst (λ (t : List ℕ). Appends a b (ended_line (line_of spot round t h.gains.crossings (output Sizes shown) (state_of whole new)))) spelled
+    (subst (λ (cs : List Crossing). Appends a b (ended_line (line_of spot round text cs (output Sizes shown) (state_of whole new)))) same
+    (subst (λ (p : List ℕ). Appends a b (ended_line (line_of spot round text crossings p (state_of whole new)))) is written)))
+
+-- ---- an event that is no calm
+
+pub happen_ends : {C : Type 0} (calls : Calls C) (whole : C → List ℕ) (spot : Spot) (old new : WorldState C) (e : Event) (r : Result (Unit {0}) ReplayFault) (a b : Option (List ℕ)) → OneEnds calls whole spot 0 old (world.Happen e) r new a b
+    → EventEnds calls whole spot old (world.Happen e) r new a b
+happen_ends calls whole spot old new e (Ok done) a b h = h
+happen_ends calls whole spot old new e (Err fault.OutOfMemory) a b h = h
+happen_ends calls whole spot old new e (Err fault.CannotWrite) a b h = h
+
+-- ---- a calm
+
+-- this many rounds have passed
+abbrev pub Passed : {C : Type 0} → Calls C → (C → List ℕ) → Spot → ℕ → WorldState C → WorldState C → Option (List ℕ) → Option (List ℕ) → Type 0
+Passed calls whole spot passed old now a b = WritesTrace (InTurn (TellsRound calls whole spot) old (first_rounds passed) now) a b
+
+pub none_passed : {C : Type 0} (calls : Calls C) (whole : C → List ℕ) (spot : Spot) (old : WorldState C) (a : Option (List ℕ)) → Passed calls whole spot 0 old old a a
+none_passed calls whole spot old a = no_line (InTurn (TellsRound calls whole spot) old [] old) a (refl, refl)
+
+next_round : (passed : ℕ) → first_rounds (passed + 1) ≡ first_rounds passed ++ (passed + 1) ∷ []
+next_round passed =
+    let is : suc passed ≡ passed + 1 = omega arith in
+    ap first_rounds (sym is) ∙ ap (λ n. first_rounds passed ++ n ∷ []) is
+
+pub one_passed : {C : Type 0} (calls : Calls C) (whole : C → List ℕ) (spot : Spot) (passed : ℕ) (old mid new : WorldState C) (a b c : Option (List ℕ)) → Passed calls whole spot passed old mid a b
+    → WritesTrace (TellsOne calls whole spot (passed + 1) mid (world.Calm 1) new) b c → Passed calls whole spot (passed + 1) old new a c
+one_passed {C} calls whole spot passed old mid new a b c h k =
+    subst (λ (rounds : List ℕ). WritesTrace (InTurn (TellsRound calls whole spot) old rounds new) a c) (sym (next_round passed))
+    (one_written (TellsRound calls whole spot) (λ line. line) old mid new (first_rounds passed) (passed + 1) a b c h k)
+
+-- they are the first of more
+first_of : (passed rounds : ℕ) → passed < rounds → (left : List ℕ) × (first_rounds rounds ≡ first_rounds passed ++ (passed + 1) ∷ left)
+first_of passed zero lt = absurd (omega (arith, lt))
+first_of passed (suc rounds) lt = elim (cases_lt passed rounds) [
+  | inl less ↦
+      let (left, is) = first_of passed rounds less in
+      (left ++ suc rounds ∷ [], ap (λ xs. xs ++ suc rounds ∷ []) is ∙ append_assoc (first_rounds passed) ((passed + 1) ∷ left) (suc rounds ∷ []))
+  | inr more ↦
+      let same : rounds ≡ passed = omega (arith, lt, more) in
+      let next : suc passed ≡ passed + 1 = omega arith in
+      ([], ap (λ n. first_rounds (suc n)) same ∙ ap (λ n. first_rounds passed ++ n ∷ []) next)
+]
+
+pub calm_passed : {C : Type 0} (calls : Calls C) (whole : C → List ℕ) (spot : Spot) (passed rounds : ℕ) (old new : WorldState C) (a b : Option (List ℕ)) → passed ≤ rounds → Passed calls whole spot passed old new a b → (passed ≡ rounds) ⊎ CalmGives calls (rounds - passed) new (Ok tt) new
+    → EventEnds calls whole spot old (world.Calm rounds) (Ok tt) new a b
+calm_passed calls whole spot passed rounds old new a b few h left = record { shown = h.shown; is_shown = record { passed = passed; few = few; told = h.is_shown; left = left }; written = h.written }
+
+pub calm_early : {C : Type 0} (calls : Calls C) (whole : C → List ℕ) (spot : Spot) (passed rounds : ℕ) (old mid new : WorldState C) (f : ReplayFault) (a b c : Option (List ℕ)) → passed < rounds → Passed calls whole spot passed old mid a b
+    → OneEnds calls whole spot (passed + 1) mid (world.Calm 1) (Err f) new b c → EventEnds calls whole spot old (world.Calm rounds) (Err f) new a c
+calm_early {C} calls whole spot passed rounds old mid new fault.OutOfMemory a b c lt h k =
+    let (left, is) = first_of passed rounds lt in
+    last_written (TellsRound calls whole spot) (λ (o : WorldState C) (n : ℕ) (w : WorldState C) (ls : List (List ℕ)). StopsOne calls o (world.Calm 1) w ls) (λ line. line) old mid new (first_rounds rounds) (first_rounds passed) (passed + 1) left a b c is h k
+calm_early {C} calls whole spot passed rounds old mid new fault.CannotWrite a b c lt h (lines, k) =
+    let (left, is) = first_of passed rounds lt in (
+      h.shown ++ lines,
+      last_shown (TellsRound calls whole spot) (λ (o : WorldState C) (n : ℕ) (w : WorldState C) (ls : List (List ℕ)). MayTell calls o (world.Calm 1) w ls) old mid new (first_rounds rounds) (first_rounds passed) (passed + 1) left h.shown lines is h.is_shown k,
+    )
+
+-- ---- all events
+
+-- of these events the first ones happened, their lines are written, and those are left
+pub record SoFar {S E : Type 0} (Happens : Happening S E (List ℕ)) (old : S) (all left : List E) (now : S) (before after : Option (List ℕ)) : Type 0 where
+  pub done : List E
+  pub parts : all ≡ done ++ left
+  pub written : WritesTrace (InTurn Happens old done now) before after
+
+pub none_yet : {S E : Type 0} (Happens : Happening S E (List ℕ)) (old : S) (all : List E) (a : Option (List ℕ)) → SoFar Happens old all all old a a
+none_yet Happens old all a = record { done = []; parts = refl; written = no_line (InTurn Happens old [] old) a (refl, refl) }
+
+pub one_more : {S E : Type 0} (Happens : Happening S E (List ℕ)) (old mid new : S) (all left later : List E) (e : E) (a b c : Option (List ℕ))
+    → left ≡ e ∷ later → SoFar Happens old all left mid a b → WritesTrace (Happens mid e new) b c → SoFar Happens old all later new a c
+one_more Happens old mid new all left later e a b c is h k = record {
+  done = h.done ++ e ∷ [];
+  parts = h.parts ∙ ap (λ es. h.done ++ es) is ∙ sym (append_assoc h.done (e ∷ []) later);
+  written = one_written Happens (λ line. line) old mid new h.done e a b c h.written k;
+}
+
+pub all_done : {S E : Type 0} (Happens : Happening S E (List ℕ)) (old new : S) (all left : List E) (a b : Option (List ℕ)) → left ≡ [] → SoFar Happens old all left new a b → WritesTrace (InTurn Happens old all new) a b
+all_done {S} {E} Happens old new all left a b none h =
+    let whole : all ≡ h.done = h.parts ∙ ap (λ es. h.done ++ es) none ∙ append-nil h.done in
+    subst (λ (es : List E). WritesTrace (InTurn Happens old es new) a b) (sym whole) h.written
+
+pub ends_so : {S E : Type 0} (Happens Goes : Happening S E (List ℕ)) (old mid new : S) (all left later : List E) (e : E) (a b c : Option (List ℕ))
+    → left ≡ e ∷ later → SoFar Happens old all left mid a b → WritesTrace (Goes mid e new) b c → WritesTrace (EndsInTurn Happens Goes old all new) a c
+ends_so Happens Goes old mid new all left later e a b c is h k = last_written Happens Goes (λ line. line) old mid new all h.done e later a b c (h.parts ∙ ap (λ es. h.done ++ es) is) h.written k
+
+pub fails_so : {S E : Type 0} (Happens Goes : Happening S E (List ℕ)) (old mid new : S) (all left later : List E) (e : E) (a b : Option (List ℕ))
+    → left ≡ e ∷ later → SoFar Happens old all left mid a b → ((lines : List (List ℕ)) × Goes mid e new lines) → (lines : List (List ℕ)) × EndsInTurn Happens Goes old all new lines
+fails_so Happens Goes old mid new all left later e a b is h (lines, k) = (
+  h.written.shown ++ lines,
+  last_shown Happens Goes old mid new all h.done e later h.written.shown lines (h.parts ∙ ap (λ es. h.done ++ es) is) h.written.is_shown k,
+)
+
+pub none_left : (events : List WorldEvent) → length events ≡ 0 → events ≡ []
+none_left [] none = refl
+none_left (e ∷ events) none = absurd (omega (arith, none))
+
+-- the next event with where it is
+pub next_at : (lines : List ℕ) (passed : ℕ) (left later : List WorldEvent) (e : WorldEvent) → left ≡ e ∷ later
+    → numbered_from lines (passed + 1) left ≡ (record { line = slice_index_or lines passed 0; number = passed + 1 }, e) ∷ numbered_from lines (passed + 1 + 1) later
+next_at lines passed left later e is =
+    let next : suc (passed + 1) ≡ passed + 1 + 1 = omega arith in
+    let here : passed + 1 - 1 ≡ passed = omega arith in
+    ap (numbered_from lines (passed + 1)) is ∙ ap (λ n. (spot_of lines (passed + 1), e) ∷ numbered_from lines n later) next
+    ∙ ap (λ n. (record { line = slice_index_or lines n 0; number = passed + 1 }, e) ∷ numbered_from lines (passed + 1 + 1) later) here
+
+-- ---- after the first line
+
+pub after_opening : {C : Type 0} (whole : C → List ℕ) (t : TopologyFields) (opening : WorldState C) (AreLines : List (List ℕ) → Type 0) (a b c : Option (List ℕ)) → Appends a b (ended_line (opening_text t (state_of whole opening))) → WritesTrace AreLines b c
+    → WritesTrace (AfterOpening whole t opening AreLines) a c
+after_opening whole t opening AreLines a b c first h = record {
+  shown = opening_text t (state_of whole opening) ∷ h.shown;
+  is_shown = (h.shown, refl, h.is_shown);
+  written = appends_more a b c (ended_line (opening_text t (state_of whole opening))) (text_of (λ line. line) h.shown) first h.written;
+}

@@ -1,0 +1,10 @@
+use Rattle.std.proofs.Common.{◌≡◌, List, ℕ, ◌++◌, drop}
+use Rattle.std.specs.Fmt.{HasWritten, IsPlainFormatter}
+use Rattle.hex.specs.Hex.{encode_upper}
+use Rattle.world_trace.proofs.values.HexDisplay.fmt.Given as goal
+
+-- with what the octets that are left come to, what is shown is the whole
+abbrev pub invariant-loop-octet : goal.invariant-loop-octet
+invariant-loop-octet g l =
+    (front : List ℕ) × (front ++ encode_upper (drop l.octet-index l.octet-items) ≡ encode_upper l.octet-items)
+    × (IsPlainFormatter l.fn.f → HasWritten g.W.Write.write_str_gives l.fn.f front l.f)

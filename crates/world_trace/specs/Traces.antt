@@ -1,0 +1,76 @@
+-- What is written as the trace of a world, over any carrier whose inside can be traced.
+use Rattle.std.specs.Prelude.{◌≡◌, ◌⊎◌, ℕ, zero, suc, ◌-◌, ◌≤◌, List, [], ◌∷◌, ◌++◌, Ok, slice_index_or}
+use Rattle.net_sim.specs.World.{CalmGives, Calls, WorldState}
+use Rattle.replay.specs.InTurn.{EndsInTurn, Happening, InTurn}
+use Rattle.topology.specs.Topology.{TopologyFields}
+use Rattle.trace.specs.declared.element.Spot.{Spot}
+use Rattle.world_replay.specs.Output.{Shown}
+use Rattle.world_replay.specs.Replay.{Happens, MayDo}
+use Rattle.world_script.specs.declared.event.WorldEvent.{WorldEvent}
+use Rattle.world_script.specs.declared.event.WorldEvent.TheVariants as world
+use Rattle.world_trace.specs.Texts.{opening_text, state_members, world_line}
+
+-- where an event is in a script: the number of its line among these, and its own
+abbrev pub spot_of : List ℕ → ℕ → Spot
+spot_of lines number = record { line = slice_index_or lines (number - 1) 0; number = number }
+
+-- events with where they are, numbered from this number on
+abbrev pub numbered_from : List ℕ → ℕ → List WorldEvent → List (Spot × WorldEvent)
+numbered_from lines number [] = []
+numbered_from lines number (e ∷ events) = (spot_of lines number, e) ∷ numbered_from lines (suc number) events
+
+-- the state of a world, where a carrier has this object of all its parts
+abbrev pub state_of : {C : Type 0} → (C → List ℕ) → WorldState C → List (List ℕ)
+state_of whole w = state_members (whole w.carrier) w.seats w.services
+
+-- an event that is no calm, or one round of a calm, happens as in a replay, and has one line, over the state after it
+abbrev pub TellsOne : {C : Type 0} → Calls C → (C → List ℕ) → Spot → ℕ → Happening (WorldState C) WorldEvent (List ℕ)
+TellsOne calls whole spot round old e new lines =
+    (shown : List Shown) × (h : Happens calls old e new shown) × (lines ≡ world_line spot round e h.gains.crossings shown (state_of whole new) ∷ [])
+
+-- a round of a calm, by its number
+abbrev pub TellsRound : {C : Type 0} → Calls C → (C → List ℕ) → Spot → Happening (WorldState C) ℕ (List ℕ)
+TellsRound calls whole spot old round new lines = TellsOne calls whole spot round old (world.Calm 1) new lines
+
+-- the numbers of this many rounds, counted from 1
+abbrev pub first_rounds : ℕ → List ℕ
+first_rounds zero = []
+first_rounds (suc rounds) = first_rounds rounds ++ suc rounds ∷ []
+
+-- the first rounds of a calm have a line each; those that are left, if there are any, would change nothing
+pub record TellsCalm {C : Type 0} (calls : Calls C) (whole : C → List ℕ) (spot : Spot) (rounds : ℕ) (old new : WorldState C) (lines : List (List ℕ)) : Type 0 where
+  pub passed : ℕ
+  pub few : passed ≤ rounds
+  pub told : InTurn (TellsRound calls whole spot) old (first_rounds passed) new lines
+  pub left : (passed ≡ rounds) ⊎ CalmGives calls (rounds - passed) new (Ok tt) new
+
+abbrev pub TellsAt : {C : Type 0} → Calls C → (C → List ℕ) → Spot → Happening (WorldState C) WorldEvent (List ℕ)
+TellsAt calls whole spot old (world.Happen e) new lines = TellsOne calls whole spot 0 old (world.Happen e) new lines
+TellsAt calls whole spot old (world.Calm rounds) new lines = TellsCalm calls whole spot rounds old new lines
+
+-- the lines are those of these events, numbered from 1, which are in these lines of a script
+abbrev pub TracesWorld : {C : Type 0} → Calls C → (C → List ℕ) → WorldState C → List ℕ → List WorldEvent → WorldState C → List (List ℕ) → Type 0
+TracesWorld calls whole old numbers events new lines = InTurn (λ old e new lines. TellsAt calls whole e.0 old e.1 new lines) old (numbered_from numbers 1 events) new lines
+
+-- the lines after the first, which is the network with the state at the opening
+abbrev pub AfterOpening : {C : Type 0} → (C → List ℕ) → TopologyFields → WorldState C → (List (List ℕ) → Type 0) → List (List ℕ) → Type 0
+AfterOpening whole t opening AreLines lines = (others : List (List ℕ)) × (lines ≡ opening_text t (state_of whole opening) ∷ others) × AreLines others
+
+-- ---- a trace that ends early, in an event or in a round
+
+-- the world processed it, whatever came of it, and it has no line
+abbrev pub MayTell : {C : Type 0} → Calls C → Happening (WorldState C) WorldEvent (List ℕ)
+MayTell calls old e new lines = (lines ≡ []) × MayDo calls old e new []
+
+-- memory ran out before it happened, in it, or for its line
+abbrev pub StopsOne : {C : Type 0} → Calls C → Happening (WorldState C) WorldEvent (List ℕ)
+StopsOne calls old e new lines = ((lines ≡ []) × (new ≡ old)) ⊎ MayTell calls old e new lines
+
+-- the rounds before one had their lines, and that one went as is said
+abbrev pub EndsAt : {C : Type 0} → Calls C → (C → List ℕ) → Happening (WorldState C) WorldEvent (List ℕ) → Spot → Happening (WorldState C) WorldEvent (List ℕ)
+EndsAt calls whole Goes spot old (world.Happen e) new lines = Goes old (world.Happen e) new lines
+EndsAt calls whole Goes spot old (world.Calm rounds) new lines = EndsInTurn (TellsRound calls whole spot) (λ old round new lines. Goes old (world.Calm 1) new lines) old (first_rounds rounds) new lines
+
+abbrev pub WorldTraceEnds : {C : Type 0} → Calls C → (C → List ℕ) → Happening (WorldState C) WorldEvent (List ℕ) → WorldState C → List ℕ → List WorldEvent → WorldState C → List (List ℕ) → Type 0
+WorldTraceEnds calls whole Goes old numbers events new lines =
+    EndsInTurn (λ old e new lines. TellsAt calls whole e.0 old e.1 new lines) (λ old e new lines. EndsAt calls whole Goes e.0 old e.1 new lines) old (numbered_from numbers 1 events) new lines

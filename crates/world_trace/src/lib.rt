@@ -1,0 +1,21 @@
+//! Traces of worlds: what happens in the programs and services of hosts, event by event.
+//!
+//! [`trace_world`] lets each event of a world's script happen as a replay does, and prints a JSON object for each: the event, what
+//! it printed, and the state after it. That is all parts of the carrier, which is traced as a raw network is (crate `trace`), the
+//! program of each host with its pairs, ends and counters, and its services. A calm has one object for each of its rounds. The first
+//! line is the network with the state at the opening.
+//!
+//! The texts are definitions (`specs/Texts.antt`), and each line is exactly that text of the state after its event.
+#![tactic(auto)]
+
+mod commands;
+mod line;
+mod net_events;
+mod pairs;
+mod services;
+mod spelling;
+mod traced;
+mod values;
+pub mod worked;
+
+pub use traced::trace_world;

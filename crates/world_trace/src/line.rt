@@ -1,0 +1,110 @@
+//! The lines of a world's trace.
+
+ghost use Rattle.std.specs.Prelude.{◌≡◌, OnOk, false};
+ghost use Rattle.std.specs.Io.KnownBytes.{Appends};
+ghost use Rattle.replay.specs.Failing.{TellsFailure};
+ghost use Rattle.script.specs.Input.{ended_line};
+ghost use Rattle.world_trace.specs.Steps.{head_text, hosts_text, outcome_text, state_text};
+ghost use Rattle.world_trace.specs.Texts.{line_of, opening_text};
+ghost use Rattle.world_trace.specs.Traces.{state_of};
+
+use crate::spelling::print_lines;
+use crate::values::Object;
+use leader1822::Crossing;
+use net_sim::World;
+use replay::{Output, WriteFailed};
+use topology::Topology;
+use trace::json::print_array;
+use trace::{Inspect, Spot, print_network};
+
+/// Prints the programs and the services of the hosts, after other members.
+fn print_hosts<C: Inspect, W: Output>(world: &World<C>, writer: &mut W) -> Result<(), WriteFailed>
+    requires { W.failed writer.old ≡ false }
+    ensures written { OnOk result (Appends (W.contents writer.old) (W.contents writer.new) (hosts_text world.now.seats world.now.services)) }
+    ensures failed { TellsFailure result (W.failed writer.new) }
+{
+    let (programs, services) = (Object(world.seats()), Object(world.services()));
+    write!(
+        writer,
+        ",\"programs\":{programs},\"services\":{services}}}\n"
+    )
+}
+
+/// Prints where an event is in a script, its round, and the event.
+fn print_head<W: Output>(
+    spot: Spot,
+    round: u32,
+    event: &[u8],
+    writer: &mut W,
+) -> Result<(), WriteFailed>
+    requires { W.failed writer.old ≡ false }
+    ensures written { OnOk result (Appends (W.contents writer.old) (W.contents writer.new) (head_text spot round event.now)) }
+    ensures failed { TellsFailure result (W.failed writer.new) }
+{
+    let (line, number) = (spot.line, spot.number);
+    write!(
+        writer,
+        "{{\"line\":{line},\"number\":{number},\"round\":{round},\"event\":\""
+    )?;
+    writer.write_all(event)
+}
+
+/// Prints what crossed and the lines that a replay prints, after an event.
+fn print_outcome<W: Output>(
+    crossings: &[Crossing],
+    printed: &[u8],
+    writer: &mut W,
+) -> Result<(), WriteFailed>
+    requires { W.failed writer.old ≡ false }
+    ensures written { OnOk result (Appends (W.contents writer.old) (W.contents writer.new) (outcome_text crossings.now printed.now)) }
+    ensures failed { TellsFailure result (W.failed writer.new) }
+{
+    writer.write_all(b"\",\"crossed\":")?;
+    print_array(&crossings, writer)?;
+    writer.write_all(b",\"printed\":")?;
+    print_lines(printed, writer)
+}
+
+/// Prints the state of a world after other members, and the end of the line.
+fn print_state<C: Inspect, W: Output>(world: &World<C>, writer: &mut W) -> Result<(), WriteFailed>
+    requires { W.failed writer.old ≡ false }
+    ensures written { OnOk result (Appends (W.contents writer.old) (W.contents writer.new) (state_text (C.whole world.now.carrier) world.now.seats world.now.services)) }
+    ensures failed { TellsFailure result (W.failed writer.new) }
+{
+    world.carrier().print_whole(writer)?;
+    print_hosts(world, writer)
+}
+
+/// Prints the line of an event, or of a round of a calm, in which this crossed and for which a replay prints these lines.
+pub(crate) fn print_line<C: Inspect, W: Output>(
+    world: &World<C>,
+    spot: Spot,
+    round: u32,
+    event: &[u8],
+    crossings: &[Crossing],
+    printed: &[u8],
+    writer: &mut W,
+) -> Result<(), WriteFailed>
+    requires { W.failed writer.old ≡ false }
+    ensures written { OnOk result (Appends (W.contents writer.old) (W.contents writer.new) (ended_line (line_of spot round event.now crossings.now printed.now (state_of C.whole world.now)))) }
+    ensures failed { TellsFailure result (W.failed writer.new) }
+{
+    print_head(spot, round, event, writer)?;
+    print_outcome(crossings, printed, writer)?;
+    writer.write_all(b",\"parts\":")?;
+    print_state(world, writer)
+}
+
+/// Prints the first line of a trace: the network, and the state of a world.
+pub(crate) fn print_opening<C: Inspect, W: Output>(
+    network: &Topology,
+    world: &World<C>,
+    writer: &mut W,
+) -> Result<(), WriteFailed>
+    requires { W.failed writer.old ≡ false }
+    ensures written { OnOk result (Appends (W.contents writer.old) (W.contents writer.new) (ended_line (opening_text network.now (state_of C.whole world.now)))) }
+    ensures failed { TellsFailure result (W.failed writer.new) }
+{
+    print_network(network, writer)?;
+    print_state(world, writer)
+}

@@ -1,0 +1,187 @@
+//! Tracing the events of a world's script.
+
+ghost use Rattle.std.specs.Prelude.{◌≡◌, ◌⊎◌, [], ℕ, Err, IfErr, IfOk, List, Ok, OnOk, false, length, true};
+ghost use Rattle.net_sim.specs.Carriers.{shown};
+ghost use Rattle.net_sim.specs.World.{CalmGives};
+ghost use Rattle.replay.specs.Failing.{TellsCannotWrite};
+ghost use Rattle.replay.specs.declared.print.Detail.TheVariants.{Sizes};
+ghost use Rattle.trace.specs.Traces.{WritesTrace};
+ghost use Rattle.world_replay.specs.Output.{output};
+ghost use Rattle.world_script.specs.declared.event.WorldEvent.TheVariants as world_event;
+ghost use Rattle.world_trace.specs.Steps.{EventEnds, OneEnds, Shows};
+ghost use Rattle.world_trace.specs.Texts.{event_text};
+ghost use Rattle.world_trace.specs.Traces.{AfterOpening, MayTell, StopsOne, TracesWorld, WorldTraceEnds};
+
+use crate::line::{print_line, print_opening};
+use crate::spelling::print_event;
+use leader1822::Carrier;
+use net_sim::World;
+use replay::{Detail, Output, Printer, ReplayFault};
+use std::alloc::{AllocError, Global};
+use topology::Topology;
+use trace::{Inspect, Spot};
+use world_replay::replay_events;
+use world_script::WorldEvent;
+
+/// Prints the network with the state of a world, lets each event happen in order as a replay does, and prints a JSON object for
+/// each event, and for each round of a calm: where it is in the script, the event, what crossed, what a replay prints for it, and the
+/// state after it. `lines` has the numbers of the events' lines in the script.
+///
+/// A refused event changes nothing, and has a line too. Rounds of a calm in which nothing would happen any more have none.
+///
+/// Errors:
+/// - `OutOfMemory`: memory ran out at one event or round. The first line and those of the events and rounds before it were written, and
+///   none of its own.
+/// - `CannotWrite`: a write failed. The event or round had already happened whose line it was. Nothing more was asked of the
+///   writer, which is the only one to know how much of its last lines it wrote.
+pub fn trace_world<C: Inspect, W: Output>(
+    alloc: Global,
+    network: &Topology,
+    world: &mut World<C>,
+    lines: &[usize],
+    events: Vec<WorldEvent>,
+    writer: &mut W,
+) -> Result<(), ReplayFault>
+    requires events { length lines.now ≡ length events.items }
+    requires whole { W.failed writer.old ≡ false }
+
+    // first the network with the state, and then each event and each round happened as in a replay, and its line was written
+    ensures traced { OnOk result (WritesTrace (AfterOpening C.whole network.now world.old (TracesWorld (shown (record { seen = C.seen; offers = C.offers; takes = C.takes; steps = C.steps; rounds = C.rounds })) C.whole world.old lines.now events.items world.new)) (W.contents writer.old) (W.contents writer.new)) }
+
+    // memory ran out at one of them: the first line and those before it were written, and nothing else
+    ensures memory { result ≡ Err ReplayFault.OutOfMemory → WritesTrace (AfterOpening C.whole network.now world.old (WorldTraceEnds (shown (record { seen = C.seen; offers = C.offers; takes = C.takes; steps = C.steps; rounds = C.rounds })) C.whole (StopsOne (shown (record { seen = C.seen; offers = C.offers; takes = C.takes; steps = C.steps; rounds = C.rounds }))) world.old lines.now events.items world.new)) (W.contents writer.old) (W.contents writer.new) }
+
+    // `CannotWrite` is answered where a write failed, and nowhere else
+    ensures failed { TellsCannotWrite result (W.failed writer.new) }
+
+    // a write failed: the event or round had already happened, or none had
+    ensures cannot_write { result ≡ Err ReplayFault.CannotWrite → (world.new ≡ world.old) ⊎ ((others : List (List ℕ)) × WorldTraceEnds (shown (record { seen = C.seen; offers = C.offers; takes = C.takes; steps = C.steps; rounds = C.rounds })) C.whole (MayTell (shown (record { seen = C.seen; offers = C.offers; takes = C.takes; steps = C.steps; rounds = C.rounds }))) world.old lines.now events.items world.new others) }
+{
+    print_opening(network, world, writer)?;
+    trace_all(alloc, world, lines, events, writer)
+}
+
+/// Traces all events, which are in these lines of a script.
+fn trace_all<C: Inspect, W: Output>(
+    alloc: Global,
+    world: &mut World<C>,
+    lines: &[usize],
+    events: Vec<WorldEvent>,
+    writer: &mut W,
+) -> Result<(), ReplayFault>
+    requires events { length lines.now ≡ length events.items }
+    requires whole { W.failed writer.old ≡ false }
+    ensures traced { OnOk result (WritesTrace (TracesWorld (shown (record { seen = C.seen; offers = C.offers; takes = C.takes; steps = C.steps; rounds = C.rounds })) C.whole world.old lines.now events.items world.new) (W.contents writer.old) (W.contents writer.new)) }
+    ensures memory { result ≡ Err ReplayFault.OutOfMemory → WritesTrace (WorldTraceEnds (shown (record { seen = C.seen; offers = C.offers; takes = C.takes; steps = C.steps; rounds = C.rounds })) C.whole (StopsOne (shown (record { seen = C.seen; offers = C.offers; takes = C.takes; steps = C.steps; rounds = C.rounds }))) world.old lines.now events.items world.new) (W.contents writer.old) (W.contents writer.new) }
+    ensures failed { TellsCannotWrite result (W.failed writer.new) }
+    ensures cannot_write { result ≡ Err ReplayFault.CannotWrite → (others : List (List ℕ)) × WorldTraceEnds (shown (record { seen = C.seen; offers = C.offers; takes = C.takes; steps = C.steps; rounds = C.rounds })) C.whole (MayTell (shown (record { seen = C.seen; offers = C.offers; takes = C.takes; steps = C.steps; rounds = C.rounds }))) world.old lines.now events.items world.new others }
+{
+    let mut passed: usize = 0;
+    for event in events {
+        let spot = Spot {
+            line: lines[passed],
+            number: passed + 1,
+        };
+        trace_event(alloc, world, spot, event, writer)?;
+        passed += 1;
+    }
+    Ok(())
+}
+
+/// Traces one event, which is at this spot of a script.
+fn trace_event<C: Inspect, W: Output>(
+    alloc: Global,
+    world: &mut World<C>,
+    spot: Spot,
+    event: WorldEvent,
+    writer: &mut W,
+) -> Result<(), ReplayFault>
+    requires { W.failed writer.old ≡ false }
+    ensures ends { EventEnds (shown (record { seen = C.seen; offers = C.offers; takes = C.takes; steps = C.steps; rounds = C.rounds })) C.whole spot world.old event result world.new (W.contents writer.old) (W.contents writer.new) }
+    ensures failed { TellsCannotWrite result (W.failed writer.new) }
+{
+    match event {
+        WorldEvent::Calm(rounds) => trace_calm(alloc, world, spot, rounds, writer),
+        WorldEvent::Happen(event) => {
+            trace_one(alloc, world, spot, 0, WorldEvent::Happen(event), writer)
+        }
+    }
+}
+
+/// Traces a calm round by round, until all have passed or the world rests.
+fn trace_calm<C: Inspect, W: Output>(
+    alloc: Global,
+    world: &mut World<C>,
+    spot: Spot,
+    rounds: u32,
+    writer: &mut W,
+) -> Result<(), ReplayFault>
+    requires { W.failed writer.old ≡ false }
+    ensures ends { EventEnds (shown (record { seen = C.seen; offers = C.offers; takes = C.takes; steps = C.steps; rounds = C.rounds })) C.whole spot world.old (world_event.Calm rounds) result world.new (W.contents writer.old) (W.contents writer.new) }
+    ensures failed { TellsCannotWrite result (W.failed writer.new) }
+{
+    for passed in 0..rounds {
+        let before = world.book().crossings().len();
+        trace_one(alloc, world, spot, passed + 1, WorldEvent::Calm(1), writer)?;
+        if has_calmed(world, before) {
+            return Ok(());
+        }
+    }
+    Ok(())
+}
+
+/// Returns whether more rounds of a calm are known to change nothing: nothing has crossed since the book had this many
+/// crossings, and the world rests.
+fn has_calmed<C: Carrier>(world: &World<C>, before: usize) -> bool
+    ensures { result ≡ true → (times : ℕ) → CalmGives (shown (record { seen = C.seen; offers = C.offers; takes = C.takes; steps = C.steps; rounds = C.rounds })) times world.now (Ok tt) world.now }
+{
+    world.book().crossings().len() == before && world.rests()
+}
+
+/// Lets an event happen that is no calm, or a round, and prints its line.
+fn trace_one<C: Inspect, W: Output>(
+    alloc: Global,
+    world: &mut World<C>,
+    spot: Spot,
+    round: u32,
+    event: WorldEvent,
+    writer: &mut W,
+) -> Result<(), ReplayFault>
+    requires { W.failed writer.old ≡ false }
+    ensures ends { OneEnds (shown (record { seen = C.seen; offers = C.offers; takes = C.takes; steps = C.steps; rounds = C.rounds })) C.whole spot round world.old event result world.new (W.contents writer.old) (W.contents writer.new) }
+    ensures failed { TellsCannotWrite result (W.failed writer.new) }
+{
+    let text = spelled(alloc, &event)?;
+    let crossed = world.book().crossings().len();
+    let printed = happen(alloc, world, event)?;
+    let (_, crossings) = world.book().crossings().split_at(crossed);
+    Ok(print_line(world, spot, round, &text, crossings, &printed, writer)?)
+}
+
+/// Returns an event as a line of a script, within a string.
+fn spelled(alloc: Global, event: &WorldEvent) -> Result<Vec<u8>, AllocError>
+    ensures { IfOk result (λ text. text.items ≡ event_text event.now) }
+{
+    let mut printer = Printer::new(Vec::new(alloc));
+    match print_event(event, &mut printer) {
+        Ok(()) => Ok(printer.into_inner()),
+        Err(_) => Err(AllocError),
+    }
+}
+
+/// Lets an event happen. Returns the lines that a replay prints for it.
+fn happen<C: Carrier>(
+    alloc: Global,
+    world: &mut World<C>,
+    event: WorldEvent,
+) -> Result<Vec<u8>, AllocError>
+    ensures shown { IfOk result (λ text. Shows (shown (record { seen = C.seen; offers = C.offers; takes = C.takes; steps = C.steps; rounds = C.rounds })) world.old event world.new text.items) }
+    ensures memory { IfErr result (λ _. StopsOne (shown (record { seen = C.seen; offers = C.offers; takes = C.takes; steps = C.steps; rounds = C.rounds })) world.old event world.new []) }
+{
+    let events = vec![in alloc; event]?;
+    let mut printer = Printer::new(Vec::new(alloc));
+    match replay_events(world, events, Detail::Sizes, &mut printer) {
+        Ok(()) => Ok(printer.into_inner()),
+        Err(_) => Err(AllocError),
+    }
+}
