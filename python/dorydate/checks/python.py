@@ -21,7 +21,7 @@ from dorydate.parts import ROOT, any_program
 
 PACKAGE = f"{ROOT}/python"
 SOURCES = ("dorydate", "tests", "packing.py", "__main__.py")
-SEARCHES = {"taken-and-incomplete": 8, "half-open": 9, "resets-in-step": 6, "lost-at-a-close": 13, "noted-before-it-comes": 8}  # events at most, a last calm included
+SEARCHES = {"taken-and-incomplete": 8, "half-open": 9, "resets-in-step": 6, "lost-at-a-close": 13, "noted-before-it-comes": 8, "refused-before-it-comes": 9}  # events at most, a last calm included
 SCHEDULES = 1_000  # whose logs are audited
 
 

@@ -101,7 +101,7 @@ def wrong_with_entry(line: bytes) -> str | None:
     if line.startswith(b"#"):
         return "It is a comment. A log has no comments."
     if any(it < 32 or it > 126 for it in line):
-        return "It has an octet that is not a printable ASCII character, perhaps a tab."
+        return "It has a character that is not printable ASCII, perhaps a tab."
     words = line.decode("ascii").split(" ")
     if "" in words:
         return "Its words have to be separated by single spaces, with no space before the first word and none after the last."
