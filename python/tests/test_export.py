@@ -217,6 +217,12 @@ class Timelines(unittest.TestCase):
                 self.assertEqual(last[f"imp {imp.number}: packets"], {"store": len(known.store), "channels": sum(map(len, known.sending))})
             self.assertEqual(last["messages without answer"]["messages"], len(state.outstanding()))
 
+    def test_allocations_of_ends(self) -> None:
+        ends = [{"socket": 33, "allocation": {"messages": 2, "bits": 80}}]
+        counters = perfetto.Counters()
+        told = [*counters.see_programs({"0/1": {"pairs": [{"ends": ends}]}, "0/2": None}, 5), *counters.see_programs({"0/1": {"pairs": [{"ends": ends}]}}, 6)]
+        self.assertEqual([(it["name"], it["ts"], it["args"]) for it in told], [("0/1 socket 33: allocation", 5, {"messages": 2, "bits": 80})])
+
     def test_frames_have_the_fates_of_the_trace(self) -> None:
         what, events = self.events("rerouted-over-a-triangle")
         told = [it["name"] for it in events if it["ph"] == "i" and it["pid"] == perfetto.LINES and it["name"] != "drop"]

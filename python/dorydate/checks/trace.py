@@ -11,6 +11,7 @@ The traces of all examples over raw networks, and of random scripts, as the mode
   they print the same and come to the same parts.
 - What has crossed is what is printed, and what becomes of frames is what their parts show.
 - The worked examples of docs/trace.md are what the model tells.
+- Of networks with host programs, if the program traces them: see trace_worlds.
 
 Then rules are broken in turn, and some script has to tell: events left out of a calm or told as one, parts that are not named,
 values left out of the texts of parts, lines left out of the first line, and other fates of frames.
@@ -30,6 +31,7 @@ from glob import glob
 from itertools import count
 from typing import Any
 
+from dorydate.checks import trace_worlds
 from dorydate.model import trace as trace_model
 from dorydate.model import trace_subnet
 from dorydate.model.chance.inputs import some_network, some_script
@@ -219,11 +221,19 @@ def what_it_traces(program: str | None) -> list[str]:
 
 
 def refusals(program: str, traces: Sequence[str]) -> Iterator[str]:
-    """What the program should refuse to trace and doesn't: other carriers and hosts with programs, if it has the option at all."""
-    for carrier, name in (*UNTRACED.items(), ("", "a-connection-and-its-book")):
+    """What the program should refuse to trace and doesn't: carriers of which it has no traces."""
+    for carrier, name in UNTRACED.items():
         with open(f"{ROOT}/examples/{name}", "rb") as file:
             if carrier not in traces and answer_to(program, file.read()) != (1, False, "arpasim: no trace of such a network\n"):
                 yield f"the program does not refuse to trace examples/{name}"
+
+
+def of_worlds(program: str | None) -> tuple[str, list[str]]:
+    """What was looked at in the traces of networks with host programs, and what is wrong in them."""
+    if program is None or not trace_worlds.is_traced(program):
+        return "no trace of networks with host programs", []
+    count, wrong = trace_worlds.faults(program)
+    return f"{count} lines of traces of networks with host programs", wrong
 
 
 # ---- scripts
@@ -539,10 +549,11 @@ def main() -> int:
     if not document_is_right():
         failed += 1
         print("check trace: docs/trace.md has another trace than the model")
-    for words in refusals(program, traces) if program and traces else ():
+    looked_at, in_worlds = of_worlds(program)
+    for words in [*in_worlds, *(refusals(program, traces) if program and traces else ())]:
         failed += 1
         print(f"check trace: {words}")
     scripts = f"{counted['plain scripts']} scripts over mailboxes and {counted['subnet scripts']} over subnets"
     by_program = f"the program traces {' and '.join(traces) or 'nothing yet'}" if program else "no program is kept, so none was asked"
-    print(f"check trace: {scripts}, {counted['events']} elementary events, {counted['in calms']} of them in calms, {counted['refused']} refused; {len(BOXES_BROKEN) + len(SUBNET_BROKEN)} broken rules; {by_program}; {failed} failed")
+    print(f"check trace: {scripts}, {counted['events']} elementary events, {counted['in calms']} of them in calms, {counted['refused']} refused; {len(BOXES_BROKEN) + len(SUBNET_BROKEN)} broken rules; {by_program}; {looked_at}; {failed} failed")
     return 1 if failed else 0

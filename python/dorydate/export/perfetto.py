@@ -2,7 +2,8 @@
 
 There is a track for each flow, with its messages from `out` to the answer; for each end of a connection; and for each way of a line,
 with the frames that arrive and are dropped. Counters tell of each IMP what its store and channels hold, its slots and its distances,
-of each line the frames that are live, and of the whole network the messages that have no answer.
+of each line the frames that are live, of each end of a connection what may still be sent or come, and of the whole network the messages
+that have no answer.
 """
 
 from __future__ import annotations
@@ -114,6 +115,12 @@ class Counters:
         if self.outstanding:
             yield from self.tell(FLOWS, "messages without answer", {"messages": sum(self.outstanding.values())}, time)
 
+    def see_programs(self, programs: Mapping[str, Any], time: int) -> Iterator[Event]:
+        """The counters of the ends of connections."""
+        for host, program in programs.items():
+            for end in (end for pair in (program or {"pairs": []})["pairs"] for end in pair["ends"]):
+                yield from self.tell(CONNECTIONS, f"{host} socket {end['socket']}: allocation", end["allocation"], time)
+
     def tell(self, process: int, name: str, values: Mapping[str, int], time: int) -> Iterator[Event]:
         if self.told.get(name) != values:
             self.told[name] = values
@@ -137,6 +144,7 @@ def events(what: Replayed) -> Iterator[Event]:
         yield from crossings(moment, tracks, spans)
         yield from frames(moment, tracks)
         yield from counters.see(moment.parts, moment.time)
+        yield from counters.see_programs(moment.programs, moment.time)
     yield from spans.rest(len(what.events) * MICROSECONDS)
     yield from tracks.named()
 

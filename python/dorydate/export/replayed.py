@@ -60,6 +60,7 @@ class Moment:
     lines: tuple[Line, ...]
     fate: str = ""
     parts: Mapping[str, Any] = field(default_factory=dict)
+    programs: Mapping[str, Any] = field(default_factory=dict)  # of hosts, by name
 
 
 @dataclass(frozen=True)
@@ -91,7 +92,8 @@ class Replayed:
             number = record["number"]
             happened = self.events[number - 1]
             printed = tuple(next(lines) for _ in record["printed"])
-            yield Moment(happened.second * MICROSECONDS + place, happened, record["event"], printed, record.get("fate", ""), record["parts"])
+            time = happened.second * MICROSECONDS + place
+            yield Moment(time, happened, record["event"], printed, record.get("fate", ""), record["parts"], record.get("programs", {}))
 
 
 def replayed(script: Script, program: Program | None = None, with_trace: bool = False) -> Replayed:
