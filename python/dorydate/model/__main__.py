@@ -28,6 +28,8 @@ def ends(octets: bytes, options: Sequence[str]) -> End:
     if [*options] == ["--log"] and network_is_good(network, ["worlds"]):
         return ends_log(network, script)
     if [*options] == ["--trace"] and network_is_good(network, ["worlds"]):
+        if not network.raw:
+            sys.exit("model: here only raw networks have traces; ./check trace follows the program's of others")
         return ends_trace(network, script)
     return expected(options, network, script)
 

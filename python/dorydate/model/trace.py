@@ -226,9 +226,7 @@ def boxes_of(imps: Sequence[tuple[int, int]], parts: Mapping[str, Part]) -> Boxe
 
 
 def ends_trace(network: Topology, lines: Iterable[str]) -> End:
-    """How the program ends when it is asked for the trace of a network and a script."""
-    if not network[1]:
-        return 1, "", "arpasim: no trace of such a network\n"
+    """How the program ends when it is asked for the trace of a raw network and a script."""
     place = opened_carrier(network)
     first = text(opening(network, place))
     return 0, "".join(f"{it}\n" for it in [first, *map(text, traced(place, lines))]), ""
