@@ -1,10 +1,10 @@
 /**
  * What happens inside a network whose hosts have programs, by a raw script that their crossings drive.
  *
- * Such a network has no trace. But each `out` that `--texts` prints is a line of a raw script. So a raw script over the
- * same topology does inside what the programs did: each crossing in its order, each inner event of the script as it is,
- * and of each round in which a host sends the network's part of it, event by event. Its trace is taken, and used only
- * if it prints exactly the crossings of the real replay.
+ * No trace has the events within its rounds. But each `out` that `--texts` prints is a line of a raw script. So a raw
+ * script over the same topology does inside what the programs did: each crossing in its order, each inner event of the
+ * script as it is, and of each round in which a host sends the network's part of it, event by event. Its trace is taken,
+ * and used only if it prints exactly the crossings of the real replay.
  */
 
 import { octetsOf, textOf } from "./octets.js";

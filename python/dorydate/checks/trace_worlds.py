@@ -18,7 +18,6 @@ from dorydate.model.world import World
 from dorydate.parts import ROOT
 
 MOST_ROUNDS = 400  # of calms in an example that the model follows
-NO_TRACE = "arpasim: no trace of such a network\n"
 
 
 class WrongWorld(Exception):
