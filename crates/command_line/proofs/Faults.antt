@@ -20,7 +20,6 @@ network_fault octets document script fault.OutOfMemory parted known refused = tt
 network_fault octets document script fault.CannotRead parted known refused = absurd known
 network_fault octets document script fault.CannotWrite parted known refused = absurd known
 network_fault octets document script fault.BadOptions parted known refused = absurd known
-network_fault octets document script fault.NoTrace parted known refused = absurd known
 network_fault octets document script (fault.BadLine number) parted known refused = absurd known
 
 -- once octets are an input, nothing but memory and a write can fail
@@ -31,7 +30,6 @@ after_reading octets (Err fault.CannotWrite) read known = read
 after_reading octets (Err fault.BadTopology) read known = absurd known
 after_reading octets (Err fault.CannotRead) read known = absurd known
 after_reading octets (Err fault.BadOptions) read known = absurd known
-after_reading octets (Err fault.NoTrace) read known = absurd known
 after_reading octets (Err (fault.BadLine number)) read known = absurd known
 
 pub known_read : (known : Option (List ℕ)) (octets : List ℕ) (network : TopologyFields) (events : Asked) (r : Result (Unit {0}) ScriptFault)
@@ -45,7 +43,6 @@ unread_known k fault.BadTopology failed read long told whole = inl (long refl)
 unread_known k fault.OutOfMemory failed read long told whole = tt
 unread_known k fault.CannotRead failed read long told whole = absurd (false≢true (sym whole ∙ told refl))
 unread_known k fault.BadOptions failed read long told whole = absurd read
-unread_known k fault.NoTrace failed read long told whole = absurd read
 unread_known k fault.CannotWrite failed read long told whole = absurd read
 unread_known k (fault.BadLine number) failed read long told whole = absurd read
 

@@ -17,7 +17,7 @@ use Rattle.trace.specs.declared.element.Spot.{Spot}
 use Rattle.trace.specs.Traces.{EndsEvent, Inside, StopsElement, TellsElement, TellsEvent, asking_from, numbered_from}
 use Rattle.command_line.specs.Carriers.{plain_calls, plain_of, subnet_calls, subnet_of}
 use Rattle.command_line.specs.Events.{Asked, Raw, World}
-use Rattle.command_line.specs.Traced.{EndsFrom, EndsOn, EndsOver, IsScripted, TraceStops, TracesFrom, TracesInput, TracesOn, TracesOver, plain_inside, subnet_inside}
+use Rattle.command_line.specs.Traced.{EndsFrom, EndsOn, EndsOver, IsRaw, IsScripted, TraceStops, TracesFrom, TracesInput, TracesOn, TracesOver, plain_inside, subnet_inside}
 use Rattle.command_line.proofs.OneInput.{OneInput, input_once}
 use Rattle.command_line.proofs.Settled.{plain_settled, subnet_settled}
 
@@ -67,21 +67,21 @@ from_front calls inside settled t opening lines events before part whole h k =
 
 -- ---- of a topology
 
-over_once : (carrier : CarrierKind) (network : TopologyFields) (lines : List ℕ) (events : List RawEvent) (before after other : List ℕ) → TracesOver carrier network lines events (Some before) (Some after) → TracesOver carrier network lines events (Some before) (Some other) → after ≡ other
+over_once : (carrier : CarrierKind) (network : TopologyFields) (lines : List ℕ) (events : List RawEvent) (before after other : List ℕ) → TracesOver carrier network lines (Raw events) (Some before) (Some after) → TracesOver carrier network lines (Raw events) (Some before) (Some other) → after ≡ other
 over_once kind.Plain network lines events before after other h k = from_once plain_calls plain_inside plain_settled network (plain_of network) lines events before after other h k
 over_once kind.Subnet network lines events before after other h k = from_once subnet_calls subnet_inside subnet_settled network (subnet_of network) lines events before after other h k
 
-on_once : (network : TopologyFields) (lines : List ℕ) (events : Asked) (before after other : List ℕ) → TracesOn network lines events (Some before) (Some after) → TracesOn network lines events (Some before) (Some other) → after ≡ other
-on_once network lines (Raw events) before after other h k = over_once network.carrier network lines events before after other h k
-on_once network lines (World events) before after other h k = absurd h
+on_once : (network : TopologyFields) (lines : List ℕ) (events : Asked) (before after other : List ℕ) → IsRaw events → TracesOn network lines events (Some before) (Some after) → TracesOn network lines events (Some before) (Some other) → after ≡ other
+on_once network lines (Raw events) before after other raw h k = over_once network.carrier network lines events before after other h k
+on_once network lines (World events) before after other raw h k = absurd raw
 
-over_front : (carrier : CarrierKind) (network : TopologyFields) (lines : List ℕ) (events : List RawEvent) (before part whole : List ℕ) → EndsOver carrier network lines events (Some before) (Some part) → TracesOver carrier network lines events (Some before) (Some whole) → (rest : List ℕ) × (whole ≡ part ++ rest)
+over_front : (carrier : CarrierKind) (network : TopologyFields) (lines : List ℕ) (events : List RawEvent) (before part whole : List ℕ) → EndsOver carrier network lines (Raw events) (Some before) (Some part) → TracesOver carrier network lines (Raw events) (Some before) (Some whole) → (rest : List ℕ) × (whole ≡ part ++ rest)
 over_front kind.Plain network lines events before part whole h k = from_front plain_calls plain_inside plain_settled network (plain_of network) lines events before part whole h k
 over_front kind.Subnet network lines events before part whole h k = from_front subnet_calls subnet_inside subnet_settled network (subnet_of network) lines events before part whole h k
 
-on_front : (network : TopologyFields) (lines : List ℕ) (events : Asked) (before part whole : List ℕ) → EndsOn network lines events (Some before) (Some part) → TracesOn network lines events (Some before) (Some whole) → (rest : List ℕ) × (whole ≡ part ++ rest)
-on_front network lines (Raw events) before part whole h k = over_front network.carrier network lines events before part whole h k
-on_front network lines (World events) before part whole h k = absurd h
+on_front : (network : TopologyFields) (lines : List ℕ) (events : Asked) (before part whole : List ℕ) → IsRaw events → EndsOn network lines events (Some before) (Some part) → TracesOn network lines events (Some before) (Some whole) → (rest : List ℕ) × (whole ≡ part ++ rest)
+on_front network lines (Raw events) before part whole raw h k = over_front network.carrier network lines events before part whole h k
+on_front network lines (World events) before part whole raw h k = absurd raw
 
 -- ---- of an input
 
@@ -91,22 +91,22 @@ lines_once octets network other lines more events asked h k =
     let scripts = parted_once octets h.parted.document h.script k.parted.document k.script h.parted.parted k.parted.parted in
     h.numbered ∙ ap (asking_from 1) scripts.scripts ∙ sym k.numbered
 
-pub one_trace : (input before after other : List ℕ) → TracesInput input (Some before) (Some after) → TracesInput input (Some before) (Some other) → after ≡ other
-one_trace input before after other h k =
+pub one_trace : (input before after other : List ℕ) (h : TracesInput input (Some before) (Some after)) → IsRaw h.events → TracesInput input (Some before) (Some other) → after ≡ other
+one_trace input before after other h raw k =
     let same : OneInput h.network k.network h.events k.events = input_once input h.network k.network h.events k.events h.input.input k.input.input in
     let lines : h.lines ≡ k.lines = lines_once input h.network k.network h.lines k.lines h.events k.events h.input k.input in
     let moved : TracesOn k.network k.lines k.events (Some before) (Some after) =
     subst (λ (network : TopologyFields). TracesOn network k.lines k.events (Some before) (Some after)) same.same_network
     (subst (λ (events : Asked). TracesOn h.network k.lines events (Some before) (Some after)) same.same_events
     (subst (λ (numbers : List ℕ). TracesOn h.network numbers h.events (Some before) (Some after)) lines h.traced)) in
-    on_once k.network k.lines k.events before after other moved k.traced
+    on_once k.network k.lines k.events before after other (subst IsRaw same.same_events raw) moved k.traced
 
-pub first_of_trace : (input before part whole : List ℕ) → TraceStops input (Some before) (Some part) → TracesInput input (Some before) (Some whole) → (rest : List ℕ) × (whole ≡ part ++ rest)
-first_of_trace input before part whole h k =
+pub first_of_trace : (input before part whole : List ℕ) (h : TraceStops input (Some before) (Some part)) → IsRaw h.events → TracesInput input (Some before) (Some whole) → (rest : List ℕ) × (whole ≡ part ++ rest)
+first_of_trace input before part whole h raw k =
     let same : OneInput h.network k.network h.events k.events = input_once input h.network k.network h.events k.events h.input.input k.input.input in
     let lines : h.lines ≡ k.lines = lines_once input h.network k.network h.lines k.lines h.events k.events h.input k.input in
     let moved : EndsOn k.network k.lines k.events (Some before) (Some part) =
     subst (λ (network : TopologyFields). EndsOn network k.lines k.events (Some before) (Some part)) same.same_network
     (subst (λ (events : Asked). EndsOn h.network k.lines events (Some before) (Some part)) same.same_events
     (subst (λ (numbers : List ℕ). EndsOn h.network numbers h.events (Some before) (Some part)) lines h.stopped)) in
-    on_front k.network k.lines k.events before part whole moved k.traced
+    on_front k.network k.lines k.events before part whole (subst IsRaw same.same_events raw) moved k.traced

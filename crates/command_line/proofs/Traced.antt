@@ -1,5 +1,5 @@
 -- What `--trace` writes is the trace of the input's script.
-use Rattle.std.proofs.Common.{◌≡◌, ◌⊎◌, ◌∙◌, inl, inr, ℕ, suc, ◌+◌, Bool, true, false, List, [], ◌∷◌, Option, Some, None, IfSome, Result, Ok, Err, IfErr, MatchResult, OnOk, ap, filter, length, refl, subst, sym}
+use Rattle.std.proofs.Common.{◌≡◌, ◌≢◌, ◌⊎◌, ◌∙◌, inl, inr, ℕ, suc, ◌+◌, Bool, true, false, List, [], ◌∷◌, Option, Some, None, IfSome, Result, Ok, Err, IfErr, MatchResult, OnOk, ap, filter, length, refl, subst, sym}
 use Rattle.std.proofs.lemmas.List.{length-map}
 use Rattle.std.specs.Io.KnownBytes.{Keeps}
 use Rattle.replay.specs.InTurn.{text_of}
@@ -11,10 +11,16 @@ use Rattle.script.specs.declared.event.RawEvent.{RawEvent}
 use Rattle.topology.specs.Topology.{TopologyFields}
 use Rattle.topology.specs.declared.network.CarrierKind.{CarrierKind}
 use Rattle.trace.specs.Traces.{AfterOpening, Inside, Traces, WritesTrace, asking_from, event_lines}
+use Rattle.net_sim.specs.World as world
+use Rattle.net_sim.specs.World.{WorldState, opening_world}
+use Rattle.world_trace.specs.Traces as worlds
+use Rattle.world_trace.specs.Traces.{StopsOne, TracesWorld, WorldTraceEnds}
+use Rattle.world_script.specs.declared.event.WorldEvent.{WorldEvent}
 use Rattle.world_script.specs.WorldSpelling.{IsWorldEvent, world_spelling}
 use Rattle.command_line.specs.Events.{Asked, AsksFor, Raw, World}
 use Rattle.command_line.specs.Input.{IsInput, IsInputFault, IsSomeInput}
-use Rattle.command_line.specs.Traced.{EndsOn, EndsOver, IsScriptOf, IsScripted, IsTraceFault, IsTracingFault, TraceStops, Traced, TracedInPart, TracesFrom, TracesInput, TracesOn, TracesOver, asked_count}
+use Rattle.command_line.specs.Steps.{IsReplayFault}
+use Rattle.command_line.specs.Traced.{EndsOn, EndsOver, IsScriptOf, IsScripted, IsTraceFault, TraceStops, Traced, TracedInPart, TracesFrom, TracesInput, TracesOn, TracesOver, WorldEndsFrom, WorldTracesFrom, asked_count}
 use Rattle.command_line.proofs.Judged.{stays}
 use Rattle.command_line.specs.declared.fault.ScriptFault.{ScriptFault}
 use Rattle.command_line.specs.declared.fault.ScriptFault.TheVariants as fault
@@ -28,14 +34,29 @@ flushed_trace calls inside t opening last lines events a b c w k = record { last
 
 -- ---- over the carrier of a topology
 
-pub traced_over : {A E : Type 0} (carrier : CarrierKind) (network : TopologyFields) (lines : List ℕ) (events : List RawEvent) (asked : Asked) (a b : Option (List ℕ)) (r : Result A E)
-    → network.carrier ≡ carrier → asked ≡ Raw events → OnOk r (TracesOver carrier network lines events a b) → OnOk r (TracesOn network lines asked a b)
-traced_over carrier network lines events asked a b r is raw h =
-    subst (λ (asked : Asked). OnOk r (TracesOn network lines asked a b)) (sym raw) (subst (λ (k : CarrierKind). OnOk r (TracesOver k network lines events a b)) (sym is) h)
+pub traced_over : {A E : Type 0} (carrier : CarrierKind) (network : TopologyFields) (lines : List ℕ) (asked : Asked) (a b : Option (List ℕ)) (r : Result A E)
+    → network.carrier ≡ carrier → OnOk r (TracesOver carrier network lines asked a b) → OnOk r (TracesOn network lines asked a b)
+traced_over carrier network lines asked a b r is h = subst (λ (k : CarrierKind). OnOk r (TracesOver k network lines asked a b)) (sym is) h
 
-pub ends_over : (carrier : CarrierKind) (network : TopologyFields) (lines : List ℕ) (events : List RawEvent) (asked : Asked) (a b : Option (List ℕ)) → network.carrier ≡ carrier → asked ≡ Raw events → EndsOver carrier network lines events a b → EndsOn network lines asked a b
-ends_over carrier network lines events asked a b is raw h =
-    subst (λ (asked : Asked). EndsOn network lines asked a b) (sym raw) (subst (λ (k : CarrierKind). EndsOver k network lines events a b) (sym is) h)
+pub ends_over : (carrier : CarrierKind) (network : TopologyFields) (lines : List ℕ) (asked : Asked) (a b : Option (List ℕ)) → network.carrier ≡ carrier → Keeps a b ⊎ EndsOver carrier network lines asked a b → Keeps a b ⊎ EndsOn network lines asked a b
+ends_over carrier network lines asked a b is (inl kept) = inl kept
+ends_over carrier network lines asked a b is (inr h) = inr (subst (λ (k : CarrierKind). EndsOver k network lines asked a b) (sym is) h)
+
+-- ---- of hosts with programs
+
+pub flushed_world : {C : Type 0} (calls : world.Calls C) (whole : C → List ℕ) (t : TopologyFields) (opening : C) (first last : WorldState C) (lines : List ℕ) (events : List WorldEvent) (a b c : Option (List ℕ)) → first ≡ opening_world calls opening
+    → WritesTrace (worlds.AfterOpening whole t first (TracesWorld calls whole first lines events last)) a b → Keeps b c → WorldTracesFrom calls whole t opening lines events a c
+flushed_world {C} calls whole t opening first last lines events a b c is w k =
+    let own : WritesTrace (worlds.AfterOpening whole t (opening_world calls opening) (TracesWorld calls whole (opening_world calls opening) lines events last)) a b =
+    subst (λ (x : WorldState C). WritesTrace (worlds.AfterOpening whole t x (TracesWorld calls whole x lines events last)) a b) is w in
+    record { last = last; traced = record { shown = own.shown; is_shown = own.is_shown; written = stays a b c (text_of (λ line. line) own.shown) own.written k } }
+
+pub world_ends : {C : Type 0} (calls : world.Calls C) (whole : C → List ℕ) (t : TopologyFields) (opening : C) (first last : WorldState C) (lines : List ℕ) (events : List WorldEvent) (a b : Option (List ℕ)) → first ≡ opening_world calls opening
+    → WritesTrace (worlds.AfterOpening whole t first (WorldTraceEnds calls whole (StopsOne calls) first lines events last)) a b → WorldEndsFrom calls whole t opening lines events a b
+world_ends {C} calls whole t opening first last lines events a b is w = record {
+  last = last;
+  traced = subst (λ (x : WorldState C). WritesTrace (worlds.AfterOpening whole t x (WorldTraceEnds calls whole (StopsOne calls) x lines events last)) a b) is w;
+}
 
 -- ---- of known octets
 
@@ -88,24 +109,12 @@ lines_fit octets script network events input parted =
 -- ---- faults
 
 -- an input's fault is one of its trace
-trace_fault : (octets : List ℕ) (f : ScriptFault) → IsInputFault octets f → IsTraceFault octets f
-trace_fault octets fault.NoTrace h = absurd h
-trace_fault octets fault.BadTopology h = h
-trace_fault octets (fault.BadLine number) h = h
-trace_fault octets fault.OutOfMemory h = h
-trace_fault octets fault.CannotWrite h = h
-trace_fault octets fault.CannotRead h = h
-trace_fault octets fault.BadOptions h = h
-
 pub read_as : (known : Option (List ℕ)) (r : Result (Unit {0}) ScriptFault) → IfSome known (λ k. MatchResult r (λ done. IsSomeInput k) (IsInputFault k)) → IfSome known (λ k. MatchResult r (λ done. IsSomeInput k) (IsTraceFault k))
-read_as None r h = tt
-read_as (Some k) (Ok done) h = h
-read_as (Some k) (Err f) h = trace_fault k f h
+read_as known r h = h
 
--- once octets are an input, it may have no trace, and else nothing but memory and a write can fail
-after_reading : (octets : List ℕ) (network : TopologyFields) (events : Asked) (r : Result (Unit {0}) ScriptFault) → IsInput octets network events → IfErr r (IsTracingFault network events) → MatchResult r (λ done. IsSomeInput octets) (IsTraceFault octets)
+-- once octets are an input nothing but memory and a write can fail
+after_reading : (octets : List ℕ) (network : TopologyFields) (events : Asked) (r : Result (Unit {0}) ScriptFault) → IsInput octets network events → IfErr r IsReplayFault → MatchResult r (λ done. IsSomeInput octets) (IsTraceFault octets)
 after_reading octets network events (Ok done) read h = (network, events, read)
-after_reading octets network events (Err fault.NoTrace) read h = record { network = network; events = events; input = read; untraced = h }
 after_reading octets network events (Err fault.OutOfMemory) read h = tt
 after_reading octets network events (Err fault.CannotWrite) read h = (network, events, read)
 after_reading octets network events (Err fault.BadTopology) read h = absurd h
@@ -113,7 +122,17 @@ after_reading octets network events (Err fault.CannotRead) read h = absurd h
 after_reading octets network events (Err fault.BadOptions) read h = absurd h
 after_reading octets network events (Err (fault.BadLine number)) read h = absurd h
 
+-- a fault of a replay is one of memory or of a write
+pub only_replayed : (P : Type 0) (r : Result (Unit {0}) ScriptFault) → IfErr r IsReplayFault → IfErr r (λ f. f ≢ fault.CannotWrite → f ≢ fault.OutOfMemory → P)
+only_replayed P (Ok done) h = tt
+only_replayed P (Err fault.OutOfMemory) h = λ written kept. absurd (kept refl)
+only_replayed P (Err fault.CannotWrite) h = λ written kept. absurd (written refl)
+only_replayed P (Err fault.BadTopology) h = absurd h
+only_replayed P (Err fault.CannotRead) h = absurd h
+only_replayed P (Err fault.BadOptions) h = absurd h
+only_replayed P (Err (fault.BadLine number)) h = absurd h
+
 pub known_read : (known : Option (List ℕ)) (octets : List ℕ) (network : TopologyFields) (events : Asked) (r : Result (Unit {0}) ScriptFault)
-    → IfSome known (λ k. octets ≡ k) → IsInput octets network events → IfErr r (IsTracingFault network events) → IfSome known (λ k. MatchResult r (λ done. IsSomeInput k) (IsTraceFault k))
+    → IfSome known (λ k. octets ≡ k) → IsInput octets network events → IfErr r IsReplayFault → IfSome known (λ k. MatchResult r (λ done. IsSomeInput k) (IsTraceFault k))
 known_read None octets network events r same read h = tt
 known_read (Some k) octets network events r same read h = after_reading k network events r (subst (λ o. IsInput o network events) same read) h

@@ -12,7 +12,6 @@ status_of fault.BadOptions = 1
 status_of fault.CannotRead = 1
 status_of fault.BadTopology = 1
 status_of (fault.BadLine number) = 2
-status_of fault.NoTrace = 1
 status_of fault.OutOfMemory = 3
 status_of fault.CannotWrite = 3
 
@@ -22,7 +21,6 @@ script_text fault.BadOptions = codes "arpasim: bad arguments"
 script_text fault.CannotRead = codes "arpasim: cannot read"
 script_text fault.BadTopology = codes "arpasim: bad topology"
 script_text (fault.BadLine number) = codes "arpasim: bad script line " ++ decimal number
-script_text fault.NoTrace = codes "arpasim: no trace of such a network"
 script_text fault.OutOfMemory = codes "arpasim: stopped"
 script_text fault.CannotWrite = codes "arpasim: stopped"
 

@@ -47,4 +47,3 @@ IsInputFault octets fault.CannotRead = ⊥
 IsInputFault octets fault.OutOfMemory = Unit {0}
 IsInputFault octets fault.CannotWrite = IsSomeInput octets
 IsInputFault octets fault.BadOptions = ⊥
-IsInputFault octets fault.NoTrace = ⊥

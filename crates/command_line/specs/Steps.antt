@@ -9,7 +9,6 @@ abbrev pub IsNetworkFault : ScriptFault → Type 0
 IsNetworkFault fault.BadTopology = Unit {0}
 IsNetworkFault fault.OutOfMemory = Unit {0}
 IsNetworkFault fault.BadOptions = ⊥
-IsNetworkFault fault.NoTrace = ⊥
 IsNetworkFault fault.CannotRead = ⊥
 IsNetworkFault fault.CannotWrite = ⊥
 IsNetworkFault (fault.BadLine number) = ⊥
@@ -20,7 +19,6 @@ IsReadFault fault.BadTopology = Unit {0}
 IsReadFault fault.CannotRead = Unit {0}
 IsReadFault fault.OutOfMemory = Unit {0}
 IsReadFault fault.BadOptions = ⊥
-IsReadFault fault.NoTrace = ⊥
 IsReadFault fault.CannotWrite = ⊥
 IsReadFault (fault.BadLine number) = ⊥
 
@@ -31,7 +29,6 @@ IsReplayFault fault.CannotWrite = Unit {0}
 IsReplayFault fault.BadTopology = ⊥
 IsReplayFault fault.CannotRead = ⊥
 IsReplayFault fault.BadOptions = ⊥
-IsReplayFault fault.NoTrace = ⊥
 IsReplayFault (fault.BadLine number) = ⊥
 
 -- the faults of reading a script
@@ -40,6 +37,5 @@ IsEventsFault raw text (fault.BadLine number) = IsFirstBadIn raw text number
 IsEventsFault raw text fault.OutOfMemory = Unit {0}
 IsEventsFault raw text fault.BadTopology = ⊥
 IsEventsFault raw text fault.BadOptions = ⊥
-IsEventsFault raw text fault.NoTrace = ⊥
 IsEventsFault raw text fault.CannotRead = ⊥
 IsEventsFault raw text fault.CannotWrite = ⊥

@@ -14,11 +14,16 @@ use Rattle.topology.specs.declared.network.CarrierKind.TheVariants as kind
 use Rattle.trace.specs.Elements.{calm_of}
 use Rattle.trace.specs.Texts.{changed_text, whole_text}
 use Rattle.trace.specs.Traces.{AfterOpening, Inside, StopsElement, TraceEnds, Traces, WritesTrace, event_lines}
-use Rattle.command_line.specs.Carriers.{plain_calls, plain_of, subnet_calls, subnet_of}
+use Rattle.net_sim.specs.Carriers.{shown}
+use Rattle.net_sim.specs.World as world
+use Rattle.net_sim.specs.World.{WorldState, opening_world}
+use Rattle.world_script.specs.declared.event.WorldEvent.{WorldEvent}
+use Rattle.world_trace.specs.Traces as worlds
+use Rattle.world_trace.specs.Traces.{StopsOne, TracesWorld, WorldTraceEnds}
+use Rattle.command_line.specs.Carriers.{hosting, plain_calls, plain_of, subnet_calls, subnet_of}
 use Rattle.command_line.specs.Events.{Asked, Raw, World}
 use Rattle.command_line.specs.Input.{IsInput, IsInputFault}
 use Rattle.command_line.specs.declared.fault.ScriptFault.{ScriptFault}
-use Rattle.command_line.specs.declared.fault.ScriptFault.TheVariants as fault
 
 -- what plain mailboxes tell of their inside, and what subnets tell
 abbrev pub plain_inside : Inside Boxes
@@ -38,27 +43,46 @@ pub record EndsFrom {C : Type 0} (calls : Calls C) (inside : Inside C) (t : Topo
   pub last : C
   pub traced : WritesTrace (AfterOpening inside t opening (TraceEnds calls inside (StopsElement calls) opening lines events last)) before after
 
--- ---- of a topology: only raw networks have traces
+-- events of hosts with programs are replayed over a carrier that shows the object of all its parts, and their trace is written, first
+-- the network and then a line for each event and each round of a calm, and nothing else
+pub record WorldTracesFrom {C : Type 0} (calls : world.Calls C) (whole : C → List ℕ) (t : TopologyFields) (opening : C) (lines : List ℕ) (events : List WorldEvent) (before after : Option (List ℕ)) : Type 0 where
+  pub last : WorldState C
+  pub traced : WritesTrace (worlds.AfterOpening whole t (opening_world calls opening) (TracesWorld calls whole (opening_world calls opening) lines events last)) before after
 
-abbrev pub TracesOver : CarrierKind → TopologyFields → List ℕ → List RawEvent → Option (List ℕ) → Option (List ℕ) → Type 0
-TracesOver kind.Plain t lines events before after = TracesFrom plain_calls plain_inside t (plain_of t) lines events before after
-TracesOver kind.Subnet t lines events before after = TracesFrom subnet_calls subnet_inside t (subnet_of t) lines events before after
+-- memory ran out in one of them
+pub record WorldEndsFrom {C : Type 0} (calls : world.Calls C) (whole : C → List ℕ) (t : TopologyFields) (opening : C) (lines : List ℕ) (events : List WorldEvent) (before after : Option (List ℕ)) : Type 0 where
+  pub last : WorldState C
+  pub traced : WritesTrace (worlds.AfterOpening whole t (opening_world calls opening) (WorldTraceEnds calls whole (StopsOne calls) (opening_world calls opening) lines events last)) before after
 
-abbrev pub EndsOver : CarrierKind → TopologyFields → List ℕ → List RawEvent → Option (List ℕ) → Option (List ℕ) → Type 0
-EndsOver kind.Plain t lines events before after = EndsFrom plain_calls plain_inside t (plain_of t) lines events before after
-EndsOver kind.Subnet t lines events before after = EndsFrom subnet_calls subnet_inside t (subnet_of t) lines events before after
+-- events of either kind
+abbrev pub TracesAll : {C : Type 0} → Calls C → Inside C → TopologyFields → C → List ℕ → Asked → Option (List ℕ) → Option (List ℕ) → Type 0
+TracesAll calls inside t opening lines (Raw events) before after = TracesFrom calls inside t opening lines events before after
+TracesAll calls inside t opening lines (World events) before after = WorldTracesFrom (shown (hosting calls)) inside.whole t opening lines events before after
 
-abbrev pub HasTrace : Asked → Type 0
-HasTrace (Raw events) = Unit {0}
-HasTrace (World events) = ⊥
+abbrev pub EndsAll : {C : Type 0} → Calls C → Inside C → TopologyFields → C → List ℕ → Asked → Option (List ℕ) → Option (List ℕ) → Type 0
+EndsAll calls inside t opening lines (Raw events) before after = EndsFrom calls inside t opening lines events before after
+EndsAll calls inside t opening lines (World events) before after = WorldEndsFrom (shown (hosting calls)) inside.whole t opening lines events before after
+
+-- ---- of a topology
+
+abbrev pub TracesOver : CarrierKind → TopologyFields → List ℕ → Asked → Option (List ℕ) → Option (List ℕ) → Type 0
+TracesOver kind.Plain t lines events before after = TracesAll plain_calls plain_inside t (plain_of t) lines events before after
+TracesOver kind.Subnet t lines events before after = TracesAll subnet_calls subnet_inside t (subnet_of t) lines events before after
+
+abbrev pub EndsOver : CarrierKind → TopologyFields → List ℕ → Asked → Option (List ℕ) → Option (List ℕ) → Type 0
+EndsOver kind.Plain t lines events before after = EndsAll plain_calls plain_inside t (plain_of t) lines events before after
+EndsOver kind.Subnet t lines events before after = EndsAll subnet_calls subnet_inside t (subnet_of t) lines events before after
 
 abbrev pub TracesOn : TopologyFields → List ℕ → Asked → Option (List ℕ) → Option (List ℕ) → Type 0
-TracesOn t lines (Raw events) before after = TracesOver t.carrier t lines events before after
-TracesOn t lines (World events) before after = ⊥
+TracesOn t lines events before after = TracesOver t.carrier t lines events before after
 
 abbrev pub EndsOn : TopologyFields → List ℕ → Asked → Option (List ℕ) → Option (List ℕ) → Type 0
-EndsOn t lines (Raw events) before after = EndsOver t.carrier t lines events before after
-EndsOn t lines (World events) before after = ⊥
+EndsOn t lines events before after = EndsOver t.carrier t lines events before after
+
+-- events of a network without host programs
+abbrev pub IsRaw : Asked → Type 0
+IsRaw (Raw events) = Unit {0}
+IsRaw (World events) = ⊥
 
 -- ---- of an input
 
@@ -111,29 +135,6 @@ pub record TracedInPart (before after : Option (List ℕ)) : Type 0 where
 
 -- ---- faults
 
--- an input whose network has no traces: its hosts have programs
-pub record IsUntraced (octets : List ℕ) : Type 0 where
-  pub network : TopologyFields
-  pub events : Asked
-  pub input : IsInput octets network events
-  pub untraced : ¬ HasTrace events
-
--- when each fault may be given for these octets, where no read failed: those of an input, and where its network has no traces
+-- when each fault may be given for these octets, where no read failed: every input has a trace
 abbrev pub IsTraceFault : List ℕ → ScriptFault → Type 0
-IsTraceFault octets fault.NoTrace = IsUntraced octets
-IsTraceFault octets fault.BadTopology = IsInputFault octets fault.BadTopology
-IsTraceFault octets (fault.BadLine number) = IsInputFault octets (fault.BadLine number)
-IsTraceFault octets fault.OutOfMemory = IsInputFault octets fault.OutOfMemory
-IsTraceFault octets fault.CannotWrite = IsInputFault octets fault.CannotWrite
-IsTraceFault octets fault.CannotRead = IsInputFault octets fault.CannotRead
-IsTraceFault octets fault.BadOptions = IsInputFault octets fault.BadOptions
-
--- the faults of tracing the script of a topology, as the contracts of private functions say them
-abbrev pub IsTracingFault : TopologyFields → Asked → ScriptFault → Type 0
-IsTracingFault t events fault.NoTrace = ¬ HasTrace events
-IsTracingFault t events fault.OutOfMemory = Unit {0}
-IsTracingFault t events fault.CannotWrite = Unit {0}
-IsTracingFault t events fault.BadTopology = ⊥
-IsTracingFault t events fault.CannotRead = ⊥
-IsTracingFault t events fault.BadOptions = ⊥
-IsTracingFault t events (fault.BadLine number) = ⊥
+IsTraceFault octets f = IsInputFault octets f

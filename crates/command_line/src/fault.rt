@@ -25,8 +25,6 @@ pub enum ScriptFault {
     BadTopology,
     /// This line of the script, counted from 1, is no event. Nothing was replayed.
     BadLine(usize),
-    /// The network has no traces: its hosts have programs. Nothing was replayed.
-    NoTrace,
     /// No memory was left. The output is a prefix of what the replay would have written.
     OutOfMemory,
     /// The output could not be written.
@@ -46,7 +44,6 @@ impl fmt::Display for ScriptFault {
             ScriptFault::CannotRead => f.write_str("arpasim: cannot read"),
             ScriptFault::BadTopology => f.write_str("arpasim: bad topology"),
             ScriptFault::BadLine(number) => write!(f, "arpasim: bad script line {number}"),
-            ScriptFault::NoTrace => f.write_str("arpasim: no trace of such a network"),
             ScriptFault::OutOfMemory | ScriptFault::CannotWrite => f.write_str("arpasim: stopped"),
         }
     }
@@ -59,10 +56,7 @@ impl ScriptFault {
         ensures { result ≡ status_of self.now }
     {
         match self {
-            ScriptFault::BadOptions
-            | ScriptFault::CannotRead
-            | ScriptFault::BadTopology
-            | ScriptFault::NoTrace => 1,
+            ScriptFault::BadOptions | ScriptFault::CannotRead | ScriptFault::BadTopology => 1,
             ScriptFault::BadLine(_) => 2,
             ScriptFault::OutOfMemory | ScriptFault::CannotWrite => 3,
         }

@@ -1,30 +1,34 @@
 //! The trace of a replay, in place of what it shows.
 
-ghost use Rattle.std.specs.Prelude.{◌≡◌, ◌≢◌, ◌⊎◌, ◌↔◌, ◌≤◌, Err, IfErr, IfOk, IfSome, MatchResult, OnOk, false, length, true};
+ghost use Rattle.std.specs.Prelude.{◌≡◌, ◌≢◌, ◌⊎◌, ◌↔◌, ◌≤◌, [], Err, IfErr, IfOk, IfSome, MatchResult, OnOk, false, length, true};
 ghost use Rattle.std.specs.Io.KnownBytes.{Keeps};
+ghost use Rattle.net_sim.specs.Carriers.{shown};
+ghost use Rattle.command_line.specs.Carriers.{hosting};
 ghost use Rattle.command_line.specs.Events.{asked_of};
 ghost use Rattle.command_line.specs.Input.{IsInputFault, IsSomeInput};
 ghost use Rattle.command_line.specs.Steps.{IsReplayFault};
-ghost use Rattle.command_line.specs.Traced.{EndsFrom, EndsOn, IsTraceFault, IsTracingFault, IsScripted, TraceStops, Traced, TracedInPart, TracesFrom, TracesInput, TracesOn, asked_count};
+ghost use Rattle.command_line.specs.Traced.{EndsAll, EndsFrom, EndsOn, IsScripted, IsTraceFault, TraceStops, Traced, TracedInPart, TracesAll, TracesFrom, TracesInput, TracesOn, WorldEndsFrom, WorldTracesFrom, asked_count};
 
 use crate::carriers::subnet_of;
 use crate::fault::ScriptFault;
 use crate::input::{Events, Input, read_input, read_octets};
 use crate::source::Source;
 use leader1822::PlainBoxes;
+use net_sim::World;
 use replay::Output;
 use script::{MAX_INPUT, RawEvent, split_input};
 use std::alloc::Global;
 use subnet_trace::TracedSubnet;
 use topology::{CarrierKind, Topology};
 use trace::{Inspect, event_lines, trace_events};
+use world_script::WorldEvent;
+use world_trace::trace_world;
 
 /// Reads a topology, the marker line `%` and a script, replays the script, and writes its trace: a line with the network and
 /// all its parts, and one line for each elementary event.
 ///
 /// Errors, in this order:
 /// - `CannotRead`, `BadTopology` and `BadLine`, as [`crate::run_script`].
-/// - `NoTrace`: the network has host programs. Nothing is replayed and nothing is written.
 /// - `CannotWrite`: a write or a flush failed. Nothing more is asked of the writer, which is the only one to know how much was written.
 ///
 /// `OutOfMemory` may come at any of these steps. What was written by then is a prefix of the trace.
@@ -109,8 +113,7 @@ fn read_scripted(alloc: Global, octets: &[u8]) -> Result<Scripted, ScriptFault>
 
 /// Replays events, which are in these lines of a script, over the carrier that a topology names, and writes their trace.
 ///
-/// Errors: `NoTrace` where the hosts have programs; `CannotWrite`; `OutOfMemory`, after which the first lines of the trace are
-/// written.
+/// Errors: `CannotWrite`; `OutOfMemory`, after which the first lines of the trace are written, if any.
 fn trace_on<W: Output>(
     alloc: Global,
     network: &Topology,
@@ -122,29 +125,75 @@ fn trace_on<W: Output>(
     requires whole { W.failed writer.old ≡ false }
     ensures traced { OnOk result (TracesOn network.now lines.now (asked_of events) (W.contents writer.old) (W.contents writer.new)) }
     ensures stopped { result ≡ Err ScriptFault.OutOfMemory → Keeps (W.contents writer.old) (W.contents writer.new) ⊎ EndsOn network.now lines.now (asked_of events) (W.contents writer.old) (W.contents writer.new) }
-    ensures fault { IfErr result (IsTracingFault network.now (asked_of events)) }
-    ensures untouched { IfErr result (λ f. f ≢ ScriptFault.CannotWrite → f ≢ ScriptFault.OutOfMemory → writer.new ≡ writer.old) }
+    ensures fault { IfErr result IsReplayFault }
     ensures failed { (result ≡ Err ScriptFault.CannotWrite) ↔ (W.failed writer.new ≡ true) }
     ensures flushed { OnOk result (W.flushed writer.new ≡ true) }
 {
-    let Events::Raw(events) = events else {
-        return Err(ScriptFault::NoTrace);
-    };
     match network.carrier() {
         CarrierKind::Plain => {
             let hosts = network.hosts(alloc)?;
-            trace_from(
-                network,
-                PlainBoxes::new(alloc, hosts),
-                lines,
-                &events,
-                writer,
-            )
+            let carrier = PlainBoxes::new(alloc, hosts);
+            trace_over(alloc, network, carrier, lines, events, writer)
         }
         CarrierKind::Subnet => {
-            let subnet = subnet_of(alloc, network)?;
-            trace_from(network, TracedSubnet::new(subnet), lines, &events, writer)
+            let carrier = TracedSubnet::new(subnet_of(alloc, network)?);
+            trace_over(alloc, network, carrier, lines, events, writer)
         }
+    }
+}
+
+/// Replays events over a carrier at its opening, without host programs or with them, and writes their trace.
+///
+/// Errors: `CannotWrite`; `OutOfMemory`, after which the first lines of the trace are written, if any.
+fn trace_over<C: Inspect, W: Output>(
+    alloc: Global,
+    network: &Topology,
+    carrier: C,
+    lines: &[usize],
+    events: Events,
+    writer: &mut W,
+) -> Result<(), ScriptFault>
+    requires unused { (C.seen carrier).log ≡ [] }
+    requires running { (C.seen carrier).stopped ≡ false }
+    requires events { length lines.now ≡ asked_count (asked_of events) }
+    requires whole { W.failed writer.old ≡ false }
+    ensures traced { OnOk result (TracesAll (record { seen = C.seen; offers = C.offers; takes = C.takes; steps = C.steps; rounds = C.rounds }) (record { calm = C.calm; whole = C.whole; parts = C.parts; fate = C.fate }) network.now carrier lines.now (asked_of events) (W.contents writer.old) (W.contents writer.new)) }
+    ensures stopped { result ≡ Err ScriptFault.OutOfMemory → Keeps (W.contents writer.old) (W.contents writer.new) ⊎ EndsAll (record { seen = C.seen; offers = C.offers; takes = C.takes; steps = C.steps; rounds = C.rounds }) (record { calm = C.calm; whole = C.whole; parts = C.parts; fate = C.fate }) network.now carrier lines.now (asked_of events) (W.contents writer.old) (W.contents writer.new) }
+    ensures fault { IfErr result IsReplayFault }
+    ensures failed { (result ≡ Err ScriptFault.CannotWrite) ↔ (W.failed writer.new ≡ true) }
+    ensures flushed { OnOk result (W.flushed writer.new ≡ true) }
+{
+    match events {
+        Events::Raw(events) => trace_from(network, carrier, lines, &events, writer),
+        Events::World(events) => trace_hosts(alloc, network, carrier, lines, events, writer),
+    }
+}
+
+/// Replays events of hosts with programs over a carrier at its opening, and writes their trace.
+///
+/// Errors: `CannotWrite`; `OutOfMemory`, after which the first lines of the trace are written, if any.
+fn trace_hosts<C: Inspect, W: Output>(
+    alloc: Global,
+    network: &Topology,
+    carrier: C,
+    lines: &[usize],
+    events: Vec<WorldEvent>,
+    writer: &mut W,
+) -> Result<(), ScriptFault>
+    requires unused { (C.seen carrier).log ≡ [] }
+    requires running { (C.seen carrier).stopped ≡ false }
+    requires events { length lines.now ≡ length events.items }
+    requires whole { W.failed writer.old ≡ false }
+    ensures traced { OnOk result (WorldTracesFrom (shown (hosting (record { seen = C.seen; offers = C.offers; takes = C.takes; steps = C.steps; rounds = C.rounds }))) C.whole network.now carrier lines.now events.items (W.contents writer.old) (W.contents writer.new)) }
+    ensures stopped { result ≡ Err ScriptFault.OutOfMemory → Keeps (W.contents writer.old) (W.contents writer.new) ⊎ WorldEndsFrom (shown (hosting (record { seen = C.seen; offers = C.offers; takes = C.takes; steps = C.steps; rounds = C.rounds }))) C.whole network.now carrier lines.now events.items (W.contents writer.old) (W.contents writer.new) }
+    ensures fault { IfErr result IsReplayFault }
+    ensures failed { (result ≡ Err ScriptFault.CannotWrite) ↔ (W.failed writer.new ≡ true) }
+    ensures flushed { OnOk result (W.flushed writer.new ≡ true) }
+{
+    let mut world = World::new(alloc, carrier)?;
+    match trace_world(alloc, network, &mut world, lines, events, writer) {
+        Ok(()) => Ok(writer.flush()?),
+        Err(fault) => Err(ScriptFault::from(fault)),
     }
 }
 

@@ -142,16 +142,11 @@ fn the_words_say_what_is_done(rt: HostRuntime) {
 }
 
 /// What a user reads of each fault, and the status that comes with it.
-const FAULTS: [(ScriptFault, &str, u8); 7] = [
+const FAULTS: [(ScriptFault, &str, u8); 6] = [
     (ScriptFault::BadOptions, "arpasim: bad arguments", 1),
     (ScriptFault::CannotRead, "arpasim: cannot read", 1),
     (ScriptFault::BadTopology, "arpasim: bad topology", 1),
     (ScriptFault::BadLine(12), "arpasim: bad script line 12", 2),
-    (
-        ScriptFault::NoTrace,
-        "arpasim: no trace of such a network",
-        1,
-    ),
     (ScriptFault::OutOfMemory, "arpasim: stopped", 3),
     (ScriptFault::CannotWrite, "arpasim: stopped", 3),
 ];

