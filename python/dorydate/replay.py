@@ -320,7 +320,7 @@ class Replay:
 
     @property
     def trace(self) -> str:
-        """The trace; of a network with host programs that of the network below them."""
+        """The trace."""
         return trace_of(self.program, self.network, self._kept())
 
     def _kept(self) -> tuple[Event, ...]:

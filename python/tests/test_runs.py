@@ -153,7 +153,7 @@ class Replays(unittest.TestCase):
 
 
 class Insides(unittest.TestCase):
-    def test_world_is_the_raw_network_that_its_crossings_drive(self) -> None:
+    def test_network_of_hosts_with_programs(self) -> None:
         net = Replay(RING)
         net.settle()
         net.session("WEST", "EAST")
@@ -161,9 +161,9 @@ class Insides(unittest.TestCase):
         self.assertEqual(state.distances(1), {2: 1, 3: 2, 4: 3, 5: 2, 6: 1})
         self.assertEqual(state.outstanding(), {})
 
-    def test_too_many_rounds(self) -> None:
+    def test_script_that_is_too_long(self) -> None:
         with self.assertRaises(CannotFollow):
-            state_of(found(), TWO, [Calm(4_000)])
+            state_of(found(), TWO, [Calm(0)] * 150_000)
 
 
 class Explorations(unittest.TestCase):
