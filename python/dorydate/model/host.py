@@ -212,7 +212,7 @@ class Host(HostRequests):
         end = pair.end(own, foreign)
         if end is None:
             if own not in self.listening:
-                self.refuse(pair, own, foreign)
+                self.refuse(pair, own, foreign, stamp)
                 return None
             end = self.make_end(own, foreign, True)
             self.ask_to_send(pair, end, self.listening.pop(own))
@@ -230,7 +230,7 @@ class Host(HostRequests):
         if end is None:
             link = pair.free_link()
             if own not in self.listening or link is None:
-                self.refuse(pair, own, foreign)
+                self.refuse(pair, own, foreign, stamp)
                 return None
             del self.listening[own]
             end = self.make_end(own, foreign, True)
@@ -247,10 +247,11 @@ class Host(HostRequests):
         end.partner_stamp = stamp
         self.tell_opening(peer, end)
 
-    def refuse(self, pair: Pair, own: int, foreign: int) -> None:
+    def refuse(self, pair: Pair, own: int, foreign: int, stamp: int) -> None:
         """Answers a request by CLS."""
         end = self.make_end(own, foreign, False)
         end.asked = end.close_asked = end.close_queued = True
+        end.partner_stamp = stamp
         pair.ends.append(end)
         pair.queue.append(of_sockets(CLS, own, foreign))
 
