@@ -1,7 +1,7 @@
 //! Lets what standard input names happen event by event until memory runs out, and looks at what is left then.
 //!
 //! The first line says where: `world plain IMPS` or `world subnet IMPS`, a host with its program at each of this many IMPs, over
-//! mailboxes or over IMPs in a row; or `raw plain IMPS` or `raw subnet IMPS`, that carrier alone. The others are lines of a script;
+//! mailboxes or over IMPs in a row; or `raw plain IMPS` or `raw subnet IMPS`, that carrier by itself. The others are lines of a script;
 //! of a calm each round is a quiet round, and in a world then three takings and two offers of each host, all of them single
 //! events.
 //! Where an event runs out of memory, the book, and of a carrier the log, has to be what it was before that event, and every later
@@ -139,7 +139,7 @@ fn add_round(events: &mut Vec<Event>) -> Option<()> {
     Some(())
 }
 
-/// How much is in a book. Where nothing is asked for, lives change only where something is told.
+/// How much is in a book. Where nothing is asked for, lives change only where something is reported.
 fn sizes_of(book: &Book) -> [usize; 6] {
     let mut handed = 0;
     for bits in book.handed() {
@@ -204,7 +204,7 @@ fn logged<C: Carrier>(alloc: Global, carrier: &C) -> Option<String> {
     Some(text)
 }
 
-/// What is seen of a carrier alone.
+/// What is seen of a carrier by itself.
 fn of_carrier<C: Carrier>(alloc: Global, mut carrier: C, script: &str) -> Option<Seen> {
     for event in read_script(alloc, script.as_bytes()).ok()? {
         let rounds = if let RawEvent::Calm(rounds) = event { rounds } else { 0 };

@@ -1,4 +1,4 @@
-"""Expectations in scripts: a comment `#= LINE` after an event says that it prints that line, and `#=` alone that it prints nothing.
+"""Expectations in scripts: a comment `#= LINE` after an event says that it prints that line, and just `#=` that it prints nothing.
 
 An event with such comments has to print exactly these lines, in their order. One without any may print what it will.
 """

@@ -232,7 +232,7 @@ class Resend(Event):
 @event("route")
 @dataclass(frozen=True)
 class Route(Event):
-    """An IMP tells its neighbours its distances."""
+    """An IMP sends its neighbours its distances."""
 
     imp: int = number(63, 1)
 

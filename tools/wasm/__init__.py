@@ -1,1 +1,1 @@
-"""WebAssembly of the program: the module that LLVM made it of, its surroundings, and the page that it stands in."""
+"""WebAssembly of the program: the module that LLVM made it of, its surroundings, and the page that it is in."""

@@ -2,7 +2,7 @@
 
 `rt ci` builds a program only if it has not passed the same one on this machine before. A file more in the crate's folder makes it another one
 to `rt ci`, though the program is the same: so a copy of the crates gets such a file, a page that no compiler reads and that no hash of
-sources covers. What the program stands on is taken from what `rt ci` kept.
+sources covers. What the program is built on is taken from what `rt ci` kept.
 """
 
 from __future__ import annotations

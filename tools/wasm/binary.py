@@ -12,14 +12,14 @@ class Refused(Exception):
 
 @dataclasses.dataclass(frozen=True)
 class Section:
-    """A section: its number and what stands in it."""
+    """A section: its number and what is in it."""
 
     number: int
     content: bytes
 
 
 class Reader:
-    """Reads octets from the front."""
+    """Reads octets from the beginning."""
 
     def __init__(self, octets: bytes, at: int = 0) -> None:
         self.octets = octets
@@ -91,7 +91,7 @@ def module_of(sections: list[Section]) -> bytes:
 
 
 def content_of(sections: list[Section], wanted: int) -> bytes:
-    """What stands in the one section of this number."""
+    """What is in the one section of this number."""
     found = [it.content for it in sections if it.number == wanted]
     if len(found) != 1:
         raise Refused(f"the module has {len(found)} sections of number {wanted}")
@@ -99,7 +99,7 @@ def content_of(sections: list[Section], wanted: int) -> bytes:
 
 
 def note_of(module: bytes, name: str) -> bytes | None:
-    """What stands in the custom section of this name; None where there is no such section."""
+    """What is in the custom section of this name; None where there is no such section."""
     for section in sections_of(module):
         if section.number == CUSTOM:
             reader = Reader(section.content)
@@ -129,7 +129,7 @@ def least_pages(module: bytes) -> int:
 
 
 def with_greatest(module: bytes, pages: int) -> bytes:
-    """The module with a memory that grows to so many pages at most, but never below those that it begins with."""
+    """The module with a memory that grows to this many pages at most, but never below those that it begins with."""
     sections = sections_of(module)
     flags, least = memory_of(sections)
     limits = number(1) + bytes([flags | 1]) + number(least) + number(max(pages, least))

@@ -17,7 +17,7 @@ LOCAL_GET, LOCAL_SET = b"\x20", b"\x21"
 CUT, WIDEN = b"\xa7", b"\xad"  # i32.wrap_i64, i64.extend_i32_u
 END = 0x0B
 
-# what stands after an instruction's octet; instructions that aren't here are refused
+# what comes after an instruction's octet; instructions that aren't here are refused
 NOTHING, NUMBER, BLOCK, TABLE, LOAD, STORE, SIZE, GROW, OCTETS_4, OCTETS_8, MORE, TYPES_OF_SELECT = range(12)
 KINDS = (
     {it: NOTHING for it in (0x00, 0x01, 0x05, END, 0x0F, 0x1A, 0x1B, *range(0x45, 0xC5))}
@@ -55,7 +55,7 @@ def skip_block_type(reader: Reader) -> None:
 
 
 def skip_after(reader: Reader, kind: int) -> None:
-    """Goes past what stands after an instruction of this kind."""
+    """Goes past what comes after an instruction of this kind."""
     if kind in (NUMBER, SIZE, GROW):
         reader.skip_number()
     elif kind == BLOCK:
@@ -134,7 +134,7 @@ def lowered_body(reader: Reader, spares: Spares) -> bytes:
 
 
 def lowered_function(body: bytes, parameters: int) -> bytes:
-    """A function, whose locals stand before its instructions."""
+    """A function, whose locals come before its instructions."""
     reader = Reader(body)
     groups, count, start = reader.number(), parameters, reader.at
     for _ in range(groups):

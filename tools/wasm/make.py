@@ -1,6 +1,6 @@
 """Makes modules of WebAssembly of the LLVM module that a native program was compiled of.
 
-There are two, which differ in their addresses alone (lower.py): of 32 bits, which every browser takes, and of 64. Both carry a note, as JSON
+There are two, which differ only in their addresses (lower.py): of 32 bits, which every browser takes, and of 64. Both carry a note, as JSON
 in a section of its own, of what they come from. The toolchain's clang does the rest.
 """
 

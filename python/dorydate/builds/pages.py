@@ -1,11 +1,11 @@
 """Makes WebAssembly of the program that is kept for the present sources, and a page that runs it: ./build --wasm
 
-Beside a program that ./build or tools/keep-unproved keeps as NAME stand afterwards
+Beside a program that ./build or tools/keep-unproved keeps as NAME are afterwards
 
 - NAME.bc: the module that LLVM made the program of. Where it lacks, because the program was built when nothing caught it, the program is
   built once more over what is proved already
 - NAME.wasm and NAME64.wasm: the program as WebAssembly, with addresses of 32 bits and of 64
-- NAME.html: the page in which NAME.wasm stands, which is the workbench (docs/workbench.md)
+- NAME.html: the page that holds NAME.wasm, which is the workbench (docs/workbench.md)
 - NAME-plain.html: a plain page around NAME.wasm, with a box, options and what is printed
 
 They are made of the proved program if there is one, else of the one that was built without proofs, and then they say so.

@@ -1,13 +1,13 @@
 """Logs of networks whose IMPs ask, checked against the mailboxes, only in the model (half a minute for 1,000): ./check asking [RUNS]
 
 Runs random scripts with questions (python/dorydate/model/chance/questions.py), only in the independent model. Of each log it is looked at whether it is
-a run of the mailboxes, and that no message is taken, before or after, whose source was told "not taken" (python/dorydate/model/mailboxes.py).
+a run of the mailboxes, and that no message is taken, before or after, whose source was notified of "not taken" (python/dorydate/model/mailboxes.py).
 So this script doesn't try the program: `check model` does. It tries the rules of questions themselves.
 
 First the mailboxes are tried, on logs written by hand that are runs, and on logs that are wrong in one place. At last the rules are
 tried, each left out or broken in turn: some script has to come to a log that is no run. There numbers are 0 to 7 and the window
 is 3 wide, so that numbers wrap around within a script. Not each of the rules is needed for the mailboxes: those that are owed to
-the exact contracts alone are not among them.
+the exact contracts as such are not among them.
 """
 
 from __future__ import annotations
@@ -71,7 +71,7 @@ LOGS: list[tuple[list[Crossing], int | None]] = [
     ([Turned("down", HostName(0, 3))], 0),
 ]
 
-# logs, and whether no message is taken whose source was told "not taken"
+# logs, and whether no message is taken whose source was notified of "not taken"
 TOLD: list[tuple[list[Crossing], bool]] = [
     ([OUT, told("nottaken"), NEXT, Passed("in", FLOW, "0")], True),
     ([OUT, TAKEN, told("rfnm"), NEXT, told("nottaken")], True),

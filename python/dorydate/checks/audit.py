@@ -3,11 +3,11 @@
 Tries what the program says of logs and prints as logs, against an independent reader and judge in Python (python/dorydate/model/log.py).
 
 - Logs that were written by hand (dorydate.checks.log_rows), each with its verdict or the number of its bad line, and those of docs/audit.md.
-  Readings of these rules that are wrong in one place have to be told from the right one by these.
+  Readings of these rules that are wrong in one place have to be distinguished from the right one by these.
 - Each prefix of a short log, and the same log with each octet changed to 00, 7F and FF; logs of as many octets as may be read, and of
   one more.
 - What `--log` prints of each example and each stored input is the log that the model makes of it, and `--audit` says `kept`.
-- The books that break where a rule is lacking, in the folder `without`: the part that each file names is told.
+- The books that break where a rule is lacking, in the folder `without`: the part that each file names is reported.
 - Random books (python/dorydate/model/chance/books.py): COUNT of worlds that the model runs, every other one broken on purpose in one place,
   and as many small ones of few hosts and sockets. Of each tenth world the program's own log is compared too.
 
@@ -41,7 +41,7 @@ from dorydate.checks import headline
 from dorydate.parts import ROOT, any_program
 
 COUNT = 10_000
-LOGGED = 10  # of so many worlds one is logged by the program too
+LOGGED = 10  # of this many worlds one is logged by the program too
 CORES = os.cpu_count() or 1
 
 

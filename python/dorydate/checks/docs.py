@@ -1,11 +1,11 @@
 """Each link, source, name and number in the documents is there, and what is made of them is as it is made (seconds): ./check docs [--write | --lower]
 
 Checks what the documents name: each link leads to a file, each source that is named by its path exists, and each name
-that the claims about a crate have stands in the code.
+that the claims about a crate have is in the code.
 
 crates/NAME/CLAIMS.md is about the crate in whose folder it lies. What it says before its heading `How it was attacked` is what
 is proved or not. Each name there between backquotes, or its last part if it is a path, has to be declared in src/ or specs/ of
-that crate, or of one that it stands on: as a function, a type, a variant, a constant, a clause or a definition. `law::NAME` has
+that crate, or of one that it is built on: as a function, a type, a variant, a constant, a clause or a definition. `law::NAME` has
 to be a function of that crate's module law, and the name of a file a file of the crate or of the repository. Below that heading
 so it is with the definitions in the tables; the rows beside them have to be functions of a crate of tests, or of that crate, or
 stored inputs of cases/; and each other name has to be one of these, or that of a planted bug of the crate.
@@ -17,7 +17,7 @@ no text of a drawing over another one or over a line. Words of the house's diale
 (dorydate.documents). With --write the drawings, this page and those of planted bugs and of rules are made anew, and with --lower the limits are lowered to what is counted.
 
 Then it counts what hides borders and what is dead, each against its limit: imports that reach into another crate's proofs/
-beside its module lemmas, names of proofs/ that are declared `pub` and stand nowhere else, and folders of proofs/ with too many entries.
+beside its module lemmas, names of proofs/ that are declared `pub` and are nowhere else, and folders of proofs/ with too many entries.
 """
 
 from __future__ import annotations
@@ -37,7 +37,7 @@ from dorydate.drawings import pictures
 from dorydate.parts import ROOT
 
 MOST_REACHING = 0  # imports into another crate's proofs/ beside lemmas
-MOST_DEAD = 0  # names of proofs/ that are declared `pub` and stand nowhere else
+MOST_DEAD = 0  # names of proofs/ that are declared `pub` and are nowhere else
 MOST_ENTRIES = 40  # of a folder of proofs/
 # files that the checker asks for by their names, and what each crate lends to others
 ASKED_FOR = ("Answers.antt", "Invariants.antt", "Proof.antt", "Lib.antt")
@@ -148,7 +148,7 @@ def unknown_names() -> Iterator[str]:
 
 
 def unknown_clauses() -> Iterator[str]:
-    """Names in docs/PROVED.md that the code does not have: each stands behind a path that begins with its crate."""
+    """Names in docs/PROVED.md that the code does not have: each comes after a path that begins with its crate."""
     for line in text_of(f"{ROOT}/docs/PROVED.md").splitlines():
         crate = None
         for name in names_in(line):
@@ -192,7 +192,7 @@ def reaching() -> Iterator[str]:
 
 
 def dead() -> Iterator[str]:
-    """The names that a file of proofs/ declares as `pub`, and that stand nowhere else in the sources, or in their own file beyond what they are."""
+    """The names that a file of proofs/ declares as `pub`, and that are nowhere else in the sources, or in their own file beyond what they are."""
     text = {path: re.sub(r"(?m)(^|\s)--( .*|-*)$", "", text_of(path)) if path.endswith(".antt") else text_of(path) for path in sources()}
     counts = {path: Counter(TOKEN.findall(it)) for path, it in text.items()}
     total = sum(counts.values(), Counter[str]())
@@ -223,7 +223,7 @@ def parents(path: str) -> Iterator[str]:
 
 
 def over_limits() -> Iterator[str]:
-    """What is above the limits, after a line that tells the counts."""
+    """What is above the limits, after a line with the counts."""
     kinds = ("imports into another crate's proofs/ beside lemmas", [*reaching()], MOST_REACHING), ("names that nothing cites", [*dead()], MOST_DEAD), ("crowded folders", sorted(crowded()), 0)
     print("check docs:", ", ".join(f"{len(found)} {what}" for what, found, _ in kinds))
     for _, found, most in kinds:

@@ -75,7 +75,7 @@ def functions_of(edits: Sequence[Edit], whole: bool) -> list[str]:
 
 
 def verdict_alone(edit: Edit, said: str) -> tuple[bool, str]:
-    """What a check with this edit alone says of it, as whether it is refused and in words."""
+    """What a check with only this edit says of it, as whether it is refused and in words."""
     ended = re.search(r"^(?:logic=(proved)?|only=(\d+) proved=(\d+)$)", said, re.MULTILINE)
     if "\nrattle: no verdict" in said:
         return False, "NOT JUDGED: the prover met a limit"
@@ -92,7 +92,7 @@ def verdict_alone(edit: Edit, said: str) -> tuple[bool, str]:
 
 
 def try_in_batches(copy: Copy, edits: list[Edit], whole: bool) -> list[Edit]:
-    """Tries the edits together where that can tell, and prints those that are refused. Gives those that are left."""
+    """Tries the edits together where that shows something, and prints those that are refused. Gives those that are left."""
     waiting, batches = edits, 0
     alone: list[Edit] = []
     while True:
@@ -107,7 +107,7 @@ def try_in_batches(copy: Copy, edits: list[Edit], whole: bool) -> list[Edit]:
             alone += bad or batch
             waiting = [it for it in batch if bad and it not in bad] + waiting
             continue
-        # a function without an edit has no open goals, whatever it calls; where one has some, the batch doesn't tell whose they are
+        # a function without an edit has no open goals, whatever it calls; where one has some, the batch doesn't show whose they are
         others = [name for name in open_goals(said) if not any(it.is_in(name) for it in batch)]
         for edit in batch:
             if not others and (goals := refusal(edit, said)):

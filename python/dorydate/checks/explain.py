@@ -1,21 +1,21 @@
 """./explain ties each event to what it printed, and names the cause of each refusal (a minute).
 
-Checks what ./explain tells.
+Checks what ./explain says.
 
 - The lines that it ties to each event are those that the independent model of the rules in dorydate.model prints for it, on
   random inputs. So are, in plain networks, the messages of which it says that they still wait.
-- Of a refused event of an example it tells the cause that is written here by hand.
+- Of a refused event of an example it says the cause that is written here by hand.
 - Of a refused script line or topology it names a cause exactly if that model refuses it, and for inputs written
   here by hand it names the cause that is meant.
 - In networks with host programs it names a cause for each bad line, and has a sentence for each line that is printed there.
 - In subnets the independent model, from which the sentences about the inside are, prints what the program prints, event by
-  event; where it knows that an answer was NotTaken, for which `incomplete` is printed too, that is told and drawn; each event that prints nothing has a sentence. What it says of lines written here by hand is what is written beside
+  event; where it knows that an answer was NotTaken, for which `incomplete` is printed too, that is said and drawn; each event that prints nothing has a sentence. What it says of lines written here by hand is what is written beside
   them. Where it names the next event that clears what is in the way of a refused one, these events, one after the other, do.
-- Of a bad line of a log it tells the cause and the form, of a broken book which lines disagree and where, and of a network at rest what waits.
-- Closed and full streams are told in a line, and status 1.
+- Of a bad line of a log it says the cause and the form, of a broken book which lines disagree and where, and of a network at rest what waits.
+- Closed and full streams are reported in a line, and status 1.
 - What messages say is what is written here by hand, octets and words.
-- Without a kept program it tells the same.
-- The tour's table and the charts in docs/ are what it tells and draws, and the tour's changes to the examples do what it
+- Without a kept program it says the same.
+- The tour's table and the charts in docs/ are what it says and draws, and the tour's changes to the examples do what it
   says.
 
 It takes the proved program, or where ./build has not made that the one that was built without proofs.

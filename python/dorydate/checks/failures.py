@@ -1,6 +1,6 @@
 """The program stops as it should when an allocation, a read or a write fails (two minutes; it needs a C compiler).
 
-Runs inputs over and over: once for each allocation, each read and each write, which fails then, that one alone.
+Runs inputs over and over: once for each allocation, each read and each write, which fails then, and only that one.
 
 - A run with no failure has to print what the input's file .stdout says, whole reads and writes or short ones.
 - A run whose allocation fails has to end with status 3 and a prefix of that output.

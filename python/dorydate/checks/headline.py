@@ -5,7 +5,7 @@ Shows what each rule of docs/headline.md is there for: ./check headline [FILE]
 Each file of `without` has a network and a script, and says in its first two lines which rule is lacking and what breaks.
 It runs in the model that lacks this rule (python/dorydate/model/without), where the audit of the book has to find that part of the
 promise broken; in the model with all its rules, where nothing may break; and once more without each of its lines, where
-nothing may break either: so no line could be left out, but for one that a file may name as standing there for the reader. With a
+nothing may break either: so no line could be left out, but for one that a file may name as being there for the reader. With a
 FILE it prints both outputs, without the rule and with it.
 
 What comes of numbers that wrap around is the same whatever their number, as long as it is more than twice the window
@@ -13,7 +13,7 @@ What comes of numbers that wrap around is the same whatever their number, as lon
 do for tens of thousands.
 
 Nothing of this is the program: it has all its rules. Some rules of the page are not in `without`, since no book was seen to
-break where one of them alone is lacking: ./check headline --harmless [RUNS] tries these at random.
+break where only one of them is lacking: ./check headline --harmless [RUNS] tries these at random.
 """
 
 from __future__ import annotations
@@ -46,7 +46,7 @@ def numbers_of(words: str | None) -> Numbers:
 
 
 def unrolled(lines: Iterable[str]) -> Iterator[str]:
-    """The lines of a script, those between `repeat N` and `done` so many times."""
+    """The lines of a script, those between `repeat N` and `done` N times."""
     left = iter(lines)
     for line in left:
         if line.startswith("repeat "):
@@ -63,7 +63,7 @@ class Lesson:
             self.lines = file.read().splitlines()
         self.rule = self.lines[0].removeprefix("# lacks: ")
         self.breaks = self.lines[1].removeprefix("# breaks: ")
-        self.beside = self.said("beside")  # a line that stands there for the reader alone
+        self.beside = self.said("beside")  # a line that is there only for the reader
         self.numbers = numbers_of(self.said("numbers"))
         marker = self.lines.index("%")
         self.network = network_of("\n".join(self.lines[:marker]))

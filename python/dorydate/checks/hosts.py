@@ -4,7 +4,7 @@ Compares hosts' programs with an independent model of their rules, on random cal
 
 The proofs say that `Ncp` does what its definitions say. Whether the definitions say what docs/hosts.md says is for readers
 to judge; this script tries it as well. python/dorydate/model/host.py was written from those rules, in another language and another
-form, with messages and commands spelled from the formats. Both run every call, and what it answers, what it tells and what
+form, with messages and commands spelled from the formats. Both run every call, and what it answers, what it reports and what
 goes out next have to be the same. The same calls are made each time. In half of the runs one to three hosts exchange what
 they send, over boxes that may lose it; in the others one host gets what a peer of any kind may send. Besides, every command
 is cut at every length, and each octet of it is changed.

@@ -5,7 +5,7 @@ Compares one IMP with an independent model of its rules, on random calls.
 The proofs say that `Imp` does what its definitions say. Whether the definitions say what docs/imp.md says is for readers
 to judge; this script tries it as well. `Imp` in python/dorydate/model/imp.py was written from those rules, in another language and
 another form, with packets and frames spelled from the formats. Both run every call, and answers, frames and what the
-queries tell have to be the same. The same calls are made each time.
+queries answer have to be the same. The same calls are made each time.
 
 The calls are made by tools/calls, built without proofs (dorydate.builds.drivers): ./check imp [RUNS]
 """
@@ -43,7 +43,7 @@ def spell_given(given: Given | None) -> str:
 
 
 def told_of(imp: Imp, flow: Flow) -> str:
-    """What an IMP's queries tell of a flow."""
+    """What an IMP's queries say of a flow."""
     source, destination = flow.source.imp, flow.destination.imp
     held = imp.everything()
     last = imp.last.get(flow)

@@ -1,7 +1,7 @@
 """Inputs past every limit that a library might have, against the independent models (ten minutes): ./check limits [NAME..]
 
 Whatever grows can be refused for want of memory, and no contract can say whether memory really ran out. So a limit that somebody put into
-the code and told as running out of memory would pass each proof. Here is one input for each thing that grows, as large as an input can ask for
+the code and reported as running out of memory would pass each proof. Here is one input for each thing that grows, as large as an input can ask for
 or past every limit that one might think of. How the program ends on it has to be what an independent model in Python says of it: of a script
 python/dorydate/model/script.py, of a log python/dorydate/model/log.py, of a trace python/dorydate/model/trace.py.
 """

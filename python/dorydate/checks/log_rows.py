@@ -74,7 +74,7 @@ VERDICTS = [
     (BOTH, f"{SENDER.replace('send 1', 'send 2')}\n{RECEIVER}\n{LISTS_TURNED}", "broken grants lines 11 10"),
     (BOTH, f"{SENDER}\n{RECEIVER}\n{LISTS_TURNED}", "kept"),
     (BOTH, f"{SENDER}\n{RECEIVER}\n{LISTS}", "broken streams line 10"),
-    # the first part that fails is told
+    # the first part that fails is reported
     ("receive 1 16 1 100 0 0 open 4849", "receive 1 16 0 0 0 0 open 4848", "broken streams lines 10 11"),
 ]
 

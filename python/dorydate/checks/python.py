@@ -26,7 +26,7 @@ SCHEDULES = 1_000  # whose logs are audited
 
 
 def mypy() -> bool:
-    """Whether the types are right; True where nobody can tell."""
+    """Whether the types are right; True where no tool is there to say."""
     if not shutil.which("mypy"):
         print("check python: mypy is not installed, so the types were not checked (apt-get install mypy)")
         return True
@@ -37,7 +37,7 @@ def mypy() -> bool:
 
 
 def pyflakes() -> bool:
-    """Whether nothing is imported or set for nothing; True where nobody can tell."""
+    """Whether nothing is imported or set for nothing; True where no tool is there to say."""
     if not shutil.which("pyflakes3"):
         print("check python: pyflakes3 is not installed, so it did not run (apt-get install pyflakes3)")
         return True
@@ -60,7 +60,7 @@ def tests(env: dict[str, str]) -> bool:
 
 
 def notebook(env: dict[str, str]) -> bool:
-    """Whether the notebook runs; True where nobody can tell."""
+    """Whether the notebook runs; True where no tool is there to say."""
     if not all(importlib.util.find_spec(it) for it in ("nbclient", "ipykernel")):
         print("check python: Jupyter's nbclient and ipykernel are not installed, so docs/experiment.ipynb did not run")
         return True

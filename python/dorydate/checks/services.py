@@ -4,7 +4,7 @@ Compares the machines of the initial connection, the terminal and the echo servi
 
 The proofs say that these machines do what their definitions say. Whether the definitions say what docs/initial-connection.md says
 is for readers to judge; this script tries it as well. python/dorydate/model/services.py was written from those rules and RFC 165, in another
-language and another form. Both are told random notices, most of them about the machine's own sockets, and what they ask
+language and another form. Both are given random notices, most of them about the machine's own sockets, and what they ask
 for and come to has to be the same.
 
 The calls are made by tools/calls, built without proofs (dorydate.builds.drivers): ./check services [RUNS]
@@ -32,7 +32,7 @@ PEERS = [HostName(0, 1), HostName(0, 2), HostName(3, 63)]
 
 
 class Chance:
-    """A machine, and what it is told at random."""
+    """A machine, and the random notices that it is given."""
 
     def __init__(self, seed: int) -> None:
         self.random = random.Random(seed)
@@ -40,7 +40,7 @@ class Chance:
         kind = self.one("server", "user", "user", "echo", "terminal")
         self.lines: list[str] = []
         self.owed: list[str] = []
-        self.story: list[str] = []  # what a machine is told where all goes well
+        self.story: list[str] = []  # what a machine is notified of where all goes well
         self.pairs: list[tuple[int, int]] = []
         self.machine = self.made(kind)
         self.answer(self.machine.start())

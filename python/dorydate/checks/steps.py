@@ -2,7 +2,7 @@
 
 Refuses one allocation after another, one in each run, of worlds and carriers to which the events of INPUTS happen one by one.
 
-tools/steps.rs makes the calls and looks: the event answers that memory ran out, the book, and of a carrier alone the log, is what
+tools/steps.rs makes the calls and looks: the event answers that memory ran out, the book, and of a carrier by itself the log, is what
 it was before that event, and every later call is refused as stopped. A run in which an allocation is refused and no event
 answers so has to have run out of memory elsewhere, as in making the world.
 

@@ -1,19 +1,19 @@
 """Traces of raw networks: what they leave out (a minute for 300 scripts over mailboxes and 300 over subnets): ./check trace [RUNS]
 
-The traces of all examples over raw networks, and of random scripts, as the model tells them from docs/trace.md:
+The traces of all examples over raw networks, and of random scripts, as the model has them from docs/trace.md:
 
 - The program prints the same trace with `--trace`, where one is kept that traces this carrier; what it doesn't trace it refuses.
 - The column of events is itself a script: it prints the same again, in the model, and by the program, where one is kept; and it
   comes to the same parts.
-- The lines that are told as printed are, one after the other, what the script prints.
+- The lines that are given as printed are, one after the other, what the script prints.
 - What an event's parts do not name is as before: who puts the named parts in the place of the old ones has all of them.
 - The trace leaves nothing out: networks made anew from its first line and their parts, in the middle of a script, continue alike:
   they print the same and come to the same parts.
 - What has crossed is what is printed, and what becomes of frames is what their parts show.
-- The worked examples of docs/trace.md are what the model tells.
+- The worked examples of docs/trace.md are what the model has.
 - Of networks with host programs, if the program traces them: see trace_worlds.
 
-Then rules are broken in turn, and some script has to tell: events left out of a calm or told as one, parts that are not named,
+Then rules are broken in turn, and some script has to show it: events left out of a calm or given as one, parts that are not named,
 values left out of the texts of parts, lines left out of the first line, and other fates of frames.
 """
 
@@ -78,7 +78,7 @@ def after(place: Carrier, lines: Iterable[str]) -> Carrier:
 
 
 def held_up(network: Topology, lines: Sequence[str]) -> tuple[Records, list[str]]:
-    """Looks at the trace of a script, and gives what it tells and what the script prints."""
+    """Looks at the trace of a script, and gives what it says and what the script prints."""
     records = [*traced(opened_carrier(network), lines)]
     whole = after(opened_carrier(network), lines)
     owed, last = whole.printed, all_parts(whole)
@@ -151,7 +151,7 @@ def is_shown(fate: str, before: Object, after: Object) -> bool:
 
 
 def followed(network: Topology, opening_parts: Object, records: Records) -> tuple[Carrier, list[tuple[int, Object]]]:
-    """What is there after the column of events, and the parts as the records tell them: in some places, and in the end."""
+    """What is there after the column of events, and the parts as the records have them: in some places, and in the end."""
     chance = random.Random(len(records))
     places = {*chance.sample(range(len(records)), min(ANEW, len(records))), len(records) - 1}
     kept: list[tuple[int, Object]] = []
@@ -360,7 +360,7 @@ def not_told(kind: str) -> Broken:
 
 
 def named_less(kind: str, leave: Callable[[int, str], bool]) -> Broken:
-    """Of the parts of an event of a kind some are not named, which `leave` tells of their places and names."""
+    """Of the parts of an event of a kind some are not named, which `leave` chooses by their places and names."""
 
     class Less(Traced):
         def tell(self, numbers: tuple[int, int], number_of_round: int, event: Event) -> Object:
@@ -373,7 +373,7 @@ def named_less(kind: str, leave: Callable[[int, str], bool]) -> Broken:
 
 
 def boxes_with(change: Callable[[str, Any], Any]) -> Broken:
-    """Another text of a part of mailboxes, wherever it is told."""
+    """Another text of a part of mailboxes, wherever it is given."""
     kept = OfBoxes.part
     return lambda: put(OfBoxes, "part", staticmethod(lambda boxes, name: change(name, kept(boxes, name))))
 
@@ -408,7 +408,7 @@ def fates_with(**others: str) -> Broken:
 
 
 def subnet_with(kind: str, change: Callable[[Object], Object]) -> Broken:
-    """Another text of an IMP or a line, wherever it is told."""
+    """Another text of an IMP or a line, wherever it is given."""
     kept = trace_subnet.part
 
     def part(subnet: Subnet, name: str) -> Object | None:
@@ -504,7 +504,7 @@ def of_document() -> Iterator[tuple[list[str], list[str]]]:
 
 
 def document_is_right() -> bool:
-    """Whether the examples end as the model tells: with these lines, and with no others where the first is of the first event."""
+    """Whether the examples end as the model says: with these lines, and with no others where the first is of the first event."""
     examples = [*of_document()]
     for given, told in examples:
         marker = given.index("%")

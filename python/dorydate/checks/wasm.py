@@ -199,7 +199,7 @@ def check_page(page: str, sources: str, is_proved: bool, module: bytes | None = 
 
 
 def check_released(page: str, note: dict[str, Any]) -> None:
-    """The page of the last release has to be the one that its note tells of, and proved. It needn't be of today's sources."""
+    """The page of the last release has to be the one that its note names, and proved. It needn't be of today's sources."""
     if hashlib.sha256(page.encode()).hexdigest() != note["page"]:
         raise Wrong("released/dorydate.html is not the page that released/note.json tells of")
     held = gzip.decompress(base64.b64decode(block_of(page, "program")))

@@ -6,10 +6,10 @@ The model is the independent model of the rules (python/dorydate/model/world.py)
 from the crossings, the lives and the bits that were handed over (python/dorydate/model/audit.py): at the end of each run, and after each
 event of some; in these it is looked at too whether what had an effect on a host went out after that host's last clean point for
 its sender (python/dorydate/model/clean.py). So this script doesn't try the program. It tries the promise itself, and with it two facts that are stronger: no
-program is ever told of an error, and two lives that continue and have each other's hosts and sockets are one connection.
+program is ever notified of an error, and two lives that continue and have each other's hosts and sockets are one connection.
 
 First the audit itself is tried, on books that are right and books that are wrong in one place; and readings of the promise that
-are wrong in one place have to be told from the right one by one of these books.
+are wrong in one place have to be distinguished from the right one by one of these books.
 """
 
 from __future__ import annotations
@@ -153,7 +153,7 @@ def pairs_that_differ(log: Log, lives: Lives) -> Iterator[tuple[Life, Life]]:
 
 
 class Watched(World):
-    """A world that remembers which messages had an effect: they changed their host's program, or it told something."""
+    """A world that remembers which messages had an effect: they changed their host's program, or it reported something."""
 
     def __init__(self, carrier: Carrier) -> None:
         super().__init__(carrier)

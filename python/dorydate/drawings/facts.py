@@ -100,5 +100,5 @@ def command_lengths() -> list[int]:
 
 
 def faults() -> list[str]:
-    """The facts that the sources tell otherwise."""
+    """The facts that the sources have otherwise."""
     return [it for name, fact in FACTS.items() for it in fact.faults(name)]

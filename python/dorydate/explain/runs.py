@@ -1,7 +1,7 @@
 """What the program prints for each event of an input.
 
 It is run on the whole input, and then once more for each event, on the input cut off after that event's line. The program
-replays events in order and its output depends on its input alone, so what an event printed is what the output grew by.
+replays events in order and its output depends on its input only, so what an event printed is what the output grew by.
 """
 
 from __future__ import annotations
@@ -20,7 +20,7 @@ from dorydate.explain.given import Input, is_event
 from dorydate.parts import ROOT
 
 MOST_TRIED = 64_000_000  # octets of inputs that are run without a kept program
-LAST = b"end\n"  # the last line of each run that comes to its end
+LAST = b"end\n"  # the last line of each run that ends
 Ended = tuple[int, bytes, str]  # the status of a run, its output, and what it said on standard error
 
 

@@ -176,7 +176,7 @@ def without_two(script: Script) -> Iterator[Script]:
 
 
 def reordered(script: Script) -> Iterator[Script]:
-    """Two neighbours change places, or an event goes further to the front."""
+    """Two neighbours change places, or an event goes further to the beginning."""
     for at in range(len(script) - 1):
         yield script[:at] + (script[at + 1], script[at]) + script[at + 2 :]
 

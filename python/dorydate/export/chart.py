@@ -124,7 +124,7 @@ def unanswered(lines: Sequence[Line]) -> list[Flow]:
 
 
 def slide(what: Replayed, state: State, step: int) -> str:
-    """The slide after so many events."""
+    """The slide after this many events."""
     done: Sequence[Happened] = what.events[:step]
     lines = [it for happened in done for it in happened.lines]
     title = f"Event {len(done)} of {len(what.events)}, {done[-1].said}" if done else "Before the first event"

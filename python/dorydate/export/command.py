@@ -53,7 +53,7 @@ def written(format: str, script: Script, after: int | None) -> bytes:
 
 
 def state_after(what: Replayed, program: Program, step: int) -> State:
-    """The state after so many events, of which those that were refused changed nothing; an empty one where it can't be known."""
+    """The state after this many events, of which those that were refused changed nothing; an empty one where it can't be known."""
     kept = [it.event for it in what.events[:step] if refusal(list(map(str, it.lines))) is None]
     try:
         return state_of(program, what.network, kept)

@@ -1,7 +1,7 @@
 """A trace for Perfetto and Chrome, in JSON as the document *Trace Event Format* describes it.
 
 There is a track for each flow, with its messages from `out` to the answer; for each end of a connection; and for each way of a line,
-with the frames that arrive and are dropped. Counters tell of each IMP what its store and channels hold, its slots and its distances,
+with the frames that arrive and are dropped. Counters show of each IMP what its store and channels hold, its slots and its distances,
 of each line the frames that are live, of each end of a connection what may still be sent or come, and of the whole network the messages
 that have no answer.
 """
@@ -15,7 +15,7 @@ from typing import Any
 from dorydate.export.replayed import MICROSECONDS, Moment, Replayed
 
 FLOWS, CONNECTIONS, LINES, IMPS = 1, 2, 3, 4  # the processes that tracks belong to
-FAR = 63  # the distance that stands for no way
+FAR = 63  # the distance that means no way
 PROCESSES = {FLOWS: "flows", CONNECTIONS: "connections", LINES: "lines", IMPS: "IMPs"}
 Event = dict[str, Any]
 

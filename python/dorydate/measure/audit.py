@@ -6,7 +6,7 @@ of both. Each is kept, so all of it is looked at:
 - a log without lives, as a measure for the reading;
 - connections of different hosts and sockets, with a message of data each;
 - one connection after the other, always on the same two sockets of the same two hosts, so that all lives of a host are alike;
-- the same, with one request that is taken only after half of the log: each two lives that are alike are told apart by their partners'
+- the same, with one request that is taken only after half of the log: each two lives that are alike are distinguished by their partners'
   requests, and the way back from this stamp to its message is long;
 - lives with different sockets whose requests all came in one message, which is taken only at the end;
 - messages that all go out before the first of them is taken, and are all taken before the first of them is answered: the way

@@ -13,7 +13,7 @@ The scripts fit into an input. They begin with as many messages as have room, wh
 What is missing of the lines is filled with takes of a host for which nothing waits.
 
 Each script is measured at 6,000 and at 60,000 lines: the processor time from the start of the process to its end, the
-median of the rounds. Both states have to print the same. The last column tells how many times as long the later state
+median of the rounds. Both states have to print the same. The last column says how many times as long the later state
 takes for ten times the lines; at most twelve times is wanted, and at most 150 ms for 60,000 lines on a quiet core.
 
 The earlier state is run only once on a script that takes it more than a second. It is not part of the gate.

@@ -2,7 +2,7 @@
 
 BEFORE and AFTER are programs; tools/optimised builds that of a clone. The kinds are those of `./measure worlds`, `subnet` and
 `boxes`, each at one size and at ten times that. Both programs have to print the same, and what BEFORE refuses is measured
-of AFTER alone. Of each size the best processor time of the rounds is told, run in turn so that a busy machine slows both, and
+of AFTER only. Of each size the best processor time of the rounds is printed, run in turn so that a busy machine slows both, and
 the greatest memory; of the smaller one also the instructions, which no load changes. The last column compares the times of
 AFTER. At most twelve times as long is wanted for ten times the work. It wants GNU time and Valgrind, and takes some minutes.
 """

@@ -1,7 +1,7 @@
 """How many hops and events a second a subnet runs: ./measure subnet [--program FILE] [--beside FILE] [--instructions] [--only WORDS] [ROUNDS]
 
 ./build has to be run before, or FILE is the program. With --beside, the program of an earlier state is run in turn with it, so
-that a busy machine slows both; both have to print the same, and kinds that the earlier one refuses are measured alone. With
+that a busy machine slows both; both have to print the same, and kinds that the earlier one refuses are measured by themselves. With
 --instructions, callgrind of Valgrind counts the instructions of one run, which no load changes (it may want a program without debug
 information, as `strip -g` leaves it). With --only, the kinds whose names have these words are measured.
 Each kind of script is measured at one size and at ten times that size:
@@ -16,7 +16,7 @@ Each kind of script is measured at one size and at ten times that size:
 - single random events in a ring of 16 IMPs with eight chords. The independent model of the rules in Python goes along, so
   that frames that are there are delivered and dropped, and messages are begun on idle flows.
 
-For each the median and the best processor time of the rounds are told, from the start of the process to its end, and the
+For each the median and the best processor time of the rounds are printed, from the start of the process to its end, and the
 greatest memory; growth compares the best. At least 200,000 hops and 500,000 events a second are wanted on a quiet core,
 and for ten times the events at most eleven times as long. It wants GNU time at /usr/bin/time, and is not part of the
 gate.

@@ -10,7 +10,7 @@ so that a busy machine slows both.
   called by tools/texts.rs, which is proved and built for each state in a temporary folder, over copies of the crates that
   it uses and of what their checks kept (`rt check` in crates/packetiser of both clones saves minutes).
 
-It wants GNU time at /usr/bin/time, which tells how much memory a process held. It is not part of the gate.
+It wants GNU time at /usr/bin/time, which says how much memory a process held. It is not part of the gate.
 """
 
 from __future__ import annotations

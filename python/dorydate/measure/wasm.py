@@ -21,7 +21,7 @@ from dorydate.measure import best_of_all, written
 from dorydate.measure.kinds import kinds
 from dorydate.parts import ROOT, any_program
 
-LONG = 0.010  # seconds of the native program from which on a ratio is told by itself
+LONG = 0.010  # seconds of the native program from which on a ratio is printed by itself
 
 
 def inputs(folder: str) -> Iterator[str]:

@@ -14,7 +14,7 @@ Two hosts talk over plain mailboxes, and over a chain of four IMPs:
 - lines that are typed at a terminal, each of which comes back from the other host's echo service before the next one;
 - initial connections, one after the other, each closed before the next one.
 
-Over plain mailboxes alone:
+Over plain mailboxes only:
 
 - ECOs that all wait to go out before the first of them does;
 - sockets that listen, and servers that wait, with nobody to ask them;
@@ -24,9 +24,9 @@ Over plain mailboxes alone:
 - connections that one host asks another for, all at once, before a request goes out;
 - quiet rounds of 64 hosts that have nothing to say.
 
-Each is run at one size and at ten times that size. For each the median and the best processor time of the rounds are told,
+Each is run at one size and at ten times that size. For each the median and the best processor time of the rounds are printed,
 from the start of the process to its end, and the greatest memory; growth compares the best. At most twelve times as long
-is wanted for ten times the work. With --beside the best of both programs are told, and the greatest memory of both. What a run prints is counted: every message has to arrive, and every connection to open and
+is wanted for ten times the work. With --beside the best of both programs are printed, and the greatest memory of both. What a run prints is counted: every message has to arrive, and every connection to open and
 to end. It wants GNU time at /usr/bin/time, and is not part of the gate.
 """
 
@@ -247,14 +247,14 @@ def memory_of(program: str, source: str, wanted: dict[str, int]) -> tuple[int, b
 
 
 def alone(program: str, source: str, rounds: int, wanted: dict[str, int]) -> tuple[str, float]:
-    """What is told of one program, and its best time in seconds."""
+    """What is printed of one program, and its best time in seconds."""
     memory, _ = memory_of(program, source, wanted)
     runs = [processor_time([program], source) for _ in range(rounds)]
     return f"{1000 * statistics.median(runs):.1f} ms | {1000 * min(runs):.1f} ms | {memory:,} KiB", min(runs)
 
 
 def beside(programs: Sequence[str], source: str, rounds: int, wanted: dict[str, int]) -> tuple[str, float]:
-    """What is told of an earlier program and of the later one, and the best time of the later one in seconds."""
+    """What is printed of an earlier program and of the later one, and the best time of the later one in seconds."""
     (former, lines), (latter, others) = [memory_of(program, source, wanted) for program in programs]
     if lines != others:
         sys.exit(f"measure worlds: {source}: the two programs print something else")

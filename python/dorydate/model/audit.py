@@ -1,6 +1,6 @@
 """What a book of connections promises, computed over a log, its lives and what was handed over to be sent.
 
-It was written from the promise as docs/world.md tells it, in another language and another form than the definitions. It looks
+It was written from the promise as docs/world.md has it, in another language and another form than the definitions. It looks
 at crossings and lives only, and knows nothing of hosts' programs. Each word of the promise that can be read in another way is a
 method of its own: `misreadings` has those readings.
 """

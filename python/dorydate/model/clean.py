@@ -1,6 +1,6 @@
 """What a host may take after a reset, computed over a log and the contacts that users asked for.
 
-It was written from the promise as docs/world.md tells it, in another language and another form than the definitions: it knows
+It was written from the promise as docs/world.md has it, in another language and another form than the definitions: it knows
 no phases, only what was asked for, what crossed and what was answered.
 """
 
@@ -16,7 +16,7 @@ from dorydate.model.names import Flow, HostName
 
 
 def signal_of(link: int, text: Bits) -> int | None:
-    """RST or RRP where a message is one of them alone, else None."""
+    """RST or RRP where a message is just one of them, else None."""
     parts = split(text) if link == 0 else None
     if parts is None or (parts.size, parts.number) != (8, 1):
         return None

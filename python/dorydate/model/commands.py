@@ -39,7 +39,7 @@ def read_numbers(octets_in: bytes, *counts: int) -> list[int]:
 
 
 def alone(code: int) -> bytes:
-    """A command that is its code alone."""
+    """A command that is only its code."""
     return bytes([code])
 
 

@@ -28,7 +28,7 @@ class Fault(Exception):
 
 
 def told(read: Callable[[T], str], given: T) -> str:
-    """What a reader tells of octets or bits, or its fault."""
+    """What a reader says of octets or bits, or its fault."""
     try:
         return read(given)
     except Fault as fault:

@@ -15,7 +15,7 @@ from dorydate.model.names import Flow, HostName, Refused
 from dorydate.model.packets import ASK, CHANNELS, DATA, DEAD, NEVER, RFNM, Carried, Content, Kind, Packet, Routes, answer, pieces_of, target
 
 TELLS: dict[Fate, Kind] = {"taken": RFNM, "dead": DEAD, "never": NEVER}  # the answer to a question about a message of this fate
-BRINGS: dict[Kind, Answer] = {RFNM: "rfnm", DEAD: "dead", NEVER: "nottaken"}  # what a packet tells the source
+BRINGS: dict[Kind, Answer] = {RFNM: "rfnm", DEAD: "dead", NEVER: "nottaken"}  # what a packet reports to the source
 
 Deed = Callable[[], None]
 
@@ -149,7 +149,7 @@ class Imp(ImpState):
         return self.reassembly_of(packet)
 
     def answer_to(self, flow: Flow, number: int) -> Deed | None:
-        """What is to be done about a question: a number that is new is noted as never come, and the one noted last tells its fate."""
+        """What is to be done about a question: a number that is new is noted as never come, and the one noted last gives its fate."""
         if self.is_new(flow, number):
             return self.with_reply(NEVER, flow, number, lambda: self.turn_down(flow, number, "never"))
         if self.kept[flow] != number or self.fates[flow] == "waits":

@@ -1,4 +1,4 @@
-"""What an IMP keeps, and what its queries tell of it.
+"""What an IMP keeps, and what its queries say of it.
 
 It was written from docs/imp.md, in another language and another form than the definitions.
 """
@@ -22,7 +22,7 @@ Fate = Literal["waits", "taken", "dead", "never"]
 
 @dataclass(frozen=True)
 class Numbers:
-    """The numbers of a flow's messages: how many there are before they wrap around, and how far behind one is old."""
+    """The numbers of a flow's messages: how many there are before they wrap around, and how far back one is old."""
 
     count: int = 65536
     window: int = 32767
@@ -60,7 +60,7 @@ class Port:
     """An end of a line: whether it is up, its channels, and the distances that its neighbour sent last."""
 
     def __init__(self) -> None:
-        self.accepted: set[tuple[Kind, Flow, int, int]] = set()  # what came in since the IMP started: no rule looks at it, only those who tell of repeats
+        self.accepted: set[tuple[Kind, Flow, int, int]] = set()  # what came in since the IMP started: no rule looks at it, only those who report repeats
         self.reset()
 
     def reset(self) -> None:
@@ -103,7 +103,7 @@ class ImpState:
         return port if distance < INFINITE else None
 
     def vector(self) -> list[int]:
-        """The distances to all IMPs, as it tells them to its neighbours."""
+        """The distances to all IMPs, as it announces them to its neighbours."""
         heard = [port.heard for port in self.ports if port.heard is not None]
         least = heard[0] if len(heard) == 1 else [min(told) for told in zip(*heard)] if heard else [INFINITE] * MOST_IMPS
         distances = [FARTHER[it] for it in least]
@@ -115,7 +115,7 @@ class ImpState:
         return self.store + [packet for port in self.ports for packet in port.line.held()]
 
     def room(self, count: int) -> bool:
-        """Whether it has room for so many packets more."""
+        """Whether it has room for this many packets more."""
         return len(self.packets()) + count <= STORE
 
     def runs(self, host: HostName) -> bool:

@@ -64,10 +64,10 @@ def first_break(hosts: Iterable[HostName], log: Sequence[Crossing]) -> int | Non
 
 
 def never_taken(log: Iterable[Crossing]) -> bool:
-    """Whether of no message whose source was told "not taken" a taking is in the log, before or after: none between its going out and
+    """Whether of no message whose source was notified of "not taken" a taking is in the log, before or after: none between its going out and
     the next one's on its flow."""
     taken: set[Flow] = set()  # flows whose last message was taken
-    told: set[Flow] = set()  # and those of whose last message "not taken" was told
+    told: set[Flow] = set()  # and those of whose last message "not taken" was reported
     for crossing in log:
         if isinstance(crossing, Passed) and crossing.kind == "out":
             taken.discard(crossing.flow)

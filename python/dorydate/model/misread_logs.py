@@ -1,4 +1,4 @@
-"""Readers and judges of logs that are wrong in one place each: some log by hand has to tell each from the right one."""
+"""Readers and judges of logs that are wrong in one place each: some log by hand has to distinguish each from the right one."""
 
 from __future__ import annotations
 

@@ -1,4 +1,4 @@
-"""Readings of the promise of the book that are wrong in one place each: some book by hand has to tell each from the right one."""
+"""Readings of the promise of the book that are wrong in one place each: some book by hand has to distinguish each from the right one."""
 
 from __future__ import annotations
 

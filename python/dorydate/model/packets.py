@@ -52,7 +52,7 @@ class Routes(NamedTuple):
     distances: list[int]
 
 
-Content = Union[Carried, Routes, None]  # None is an acknowledgement alone
+Content = Union[Carried, Routes, None]  # None is only an acknowledgement
 
 
 class Frame(NamedTuple):

@@ -107,7 +107,7 @@ def read_event(line: str, raw: bool = True) -> Event:
 
 
 def read_raw_line(line: str) -> Event:
-    """A line that a raw network alone has."""
+    """A line that only a raw network has."""
     if found := OUT.fullmatch(line):
         text = read_text(found[6], found[7])
         if len(text) <= MOST_TEXT:
@@ -116,7 +116,7 @@ def read_raw_line(line: str) -> Event:
 
 
 def read_world_line(line: str, runs: Collection[str]) -> Event:
-    """A line that a network with host programs alone has."""
+    """A line that only a network with host programs has."""
     name = line.split(" ")[0]
     if name in ("server", "user", "type") and "services" not in runs:
         raise BadLine

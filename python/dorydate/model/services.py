@@ -1,7 +1,7 @@
 """What runs on hosts: the initial connection, the line terminal and the echo service: an independent implementation of their rules.
 
 They were written from the rules that docs/initial-connection.md retells and from RFC 165, in another language and another
-form than the definitions. Each is told the notices of its host's program and gives requests; what it reports is fetched
+form than the definitions. Each is given the notices of its host's program and gives requests; what it reports is fetched
 after them.
 """
 
@@ -77,7 +77,7 @@ class Machine(Running):
 
 
 class Server(Machine):
-    """Listens on L, and tells its first user the base S of a pair of sockets on which it listens too."""
+    """Listens on L, and sends its first user the base S of a pair of sockets on which it listens too."""
 
     NAME = "server"
 

@@ -174,7 +174,7 @@ class Subnet(Carrier):
         self.call(number, Imp.resend)
 
     def route(self, number: int) -> None:
-        """An IMP tells its neighbours its distances."""
+        """An IMP sends its neighbours its distances."""
         self.site(number)
         self.call(number, Imp.tell_routes)
 

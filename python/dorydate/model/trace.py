@@ -1,7 +1,7 @@
 """Traces of raw networks, independently implemented: tools/model --trace < FILE prints the trace of an input.
 
 It was written from docs/trace.md, in another language and another form than the definitions: mailboxes and subnets are those
-of dorydate.model.boxes and dorydate.model.subnet, and a trace is told from what they are after each event. The parts of a
+of dorydate.model.boxes and dorydate.model.subnet, and a trace is made from what they are after each event. The parts of a
 subnet are in dorydate.model.trace_subnet, and values in dorydate.model.trace_values. `check trace` uses it.
 """
 

@@ -1,4 +1,4 @@
-"""The parts of a subnet as a trace tells them, and a subnet made from its parts.
+"""The parts of a subnet as a trace has them, and a subnet made from its parts.
 
 It was written from docs/trace.md over the independent model of the subnet. `trace` uses it.
 """

@@ -2,7 +2,7 @@
 
 It uses the independent models of a carrier (`boxes`, `subnet`), of one host's program (`host`) and of what runs on a host
 (`services`), and was written from the rules that docs/world.md and docs/program.md retell, in another language and another form
-than the definitions. `check model` compares the program with it. Each event prints what crosses, what users are told, what
+than the definitions. `check model` compares the program with it. Each event prints what crosses, what users are notified of, what
 their programs report, or why the event is refused.
 """
 

@@ -45,7 +45,7 @@ def malformed(text: Bits) -> str:
 
 
 def raw_text_in_words(octets: bytes, bits: int) -> str:
-    """What a text of so many bits holds, where nothing is known of its form."""
+    """What a text of this many bits holds, where nothing is known of its form."""
     return shown(octets, bits) if bits else "nothing"
 
 

@@ -1,1 +1,1 @@
-"""Scripts and books by chance: each event is chosen by looking at what the model has come to."""
+"""Random scripts and books: each event is chosen by looking at what the model has come to."""

@@ -327,7 +327,7 @@ class Script:
 
 
 def reached(printed: Iterable[str]) -> Counter[str]:
-    """What the lines of an output tell of how deep a run went."""
+    """What the lines of an output say of how deep a run went."""
     words = (line.split(" ") for line in printed)
     return Counter(" ".join(it[:2]) if it[0] in ("refused", "answer", "done", "failed") else it[0] for it in words)
 

@@ -86,7 +86,7 @@ class EndsStay(Host):
 
 
 class Immortal(Held):
-    """A host that starts again goes on with the program that it had."""
+    """A host that starts again continues with the program that it had."""
 
     def __init__(self, carrier: Carrier, host_program: type[Host] = Host) -> None:
         super().__init__(carrier, host_program)
