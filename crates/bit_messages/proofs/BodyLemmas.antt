@@ -28,14 +28,14 @@ marked_at mark bits lt one after =
     let end : length bits - suffix_len (λ (b : Bool). not b) bits - 1 ≡ mark = omega (arith, suffix) in
     record { marked = list_any_at is_one bits mark false lt one; text = ap (λ (n : ℕ). take n bits) end }
 
--- with zeros alone there is no mark
+-- with zeros only there is no mark
 pub marked_none : (bits : List Bool) → HasZerosFrom 0 bits → has_mark bits ≡ false
 marked_none [] h = refl
 marked_none (b ∷ bits) h =
     let here : b ≡ false = h.zeros 0 (omega arith) (omega arith) in
     rw here (marked_none bits record { within = omega arith; zeros = λ k from to. h.zeros (suc k) (omega arith) (omega arith) })
 
--- what follows the front bit
+-- what follows the first bit
 zeros_under : (b : Bool) (bits : List Bool) (end : ℕ) → HasZerosFrom end bits → HasZerosFrom (suc end) (b ∷ bits)
 zeros_under b bits end h = record {
   within = omega (arith, h.within);
@@ -61,7 +61,7 @@ find_mark (b ∷ bits) = elim (find_mark bits) [
   | inl none ↦ first_of_all b bits none
 ]
 
--- zeros alone are a list of zeros
+-- zeros only are a list of zeros
 only_zeros : (bits : List Bool) → HasZerosFrom 0 bits → bits ≡ replicate (length bits) false
 only_zeros [] h = refl
 only_zeros (b ∷ bits) h =
@@ -99,7 +99,7 @@ split_text bits marked = elim (find_mark bits) [
   | inr (mark, lt, one, after) ↦ split_at_mark mark bits lt one after
 ]
 
--- zeros behind a list without a mark make none
+-- zeros after a list without a mark make none
 all_zeros : (bits : List Bool) (zeros : ℕ) → HasZerosFrom 0 bits → HasZerosFrom 0 (bits ++ replicate zeros false)
 all_zeros bits zeros h = rw (only_zeros bits h) (rw (replicate-append-replicate (length bits) zeros false) (record { within = omega arith; zeros = λ k from to. get_or-replicate (length bits + zeros) k false false (omega (arith, to, length-replicate (length bits + zeros) false)) }))
 
@@ -109,7 +109,7 @@ unmarked_behind bits zeros none = elim (find_mark bits) [
   | inr (mark, lt, one, after) ↦ (let m : IsMarkedAt mark bits = marked_at mark bits lt one after in let yes : has_mark bits ≡ true = m.marked in absurd (cc))
 ]
 
--- the zeros behind a mark
+-- the zeros after a mark
 after_mark : (text : List Bool) (zeros : ℕ) → HasZerosFrom (suc (length text)) (text ++ true ∷ replicate zeros false)
 after_mark [] zeros = zeros_under true (replicate zeros false) 0 (record { within = omega arith; zeros = λ k from to. get_or-replicate zeros k false false (omega (arith, to, length-replicate zeros false)) })
 after_mark (b ∷ text) zeros = zeros_under b (text ++ true ∷ replicate zeros false) (suc (length text)) (after_mark text zeros)

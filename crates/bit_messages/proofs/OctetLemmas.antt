@@ -12,7 +12,7 @@ pub length-bits_of : (octets : List ℕ) → length (bits_of octets) ≡ 8 * len
 length-bits_of [] = refl
 length-bits_of (n ∷ ns) = omega (arith, length-bits_of ns)
 
--- the first bits stand in the first octets
+-- the first bits are in the first octets
 pub record HasFirstBits (octets : List ℕ) (count whole : ℕ) : Type 0 where
   pub there : octets_fault octets count ≡ None
   pub same : take count (bits_of (take whole octets)) ≡ take count (bits_of octets)

@@ -29,7 +29,7 @@ cell_at (n ∷ ns) (suc q) r there few =
     let at : 8 + (8 * q + r) ≡ 8 * suc q + r = omega arith in
     cell_at ns q r (omega arith) few ∙ sym (get_or-append-add (octet_bits n) (bits_of ns) (8 * q + r) false) ∙ ap (λ (i : ℕ). get_or (octet_bits n ++ bits_of ns) i false) at
 
--- the bit at a place stands in an octet
+-- the bit at a place is in an octet
 pub bit_at_place : (octets : List ℕ) (place : ℕ) → place < 8 * length octets
     → get_or (octet_bits (get_or octets (place / 8) 0)) (place % 8) false ≡ get_or (bits_of octets) place false
 bit_at_place octets place there =
@@ -41,7 +41,7 @@ pub record Keeps (octets : List ℕ) (count : ℕ) (bits : List Bool) : Type 0 w
   pub size : count ≡ length bits
   pub packs : Packs octets bits
 
--- behind whole octets
+-- after whole octets
 bits_of-drop : (q : ℕ) (octets : List ℕ) → bits_of (drop q octets) ≡ drop (8 * q) (bits_of octets)
 bits_of-drop zero octets = refl
 bits_of-drop (suc q) [] = sym (drop-nil (8 * suc q))
@@ -58,7 +58,7 @@ bits_of-take q octets within =
     let joined : bits_of octets ≡ bits_of (take q octets) ++ bits_of (drop q octets) = ap bits_of (sym (take-append-drop q octets)) ∙ bits_of-append (take q octets) (drop q octets) in
     sym (ap (λ (b : List Bool). take (8 * q) b) joined ∙ take_at (bits_of (take q octets)) (bits_of (drop q octets)) (8 * q) size)
 
--- the bits behind which the zeros stand
+-- the bits after which the zeros are
 packs_view : (octets : List ℕ) (bits : List Bool) → Packs octets bits → take (length bits) (bits_of octets) ≡ bits
 packs_view octets bits p = ap (λ (b : List Bool). take (length bits) b) p.same ∙ take_at bits (replicate p.zeros false) (length bits) refl
 
@@ -180,7 +180,7 @@ last_octet octets count k used h split some few =
     ∙ ap (λ (b : List Bool). b ++ replicate h.packs.zeros false) front
     ∙ ap (λ (n : ℕ). take used x ++ replicate n false) zeros
 
--- bits put behind whole octets
+-- bits put after whole octets
 pub put_whole : (octets more : List ℕ) (count size : ℕ) → IsPacked octets count → IsPacked more size → count % 8 ≡ 0
     → Packs (octets ++ more) (take count (bits_of octets) ++ take size (bits_of more))
 put_whole octets more count size h m whole =
@@ -198,7 +198,7 @@ put_whole octets more count size h m whole =
       few = m.packs.few;
     }
 
--- what stands behind the bits that fill an octet up
+-- what follows the bits that fill an octet up
 record FillsUp (front tail bits : List Bool) : Type 0 where
   zeros : ℕ
   same : front ++ tail ≡ bits ++ replicate zeros false
@@ -240,7 +240,7 @@ fills_up more tail size room m there few p = elim (cases_lt size room) [
       })
 ]
 
--- bits put behind an octet that isn't full
+-- bits put after an octet that isn't full
 pub put_across : (octets more tail : List ℕ) (count size k used new : ℕ) → IsPacked octets count → IsPacked more size → count ≡ 8 * k + used → 0 < used → used < 8 → 0 < length more
     → octet_bits new ≡ take used (octet_bits (get_or octets k 0)) ++ take (8 - used) (octet_bits (get_or more 0 0))
     → Packs tail (take (size - (8 - used)) (drop (8 - used) (bits_of more)))
@@ -340,7 +340,7 @@ keeps_packed octets count bits k = packed octets count bits k.size k.packs
 pub keeps_view : (octets : List ℕ) (count : ℕ) (bits : List Bool) → Keeps octets count bits → take count (bits_of octets) ≡ bits
 keeps_view octets count bits k = viewed octets count bits k.size k.packs
 
--- bits behind a list that is kept
+-- bits after a list that is kept
 pub put_keeps : (octets new more : List ℕ) (count size total : ℕ) (front back : List Bool) → Keeps octets count front → Keeps more size back
     → Packs new (take count (bits_of octets) ++ take size (bits_of more)) → total ≡ count + size → Keeps new total (front ++ back)
 put_keeps octets new more count size total front back f b p is =
@@ -406,13 +406,13 @@ pad_keeps octets marked new count units text k p is covered few =
       packs = record { zeros = 0; same = bits ∙ sym (append-nil (body text)); few = omega arith };
     }
 
--- what stands before the mark of a list that is kept
+-- what is before the mark of a list that is kept
 pub record IsMarked (mark : ℕ) (bits : List Bool) : Type 0 where
   pub marked : has_mark bits ≡ true
   pub there : mark < length bits
   pub text : text_of bits ≡ take mark bits
 
--- zeros behind a marked list change nothing
+-- zeros after a marked list change nothing
 zeros_behind : (bits : List Bool) (zeros : ℕ) → has_mark bits ≡ true → IsStripped (text_of bits) (bits ++ replicate zeros false)
 zeros_behind bits zeros marked =
     let s : IsSplit bits = split_text bits marked in

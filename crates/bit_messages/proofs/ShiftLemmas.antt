@@ -14,7 +14,7 @@ bits_from n a b c d e f g h is =
     rw (bit_again a, bit_again b, bit_again c, bit_again d, bit_again e, bit_again f, bit_again g, bit_again h) is in
     ap octet_bits digits ∙ octet_bits_again (a % 2 == 1) (b % 2 == 1) (c % 2 == 1) (d % 2 == 1) (e % 2 == 1) (f % 2 == 1) (g % 2 == 1) (h % 2 == 1)
 
--- an or of bits that stand apart is a sum
+-- an or of bits at different places is a sum
 or_apart : (k a b : ℕ) → b < 2 ^ k → bit_or (a * 2 ^ k) b ≡ a * 2 ^ k + b
 or_apart k a b lt =
     let left : a * 2 ^ k ≡ a * 2 ^ k + 0 = omega arith in
@@ -25,7 +25,7 @@ or_apart k a b lt =
 or_sum : (k n a b : ℕ) → n ≡ a * 2 ^ k → b < 2 ^ k → bit_or n b ≡ n + b
 or_sum k n a b is lt = ap (λ (v : ℕ). bit_or v b) is ∙ or_apart k a b lt ∙ ap (λ (v : ℕ). v + b) (sym is)
 
--- the bits behind the first ones of two octets
+-- the bits after the first ones of two octets
 pub joined_bits : (x y by : ℕ) → x < 256 → y < 256 → 0 < by → by < 8
     → octet_bits (bit_or (x * 2 ^ by % 256) (y / 2 ^ (8 - by))) ≡ drop by (octet_bits x) ++ take by (octet_bits y)
 joined_bits x y zero xs ys some few = absurd (omega arith)
@@ -59,7 +59,7 @@ joined_bits x y (suc (suc (suc (suc (suc (suc (suc zero))))))) xs ys some few =
     bits_from n x (y / 128) (y / 64) (y / 32) (y / 16) (y / 8) (y / 4) (y / 2) (omega (arith, is))
 joined_bits x y (suc (suc (suc (suc (suc (suc (suc (suc by)))))))) xs ys some few = absurd (omega arith)
 
--- the first bits of an octet alone
+-- only the first bits of an octet
 pub cleared_bits : (x used : ℕ) → x < 256 → 0 < used → used < 8
     → octet_bits (bit_and x (255 * 2 ^ (8 - used) % 256)) ≡ take used (octet_bits x) ++ replicate (8 - used) false
 cleared_bits x zero xs some few = absurd (omega arith)

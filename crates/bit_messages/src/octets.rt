@@ -156,7 +156,7 @@ pub(crate) fn put_bit(octets: &mut Vec<u8>, len: usize, bit: bool) -> Result<(),
     put(octets, len, &[octet_with(bit)], 1)
 }
 
-/// Returns the octet that begins with this bit and has zeros behind it.
+/// Returns the octet that begins with this bit and has zeros after it.
 fn octet_with(bit: bool) -> u8
     ensures { octet_bits result ≡ bit ∷ replicate 7 false }
 {

@@ -18,7 +18,7 @@ use Rattle.book_log.specs.declared.lines.Line.TheVariants as line
 use Rattle.book_log.proofs.Keywords.{line_ends}
 use Rattle.book_log.proofs.Cuts.{first_same, rest_same}
 
--- ---- the lines that tell a book, without the last one
+-- ---- the lines that describe a book, without the last one
 
 abbrev pub told : Book → List Line
 told b = map (λ c. line.Crossed c) b.crossings ++ (map (λ x. line.Lived x) b.lives ++ map (λ bits. line.Handed bits) b.handed)
@@ -84,7 +84,7 @@ rank_is (line.Lived x) = refl
 rank_is (line.Handed bits) = refl
 rank_is line.End = refl
 
--- a line may stand behind another
+-- a line may follow another
 pub record Follows (r s : ℕ) : Type 0 where
   pub order : r ≤ s
   pub early : r < 3
@@ -93,7 +93,7 @@ abbrev pub InOrder : List Line → Type 0
 InOrder [] = Unit {0}
 InOrder (l ∷ ls) = All (λ k. Follows (rank l) (rank k)) ls × InOrder ls
 
--- every line of the first list may stand before every line of the second
+-- every line of the first list may be before every line of the second
 in_order-append : (ls ks : List Line) → InOrder ls → InOrder ks → All (λ l. All (λ k. Follows (rank l) (rank k)) ks) ls → InOrder (ls ++ ks)
 in_order-append [] ks h k between = k
 in_order-append (l ∷ ls) ks h k between = (
@@ -155,7 +155,7 @@ book_in_order b =
     subst InOrder (sym (append_assoc cs (xs ++ hs) (line.End ∷ []) ∙ ap (λ ys. cs ++ ys) (append_assoc xs hs (line.End ∷ []))))
     (all_in_order cs xs hs (all_of 0 (λ c. line.Crossed c) b.crossings (λ c. refl)) (all_of 1 (λ x. line.Lived x) b.lives (λ x. refl)) (all_of 2 (λ bits. line.Handed bits) b.handed (λ bits. refl)))
 
--- a list with its lines told apart from the texts
+-- a list with its lines distinguished from the texts
 pub record Split (ls : List Line) (front : List (List ℕ)) (text : List ℕ) (more : List (List ℕ)) : Type 0 where
   pub before : List Line
   pub here : Line
@@ -182,7 +182,7 @@ split_at (l ∷ ls) (f ∷ front) text more e =
       is = rest.is;
     }
 
--- all lines before one may stand before it
+-- all lines before one may be before it
 order_before : (ls : List Line) (l : Line) (ks : List Line) → InOrder (ls ++ l ∷ ks) → All (λ k. Follows (rank k) (rank l)) ls
 order_before [] l ks h = All-nil (λ k. Follows (rank k) (rank l))
 order_before (j ∷ ls) l ks h =
@@ -205,7 +205,7 @@ text_order ls front l same h =
 
 -- ---- what a log begins with
 
--- the line behind the first lines of a log is a line, and each of them may stand before it
+-- the line after the first lines of a log is a line, and each of them may be before it
 pub record Next (front : List (List ℕ)) (text : List ℕ) : Type 0 where
   pub here : Line
   pub valid : IsLine here
@@ -268,7 +268,7 @@ pub not_ended : (line rest : List ℕ) → [] ≡ ended_line line ++ rest → �
 not_ended [] rest e = absurd (nil_not e)
 not_ended (o ∷ os) rest e = absurd (nil_not e)
 
--- lines that are known in two ways: the shorter list begins the longer one, or there is octets left behind it
+-- lines that are known in two ways: the shorter list begins the longer one, or there are octets left after it
 pub record Longer (front all : List (List ℕ)) (rest : List ℕ) : Type 0 where
   pub more : List (List ℕ)
   pub whole : all ≡ front ++ more
@@ -299,7 +299,7 @@ begins_ends lines h = front_of (Lacks 10) lines h.more (subst (All (Lacks 10)) h
 
 -- ---- the first bad line
 
--- where no log begins so, and the lines before it are no whole log with nothing behind, there is no log
+-- where no log begins so, and the lines before it are no whole log with nothing after it, there is no log
 pub bad_line : (octets rest : List ℕ) (before : List (List ℕ)) (number : ℕ) → octets ≡ text_of_lines before ++ rest → number ≡ suc (length before) → Begins before
     → ((line more : List ℕ) → rest ≡ ended_line line ++ more → Begins (before ++ line ∷ []) → ⊥) → ((b : Book) → IsBook b → log_lines b ≡ before → rest ≡ [] → ⊥) → IsBadLine octets number
 bad_line octets rest before number parted counted begins bad whole = record { before = before; rest = rest; parted = parted; counted = counted; begins = begins; bad = bad; none = λ b is. by b is (longer before (log_lines b) rest (begins_ends before begins) (log_ends b is.valid) (sym parted ∙ is.spelled)) }
@@ -324,7 +324,7 @@ no_end rest lacks line more e = uncut 10 line more (subst (Lacks 10) (e ∙ ende
 
 -- ---- reading a book line by line
 
--- a line that is added stands behind the others
+-- a line that is added is after the others
 some_same : {X : Type 0} {x y : X} → Some x ≡ Some y → x ≡ y
 some_same e = cc
 

@@ -93,7 +93,7 @@ first_same e = cc
 pub rest_same : {X : Type 0} {x y : X} {xs ys : List X} → x ∷ xs ≡ y ∷ ys → xs ≡ ys
 rest_same e = cc
 
--- the first word, and those behind it, where the words are known in two ways
+-- the first word, and those after it, where the words are known in two ways
 pub front : {words left more : List (List ℕ)} {w v : List ℕ} → words ≡ w ∷ left → words ≡ v ∷ more → w ≡ v
 front e d = first_same (sym e ∙ d)
 

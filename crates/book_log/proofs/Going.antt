@@ -12,7 +12,7 @@ use Rattle.book_log.specs.declared.lines.Line.{Line}
 use Rattle.book_log.specs.declared.lines.Line.TheVariants as line
 use Rattle.book_log.proofs.Books.{Added, Follows, Next, bad_line, begins_all, begins_told, last_line, middle_of, next, no_end, not_whole, rank, rank_is, text_of_lines_more, text_rank, texts, this_line, told, was_added}
 
--- where reading has come to: these lines are read, and they tell this book
+-- how far reading has got: these lines are read, and they describe this book
 pub record Reached (text left : List ℕ) (b : Book) (passed : ℕ) : Type 0 where
   pub parted : text ≡ text_of_lines (texts (told b)) ++ left
   pub valid : IsBook b
@@ -36,7 +36,7 @@ bad_end text left b passed r lacks =
     bad_line text left (texts (told b)) (passed + 1) r.parted (omega (arith, r.counted)) (begins_told b r.valid)
     (λ this more e begins. no_end left lacks this more e) (λ c valid e rest. not_whole b c e)
 
--- the last line, and something behind it
+-- the last line, and something after it
 pub bad_behind : (text left this more : List ℕ) (b : Book) (passed : ℕ) → Reached text left b passed → left ≡ this ++ 10 ∷ more → this ≡ codes "end" → (length more == 0) ≡ false → IsBadLine text (passed + 2)
 bad_behind text left this more b passed r is end some =
     let before : List (List ℕ) = texts (told b) ++ codes "end" ∷ [] in
@@ -55,7 +55,7 @@ no_octets : (xs : List ℕ) → (length xs == 0) ≡ true → xs ≡ []
 no_octets [] h = refl
 no_octets (x ∷ xs) h = absurd (let e : length (x ∷ xs) ≡ 0 = eqb-true (length (x ∷ xs)) 0 h in omega (arith, e))
 
--- the last line, and nothing behind it
+-- the last line, and nothing after it
 pub whole : (text left this more : List ℕ) (b : Book) (passed : ℕ) → Reached text left b passed → left ≡ this ++ 10 ∷ more → this ≡ codes "end" → (length more == 0) ≡ true → IsLog text b
 whole text left this more b passed r is end empty = let none : more ≡ [] = no_octets more empty in record {
   spelled =
@@ -64,7 +64,7 @@ whole text left this more b passed r is end empty = let none : more ≡ [] = no_
   valid = r.valid;
 }
 
--- ---- a line that may not stand there
+-- ---- a line that may not be there
 
 all_texts : (P : List ℕ → Type 0) (ls : List Line) → All P (texts ls) → All (λ l. P (line_text l)) ls
 all_texts P [] h = All-nil (λ l. P (line_text l))

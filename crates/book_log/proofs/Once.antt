@@ -28,7 +28,7 @@ use Rattle.book_log.proofs.Numbers.{decimal_once}
 
 -- ---- the first bad line
 
--- a longer list of first lines goes on with a line of what is left behind a shorter one
+-- a longer list of first lines continues with a line of what is left after a shorter one
 record Further (front all : List (List ℕ)) (rest left : List ℕ) : Type 0 where
   line : List ℕ
   more : List (List ℕ)
@@ -203,7 +203,7 @@ lines_once (k ∷ ks) [] p q e = absurd (nil_not (sym e))
 lines_once (k ∷ ks) (l ∷ ls) p q e =
     ap₂ (λ (x : Line) (xs : List Line). x ∷ xs) (line_once k l (All-head IsLine k ks p) (All-head IsLine l ls q) (first_same e)) (lines_once ks ls (All-tail IsLine k ks p) (All-tail IsLine l ls q) (rest_same e))
 
--- what lines tell
+-- what lines describe
 crossings_told : List Line → List Crossing
 crossings_told [] = []
 crossings_told (line.Crossed c ∷ ls) = c ∷ crossings_told ls

@@ -17,7 +17,7 @@ use Rattle.book_log.specs.Steps.{octet_at}
 abbrev at : List Bool → ℕ → Bool
 at bits k = slice_index_or bits k false
 
--- the first octet, and those of the bits behind it
+-- the first octet, and those of the bits after it
 first_octet : (bits : List Bool) → 0 < length bits → octets_of bits ≡ octet_at 0 bits ∷ octets_of (drop 8 bits)
 unfolding octets_of
 first_octet [] some = absurd (omega (arith, some))
@@ -30,7 +30,7 @@ first_octet (a ∷ b ∷ c ∷ d ∷ e ∷ f ∷ []) some = refl
 first_octet (a ∷ b ∷ c ∷ d ∷ e ∷ f ∷ g ∷ []) some = refl
 first_octet (a ∷ b ∷ c ∷ d ∷ e ∷ f ∷ g ∷ h ∷ rest) some = refl
 
--- the octet of the bits behind a place
+-- the octet of the bits after a place
 moved : (n : ℕ) (bits : List Bool) → octet_at 0 (drop n bits) ≡ octet_at n bits
 moved n bits =
     let e : (k : ℕ) → at (drop n bits) k ≡ at bits (n + k) = λ k. get_or-drop n bits k false in
@@ -82,7 +82,7 @@ some_bits (x ∷ bits) a b some h = h
 
 -- ---- lines
 
--- three writes make a line: what stands before the octets, the octets, and the end
+-- three writes make a line: what is before the octets, the octets, and the end
 pub line_written : (front octets : List ℕ) (a b c d : Option (List ℕ)) → Appends a b (front ++ codes " ") → Appends b c octets → Appends c d (codes "\n") → Appends a d (ended_line (front ++ (codes " " ++ octets)))
 line_written front octets a b c d h k l =
     subst (Appends a d) (ap (λ xs. xs ++ codes "\n") (append_assoc front (codes " ") octets))

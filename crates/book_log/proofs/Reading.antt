@@ -36,15 +36,15 @@ over (w ∷ words) none = absurd (false_not none)
     false_not : false ≡ true → ⊥
     false_not e = cc
 
--- what stands behind two words
+-- what follows two words
 pub after_two : {words left more : List (List ℕ)} {w x v y : List ℕ} → words ≡ w ∷ x ∷ left → words ≡ v ∷ y ∷ more → left ≡ more
 after_two e d = rest_same (after e d)
 
--- and behind three
+-- and after three
 pub after_three : {words left more : List (List ℕ)} {w x u v y z : List ℕ} → words ≡ w ∷ x ∷ u ∷ left → words ≡ v ∷ y ∷ z ∷ more → left ≡ more
 after_three e d = rest_same (after_two e d)
 
--- one word, and those behind it
+-- one word, and those after it
 pub link : {words left more : List (List ℕ)} {w : List ℕ} → words ≡ w ∷ left → left ≡ more → words ≡ w ∷ more
 link {words} {left} {more} {w} e d = e ∙ ap (λ ws. w ∷ ws) d
 

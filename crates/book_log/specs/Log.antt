@@ -17,7 +17,7 @@ use Rattle.world_replay.specs.Printed.{life_text}
 use Rattle.book_log.specs.declared.fault.LogFault.{LogFault}
 use Rattle.book_log.specs.declared.fault.LogFault.TheVariants as fault
 
--- what a log tells: what crossed, oldest first, the lives of connections, and lists of bits that were handed over
+-- what a log describes: what crossed, oldest first, the lives of connections, and lists of bits that were handed over
 pub record Book : Type 0 where
   pub crossings : List Crossing
   pub lives : List Life
@@ -25,7 +25,7 @@ pub record Book : Type 0 where
 
 -- ---- lines
 
--- the word of an answer. It tells NotTaken from Incomplete, though a replay prints, as hosts read, one word for both
+-- the word of an answer. It distinguishes NotTaken from Incomplete, though a replay prints, as hosts read, one word for both
 abbrev pub answer_name : Answer → List ℕ
 answer_name answer.Rfnm = codes "rfnm"
 answer_name answer.Incomplete = codes "incomplete"
@@ -59,7 +59,7 @@ text_of_lines lines = flat_map ended_line lines
 abbrev pub log_text : Book → List ℕ
 log_text b = text_of_lines (log_lines b)
 
--- ---- which values a log tells
+-- ---- which values a log describes
 
 abbrev pub IsCrossing : Crossing → Type 0
 IsCrossing (crossing.Out m) = IsMessage m
@@ -75,7 +75,7 @@ IsHanded bits = length bits < 2 ^ 64
 abbrev pub IsAmount : Amount → Type 0
 IsAmount a = (a.messages < 2 ^ 128) × (a.bits < 2 ^ 128)
 
--- sockets have 32 bits, places and lengths 64, and counts 128; which socket sends and which receives, its line tells by the socket
+-- sockets have 32 bits, places and lengths 64, and counts 128; which socket sends and which receives, its line says by the socket
 pub record IsLife (x : Life) : Type 0 where
   pub host : IsHost x.host
   pub socket : x.socket < 2 ^ 32
@@ -108,7 +108,7 @@ pub record Begins (lines : List (List ℕ)) : Type 0 where
   pub whole : log_lines book ≡ lines ++ more
 
 -- the first bad line, counted from 1: some log begins with the lines before it. With it no log begins so, or it doesn't end with a line feed,
--- or it is behind the last line of a log
+-- or it is after the last line of a log
 pub record IsBadLine (octets : List ℕ) (number : ℕ) : Type 0 where
   pub before : List (List ℕ)
   pub rest : List ℕ

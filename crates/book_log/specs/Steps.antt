@@ -166,7 +166,7 @@ IsShort line.End = Unit {0}
 
 -- ---- lines without octets
 
--- a crossing without a text, or the last line, by the first word and those behind it
+-- a crossing without a text, or the last line, by the first word and those after it
 abbrev pub ReadsShort : List ℕ → List (List ℕ) → Option Line → Type 0
 ReadsShort first left r = ReadsWords line_words IsShort (first ∷ left) r
 
@@ -180,7 +180,7 @@ abbrev pub is_bare : {X : Type 0} → List X → Bool
 is_bare [] = true
 is_bare (x ∷ xs) = false
 
--- a book with what a line tells at its end; none where the line may not be there
+-- a book with what a line describes at its end; none where the line may not be there
 abbrev pub added : Line → Book → Option Book
 added (line.Crossed c) b = if is_bare b.lives && is_bare b.handed then Some (record b { crossings = b.crossings ++ c ∷ [] }) else None
 added (line.Lived x) b = if is_bare b.handed then Some (record b { lives = b.lives ++ x ∷ [] }) else None

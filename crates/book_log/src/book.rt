@@ -1,4 +1,4 @@
-//! The book that a log tells.
+//! The book that a log describes.
 
 ghost use Rattle.std.specs.Prelude.{◌≡◌};
 ghost use Rattle.book_log.specs.Steps.{Adds, opening_book};
@@ -9,7 +9,7 @@ use net_sim::{BitLog, Life};
 use std::alloc::{AllocError, Global};
 use std::marker::Model;
 
-/// The book that a log tells: its crossings, the oldest first, its lives, and lists of bits that were handed over. A log may have
+/// The book that a log describes: its crossings, the oldest first, its lives, and lists of bits that were handed over. A log may have
 /// more or fewer of these lists than lives.
 #[derive(Drop)]
 pub struct LoggedBook {
@@ -59,8 +59,8 @@ impl LoggedBook {
         &self.handed
     }
 
-    /// Puts what a line tells at the end of the book, and answers whether the line may be there: a crossing before all lives and lists,
-    /// a life before all lists. The last line of a log tells nothing.
+    /// Puts what a line describes at the end of the book, and answers whether the line may be there: a crossing before all lives and lists,
+    /// a life before all lists. The last line of a log describes nothing.
     ///
     /// Errors: `AllocError`.
     pub(crate) fn add(&mut self, line: Line) -> Result<bool, AllocError>

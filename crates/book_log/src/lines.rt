@@ -12,7 +12,7 @@ use leader1822::{Answer, Crossing, Flow, HostAddr, HostMessage, Text};
 use net_sim::{Amount, BitLog, Life};
 use std::alloc::{AllocError, Global};
 
-/// What a line of a log tells.
+/// What a line of a log describes.
 #[derive(Drop)]
 pub(crate) enum Line {
     /// What crossed.
@@ -25,7 +25,7 @@ pub(crate) enum Line {
     End,
 }
 
-/// Returns what a line tells. `None` where it is no line of a log.
+/// Returns what a line describes. `None` where it is no line of a log.
 ///
 /// Errors: `AllocError`.
 pub(crate) fn read_line(alloc: Global, line: &[u8]) -> Result<Option<Line>, AllocError>
@@ -62,7 +62,7 @@ pub(crate) fn read_line(alloc: Global, line: &[u8]) -> Result<Option<Line>, Allo
     Ok(read_short(first, words))
 }
 
-/// Returns what a line without octets tells, by its first word and those behind it.
+/// Returns what a line without octets describes, by its first word and those after it.
 fn read_short(first: &[u8], words: Words<'_>) -> Option<Line>
     ensures { ReadsShort first.now (words_left words.entry) result }
 {
@@ -289,7 +289,7 @@ fn read_amount(words: &mut Words<'_>) -> Option<Amount>
     Some(Amount { messages, bits })
 }
 
-/// Returns whether a word tells that a life has ended.
+/// Returns whether a word says that a life has ended.
 fn read_state(word: &[u8]) -> Option<bool>
     ensures { ReadsAs state_text IsState word.now result }
 {

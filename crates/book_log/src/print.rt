@@ -40,7 +40,7 @@ impl fmt::Display for AnswerName {
 }
 
 /// Writes the log of a book: these crossings, the oldest first, these lives, and what was handed over in each. What is written is
-/// read again as this book, since the values of all three are in the ranges that a log tells (`valid`): their types have no others.
+/// read again as this book, since the values of all three are in the ranges that a log describes (`valid`): their types have no others.
 ///
 /// Errors: `WriteFailed`.
 pub fn print_log<W: Output>(
@@ -206,7 +206,7 @@ fn octet_at(bits: &BitLog, from: usize) -> u8
         + bit_at(bits, from, 7)
 }
 
-/// Returns the bit so far behind a place, as 0 or 1; past the end it is 0.
+/// Returns the bit this far after a place, as 0 or 1; past the end it is 0.
 fn bit_at(bits: &BitLog, from: usize, behind: usize) -> u8
     requires { from ≤ length bits.now }
     ensures same { result ≡ bit_value (slice_index_or bits.now (from + behind) false) }

@@ -1,4 +1,4 @@
-//! That the values of crossings, lives and lists are in the ranges that a log tells. Their types have no other values, so nothing is
+//! That the values of crossings, lives and lists are in the ranges that a log describes. Their types have no other values, so nothing is
 //! tested here: each function reads what it is given, and its contract is what the types say.
 
 ghost use Rattle.std.specs.Prelude.{◌<◌, ◌^◌};

@@ -9,7 +9,7 @@ use crate::lines::{Line, read_line};
 use script::reading::cut;
 use std::alloc::Global;
 
-/// Returns the book that a log tells.
+/// Returns the book that a log describes.
 ///
 /// Errors: `BadLine` with the number of the first bad line, counted from 1; where the last line is missing, that of the line after
 /// the last one. `OutOfMemory`, which may come at any line with no bad line before it.

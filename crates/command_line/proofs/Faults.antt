@@ -54,7 +54,7 @@ unread (Some k) r f failed is read long told whole = subst (λ q. MatchResult q 
 abbrev ends_with : ScriptFault → Result (Unit {0}) ScriptFault
 ends_with f = Err f
 
--- only running out of memory is told as running out of memory
+-- only running out of memory is reported as running out of memory
 pub told_memory : (f : ReplayFault) (g : ScriptFault) → g ≡ told_as f → ends_with g ≡ ends_with fault.OutOfMemory → f ≡ replay.OutOfMemory
 told_memory replay.OutOfMemory g told is = refl
 told_memory replay.CannotWrite g told is = cc
@@ -62,12 +62,12 @@ told_memory replay.CannotWrite g told is = cc
 abbrev fails_with : ReplayFault → Result (Unit {0}) ReplayFault
 fails_with f = Err f
 
--- only a failed write is told as a failed write
+-- only a failed write is reported as a failed write
 pub told_write : (f : ReplayFault) (g : ScriptFault) (failed : Bool) → g ≡ told_as f → TellsCannotWrite (fails_with f) failed → (ends_with g ≡ ends_with fault.CannotWrite) ↔ (failed ≡ true)
 told_write replay.OutOfMemory g failed told h = ((λ e. cc), (λ e. absurd (false≢true (sym h ∙ e))))
 told_write replay.CannotWrite g failed told h = ((λ e. h), (λ e. ap ends_with told))
 
--- what can't be written is told as that alone
+-- what can't be written is reported only as that
 pub write_fault : (r : Result (Unit {0}) ScriptFault) → IfErr r (λ f. f ≡ fault.CannotWrite) → IfErr r IsReplayFault
 write_fault (Ok done) h = tt
 write_fault (Err f) h = subst IsReplayFault (sym h) tt

@@ -7,7 +7,7 @@ use Rattle.std.specs.Option.{option_and_then}
 use Rattle.clap.specs.Lexer.{long_of, long_of_rest, name_and_value, has_byte, strip_byte}
 use Rattle.clap.specs.Walk.{Text}
 
--- a list in which nothing passes a test is its own front
+-- a list in which nothing passes a test is its own prefix
 uncut : (p : ℕ → Bool) (xs : Text) → list_any p xs ≡ false → before_first p xs ≡ xs
 uncut p [] none = refl
 uncut p (x ∷ xs) none = by (p x) refl none (uncut p xs)

@@ -76,7 +76,7 @@ unlogged None octets r f same is bad = tt
 unlogged (Some k) octets r f same is bad =
     subst (λ (q : Result Audit AuditFault). MatchResult q (λ said. IsSomeLog k) (IsAuditFault k)) (sym is) (unlogged_known k f (subst (λ (o : List ℕ). IsBookFault o f) same bad))
 
--- a failed write is told of a log
+-- a failed write is reported of a log
 pub unwritten : (known : Option (List ℕ)) (octets : List ℕ) (b : Book) (r : Result Audit AuditFault) → IfSome known (λ k. octets ≡ k) → r ≡ Err fault.CannotWrite → IsLog octets b
     → IfSome known (λ k. MatchResult r (λ said. IsSomeLog k) (IsAuditFault k))
 unwritten None octets b r same is log = tt

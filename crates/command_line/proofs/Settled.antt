@@ -24,7 +24,7 @@ abbrev Goes : {T : Type 0} → Result T CarrierFault → Type 0
 Goes (Ok x) = Unit {0}
 Goes (Err f) = (is_halt f || is_memory f) ≡ false
 
--- a call after which the replay goes on was done, or refused for its one reason
+-- a call after which the replay continues was done, or refused for its one reason
 abbrev Settled : {C T : Type 0} → Option CarrierFault → (T → Type 0) → C → Result T CarrierFault → C → Type 0
 Settled refusal Gives old (Ok x) new = (refusal ≡ None) × Gives x
 Settled refusal Gives old (Err f) new = (refusal ≡ Some f) × (new ≡ old)

@@ -87,7 +87,7 @@ differs word name v flag f e none = by (bytes_eq flag name) refl
         let is : word ≡ 45 ∷ 45 ∷ name = long_is word name (e ∙ ap (λ w. Some (name, w)) none) in
         absurd (false≢true (sym f ∙ (bytes_eq-Decides word (45 ∷ 45 ∷ flag)).1 (is ∙ ap (λ t. 45 ∷ 45 ∷ t) (sym same))))
 
--- a word that is no flag and not two hyphens alone is refused
+-- a word that is no flag and not just two hyphens is refused
 other : (rows : List Row) (word : Text) → bytes_eq word (codes "--book") ≡ false → bytes_eq word (codes "--check") ≡ false → bytes_eq word (codes "--texts") ≡ false → bytes_eq word (codes "--") ≡ false
     → turn_fault shape [] (at rows) word ≢ []
 other rows word b c d m = rw m (by (long_of word) refl)
@@ -118,7 +118,7 @@ met p (r ∷ rows) = by (p r) refl (met p rows)
     by true e rest = rw e refl
     by false e rest = rw e rest
 
--- what is changed of a flag that isn't held stands behind the rows
+-- what is changed of a flag that isn't held is after the rows
 behind : (name : Text) (change : Row → List Row) (missing rows : List Row) → row_at name rows ≡ None → at_row name change missing rows ≡ rows ++ missing
 behind name change missing [] none = refl
 behind name change missing (r ∷ rows) none = by (bytes_eq r.id name) refl none (behind name change missing rows)
@@ -482,7 +482,7 @@ verdict words m = elim (walks words false false false [] (record { book = refl; 
   | inr s ↦ inr (s.words_are, λ e. some_first (walk_fault shape [] (at []) words) (rest (fold (walked shape.rules []) (at []) words)) s.fails (sym (rest_is words) ∙ e))
 ]
 
--- two hyphens alone are no flag
+-- just two hyphens are no flag
 after_any : (first : Option Options) (words : List Text) → ((more : Options) → options_after more words ≡ None) → option_and_then (λ more. options_after more words) first ≡ None
 after_any None words none = refl
 after_any (Some more) words none = none more

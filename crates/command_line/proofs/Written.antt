@@ -1,4 +1,4 @@
--- A replay over the carrier of a topology goes on, and ends.
+-- A replay over the carrier of a topology continues, and ends.
 use Rattle.std.proofs.Common.{◌≡◌, ◌⊎◌, inl, inr, ℕ, Bool, List, [], ◌++◌, Option, Some, None, Result, IfSome, OnOk, reverse, codes, ap, sym, subst, ◌∙◌}
 use Rattle.std.proofs.lemmas.List.{append-nil}
 use Rattle.std.specs.Io.KnownBytes.{Appends, Keeps}

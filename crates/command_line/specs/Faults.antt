@@ -24,7 +24,7 @@ script_text (fault.BadLine number) = codes "arpasim: bad script line " ++ decima
 script_text fault.OutOfMemory = codes "arpasim: stopped"
 script_text fault.CannotWrite = codes "arpasim: stopped"
 
--- a fault of a replay, as the simulator tells it
+-- a fault of a replay, as the simulator reports it
 abbrev pub told_as : ReplayFault → ScriptFault
 told_as replay.OutOfMemory = fault.OutOfMemory
 told_as replay.CannotWrite = fault.CannotWrite

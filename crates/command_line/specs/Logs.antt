@@ -25,15 +25,15 @@ use Rattle.command_line.specs.Input.{IsInput}
 
 -- ---- the log of a replay
 
--- what a log tells of a raw network: what crossed, and no lives
+-- what a log says of a raw network: what crossed, and no lives
 abbrev pub raw_book : List Crossing → Book
 raw_book log = record { crossings = reverse log; lives = []; handed = [] }
 
--- what a log tells of a world
+-- what a log says of a world
 abbrev pub world_book : Kept → Book
 world_book k = record { crossings = reverse k.book.crossings; lives = k.book.lives; handed = k.handed }
 
--- events are replayed over a carrier with such calls, and the log of what crossed is written, and nothing else. It tells all values as they are
+-- events are replayed over a carrier with such calls, and the log of what crossed is written, and nothing else. It says all values as they are
 pub record LogsRaw {C : Type 0} (calls : Calls C) (opening : C) (events : List RawEvent) (before after : Option (List ℕ)) : Type 0 where
   pub last : C
   pub shown : List Shown
@@ -43,7 +43,7 @@ pub record LogsRaw {C : Type 0} (calls : Calls C) (opening : C) (events : List R
   pub written : Appends before after (log_text (raw_book (calls.seen last).log))
   pub valid : IsBook (raw_book (calls.seen last).log)
 
--- events are replayed in a world over such a carrier, whose book keeps its promise, and the log of this book is written, and nothing else. It tells all
+-- events are replayed in a world over such a carrier, whose book keeps its promise, and only the log of this book is written. It says all
 -- values as they are
 pub record LogsWorld {C : Type 0} (calls : world.Calls C) (opening : C) (events : List WorldEvent) (before after : Option (List ℕ)) : Type 0 where
   pub last : WorldState C

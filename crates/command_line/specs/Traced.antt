@@ -25,7 +25,7 @@ use Rattle.command_line.specs.Events.{Asked, Raw, World}
 use Rattle.command_line.specs.Input.{IsInput, IsInputFault}
 use Rattle.command_line.specs.declared.fault.ScriptFault.{ScriptFault}
 
--- what plain mailboxes tell of their inside, and what subnets tell
+-- what plain mailboxes show of their inside, and what subnets show
 abbrev pub plain_inside : Inside Boxes
 plain_inside = record { calm = calm_of; whole = whole_text; parts = changed_text; fate = λ b e. None }
 

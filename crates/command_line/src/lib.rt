@@ -1,4 +1,4 @@
-//! The simulator behind its command line: which options it takes, what it reads, and what it writes.
+//! The simulator and its command line: which options it takes, what it reads, and what it writes.
 //!
 //! [`run_program`] is the whole program: its words ask for a replay with [`Options`], for its log or its trace, or for the
 //! audit of a log. [`run`] is the part of it that replays an input or only reads it, as the options ask, and

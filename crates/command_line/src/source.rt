@@ -1,4 +1,4 @@
-//! Where an input is read from: a reader that tells whether a read failed.
+//! Where an input is read from: a reader that says whether a read failed.
 
 ghost use Rattle.std.specs.Prelude.{◌≡◌, Bool, List, Option, false, true, ℕ};
 ghost use Rattle.std.specs.Io.{ReadsAtMost};
@@ -14,7 +14,7 @@ use thiserror::Error;
 #[error("cannot read")]
 pub struct ReadFailed;
 
-/// Where an input is read from. It tells whether a read has failed, which the contract of the standard library's
+/// Where an input is read from. It says whether a read has failed, which the contract of the standard library's
 /// readers doesn't.
 ///
 /// Each read requires that none has failed. So after its first failure nothing more is asked of the reader.

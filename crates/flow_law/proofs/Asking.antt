@@ -1,4 +1,4 @@
--- The source's IMP asks what became of the outstanding message, and the destination's IMP tells it.
+-- The source's IMP asks what became of the outstanding message, and the destination's IMP answers it.
 use Rattle.std.proofs.Common.{◌≡◌, ◌≢◌, ℕ, Bool, true, false, List, Option, Some, inl, inr, refl, ap, sym, ◌∙◌, subst}
 use Rattle.leader1822.specs.declared.crossing.Answer.TheVariants as answer
 use Rattle.leader1822.specs.Mailboxes.{Box, Fits}
@@ -94,7 +94,7 @@ asks {Piece} v t number awaited h = record {
   settled = h.settled;
 }
 
--- ---- what is told
+-- ---- what is answered
 
 tells_no_request : (new : Fate) (told : Kind) → Tells new told → is_request told ≡ true → ⊥
 tells_no_request fate.Waits told tells request = absurd tells

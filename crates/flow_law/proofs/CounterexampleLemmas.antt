@@ -28,7 +28,7 @@ first_is_new : is_new None 0 ≡ true
 unfolding is_new
 first_is_new = refl
 
--- a packet that tells something is no request
+-- a packet that reports something is no request
 pub answer_only : (told : Kind) → is_request told ≡ false → (x : Packet) → Contains (answer_packet told 0 ∷ []) x → is_request x.kind ≡ true → ⊥
 answer_only told none x there request =
     let kind : is_request x.kind ≡ false = only (λ (y : Packet). is_request y.kind ≡ false) (answer_packet told 0) x none there in

@@ -1,4 +1,4 @@
--- Machines that ask, tell or forget what is asked for where they shouldn't.
+-- Machines that ask, report or forget what is asked for where they shouldn't.
 use Rattle.std.proofs.Common.{[], ◌∷◌, inl, refl}
 use Rattle.flow_law.specs.View.{Kind}
 use Rattle.flow_law.specs.Example.{first_text}

@@ -1,4 +1,4 @@
--- A machine that begins any number: so many messages that a copy of the first one's packet, which outlives them, is new
+-- A machine that begins any number: enough messages that a copy of the first one's packet, which outlives them, is new
 -- again. Nothing is used of the modulus and the window but that the modulus is more than twice the window.
 use Rattle.std.proofs.Common.{◌≡◌, ℕ, zero, suc, ◌-◌, ◌<◌, true, List, [], ◌∷◌, Some, inl, refl, ap, sym, ◌∙◌, subst, arith}
 use Rattle.std.specs.List.{Contains}
@@ -274,7 +274,7 @@ told_rfnm n v at =
     let V : View → Type 0 = λ w. IsTurn BeginsKept InOnePacket (view_moved (Move.Freed (rfnm_of 0) answer.Rfnm) (view_moved begin_next w)) [] (turn (Move.TakeAnswer answer.Rfnm []) []) in
     subst V (sym at) (record { needs = refl; left = left_none _ _ })
 
--- whatever the modulus: once the number comes again that is kept, an old fate is told
+-- whatever the modulus: once the number comes again that is kept, an old fate is reported
 asked_after_breaks : (n : ℕ) → n < modulus → next n ≡ 0 → Breaks BeginsKept (asked_after n)
 asked_after_breaks n small wraps =
     let v : View = view_after (given_up_to n) at_first in

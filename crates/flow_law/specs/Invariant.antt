@@ -12,7 +12,7 @@ use Rattle.link_table.specs.declared.destination.Fate.TheVariants as fate
 use Rattle.flow_law.specs.View.{View, Packet, Queued, Kind, is_request, is_refusal}
 use Rattle.flow_law.specs.Moves.{New, queued_text}
 
--- the number was begun, and lies at most a window behind the last one
+-- the number was begun, and is at most a window before the last one
 pub record Begun (last : Option ℕ) (number : ℕ) : Type 0 where
   pub begun : ℕ
   pub is : last ≡ Some begun
@@ -68,7 +68,7 @@ pub record Busy (answers : List Answer) (box : Box) : Type 0 where
   pub none : answers ≡ []
   pub full : Fits answer.Incomplete box
 
--- nothing is going on
+-- nothing is in progress
 pub record Idle (answers : List Answer) (box : Box) : Type 0 where
   pub none : answers ≡ []
   pub empty : box ≡ Box.Empty
@@ -90,7 +90,7 @@ pub record Invariant (Piece : List Bool → Packet → Type 0) (v : View) (alive
   pub home : v.source ≡ true → v.from_up ≡ true
   -- No answer waits for a source that is down: so none waits when it comes up with an empty box.
   pub away : v.source ≡ false → v.answers ≡ []
-  -- While the source's IMP is up, whatever is alive lies at most a window behind the last number: so what was noted makes
+  -- While the source's IMP is up, whatever is alive is at most a window before the last number: so what was noted makes
   -- all that is alive old, and no packet carries a number that is about to be given again.
   pub window : v.from_up ≡ true → (x : Packet) → alive x → Begun v.last x.number
   -- A new request belongs to the outstanding message: so there is none when nothing is outstanding.
@@ -98,7 +98,7 @@ pub record Invariant (Piece : List Bool → Packet → Type 0) (v : View) (alive
   -- New data carries a piece of the text in the box: so what is joined of it is that text. And while a request is new, that
   -- text waits there and isn't queued.
   pub carried : (x : Packet) → alive x → New v.to_up v.kept x → Carried Piece v.box v.queue x
-  -- The source's IMP is down and its numbers are gone. Then all requests lie at most a window behind a new one: so to note a
+  -- The source's IMP is down and its numbers are gone. Then all requests are at most a window before a new one: so to note a
   -- new one still makes all old.
   pub orphaned : v.from_up ≡ false → (x y : Packet) → alive x → New v.to_up v.kept x → alive y → is_request y.kind ≡ true → Near x.number y.number
   -- At most one message is queued, and it is the one in the box: so what the destination takes is what was put in.

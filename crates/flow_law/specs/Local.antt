@@ -9,7 +9,7 @@ use Rattle.link_table.specs.declared.destination.Fate.TheVariants as fate
 use Rattle.flow_law.specs.View.{View, Packet, Queued, Kind}
 use Rattle.flow_law.specs.Moves.{Move, with_answer, with_fate, with_fates}
 
--- the packet that tells the source what became of the message with this number: one packet without bits, and so the last
+-- the packet that notifies the source of what became of the message with this number: one packet without bits, and so the last
 abbrev pub answer_packet : Kind → ℕ → Packet
 answer_packet kind number = record { kind = kind; number = number; place = 0; last = true; bits = [] }
 

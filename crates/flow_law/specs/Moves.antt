@@ -29,7 +29,7 @@ pub data Move : Type 0 where
   NoteGone : (x : Packet) → (new : Fate) → Move
   -- a new request x came, and the data with its number make this text whole: the number is noted and the message queued
   Whole : (x : Packet) → (text : List Bool) → Move
-  -- packet x told the source's IMP what became of the outstanding message: the answer waits for the source, if it is up
+  -- packet x notified the source's IMP of what became of the outstanding message: the answer waits for the source, if it is up
   Freed : (x : Packet) → (kind : Answer) → Move
   -- the destination takes the oldest message, and the others stay
   TakeMessage : (oldest : Queued) → (others : List Queued) → Move
@@ -53,7 +53,7 @@ pub data Move : Type 0 where
   Forget : Move
   -- the source's IMP asks what became of the outstanding message, which has this number
   Asks : (number : ℕ) → Move
-  -- packet x is about the number that was noted last, and the destination's IMP tells what became of that message
+  -- packet x is about the number that was noted last, and the destination's IMP reports what became of that message
   Reply : (x : Packet) → (told : Kind) → Move
 
 -- ---- what they speak of
@@ -93,7 +93,7 @@ IsLost fate.Taken = ⊥
 IsLost fate.Dead = Unit {0}
 IsLost fate.Never = Unit {0}
 
--- a packet of this kind tells the truth about a message of this fate; of one that waits nobody is notified
+-- a packet of this kind reports the truth about a message of this fate; of one that waits nobody is notified
 abbrev pub Tells : Fate → Kind → Type 0
 Tells fate.Waits told = ⊥
 Tells fate.Taken told = told ≡ Kind.Rfnm
@@ -116,7 +116,7 @@ pub record CanOffer (v : View) : Type 0 where
   pub idle : v.outstanding ≡ None
   pub answered : v.answers ≡ []
 
--- nothing is alive that would lie too far behind once the next number is begun
+-- nothing is alive that would be too old once the next number is begun
 abbrev pub NumberFree : View → (Packet → Type 0) → Type 0
 NumberFree v alive = (last : ℕ) → v.last ≡ Some last → (x : Packet) → alive x → x.number ≢ oldest last
 
@@ -247,7 +247,7 @@ pub record IsTold (told : Kind) (about : ℕ) (x : Packet) : Type 0 where
   pub kind : x.kind ≡ told
   pub number : x.number ≡ about
 
--- a packet with this number that tells the source that the message wasn't taken and never will be
+-- a packet with this number that notifies the source that the message wasn't taken and never will be
 pub record IsRefusal (about : ℕ) (x : Packet) : Type 0 where
   pub refusal : is_refusal x.kind ≡ true
   pub number : x.number ≡ about

@@ -4,8 +4,8 @@ use Rattle.leader1822.specs.declared.crossing.Answer.{Answer}
 use Rattle.leader1822.specs.Mailboxes.{Box, Mail}
 use Rattle.link_table.specs.declared.destination.Fate.{Fate}
 
--- a packet carries a piece of a message, or tells the source that the message was taken, or that its host is down; or it
--- asks the destination what became of the message, or tells the source that the message never came
+-- a packet carries a piece of a message, or notifies the source that the message was taken, or that its host is down; or it
+-- asks the destination what became of the message, or notifies the source that the message never came
 pub data Kind : Type 0 where
   Data : Kind
   Rfnm : Kind
@@ -21,7 +21,7 @@ is_request Kind.Dead = false
 is_request Kind.Ask = true
 is_request Kind.Never = false
 
--- what tells the source that the message wasn't taken and never will be
+-- what notifies the source that the message wasn't taken and never will be
 abbrev pub is_refusal : Kind → Bool
 is_refusal Kind.Data = false
 is_refusal Kind.Rfnm = false

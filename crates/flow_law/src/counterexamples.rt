@@ -132,7 +132,7 @@ pub fn needs_of_questions()
     // or that isn't true
     ensures replies_falsely { Breaks RepliesFalsely replies_falsely }
 
-    // that the message never came is told while it waits, after it was taken, or without its number being noted
+    // that the message never came is reported while it waits, after it was taken, or without its number being noted
     ensures never_of_waiting { Breaks NeverOfWaiting never_of_waiting }
     ensures never_of_taken { Breaks NeverOfTaken never_of_taken }
     ensures never_unnoted { Breaks NeverUnnoted never_unnoted }

@@ -11,7 +11,7 @@ use Rattle.world_keeps_streams.specs.Arrivals.{AllArrive}
 use Rattle.world_keeps_streams.specs.Closes.{AllClose}
 use Rattle.world_keeps_streams.specs.Rests.{AllRest}
 
--- each life is made of messages that crossed: those of its two requests, and those of its data; and each notice of data tells of a message that has just
+-- each life is made of messages that crossed: those of its two requests and of its data; and each notice of data reports a message that has just
 -- crossed. A message answered by RFNM was taken exactly once and none is taken twice; no two ends hold one opening with different partners; what was taken,
 -- if anything was, is a prefix of what its one partner sent, and what was sent of what was handed over; and what was taken, and what was sent, is granted. A finished initial connection pairs the right four sockets.
 -- And crossings, notices and lives are what the programs of all hosts make of one list of moments, over a carrier whose log is a run of the mailboxes. In these moments data that were taken where they came for a receiving life whose

@@ -8,11 +8,11 @@ use net_sim::{Book, World};
 
 /// Returns the book of a world. It keeps its promise, whatever the world's carrier is made of and whatever happened.
 /// Each life in it is made of messages that crossed (`formed`), and each notice that bits were sent, or have arrived,
-/// tells of a message just after it crossed (`told`). It is safe (`safe`): a message that was answered by RFNM was
+/// reports a message just after it crossed (`told`). It is safe (`safe`): a message that was answered by RFNM was
 /// taken whole and exactly once, and none was taken twice; no two hosts hold one opening with different partners; what
 /// a receiving socket took since it was opened, if it took any bit, is a prefix of what its one matching sender sent,
 /// and that of what was handed over; and what was taken and sent is within what was granted. A finished initial
-/// connection pairs the right four sockets (`joined`). And it tells what the programs of all hosts make of what crossed
+/// connection pairs the right four sockets (`joined`). And it says what the programs of all hosts make of what crossed
 /// and of what their users asked for (`lawful`).
 ///
 /// Data that were taken where they came for a receiving life whose end was open arrived there, all of them (`arrives`). So an RFNM of data means that they

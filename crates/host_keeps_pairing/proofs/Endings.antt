@@ -1,4 +1,4 @@
--- What each call tells of an end: what is known of it stays so.
+-- What each call reports of an end: what is known of it stays so.
 use Rattle.std.proofs.Common.{◌≡◌, ℕ, Bool, true, false, not, ◌||◌, ◌==◌, if◌then◌else◌, List, [], ◌∷◌, ◌++◌, take, drop, Some, refl, ap, sym, subst, ◌∙◌}
 use Rattle.leader1822.specs.Host.{Host, same_host}
 use Rattle.leader1822.specs.declared.address.Flow.{Flow}
@@ -98,7 +98,7 @@ module _ (origin : ℕ → ℕ) (own foreign : ℕ) where
   reply_same peer phase.Heard k = refl
   reply_same peer phase.Ready k = refl
 
-  -- notices behind none
+  -- notices after none
   after_none : (peer : Host) (old ns : List Notice) (k : List Life) (y : End) → old ≡ [] → Knows (all_known origin peer own foreign ns k) y → Knows (all_known origin peer own foreign (old ++ ns) k) y
   after_none peer old ns k y e h = subst (λ (l : List Notice). Knows (all_known origin peer own foreign (l ++ ns) k) y) (sym e) h
 
@@ -223,7 +223,7 @@ module _ (origin : ℕ → ℕ) (own foreign : ℕ) where
   offer_knows s stamp g p x k order is h knows =
       rw is (parcel_knows stamp g.host s.listening g.pair p x (subst (λ (q : PairState). HasEnd origin own foreign q x) (next_pair s.peers g p order is) h) k knows)
 
-  -- ---- what is told of another peer
+  -- ---- what is reported of another peer
 
   other_one : (peer other : Host) (n : Notice) (k : List Life) → IsAbout other n → same_host peer other ≡ false → known_after origin peer own foreign n k ≡ k
   other_one peer other (notice.Ready p) k is away = refl

@@ -14,7 +14,7 @@ pub untagged_is : (place : ℕ) (text : List Bool) → untagged (tagged place te
 untagged_is zero text = refl
 untagged_is (suc p) text = ap one_more (untagged_is p text)
 
--- a word that stands upon another
+-- a word that continues another
 record Above (word under : List Mark) : Type 0 where
   new : List Mark
   is : word ≡ new ++ under

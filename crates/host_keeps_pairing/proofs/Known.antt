@@ -121,7 +121,7 @@ module _ (origin : ℕ → ℕ) (peer : Host) (own foreign : ℕ) where
 
   -- ---- ends that are over
 
-  -- what is known once they are told
+  -- what is known once they are reported
   abbrev swept_known : List Standing → List Life → List Life
   swept_known [] k = k
   swept_known (s ∷ ss) k = swept_known ss (if is_past s && s.mine then [] else k)
@@ -246,7 +246,7 @@ module _ (origin : ℕ → ℕ) (peer : Host) (own foreign : ℕ) where
   str_learns place a b size stamp None d x f fit h = str_heard_learns place a b size stamp (listener_on a d.listening) d x fit
   str_learns place a b size stamp (Some e) d x f fit h = matched_learns place a b stamp (command.Str b a size) e (asked_with_size stamp size) d x (λ y. (refl, refl, refl)) f fit h
 
-  -- a CLS: an end that is over by it is told of
+  -- a CLS: an end that is over by it is reported
   shut_learns : (place : ℕ) (busy : List ℕ) (a b : ℕ) (e : Entry) (d : DeskState) (x : End) → entry_at a b d.entries ≡ Some e → Fits origin own foreign place a b Close x → On origin own foreign place true d x
       → Learns d.notices (swept peer (shut origin own foreign place busy a b d)).notices x (after origin own foreign place a b Close x)
   shut_learns place busy a b e d x f fit h =
@@ -284,7 +284,7 @@ module _ (origin : ℕ → ℕ) (peer : Host) (own foreign : ℕ) where
   ret_learns link messages bits e d x =
       learns_if (nat_le messages e.allocation.messages && nat_le bits e.allocation.bits) d.notices _ _ x x (learns_more d.notices (notice.Returned e.own messages bits ∷ []) x (λ k. refl)) (learns_none d.notices x)
 
-  -- data tell nothing of ends
+  -- data report nothing of ends
   arrived_leaves : (link : ℕ) (e : Entry) (text : List Bool) (o : Option DataHeader) (d : DeskState) (k : List Life) → tells (arrived_if link e text o d).notices k ≡ tells d.notices k
   arrived_leaves link e text None d k = refl
   arrived_leaves link e text (Some o) d k = by (is_acceptable e o) where

@@ -34,7 +34,7 @@ marks_quiet place own foreign xs c none = marks_more place own foreign xs c ∙ 
 pub at_append : (own foreign : ℕ) (xs ys : List Entry) → at own foreign (xs ++ ys) ≡ at own foreign xs ++ at own foreign ys
 at_append own foreign xs ys = ap (λ (es : List Entry). map standing es) (filter-append (is_at own foreign) xs ys) ∙ map-append standing (filter (is_at own foreign) xs) (filter (is_at own foreign) ys)
 
--- one end, and those behind it
+-- one end, and those after it
 pub at_one : (own foreign : ℕ) (x : Entry) (xs : List Entry) (b : Bool) → is_at own foreign x ≡ b → at own foreign (x ∷ xs) ≡ (if b then standing x ∷ at own foreign xs else at own foreign xs)
 at_one own foreign x xs true e = rw e refl
 at_one own foreign x xs false e = rw e refl

@@ -1,4 +1,4 @@
--- The openings that are told of two sockets are lives of the law.
+-- The openings that are reported of two sockets are lives of the law.
 use Rattle.std.proofs.Common.{◌≡◌, inl, inr, ℕ, Bool, true, false, ◌&&◌, ◌==◌, if◌then◌else◌, nat_le, List, [], ◌∷◌, ◌++◌, filter, Option, Some, None, is_some, refl, ap, sym, subst, ◌∙◌}
 use Rattle.std.proofs.lemmas.List.{append_assoc}
 use Rattle.std.specs.List.{flat_map, list_any}
@@ -66,7 +66,7 @@ module _ (origin : ℕ → ℕ) (own foreign : ℕ) where
   openings_append [] ys told = refl
   openings_append (x ∷ xs) ys told = openings_append xs ys (with_opening origin own foreign x told)
 
-  -- notices that tell of no opening
+  -- notices that report no opening
   abbrev pub AreOther : List Notice → Type 0
   AreOther ns = (told : List Life) → with_openings origin own foreign ns told ≡ told
 
@@ -74,7 +74,7 @@ module _ (origin : ℕ → ℕ) (own foreign : ℕ) where
   tells_more old ns lives none told h =
       subst (λ (ts : List Life). AreAmong ts lives) (sym (openings_append old ns told ∙ none (with_openings origin own foreign old told))) h
 
-  -- one notice or more that tell of this
+  -- one notice or more that report this
   tells_on : (old ns : List Notice) (lives more : List Life) → ((told : List Life) → AreAmong told lives → AreAmong (with_openings origin own foreign ns told) more) → Tells old (old ++ ns) lives more
   tells_on old ns lives more work told h = subst (λ (ts : List Life). AreAmong ts more) (sym (openings_append old ns told)) (work (with_openings origin own foreign old told) h)
 

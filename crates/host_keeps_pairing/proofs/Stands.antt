@@ -11,7 +11,7 @@ use Rattle.host_pairs.proofs.lemmas.{both, not_is}
 use Rattle.host_keeps_pairing.specs.Words.{MayAllGo}
 use Rattle.host_keeps_pairing.specs.Ends.{Standing, is_past, came_from, end_of, request_due, close_waits, Stand}
 
--- ---- the end of what stands there
+-- ---- the end of what is there
 
 abbrev pub plain : (ℕ → ℕ) → Standing → End
 plain origin s = record { asked = s.asked; partner = came_from origin s.partner; gone = is_sent s.closing; taken = s.partner_closed }

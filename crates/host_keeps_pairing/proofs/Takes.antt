@@ -193,7 +193,7 @@ module _ (origin : ℕ → ℕ) (own foreign place : ℕ) where
   on_data_found link text Ending d x h = h
   on_data_found link text (Open e) d x h = on_arrived link e text (header_of text) d x h
 
-  -- a message of data changes nothing of what stands at any sockets
+  -- a message of data changes nothing of what is at any sockets
   pub on_data : (link : ℕ) (text : List Bool) (d : DeskState) (x : End) → On origin own foreign place true d x → On origin own foreign place true (data_taken link text d) x
   on_data link text d x h = on_data_found link text (receiver_on link d) d x h
 

@@ -1,4 +1,4 @@
--- What each call tells of openings.
+-- What each call reports of openings.
 use Rattle.std.proofs.Common.{◌≡◌, ℕ, Bool, true, false, not, ◌||◌, ◌==◌, if◌then◌else◌, List, [], ◌∷◌, ◌++◌, take, drop, Some, refl, ap, sym, subst, ◌∙◌}
 use Rattle.leader1822.specs.Host.{Host, same_host}
 use Rattle.leader1822.specs.declared.address.Flow.{Flow}
@@ -46,7 +46,7 @@ use Rattle.host_keeps_pairing.proofs.Turns.{fit_first, one_order, orders_idle, r
 module _ (origin : ℕ → ℕ) (own foreign : ℕ) where
   -- ---- a turn
 
-  -- what a desk tells stands behind what was told before
+  -- what a desk reports is after what was reported before
   desk_tells : (old ns : List Notice) (lives more : List Life) → Tells origin own foreign [] ns lives more → Tells origin own foreign old (old ++ ns) lives more
   desk_tells old ns lives more h told k =
       subst (λ (ts : List Life). AreAmong ts more) (sym (openings_append origin own foreign old ns told)) (h (with_openings origin own foreign old told) k)
@@ -77,7 +77,7 @@ module _ (origin : ℕ → ℕ) (own foreign : ℕ) where
       subst (λ (ls : List Life). AreAmong (with_openings origin own foreign (orders_taken peer stamp (o ∷ os) t).notices told) ls) (sym (lives_append (mark_in (origin stamp) foreign own o) (marks_in (origin stamp) foreign own os) x lives))
       (orders_tell peer stamp os (order_taken peer stamp o t) (all_taken (mark_in (origin stamp) foreign own o) x) (all_lives_taken (mark_in (origin stamp) foreign own o) x lives) joint.1 free.1 parts.1 still one told (first told k))
 
-  -- ---- what tells of no opening
+  -- ---- what reports no opening
 
   reset_other : (peer : Host) (ph : Phase) → AreOther origin own foreign (reset_notices peer ph)
   reset_other peer phase.Closed told = refl
@@ -131,7 +131,7 @@ module _ (origin : ℕ → ℕ) (own foreign : ℕ) where
       subst (λ (ns : List Notice). AreAmong (with_openings origin own foreign ns told) (all_lives_taken (marks_in (origin stamp) foreign own (orders_of m.text)) x lives)) (sym (control_notices s m stamp mine zero))
       (orders_tell m.flow.source stamp (orders_of m.text) (turn_of s m.flow.source) x lives joint free fit ready h told k)
 
-  -- what isn't heard, an RST and an RRP tell of no opening
+  -- what isn't heard, an RST and an RRP report no opening
   pub idle_other : (s : NcpState) (m : HostMessage) (stamp : ℕ) → same_host s.own m.flow.destination ≡ true → (m.flow.link.0 == 0) ≡ true → is_ready (pair_with m.flow.source s.peers).phase ≡ false → AreJoint (orders_of m.text)
       → (told : List Life) → with_openings origin own foreign (accepted s (inbound.Message m) stamp).1 told ≡ told
   idle_other s m stamp mine zero idle joint told =

@@ -35,7 +35,7 @@ is_past s = is_sent s.closing && s.partner_closed
 
 -- ---- the same as the law has it
 
--- the law tells a partner's request by the place where it went out, and the program by that where it was taken
+-- the law names a partner's request by the place where it went out, and the program by that where it was taken
 abbrev pub came_from : (ℕ → ℕ) → Option ℕ → Option ℕ
 came_from origin None = None
 came_from origin (Some place) = Some (origin place)
@@ -60,7 +60,7 @@ close_waits c = []
 abbrev pub due : ℕ → Standing → List Mark
 due place s = request_due place s.mine s.asked ++ close_waits s.closing
 
--- ---- its standing
+-- ---- its `Standing`
 
 -- an end whose CLS have both passed is there only until it is swept; an end that isn't this host's own is that of a request
 -- which it refuses; no CLS goes out before the own request, and only an own end has one

@@ -1,4 +1,4 @@
--- The openings of which a host's program tells its user, as lives of the law of pairing (NIC 8246, RTS and STR).
+-- The openings of which a host's program notifies its user, as lives of the law of pairing (NIC 8246, RTS and STR).
 use Rattle.std.specs.Prelude.{◌≡◌, ◌⊎◌, ℕ, ◌==◌, ◌&&◌, if◌then◌else◌, List, [], ◌∷◌}
 use Rattle.pairing_law.specs.Ends.{End, gone, mark_taken}
 use Rattle.pairing_law.specs.Marks.{Mark}

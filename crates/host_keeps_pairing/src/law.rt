@@ -88,7 +88,7 @@ pub fn openings()
     ensures offer { (origin : ℕ → ℕ) (own foreign : ℕ) (s : NcpState) (stamp : ℕ) (g : Peer) (parcel : Parcel) (x : End) (told lives : List Life) → AreInOrder s.peers → next_in s.peers ≡ Some (g, parcel) → HasEnd origin own foreign (pair_with g.host s.peers) x → AreAmong told lives → AreAmong (with_openings origin own foreign (offered s stamp).1 told) (all_lives_gone (marks stamp own foreign (commands_of g.pair parcel)) x lives) }
     ensures commands { (origin : ℕ → ℕ) (own foreign : ℕ) (s : NcpState) (m : HostMessage) (stamp : ℕ) (x : End) (told lives : List Life) → same_host s.own m.flow.destination ≡ true → (m.flow.link.0 == 0) ≡ true → is_ready (pair_with m.flow.source s.peers).phase ≡ true → AreJoint (orders_of m.text) → AreFree m.flow.source stamp (orders_of m.text) (turn_of s m.flow.source) → AllFit (marks_in (origin stamp) foreign own (orders_of m.text)) x → HasEnd origin own foreign (pair_with m.flow.source s.peers) x → AreAmong told lives → AreAmong (with_openings origin own foreign (accepted s (inbound.Message m) stamp).1 told) (all_lives_taken (marks_in (origin stamp) foreign own (orders_of m.text)) x lives) }
 
-    // nothing else tells of an opening: commands where the pair isn't ready, an RST, an RRP, data, an answer and what a user asks for
+    // nothing else reports an opening: commands where the pair isn't ready, an RST, an RRP, data, an answer and what a user asks for
     ensures idle { (origin : ℕ → ℕ) (own foreign : ℕ) (s : NcpState) (m : HostMessage) (stamp : ℕ) → same_host s.own m.flow.destination ≡ true → (m.flow.link.0 == 0) ≡ true → is_ready (pair_with m.flow.source s.peers).phase ≡ false → AreJoint (orders_of m.text) → (told : List Life) → with_openings origin own foreign (accepted s (inbound.Message m) stamp).1 told ≡ told }
     ensures reset { (origin : ℕ → ℕ) (own foreign : ℕ) (s : NcpState) (m : HostMessage) (stamp : ℕ) → same_host s.own m.flow.destination ≡ true → (m.flow.link.0 == 0) ≡ true → orders_of m.text ≡ Legal command.Rst ∷ [] → (told : List Life) → with_openings origin own foreign (accepted s (inbound.Message m) stamp).1 told ≡ told }
     ensures reply { (origin : ℕ → ℕ) (own foreign : ℕ) (s : NcpState) (m : HostMessage) (stamp : ℕ) → same_host s.own m.flow.destination ≡ true → (m.flow.link.0 == 0) ≡ true → orders_of m.text ≡ Legal command.Rrp ∷ [] → (told : List Life) → with_openings origin own foreign (accepted s (inbound.Message m) stamp).1 told ≡ told }
@@ -97,8 +97,8 @@ pub fn openings()
     ensures request { (origin : ℕ → ℕ) (own foreign : ℕ) (s : NcpState) (r : Request) (told : List Life) → with_openings origin own foreign (served_notices s r) told ≡ told }
 {}
 
-/// What a host's user knows to be open is open: where its program told it of an opening on two sockets with a peer, and hasn't told since that the
-/// end is over, the law's end there is open by the two requests that were told. Each call keeps this.
+/// What a host's user knows to be open is open: where its program reported an opening on two sockets with a peer, and hasn't reported since that the
+/// end is over, the law's end there is open by the two requests that were reported. Each call keeps this.
 pub fn endings()
     // what goes out, and commands that are in order, have the end that the law gives. Where both CLS have passed the user is notified
     ensures offer { (origin : ℕ → ℕ) (own foreign : ℕ) (s : NcpState) (stamp : ℕ) (g : Peer) (parcel : Parcel) (x : End) (known : List Life) → AreInOrder s.peers → next_in s.peers ≡ Some (g, parcel) → HasEnd origin own foreign (pair_with g.host s.peers) x → Knows known x → Knows (all_known origin g.host own foreign (offered s stamp).1 known) (all_gone (marks stamp own foreign (commands_of g.pair parcel)) x) }
@@ -145,7 +145,7 @@ pub fn worked_openings()
     ensures turned { AreAmong (record { own = 5; partner = 6 } ∷ record { own = 1; partner = 2 } ∷ []) (record { own = 1; partner = 2 } ∷ record { own = 5; partner = 6 } ∷ []) → ⊥ }
     ensures twice { AreAmong (record { own = 1; partner = 2 } ∷ record { own = 1; partner = 2 } ∷ []) (record { own = 1; partner = 2 } ∷ []) → ⊥ }
 
-    // both programs of a dialogue tell of the life that the other's has, turned about
+    // both programs of a dialogue report the life that the other's has, turned about
     ensures dialogue { with_openings (λ p. if p == 10 then 8 else 0) 16 33 (map (λ n. n.1) (filter (λ n. same_host first n.0) (talk (reset ++ opening_connection ++ closing)).notices)) [] ≡ record { own = 6; partner = 8 } ∷ [] }
 {}
 
@@ -165,7 +165,7 @@ pub fn worked_endings()
     ensures twice { all_known (λ p. p + 20) second 16 33 (notice.Opened 16 second 33 14 15 ∷ notice.Opened 16 second 33 6 10 ∷ []) [] ≡ record { own = 6; partner = 30 } ∷ record { own = 14; partner = 35 } ∷ [] }
     ensures two { Knows (record { own = 6; partner = 8 } ∷ record { own = 6; partner = 4 } ∷ []) (record { asked = Some 6; partner = Some 8; gone = false; taken = false }) → ⊥ }
 
-    // ends of other sockets, of the same the other way and of another peer are others, and data tell nothing
+    // ends of other sockets, of the same the other way and of another peer are others, and data report nothing
     ensures sockets { all_known (λ p. p + 20) second 16 33 (notice.Ended 33 second 16 ∷ notice.Ended 16 second 35 ∷ notice.Ended 18 second 33 ∷ notice.Opened 33 second 16 8 7 ∷ notice.Opened 16 second 35 6 10 ∷ notice.Opened 18 second 33 6 10 ∷ []) (record { own = 14; partner = 35 } ∷ []) ≡ record { own = 14; partner = 35 } ∷ [] }
     ensures peers { all_known (λ p. p + 20) second 16 33 (notice.Ended 16 third 33 ∷ notice.PairReset third ∷ notice.Opened 16 third 33 6 10 ∷ []) (record { own = 14; partner = 35 } ∷ []) ≡ record { own = 14; partner = 35 } ∷ [] }
     ensures data { all_known (λ p. p + 20) second 16 33 (notice.Sent 16 (true ∷ []) ∷ notice.Arrived 16 (true ∷ []) ∷ notice.Interrupt 16 ∷ []) [] ≡ [] }
@@ -257,7 +257,7 @@ pub fn worked_ends()
     ensures draining { due 5 (standing (record (sending_end 33 16 8) { asked = Some 3; closing = closing.Due })) ≡ [] }
     ensures said { due 5 (standing (record (sending_end 33 16 8) { asked = Some 3; closing = closing.Sent })) ≡ [] }
 
-    // that of a request which is refused closes and doesn't ask; its partner's request went out where the place of its taking tells
+    // that of a request which is refused closes and doesn't ask; its partner's request went out where the place of its taking says
     ensures refusing { due 5 (standing (refused_end 33 16 9)) ≡ Close ∷ [] }
     ensures refused { end_of (λ p. p + 20) (standing (refused_end 33 16 9)) ≡ record { asked = None; partner = Some 29; gone = false; taken = false } }
 

@@ -1,4 +1,4 @@
--- The numbers that a host's program keeps, within the fields of the commands that tell them (NIC 8246, the control commands).
+-- The numbers that a host's program keeps, within the fields of the commands that carry them (NIC 8246, the control commands).
 use Rattle.std.specs.Prelude.{◌≡◌, ℕ, IsTrue, List, [], ◌∷◌, Option, Some, None, All, map}
 use Rattle.ncp_control.specs.Command.{IsCommand, IsDouble, IsOctet, IsWord}
 use Rattle.ncp_control.specs.Numbers.{is_byte_size}

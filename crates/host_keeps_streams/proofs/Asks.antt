@@ -156,7 +156,7 @@ module _ (name : ℕ → ℕ → ℕ) (link : ℕ) (busy : List ℕ) (d : DeskSt
   pub settled_sound : AreSound name d.entries → AreSound name (settled busy d).entries
   settled_sound sound = record { formed = formed_settled busy d.entries sound.formed; apart = subst AreApart (sym (numbers_mapped name (shut_one busy) d.entries (λ x. refl))) sound.apart }
 
--- the sender of the link is told before
+-- the sender of the link is notified before
 module _ (name : ℕ → ℕ → ℕ) (link : ℕ) (busy : List ℕ) (d : DeskState) (l : ℕ) where
   pub told_sent : (s : Sender) → HasSender name link d.entries s → AreKnown name d.entries s → AreSound name d.entries → Sent name link (told_on link l ++ closes name busy d.entries) (settled busy d).entries s
   told_sent s h k sound = by (l == link) refl where

@@ -21,7 +21,7 @@ pub record IsUnknown (c : ℕ) (r : Receiver) : Type 0 where
   pub untold : r.size c ≡ None
   pub unheard : r.over c ≡ false
 
--- a move that tells it something is of a connection of these
+-- a move that notifies it of something is of a connection of these
 abbrev pub Concerns : (ℕ → Type 0) → receivers.Move → Type 0
 Concerns P (receivers.Ask c) = P c
 Concerns P (receivers.Hear (words.Str c z)) = P c

@@ -138,7 +138,7 @@ module _ (name : ℕ → ℕ → ℕ) (link : ℕ) where
       (taken_by text h (data_of (data_bits h) text) d r x (bits_there text h is) f one i (is_acceptable x h) refl (accept_same (name x.own x.foreign) x r h (data_of (data_bits h) text) i o (bits_there text h is))))
       k
 
-  -- what is told as taken is what the law takes
+  -- what is reported as taken is what the law takes
   told_by : (text : List Bool) (h : DataHeader) (bits : List Bool) (d : DeskState) (r : Receiver) (x : Entry) → data_of (data_bits h) text ≡ bits → IsReceiver (name x.own x.foreign) x r → (v : Bool) → is_acceptable x h ≡ v
       → (receivers.is_open (name x.own x.foreign) r && words.is_size h.size (r.size (name x.own x.foreign)) && covers r.allocation (length bits)) ≡ v → d.notices ≡ []
       → (c : ℕ) → r.end ≡ Some c

@@ -128,7 +128,7 @@ abbrev pub gone_now : Host → List Moment → ℕ → ℕ → ℕ
 gone_now peer [] own foreign = 0
 gone_now peer (m ∷ moments) own foreign = gone_by m.pair.entries (ends_after peer m) (gone_now peer moments) own foreign
 
--- the number of a connection tells its sockets, and how many of theirs were gone before it
+-- the number of a connection identifies its sockets, and how many of theirs were gone before it
 pub record IsTelling (number : ℕ → ℕ → ℕ → ℕ) : Type 0 where
   pub own : (a b g c d h : ℕ) → number a b g ≡ number c d h → a ≡ c
   pub foreign : (a b g c d h : ℕ) → number a b g ≡ number c d h → b ≡ d
@@ -209,7 +209,7 @@ numbered own foreign gone = paired own (paired foreign gone)
 
 -- ---- words for worked examples
 
--- numbers that tell too little
+-- numbers that identify too little
 abbrev pub numbered_by_own : ℕ → ℕ → ℕ → ℕ
 numbered_by_own own foreign gone = own
 

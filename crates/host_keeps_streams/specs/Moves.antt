@@ -25,7 +25,7 @@ answers_str link c None free = []
 answers_str link c (Some l) None = []
 answers_str link c (Some l) (Some other) = if other == link then receivers.Ask c ∷ [] else []
 
--- an STR tells the byte size of its connection, on whatever link that is. A second one is an error
+-- an STR says the byte size of its connection, on whatever link that is. A second one is an error
 abbrev pub str_received : ℕ → ℕ → ℕ → Option Listener → Option ℕ → Option Entry → List receivers.Move
 str_received link c size listener free None = receivers.Hear (Str c size) ∷ answers_str link c listener free
 str_received link c size listener free (Some e) = if is_some e.partner then [] else receivers.Hear (Str c size) ∷ received_open (receives_on link e && is_some e.asked) c

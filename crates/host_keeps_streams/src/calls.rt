@@ -1,5 +1,5 @@
 //! What the calls of a host's program are on each link: lists of moves of the law. The functions here do nothing: each clause is a law. In all
-//! of them `name` tells the connection of two sockets by a number.
+//! of them `name` identifies the connection of two sockets by a number.
 
 ghost use Rattle.std.specs.Prelude.{◌≡◌, ℕ, Bool, true, false, List, [], ◌∷◌, ◌++◌, find, Some, None};
 ghost use Rattle.leader1822.specs.Host.{Host};
@@ -31,7 +31,7 @@ ghost use Rattle.host_keeps_streams.specs.Formed.{AreSound, FindsFree, HasSaid, 
 ghost use Rattle.host_keeps_streams.specs.Moves.{asks_for, bytes_sent, closes, data_received, desk, on_link, received_by, received_out, sent_by, sent_out, told_on};
 ghost use Rattle.host_keeps_streams.specs.Names.{AreApart, IsNewReceived, IsNewSent, IsSending, NewNumber, NewReceived, NewSent, is_among, named, numbers};
 
-/// Each command of the peer is, on each link, a list of the law's moves: `received_by` tells those of the receiver, `sent_by` those of the sender.
+/// Each command of the peer is, on each link, a list of the law's moves: `received_by` gives those of the receiver, `sent_by` those of the sender.
 pub fn commands()
     // the law lets the receiver make them, and has the end on the link after them. A request that makes a new end has a new number
     ensures received { (name : ℕ → ℕ → ℕ) (link said : ℕ) (peer : Host) (busy : List ℕ) (stamp : ℕ) (c : Command) (d : DeskState) (r : Receiver) → IsCommand c → AreSound name d.entries → NewReceived name c d.entries r → HasReceiver name link d.entries r → MayAllReceive (received_by name link said c d) r × HasReceiver name link (desk_taken peer busy stamp c d).entries (all_received (received_by name link said c d) r) }
@@ -153,7 +153,7 @@ pub fn worked_formed()
 
 /// What commands are on a link.
 pub fn worked_commands()
-    // an STR tells the byte size on each link, and the end opens on its own, where its RTS has gone out
+    // an STR says the byte size on each link, and the end opens on its own, where its RTS has gone out
     ensures str { received_by (λ own foreign. own) 5 0 (command.Str 33 16 8) (desk (asked_at 6 (receiving_end 16 33 5) ∷ []) []) ≡ receivers.Hear (Str 16 8) ∷ receivers.Open 16 ∷ [] }
     ensures str_before { received_by (λ own foreign. own) 5 0 (command.Str 33 16 8) (desk (receiving_end 16 33 5 ∷ []) []) ≡ receivers.Hear (Str 16 8) ∷ [] }
     ensures str_elsewhere { received_by (λ own foreign. own) 7 0 (command.Str 33 16 8) (desk (asked_at 6 (receiving_end 16 33 5) ∷ []) []) ≡ receivers.Hear (Str 16 8) ∷ [] }
@@ -178,7 +178,7 @@ pub fn worked_commands()
     ensures rts_elsewhere { sent_by (λ own foreign. own) 7 0 [] (command.Rts 16 33 5) (desk (asked_at 6 (sending_end 33 16 8) ∷ []) []) senders.opening_sender ≡ [] }
     ensures rts_used { sent_by (λ own foreign. own) 5 0 [] (command.Rts 16 33 5) (desk (sending_end 33 16 8 ∷ asked_on_link 7 5 (sending_end 35 18 8) ∷ []) []) senders.opening_sender ≡ [] }
 
-    // a socket that listens tells its byte size on each link. A request that is refused is closed on each
+    // a socket that listens says its byte size on each link. A request that is refused is closed on each
     ensures listens { sent_by (λ own foreign. own) 5 0 [] (command.Rts 16 33 5) (desk [] (record { socket = 33; size = 8 } ∷ [])) senders.opening_sender ≡ senders.Ask 33 8 ∷ senders.Hear (Rts 33) ∷ [] }
     ensures listens_elsewhere { sent_by (λ own foreign. own) 7 0 [] (command.Rts 16 33 5) (desk [] (record { socket = 33; size = 8 } ∷ [])) senders.opening_sender ≡ senders.Ask 33 8 ∷ [] }
     ensures rts_refused { sent_by (λ own foreign. own) 5 0 [] (command.Rts 16 33 5) (desk [] []) senders.opening_sender ≡ senders.Hear (Rts 33) ∷ senders.Close 33 ∷ [] }

@@ -63,14 +63,14 @@ pub fn worked_histories()
     ensures another { (peer : Host) → HasClosed numbered_by_gone peer 2 1 closing_moments → ⊥ }
     ensures link { (peer : Host) → HasClosed numbered_by_gone peer 3 0 closing_moments → ⊥ }
 
-    // such numbers tell one connection from another
+    // such numbers distinguish one connection from another
     ensures alike { IsTelling numbered_by_own → ⊥ }
 
     // a user who asks for an end that is there would be refused; so would a CLS that goes out before it is said
     ensures taken { (peer : Host) → AreAllowed numbered_by_own peer 2 (moment (OpensReceiver 16 33) (waiting ∷ []) ∷ moment (OpensReceiver 16 33) [] ∷ []) → ⊥ }
     ensures unsaid { (peer : Host) → AreAllowed numbered_by_own peer 2 (moment (Says 6 (command.Cls 16 33)) (waiting ∷ []) ∷ moment (OpensReceiver 16 33) [] ∷ []) → ⊥ }
 
-    // a sending end tells its byte size on each link, and closes at once where nothing was sent
+    // a sending end says its byte size on each link, and closes at once where nothing was sent
     ensures sends { (peer : Host) → MaySendAll numbered_by_own peer 5 (moment (Closes 33 (sending_end 33 16 8)) (sending_end 33 16 8 ∷ []) ∷ moment (OpensSender 33 16 8) [] ∷ []) }
     ensures closed { (peer : Host) → (sender_now numbered_by_own peer 5 (moment (Closes 33 (sending_end 33 16 8)) (sending_end 33 16 8 ∷ []) ∷ moment (OpensSender 33 16 8) [] ∷ [])).closed 33 ≡ true }
     // a message goes out where none is outstanding, and an end that has opened closes where none is; one that hasn't opened may close at any time

@@ -1,4 +1,4 @@
-//! What a host's program does at its ends on a link. The functions here do nothing: each clause is a law. In all of them `name` tells the
+//! What a host's program does at its ends on a link. The functions here do nothing: each clause is a law. In all of them `name` identifies the
 //! connection of two sockets by a number, and may be any function.
 
 ghost use Rattle.std.specs.Prelude.{◌≡◌, ℕ, ◌*◌, ◌==◌, Bool, true, false, List, [], ◌∷◌, ◌++◌, take, filter, find, Some, None, is_some};
@@ -177,13 +177,13 @@ pub fn worked_closings()
     ensures sent_twice { MayAllSend (senders.Close 1 ∷ senders.Close 1 ∷ []) senders.opening_sender → ⊥ }
 {}
 
-/// How ends on a link open that the host itself asked for. Those with which a listening socket answers are not told of here.
+/// How ends on a link open that the host itself asked for. Those with which a listening socket answers are not described here.
 pub fn opening()
     // a user asks for a receiving end, on the lowest free link: the law lets it, if it wasn't asked for nor heard of before. On another link nothing changes
     ensures asked { (name : ℕ → ℕ → ℕ) (link own foreign : ℕ) (q : PairState) (r : Receiver) → free_link q.entries ≡ Some link → is_receive_socket own ≡ true → r.asked (name own foreign) ≡ false → r.size (name own foreign) ≡ None → r.over (name own foreign) ≡ false → HasReceiver name link q.entries r → receivers.May (receivers.Ask (name own foreign)) r × HasReceiver name link (requested (receiving_end own foreign link) (command.Rts own foreign link) q).entries (receivers.moved (receivers.Ask (name own foreign)) r) }
     ensures elsewhere { (name : ℕ → ℕ → ℕ) (link other own foreign : ℕ) (q : PairState) (r : Receiver) → (other == link) ≡ false → HasReceiver name link q.entries r → HasReceiver name link (requested (receiving_end own foreign other) (command.Rts own foreign other) q).entries r }
 
-    // a user asks for a sending end, of which the link's isn't one: the law tells its byte size
+    // a user asks for a sending end, of which the link's isn't one: the law says its byte size
     ensures sends { (name : ℕ → ℕ → ℕ) (link own foreign size c : ℕ) (q : PairState) (s : Sender) → (s.end ≡ Some c → ⊥) → s.size c ≡ None → HasSender name link q.entries s → senders.May (senders.Ask c size) s × HasSender name link (requested (sending_end own foreign size) (command.Str own foreign size) q).entries (senders.moved (senders.Ask c size) s) }
 
     // a receiving end's RTS goes out: it opens if the partner's STR was taken

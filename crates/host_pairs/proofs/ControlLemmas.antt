@@ -97,7 +97,7 @@ octets_there text h octets is size same =
 control_by : (text : List Bool) (h : DataHeader) → is_control h ≡ true → orders_by text (Some h) ≡ orders_in (octets_of (take (8 * h.count) (drop 40 text)))
 control_by text h e = rw e refl
 
--- the octets of a control message's commands stand behind those of its header
+-- the octets of a control message's commands are after those of its header
 pub control_read : (text : List Bool) (h : DataHeader) (octets behind : List ℕ) → header_of text ≡ Some h → is_control h ≡ true → behind ≡ drop 5 (octets_of text) → octets ≡ take h.count behind
     → orders_of text ≡ orders_in octets
 unfolding orders_of

@@ -48,7 +48,7 @@ none_first : {A : Type 0} (test : A → Bool) (change : A → A) (xs : List A) �
 none_first test change [] le = refl
 none_first test change (x ∷ xs) le = none_more test change x xs (none_first test change xs) (test x) refl le
 
--- what stands at the found place is what is changed
+-- what is at the found place is what is changed
 pub one_changed : {A : Type 0} (test : A → Bool) (at : ℕ) (change : A → A) (d y : A) (xs : List A) → position test xs ≡ Some at → y ≡ change (slice_index_or xs at d)
     → slice_set xs at y ≡ changed_first test change xs
 one_changed {A} test at change d y xs e is =
@@ -62,7 +62,7 @@ pub none_changed : {A : Type 0} (test : A → Bool) (change : A → A) (xs : Lis
 none_changed test change xs e =
     none_first test change xs (place_none (nat_lt (position_or_len test xs) (length xs)) (position_or_len test xs) (length xs) refl e)
 
--- what stands at the found place is what is found
+-- what is at the found place is what is found
 pub one_found : {A : Type 0} (test : A → Bool) (at : ℕ) (d : A) (xs : List A) → position test xs ≡ Some at → find test xs ≡ Some (slice_index_or xs at d)
 one_found {A} test at d xs e =
     let p : IsPlace (position_or_len test xs) (length xs) at = place_some (nat_lt (position_or_len test xs) (length xs)) (position_or_len test xs) (length xs) at refl e in
@@ -71,7 +71,7 @@ one_found {A} test at d xs e =
 pub none_found : {A : Type 0} (test : A → Bool) (xs : List A) → position test xs ≡ None → find test xs ≡ None
 none_found {A} test xs e = find_at test xs ∙ slice_get_past xs (position_or_len test xs) (place_none (nat_lt (position_or_len test xs) (length xs)) (position_or_len test xs) (length xs) refl e)
 
--- the first that passes is what stands at its place
+-- the first that passes is what is at its place
 pub found_by_place : {A : Type 0} (test : A → Bool) (xs : List A) (place : Option ℕ) → place ≡ position test xs
     → MatchOption place (find test xs ≡ None) (λ at. (d : A) → find test xs ≡ Some (slice_index_or xs at d))
 found_by_place test xs None e = none_found test xs (sym e)

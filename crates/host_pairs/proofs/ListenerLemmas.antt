@@ -46,12 +46,12 @@ above_all socket ls up last = list_any_none (λ (l : Listener). l.socket == sock
     let below : (slice_index_or ls k d).socket < socket = omega (arith, up k (length ls - 1) d (omega (arith, lt)) (omega (arith, lt)), last d (omega (arith, lt))) in
     grind (arith, nat_tests, below))
 
--- one that stands at a place is one of them
+-- one that is at a place is one of them
 found_at : (socket : ℕ) (ls : List Listener) (at : ℕ) → at < length ls → ((d : Listener) → (slice_index_or ls at d).socket ≡ socket) → listens_on socket ls ≡ true
 found_at socket [] at lt same = absurd (omega (arith, lt))
 found_at socket (l ∷ ls) at lt same = list_any_at (λ (x : Listener). x.socket == socket) (l ∷ ls) at l lt (let is : (slice_index_or (l ∷ ls) at l).socket ≡ socket = same l in grind (arith, nat_tests, is))
 
--- one that doesn't stand between those below it and the others is none of them
+-- one that isn't between those below it and the others is none of them
 missed_at : (socket : ℕ) (ls : List Listener) → AreAscending ls → (at : ℕ) → IsPartitionPoint (λ (l : Listener). nat_lt l.socket socket ≡ true) (λ (l : Listener). nat_lt l.socket socket ≡ false) ls at
     → (at < length ls → (d : Listener) → (slice_index_or ls at d).socket ≡ socket → ⊥) → listens_on socket ls ≡ false
 missed_at socket ls up at parts off = list_any_none (λ (l : Listener). l.socket == socket) ls (λ k d lt. by k d lt (cases_lt k at)) where
@@ -64,7 +64,7 @@ missed_at socket ls up at parts off = list_any_none (λ (l : Listener). l.socket
       let on : (slice_index_or ls at d).socket ≤ (slice_index_or ls k d).socket = up at k d behind lt in
       grind (arith, nat_tests, high, other, on)
 
--- those before a place are below the number, and those from it on are not: it is one of them if it stands there
+-- those before a place are below the number, and those from it on are not: it is one of them if it is there
 pub at_point : (socket : ℕ) (ls : List Listener) → AreAscending ls → (at : ℕ) → IsPartitionPoint (λ (l : Listener). nat_lt l.socket socket ≡ true) (λ (l : Listener). nat_lt l.socket socket ≡ false) ls at
     → (b : Bool) → OnTrue b ((at < length ls) × ((d : Listener) → (slice_index_or ls at d).socket ≡ socket))
     → OnFalse b (at < length ls → (d : Listener) → (slice_index_or ls at d).socket ≡ socket → ⊥) → b ≡ listens_on socket ls

@@ -1,4 +1,4 @@
--- What a pair tells of its peer names that peer.
+-- What a pair reports of its peer names that peer.
 use Rattle.std.proofs.Common.{ℕ, ◌*◌, ◌==◌, ◌||◌, ◌&&◌, Bool, true, false, not, cond, nat_le, List, [], ◌∷◌, ◌++◌, filter, take, Option, Some, None, is_some, refl}
 use Rattle.std.specs.List.{flat_map, list_any}
 use Rattle.leader1822.specs.Host.{Host}

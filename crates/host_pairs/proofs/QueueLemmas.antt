@@ -16,7 +16,7 @@ joint_behind zero cs h = h
 joint_behind (suc n) [] h = refl
 joint_behind (suc n) (c ∷ cs) h = joint_behind n cs ((both _ _ h).1)
 
--- ---- those behind the ones that have gone out
+-- ---- those after the ones that have gone out
 
 pub length_behind : (gone : ℕ) (cs : List Command) → length (drop gone cs) ≡ length cs - gone
 length_behind gone cs = length-drop gone cs

@@ -73,7 +73,7 @@ header count = record { size = 8; count = count }
 abbrev header_octets : ℕ → List ℕ
 header_octets count = 0 ∷ 8 ∷ to_be_bytes w16 count ++ 0 ∷ []
 
--- the octets of a control message stand behind those of its header
+-- the octets of a control message are after those of its header
 behind_header : (octets : List ℕ) → All (λ n. n < 256) octets → octets ≡ drop 5 (octets_of (control_text octets))
 unfolding octets_of
 behind_header octets small =
@@ -92,7 +92,7 @@ control_again octets cs small room read =
     control_read (control_text octets) (header (length octets)) octets octets there control (behind_header octets small) (sym (take_all (length octets) octets (omega arith)))
     ∙ read_all (length octets) octets cs (omega arith) read
 
--- an RST or an RRP goes alone
+-- an RST or an RRP goes by itself
 pub signal_again : (c : Command) → is_alone c ≡ true → orders_of (control_text (spelling c)) ≡ Legal c ∷ []
 unfolding orders_of octets_of read_of command_of
 signal_again command.Rst e = refl
@@ -104,7 +104,7 @@ pub signal_read : (r : Result (List Bool) AllocError) (c : Command) (octets : Li
 signal_read (Ok text) c octets spelled alone is = ap orders_of is ∙ ap (λ (os : List ℕ). orders_of (control_text os)) spelled ∙ signal_again c alone
 signal_read (Err e) c octets spelled alone is = tt
 
--- so many commands as have room
+-- as many commands as have room
 pub commands_read : (q : PairState) (out : Outgoing) (count : ℕ) (r : Result (List Bool) AllocError) → out ≡ outgoing.Commands count → HasRoom q.entries q.queue out → are_joint q.queue ≡ true
     → IfOk r (λ text. orders_of text ≡ map Legal (take (packed_count q.queue) q.queue)) → IfOk r (λ text. IsReadAs q (parcel_of q.entries out) text)
 commands_read q out count (Err e) is room joint again = tt

@@ -1,4 +1,4 @@
--- The lowest of links, found from the front.
+-- The lowest of links, found from the first one on.
 use Rattle.std.proofs.Common.{◌≡◌, ℕ, ◌*◌, ◌≤◌, true, false, Bool, if◌then◌else◌, suc, length, take, drop, filter, ◌++◌, List, [], ◌∷◌, Option, Some, None, refl, ap, sym, arith}
 use Rattle.ncp_control.specs.Command.{is_alone, spelling}
 use Rattle.ncp_control.specs.Packing.{packed_count, spellings}
@@ -14,7 +14,7 @@ use Rattle.host_pairs.specs.Data.{data_text}
 use Rattle.host_pairs.specs.Parcels.{link_of, lower, lowest_link, may_send}
 use Rattle.host_pairs.specs.declared.entry.Entry.{Entry}
 
--- the lower of a link that was found and of one behind it
+-- the lower of a link that was found and of one after it
 abbrev pub lower_of : Option ℕ → Option ℕ → Option ℕ
 lower_of None later = later
 lower_of (Some link) later = Some (lower link later)
@@ -40,7 +40,7 @@ pub lower_step : (busy : List ℕ) (e : Entry) (es : List Entry) (found : Option
     → lower_of (if may_send busy e then Some (lower (link_of e.link) found) else found) (lowest_link (filter (may_send busy) es)) ≡ lower_of found (lowest_link (filter (may_send busy) (e ∷ es)))
 lower_step busy e es found = lower_by busy e es found (may_send busy e) refl
 
--- with no link behind
+-- with no link after it
 pub lower_end : (found : Option ℕ) → lower_of found None ≡ found
 lower_end None = refl
 lower_end (Some link) = refl
@@ -53,13 +53,13 @@ whole (o ∷ os) =
     let more : 8 * length (o ∷ os) ≡ suc (suc (suc (suc (suc (suc (suc (suc (8 * length os)))))))) = omega arith in
     rw more (ap (λ (bits : List Bool). octet_bits o ++ bits) (whole os))
 
--- all bits of so many octets
+-- all bits of this many octets
 pub whole_octets : (octets : List ℕ) (n : ℕ) → n ≡ length octets → take (8 * n) (bits_of octets) ≡ bits_of octets
 whole_octets octets n is = rw is (whole octets)
 
 -- ---- the octets of a control message
 
--- those of its header, and these behind them
+-- those of its header, and these after them
 abbrev pub message_octets : List ℕ → List ℕ
 message_octets octets = 0 ∷ 8 ∷ to_be_bytes w16 (length octets) ++ 0 ∷ octets
 
@@ -70,7 +70,7 @@ message_room octets room = omega (arith, room)
 pub message_bits : (octets : List ℕ) → bits_of (message_octets octets) ≡ control_text octets
 message_bits octets = bits_of-append (0 ∷ 8 ∷ to_be_bytes w16 (length octets) ++ 0 ∷ []) octets
 
--- all of so many bits or fewer
+-- all of this many bits or fewer
 pub all_bits : (count : ℕ) (bits : List Bool) → length bits ≤ count → take count bits ≡ bits
 all_bits count bits le = take_all count bits le
 

@@ -1,4 +1,4 @@
--- A turn in which nothing was told before, and one in which no end has to close.
+-- A turn in which nothing was reported before, and one in which no end has to close.
 use Rattle.std.proofs.Common.{◌≡◌, ℕ, ◌++◌, ◌==◌, Bool, true, false, cond, not, List, [], ◌∷◌, length, map, filter, refl, ap, sym, ◌∙◌}
 use Rattle.std.specs.List.{list_any}
 use Rattle.std.proofs.lemmas.List.{append-nil}
@@ -15,11 +15,11 @@ use Rattle.host_pairs.specs.declared.phase.Phase.{Phase}
 use Rattle.host_pairs.specs.declared.phase.Phase.TheVariants as phase
 use Rattle.host_pairs.proofs.OpeningLemmas.{both, none_of, not_is}
 
--- what is told first is all that is told
+-- what is reported first is all that is reported
 pub told_first : (told notices : List Notice) → (length told == 0) ≡ true → told ++ notices ≡ notices
 told_first told notices e = ap (λ (xs : List Notice). xs ++ notices) (none_of told e)
 
--- a command that is queued at the desk is queued in the pair, and nothing is told
+-- a command that is queued at the desk is queued in the pair, and nothing is reported
 pub queued_turn : (t : TurnState) (c : Command) → record t { pair = record t.pair { queue = t.pair.queue ++ c ∷ [] } } ≡ with_desk t (command_queued c (desk_of t.pair t.listening))
 queued_turn t c = sym (ap (λ (ns : List Notice). record { pair = record t.pair { queue = t.pair.queue ++ c ∷ [] }; listening = t.listening; notices = ns }) (append-nil t.notices))
 

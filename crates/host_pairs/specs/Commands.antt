@@ -27,7 +27,7 @@ changed test change d = record d { entries = changed_first test change d.entries
 
 -- ---- requests
 
--- the peer's request was taken for an end: its place in the log, and what it tells of the connection
+-- the peer's request was taken for an end: its place in the log, and what it says of the connection
 abbrev pub asked_on_link : ℕ → ℕ → Entry → Entry
 asked_on_link stamp link e = record e { partner = Some stamp; link = Some link }
 

@@ -11,12 +11,12 @@ use Rattle.ncp_control.specs.declared.data_header.DataHeader.{DataHeader}
 use Rattle.ncp_control.specs.declared.fault.ControlFault.{ControlFault}
 use Rattle.ncp_control.specs.declared.fault.ControlFault.TheVariants as fault
 
--- what is in a control text: a command, or an error with the code and the octets that an ERR will tell of
+-- what is in a control text: a command, or an error with the code and the octets that an ERR will report
 pub data Order : Type 0 where
   Legal : (command : Command) → Order
   Wrong : (code : ℕ) → (octets : List ℕ) → Order
 
--- the kinds of error, as the code of an ERR tells them
+-- the kinds of error, as the code of an ERR identifies them
 abbrev pub ILLEGAL_CODE : ℕ
 ILLEGAL_CODE = 1
 

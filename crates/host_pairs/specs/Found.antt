@@ -1,4 +1,4 @@
--- What is on a link, as the program tells it: an open end by its place.
+-- What is on a link, as the program says it: an open end by its place.
 use Rattle.std.specs.Prelude.{◌≡◌, ◌<◌, List, length, slice_index_or}
 use Rattle.host_pairs.specs.Commands as commands
 use Rattle.host_pairs.specs.declared.entry.Entry.{Entry}

@@ -19,7 +19,7 @@ use Rattle.host_pairs.specs.declared.notice.Notice.TheVariants as notice
 use Rattle.host_pairs.specs.declared.phase.Phase.{Phase}
 use Rattle.host_pairs.specs.declared.phase.Phase.TheVariants as phase
 
--- a pair, what listens, and what was told
+-- a pair, what listens, and what was reported
 pub record TurnState : Type 0 where
   pub pair : PairState
   pub listening : List Listener

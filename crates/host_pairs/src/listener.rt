@@ -26,7 +26,7 @@ pub struct Listener {
 /// The sockets of a host that listen, the oldest first.
 ///
 /// While they come in order of their numbers, one is searched for among them by halves. Once one comes that is lower than the last, a
-/// set of their numbers tells whether one listens. So that is found quickly however many there are.
+/// set of their numbers says whether one listens. So that is found quickly however many there are.
 #[derive(Drop)]
 pub struct Listeners {
     listening: Vec<Listener>,

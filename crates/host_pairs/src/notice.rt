@@ -1,4 +1,4 @@
-//! What the network control program tells its user.
+//! What the network control program reports to its user.
 
 use bit_messages::Bits;
 use leader1822::HostAddr;

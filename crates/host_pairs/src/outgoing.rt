@@ -1,4 +1,4 @@
-//! What goes out next to a peer (NIC 8246: RST and RRP go alone, control messages hold 120 octets, data go
+//! What goes out next to a peer (NIC 8246: RST and RRP each go by themselves, control messages hold 120 octets, data go
 //! within the allocation).
 
 ghost use Rattle.std.specs.Prelude.{◌≡◌, ◌==◌, ◌&&◌, not, if◌then◌else◌, length, MatchOption, IfSome, Some, None, List, filter, find, is_some, position, slice_index_or};
@@ -16,9 +16,9 @@ use ncp_control::{ByteSize, packed_count};
 /// What goes out in one message to a peer.
 #[derive(Clone, Copy, Debug)]
 pub enum Outgoing {
-    /// An RST, alone in its message.
+    /// An RST, the only command in its message.
     Reset,
-    /// An RRP, alone in its message.
+    /// An RRP, the only command in its message.
     Reply,
     /// This many of the commands that wait.
     Commands {
@@ -197,7 +197,7 @@ impl Pair {
         next_bytes(&self.entries, &self.busy).is_some()
     }
 
-    /// Returns whether something goes out next, as [`Pair::next`] tells it.
+    /// Returns whether something goes out next, as [`Pair::next`] says.
     pub fn has_next(&self) -> bool
         ensures { result ≡ is_some (parcels.next_of self.now) }
     {

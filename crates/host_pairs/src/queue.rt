@@ -9,7 +9,7 @@ use std::alloc::{AllocError, Global};
 use std::marker::Model;
 
 /// The commands that wait to go out to a peer, the oldest first. RST and RRP aren't among them: each goes
-/// alone in its message, and a pair of hosts keeps them as its phase and as what it owes (NIC 8246, RST and
+/// by itself in its message, and a pair of hosts keeps them as its phase and as what it owes (NIC 8246, RST and
 /// RRP).
 ///
 /// Those that have gone out are before the others until they are more than half, and go all at once then. So each command is

@@ -60,7 +60,7 @@ fn control_text(alloc: Global, octets: &[u8]) -> Result<Bits, AllocError>
     Ok(text)
 }
 
-/// Returns the text of the message of an RST or an RRP, which goes alone.
+/// Returns the text of the message of an RST or an RRP, which goes by itself.
 #[tactic(auto, using(crate::proofs::SendingLemmas::alone_room, crate::proofs::ReadLemmas::signal_again))]
 fn signal_text(alloc: Global, command: Command) -> Result<Bits, AllocError>
     requires alone { is_alone command ≡ true }

@@ -66,7 +66,7 @@ impl Turn {
         }
     }
 
-    /// Puts the pair's connections back, and tells what is to be notified of them.
+    /// Puts the pair's connections back, and reports the notices of them.
     #[tactic(auto, using(crate::proofs::TurnLemmas::told_first))]
     pub(crate) fn restore(&mut self, desk: Desk) -> Result<(), AllocError>
         ensures state { OnOk result (self.new ≡ turns.with_desk self.old desk) }

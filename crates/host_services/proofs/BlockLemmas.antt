@@ -1,4 +1,4 @@
--- The turns of services that stand in blocks.
+-- The turns of services that are in blocks.
 use Rattle.std.proofs.Common.{◌≡◌, ℕ, zero, suc, ◌+◌, ◌<◌, List, [], ◌∷◌, ◌++◌, length, take, drop, slice_set, slice_index_or, ap, sym, subst, ◌∙◌, refl, append_assoc, arith}
 use Rattle.std.proofs.lemmas.List.{append-nil, drop_more}
 use Rattle.host_pairs.specs.declared.notice.Notice.{Notice}

@@ -20,7 +20,7 @@ IsAddressed (request.OpenReceive peer own foreign) = IsAddress peer
 IsAddressed (request.Echo peer octet) = IsAddress peer
 IsAddressed r = Unit {0}
 
--- a request of which the program tells its user nothing: only a contact has notices
+-- a request about which the program notifies its user of nothing: only a contact has notices
 abbrev pub IsSilent : Request → Type 0
 IsSilent (request.Contact peer) = ⊥
 IsSilent r = Unit {0}

@@ -132,7 +132,7 @@ all_heard (n ∷ notices) services d =
 abbrev pub services_left : List Service × ServiceDeskState → ServicesState × ServiceDeskState
 services_left t = (record { running = t.0; typing = t.1.typing }, t.1)
 
--- a host is told all this
+-- a host is notified of all this
 unfoldable pub services_told : List Notice → ServicesState → ServiceDeskState → ServicesState × ServiceDeskState
 services_told notices s d = services_left (all_heard notices s.running (typing_on s.typing d))
 

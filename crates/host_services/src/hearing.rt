@@ -8,7 +8,7 @@ ghost use Rattle.host_services.specs.Ears.{AreHeardIn, ear_of};
 use crate::Service;
 use sockets::Notice;
 
-/// What a notice is about, as far as services tell notices apart.
+/// What a notice is about, as far as services distinguish notices.
 #[derive(Clone, Copy)]
 pub(crate) enum Subject {
     /// A connection of this socket was opened or has ended, or bits arrived on it.

@@ -32,7 +32,7 @@ pub(crate) enum Act {
     Offered,
 }
 
-/// An act, the octets that go in, what is told or why it is refused, and what goes out next: peer, link and
+/// An act, the octets that go in, what is reported or why it is refused, and what goes out next: peer, link and
 /// text, or nothing.
 pub(crate) type Row = (Act, &'static [u8], &'static str, &'static str);
 
@@ -201,7 +201,7 @@ fn request(alloc: Global, act: Act, octets: &[u8]) -> Result<Option<Request>, Nc
     }))
 }
 
-/// Makes the call of an act's name, which tells nothing.
+/// Makes the call of an act's name, which reports nothing.
 fn call(alloc: Global, ncp: &mut Ncp, act: Act, octets: &[u8]) -> Result<(), NcpFault>
     requires { ncp.old.spent ≡ false }
 {
@@ -222,7 +222,7 @@ fn call(alloc: Global, ncp: &mut Ncp, act: Act, octets: &[u8]) -> Result<(), Ncp
     }
 }
 
-/// What an act tells. What a user asks for is asked by the call of its name, or as a request.
+/// What an act reports. What a user asks for is asked by the call of its name, or as a request.
 fn told(
     alloc: Global,
     ncp: &mut Ncp,
@@ -249,7 +249,7 @@ fn told(
     Ok(Vec::new(alloc))
 }
 
-/// What an act tells, in words: its notices, or why it is refused.
+/// What an act reports, in words: its notices, or why it is refused.
 fn words(alloc: Global, told: Result<Vec<Notice>, NcpFault>) -> Result<String, NcpFault> {
     let mut out = String::new(alloc);
     match told {

@@ -41,7 +41,7 @@ fn asked(alloc: Global, rows: &[Row]) -> Result<String, BitFault> {
     Ok(out)
 }
 
-/// A server on 7 with base 100: it tells its base; another host comes, an end is refused, the pair is reset.
+/// A server on 7 with base 100: it says its base; another host comes, an end is refused, the pair is reset.
 const SERVED: [Scene; 4] = [
     (
         &[

@@ -3,7 +3,7 @@
 //!
 //! A contract says what a call does on every value. It can't say that this is what was meant, nor that
 //! memory is left for the call. So the calls of `Ncp` are made here in tables of acts, each with what has to
-//! be told and what has to go out next, in octets that were written by hand from the formats. The machines
+//! be reported and what has to go out next, in octets that were written by hand from the formats. The machines
 //! above it are given notices, and what they say is compared with texts that were written from the rules.
 //!
 //! The tests are in a crate of their own, since a crate with tests is proved twice, with them and without

@@ -13,7 +13,7 @@ const A_CONTACT_IS_ANSWERED: [Row; 4] = [
 const RESETS_CROSS: [Row; 7] = [
     (Act::Contact(2), &[], "", "0/2 0 00080001000C"),
     (Act::Offered, &[], "", ""),
-    // the peer's RST comes before the RFNM, and the RRP goes alone behind it
+    // the peer's RST comes before the RFNM, and the RRP goes by itself after it
     (Act::Control, &[0, 8, 0, 1, 0, 12], "", ""),
     (
         Act::Answered(Answer::Rfnm, 2, 0),

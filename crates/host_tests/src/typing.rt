@@ -75,7 +75,7 @@ const ECHOED: [Scene; 2] = [
     ),
 ];
 
-/// The terminal tells whole lines. Where one end has ended it closes the other.
+/// The terminal reports whole lines. Where one end has ended it closes the other.
 const TOLD: [Scene; 2] = [
     (
         &[

@@ -1,4 +1,4 @@
--- What one notice more does to a machine that has been told some.
+-- What one notice more does to a machine that has received some.
 use Rattle.std.proofs.Common.{◌≡◌, ◌+◌, ◌≤◌, List, [], ◌∷◌, ◌++◌, length, Option, Some, refl, ap, sym, subst, ◌∙◌, append_assoc, length-append, arith}
 use Rattle.std.proofs.lemmas.List.{append-nil}
 use Rattle.icp.specs.Played.{outcomes_of, server_played, user_played}

@@ -103,7 +103,7 @@ same_base (Some x) b c e k = ap number_in (sym e) ∙ k
 abbrev judged_if : UserState → Bool → IcpTurn UserState
 judged_if m both = if both then (record m { over = true }, [], Some (outcome.Done m.receive m.send)) else passed m
 
--- whether an end is open, or these notices tell of its opening
+-- whether an end is open, or these notices report its opening
 abbrev is_open : Bool → ℕ → Host → ℕ → List Notice → Bool
 is_open now socket peer foreign ns = now || list_any (λ n. is_opened socket peer foreign n) ns
 

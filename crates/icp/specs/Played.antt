@@ -34,7 +34,7 @@ abbrev pub user_played : UserState → List Notice → Played UserState
 user_played s [] = (s, [], [])
 user_played s (n ∷ ns) = before (user_turn s n) (user_played (user_turn s n).0 ns)
 
--- the far end of the first connection of a socket that these notices tell of
+-- the far end of the first connection of a socket that these notices report
 abbrev pub opened_in : ℕ → List Notice → Option Partner
 opened_in socket [] = None
 opened_in socket (n ∷ ns) = option_or (opened_on socket n) (opened_in socket ns)
@@ -45,7 +45,7 @@ opened_in socket (n ∷ ns) = option_or (opened_on socket n) (opened_in socket n
 abbrev pub above : ℕ → Partner → Partner
 above step p = record { peer = p.peer; socket = p.socket + step }
 
--- these notices tell of a user who asked the listening socket, and of both ends with the sockets of that user, crosswise
+-- these notices report a user who asked the listening socket, and both ends with the sockets of that user, crosswise
 pub record IsServed (listen base : ℕ) (notices : List Notice) : Type 0 where
   pub user : Partner
   pub asked : opened_in listen notices ≡ Some user
@@ -54,7 +54,7 @@ pub record IsServed (listen base : ℕ) (notices : List Notice) : Type 0 where
 
 -- ---- what a user's outcome says
 
--- the notices after the first one that tells of the connection of this socket with that partner
+-- the notices after the first one that reports the connection of this socket with that partner
 abbrev pub since_opened : ℕ → Host → ℕ → List Notice → List Notice
 since_opened own peer foreign [] = []
 since_opened own peer foreign (n ∷ ns) = if is_opened own peer foreign n then ns else since_opened own peer foreign ns
@@ -72,7 +72,7 @@ arrived_in own (n ∷ ns) = bits_in (arrived_on own n) ++ arrived_in own ns
 abbrev pub said_to : ℕ → Host → ℕ → List Notice → List Bool
 said_to own peer listen notices = arrived_in own (since_opened own peer listen notices)
 
--- these notices tell of at least 32 bits that the server says, of which the first 32 are an even number, the base; and of both
+-- these notices report at least 32 bits that the server says, of which the first 32 are an even number, the base; and both
 -- its ends with sockets of the server's host, crosswise: the base and the socket above it
 pub record IsConnected (peer : Host) (listen own : ℕ) (notices : List Notice) : Type 0 where
   pub base : ℕ

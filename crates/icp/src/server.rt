@@ -29,7 +29,7 @@ pub(crate) const RECEIVE_STEP: u32 = 2;
 pub(crate) const SEND_STEP: u32 = 3;
 
 /// A server that waits for one user (RFC 165). It listens on an odd socket, on its base, which is even, and
-/// on the socket above that; it tells the first user who comes the base, and is done when that user has
+/// on the socket above that; it sends the base to the first user who comes, and is done when that user has
 /// opened both.
 ///
 /// A call that runs out of memory leaves it spent, and no call may follow.

@@ -1,4 +1,4 @@
--- The bits of the channels, which stand beside them.
+-- The bits of the channels, which are kept beside them.
 use Rattle.std.proofs.Common.{arith, Bool, true, false, cond, List, [], ◌∷◌, Some, length, map, set, get_or, replicate, count_by, ℕ, ◌+◌, ◌<◌, ◌≡◌, ◌∙◌, refl, ap, sym, is_some}
 use Rattle.std.proofs.lemmas.List.{get_or-map, map-set}
 use Rattle.std.proofs.lemmas.List.Sums.{sum_by-set}

@@ -15,7 +15,7 @@ use Rattle.imp_channel.specs.declared.frame.Frame.{Frame}
 use Rattle.imp_channel.specs.declared.frame.TheConstants.{ACKS}
 use Rattle.imp_channel.specs.Format.{octet_of, bits_of, bit_value, channel_octet, kind_octet, rest_of, content_of, frame_in, framed, Gives}
 
--- so many bits make a number below that power of two
+-- this many bits make a number below that power of two
 octet_of-below : (bits : List Bool) (n : ℕ) → length bits ≤ n → octet_of bits < 2 ^ n
 unfolding octet_of
 octet_of-below [] zero le = omega arith

@@ -99,7 +99,7 @@ length-expected_after expected (content.Packet carried) = at (has_expected_bit e
 length-expected_after expected content.Nothing = refl
 length-expected_after expected (content.Routes distances) = refl
 
--- the bit expected next on a channel, and what was given on it, as that channel alone tells
+-- the bit expected next on a channel, and what was given on it, as that channel's content by itself says
 pub record IsOnChannel (c : ℕ) (expected : List Bool) (brings : Content) : Type 0 where
   pub expects : get_or (expected_after expected brings) c false ≡ expected_by (way_of c brings) (get_or expected c false)
   pub gives : given_on c brings (Ok (brought expected brings)) ≡ given_by (way_of c brings) (get_or expected c false)

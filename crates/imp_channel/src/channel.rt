@@ -33,7 +33,7 @@ impl Channel {
 
     /// Takes an acknowledgement bit. One that differs from the bit of the packet that waits frees the
     /// channel, and the next packet has the other bit. The call answers whether it freed the channel. The
-    /// channel's own bit is told, so that a channel with that bit isn't looked at.
+    /// channel's own bit is given, so that a channel with that bit isn't looked at.
     fn acknowledge(&mut self, bit: bool, ack: bool) -> bool
         requires { bit ≡ self.old.bit }
         ensures channel { self.new ≡ acknowledged ack self.old }

@@ -62,7 +62,7 @@ pub fn worked_frames()
 /// Packets come out in order and once.
 ///
 /// Both ends begin just reset, and each acts as often and in whatever order the schedule says: it puts
-/// packets in, sends the frames of its busy channels again, acknowledges, tells its distances, and takes
+/// packets in, sends the frames of its busy channels again, acknowledges, sends its distances, and takes
 /// frames that the other end wrote. The frames taken never go back in the list of those written: one may be
 /// skipped, as lost, and one may be taken again before a later one. Then on every channel, in both
 /// directions, the packets that `receive` answered as `Fresh` are the first of those that were handed to

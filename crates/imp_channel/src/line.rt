@@ -267,7 +267,7 @@ impl Line {
     }
 }
 
-/// Puts a packet into a free channel, and tells the bit that it goes out under.
+/// Puts a packet into a free channel, and answers the bit that it goes out under.
 #[tactic(auto, using(crate::proofs::Calls::filled_counted, crate::proofs::Acknowledging::filled_bits))]
 fn fill(channels: &mut [Channel], at: usize, packet: Packet) -> bool
     requires { position is_free channels.old ≡ Some at }
@@ -290,7 +290,7 @@ fn lowest_free(channels: &[Channel]) -> Option<usize>
 
 /// Proves that a frame's packet is on a channel that is in use.
 ///
-/// It is there for the proof only, and does nothing: `Carried::channel` tells that the channel is one of the eight.
+/// It is there for the proof only, and does nothing: `Carried::channel` says that the channel is one of the eight.
 fn channel_in_use(content: &Content)
     ensures { is_foreign content.now ≡ false }
 {

@@ -1,4 +1,4 @@
--- Packets that go on waiting.
+-- Packets that continue to wait.
 use Rattle.std.specs.Prelude.{is_none}
 use Rattle.std.proofs.Common.{◌≡◌, ℕ, ◌+◌, ◌<◌, true, List, [], ◌∷◌, ◌++◌, length, take, drop, get_or, Option, Some, None, refl, sym, ap, ◌∙◌, position}
 use Rattle.std.proofs.lemmas.List.{append_assoc, drop_more, take_more}

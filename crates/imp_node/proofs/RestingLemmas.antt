@@ -100,7 +100,7 @@ resending_rests s none =
     let are : StoresNone s = stores_none s none in
     ap (λ (frames : List Outgoing). pump frames s) (none_sent 0 s.ports are.free) ∙ pump_rests s are.waits
 
--- where no packet waits it tells its distances, and nothing else
+-- where no packet waits it sends its distances, and nothing else
 pub telling_alone : (s : State) → length s.store ≡ 0 → route s ≡ leaving s (told_from (vector_of s.routes) 0 s.ports)
 telling_alone s none = pump_with (told_from (vector_of s.routes) 0 s.ports) s none
 

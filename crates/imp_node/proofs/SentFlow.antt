@@ -9,7 +9,7 @@ use Rattle.link_table.specs.declared.source.Standing.TheVariants as standing
 use Rattle.link_table.proofs.lemmas.{get_answered, get_begun, get_given_up, get_handed}
 use Rattle.imp_node.specs.Examples.{host, flow}
 
--- the standing of the flow, step by step
+-- the state of the flow, step by step
 pub is_begun : finite.get (begun finite.empty (flow (host 0 1) (host 0 2) 7)) (flow (host 0 1) (host 0 2) 7) ≡ Some (standing.Outstanding 0)
 is_begun =
     get_begun finite.empty (flow (host 0 1) (host 0 2) 7) (flow (host 0 1) (host 0 2) 7)

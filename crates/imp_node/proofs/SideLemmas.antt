@@ -38,7 +38,7 @@ set_there [] h x up = cc
 set_there (y ∷ ys) zero x up = refl
 set_there (y ∷ ys) (suc h) x up = set_there ys h x up
 
--- an answer of the flow comes behind the others
+-- an answer of the flow comes after the others
 answers_push : (f : Flow) (xs : List Told) (t : Told) → same_flow f t.flow ≡ true → answers_of f (xs ++ t ∷ []) ≡ answers_of f xs ++ t.kind ∷ []
 answers_push f [] t same = rw same refl
 answers_push f (x ∷ xs) t same = at (same_flow f x.flow) (answers_push f xs t same) where

@@ -275,7 +275,7 @@ answer_taken s h t others up is at =
     subst (λ (told : List Told). Moved s (pump [] (taken_by h told (host_at s h).queue s)).state t.flow (record (sender s t.flow) { answers = answers_of t.flow others }) (receiver s t.flow)) (sym is)
     (answer_moves s h t others (host_at s h).queue up is at)
 
--- the source of a message is told where it is at this IMP
+-- the source of a message is notified where it is at this IMP
 replied_moves : (kind : Answer) (packet : PacketKind) (m : Message) (s : State) → TellingMoves kind m s (replied kind packet m s)
 replied_moves kind packet m s = at (is_from_here s m) where
   by : (r : Release) → release_in m.number (finite.get s.sources m.flow) ≡ r → Moved s (freed kind m.flow m.number s) m.flow (sender_told true r kind (sender s m.flow)) (receiver s m.flow)

@@ -105,7 +105,7 @@ queued_imp imp m s here is =
 pumped_imp : (imp : ℕ) (frames : List Outgoing) (s : State) → IsImp imp s → IsImp imp (pump frames s).state
 pumped_imp imp frames s is = record { own = is.own; live = is.live; answers = is.answers; queues = is.queues; slots = is.slots }
 
--- ---- calls that leave hosts and slots alone
+-- ---- calls that leave hosts and slots unchanged
 
 pub resend_imp : (imp : ℕ) (s : State) → IsImp imp s → IsImp imp (resend s).state
 resend_imp imp s is = record { own = is.own; live = is.live; answers = is.answers; queues = is.queues; slots = is.slots }

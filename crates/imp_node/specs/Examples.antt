@@ -65,7 +65,7 @@ packet_frame channel p = record { acks = no_acks; content = content.Packet (reco
 abbrev pub ack_frame : Frame
 ack_frame = record { acks = true ∷ replicate 7 false; content = content.Nothing }
 
--- ---- what neighbours tell
+-- ---- what neighbours announce
 
 -- the distances of IMP 2, of IMP 3 and of IMP 1, where they have heard nothing
 abbrev pub from_2 : List ℕ
@@ -122,7 +122,7 @@ sent_imp = (from_host (imp 1 (Some from_2 ∷ []) []) (empty_message (flow (host
 abbrev pub sent_answered : ℕ → ImpTurn
 sent_answered n = from_line sent_imp 0 (packet_frame 0 (answer_packet kind.Rfnm (flow (host 0 1) (host 0 2) 7) n))
 
--- and after that IMP 2 tells that the message with this number never came
+-- and after that IMP 2 reports that the message with this number never came
 abbrev pub sent_never : ℕ → State → ImpTurn
 sent_never n s = from_line s 0 (packet_frame 0 (answer_packet kind.Never (flow (host 0 1) (host 0 2) 7) n))
 

@@ -25,7 +25,7 @@ abbrev pub is_about : Flow → Told → Bool
 is_about f told = same_flow f told.flow
 
 -- A flow is idle: nothing of it is outstanding, and no answer of it waits. (A Dead that was given at once belongs to no number,
--- so only its waiting tells of it)
+-- so only the fact that it waits shows it)
 abbrev pub is_idle : State → Flow → Bool
 is_idle s f = is_idle_in (map.get s.sources f) && not (list_any (is_about f) (host_at s f.source.host).answers)
 
@@ -74,7 +74,7 @@ message_queued m s = record s {
 
 -- ---- answers that travel
 
--- the packet that tells a message's source what became of it
+-- the packet that notifies a message's source of what became of it
 abbrev pub answer_packet : PacketKind → Flow → ℕ → PacketFields
 answer_packet kind f n = record {
   kind = kind;

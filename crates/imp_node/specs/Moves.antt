@@ -61,14 +61,14 @@ pub record MakesWhole (s : State) (p : PacketFields) (body : List Bool) : Type 0
   pub up : is_up s p.destination.host ≡ true
   pub whole : answer_of s.slots p ≡ piece.Whole body
 
--- a message ends before it is whole: a piece came and its host is down, which Dead tells, or a question, and Never tells that it
+-- a message ends before it is whole: a piece came and its host is down, which Dead reports, or a question, and Never reports that it
 -- never came
 abbrev pub IsRefused : Fate → PacketKind → State → PacketFields → Type 0
 IsRefused fate.Dead told s p = (told ≡ kind.Dead) × (p.kind ≡ kind.Data) × (is_up s p.destination.host ≡ false)
 IsRefused fate.Never told s p = (told ≡ kind.Never) × (p.kind ≡ kind.Ask)
 IsRefused new told s p = ⊥
 
--- the packet that tells what became of a message of this fate; of one that waits nobody is notified
+-- the packet that reports what became of a message of this fate; of one that waits nobody is notified
 abbrev pub TellsFate : Fate → PacketKind → Type 0
 TellsFate fate.Waits told = ⊥
 TellsFate fate.Taken told = told ≡ kind.Rfnm

@@ -161,7 +161,7 @@ pub fn worked_pump()
     ensures in_order { (pump [] (imp 1 (Some from_2 ∷ []) (packets_to 2 2))).frames ≡ on_port 0 (packet_frame 0 (only_packet (flow (host 0 1) (host 0 2) 0) 0)) ∷ on_port 0 (packet_frame 1 (only_packet (flow (host 0 1) (host 0 2) 1) 0)) ∷ [] }
     ensures gone { (pump [] (imp 1 (Some from_2 ∷ []) (packets_to 2 2))).state.store ≡ [] }
 
-    // of nine packets the ninth waits, and a packet behind it that is for another neighbour goes out
+    // of nine packets the ninth waits, and a packet after it that is for another neighbour goes out
     ensures overtaken { map (λ out. out.port) (pump [] (imp 1 (Some from_2 ∷ Some from_3 ∷ []) (packets_to 2 9 ++ packets_to 3 1))).frames ≡ replicate 8 0 ++ 1 ∷ [] }
     ensures waits { (pump [] (imp 1 (Some from_2 ∷ Some from_3 ∷ []) (packets_to 2 9 ++ packets_to 3 1))).state.store ≡ only_packet (flow (host 0 1) (host 0 2) 8) 0 ∷ [] }
 
@@ -198,7 +198,7 @@ pub fn worked_room()
     ensures no_room { from_host_refusal (busy 32) (empty_message (flow (host 0 1) (host 0 2) 40)) ≡ Some fault.NoRoom }
 {}
 
-/// What an IMP tells of routes, and that packets find another one.
+/// What an IMP announces of routes, and that packets find another one.
 pub fn worked_routes()
     // the middle one of three IMPs in a row
     ensures told { (route (imp 2 (Some from_1 ∷ Some from_3 ∷ []) [])).frames ≡ map (λ k. on_port k (record { acks = replicate 8 false; content = content.Routes (1 ∷ 0 ∷ 1 ∷ replicate (most_imps - 3) infinite) })) (0 ∷ 1 ∷ []) }
@@ -326,7 +326,7 @@ pub fn worked_asking()
     ensures idle { is_idle (sent_never 0 (host_down sent_imp 0).state).state (flow (host 0 1) (host 0 2) 7) ≡ true }
 {}
 
-/// Hosts at IMP 1: what they send, take and leave behind.
+/// Hosts at IMP 1: what they send, take and leave to others.
 pub fn worked_hosts()
     // nothing was heard of IMP 2, so Dead waits at once, no frame goes out, and no number is begun
     ensures nowhere { (host_at (from_host (imp 1 (None ∷ []) []) (empty_message (flow (host 0 1) (host 0 2) 7))).state 0).answers ≡ record { kind = answer.Dead; flow = flow (host 0 1) (host 0 2) 7 } ∷ [] }
@@ -498,7 +498,7 @@ pub fn worked_answers()
     ensures data { (holds_data (busy 1) 1 2 ≡ true) × (holds_data (busy 1) 2 1 ≡ false) × (touches (busy 1) 1 ≡ true) × (touches (busy 1) 2 ≡ true) × (touches (busy 1) 3 ≡ false) }
     ensures no_data { (holds_data (imp 1 [] (answer_packet kind.Rfnm (flow (host 0 2) (host 0 1) 5) 0 ∷ [])) 2 1 ≡ false) × (touches (imp 1 [] (answer_packet kind.Rfnm (flow (host 0 2) (host 0 1) 5) 0 ∷ [])) 2 ≡ true) }
 
-    // a question counts as data, and what tells that a message never came doesn't
+    // a question counts as data, and what reports that a message never came doesn't
     ensures questions { (holds_data (imp 1 [] (answer_packet kind.Ask (flow (host 0 2) (host 0 1) 5) 0 ∷ [])) 2 1 ≡ true) × (holds_data (imp 1 [] (answer_packet kind.Never (flow (host 0 2) (host 0 1) 5) 0 ∷ [])) 2 1 ≡ false) }
 
     // what would begin a number: from a host here that is up, to an IMP with a route or a host here that is up

@@ -1,10 +1,10 @@
 //! One IMP of the subnet (Heart et al., SJCC 1970).
 //!
 //! An IMP takes messages from its hosts and cuts them into packets, stores packets and forwards them over its
-//! lines, puts messages together again for its hosts, and tells sources what became of theirs. Each call of
+//! lines, puts messages together again for its hosts, and notifies sources of what became of theirs. Each call of
 //! [`Imp`] is one event: it leaves one new state, and answers the frames to put on lines, or a fault.
 //!
-//! The layer above relies on each call being exact, on queries that tell what an IMP holds, and on the
+//! The layer above relies on each call being exact, on queries that say what an IMP holds, and on the
 //! laws of [`law`]: which packets and flows a call changes, and how. Nothing here says that a packet ever
 //! goes out or that room is found. What is on the lines between IMPs is kept by the layer above.
 #![tactic(auto)]

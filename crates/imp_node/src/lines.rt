@@ -67,7 +67,7 @@ impl Imp {
         self.pump(frames)
     }
 
-    /// Returns whether no packet waits for a channel: `route` then changes nothing, and only tells the distances. This
+    /// Returns whether no packet waits for a channel: `route` then changes nothing, and only sends the distances. This
     /// takes no memory.
     #[tactic(auto, using(crate::proofs::RestingLemmas::telling_alone))]
     pub fn only_tells(&self) -> bool
@@ -84,7 +84,7 @@ impl Imp {
         self.ports.len() as u8
     }
 
-    /// Returns the frame that tells its distances at a port; `None` where the end there is down or isn't there. This
+    /// Returns the frame with its distances at a port; `None` where the end there is down or isn't there. This
     /// takes no memory.
     pub fn told_at(&self, port: u8) -> Option<Frame>
         ensures { result ≡ lines.told_at self.now port }
@@ -235,7 +235,7 @@ fn push_again(
     Ok(())
 }
 
-/// Returns the frames that tell these distances on live ports, in order of ports, put on an empty list.
+/// Returns the frames that announce these distances on live ports, in order of ports, put on an empty list.
 fn told_from(
     mut frames: Vec<Outgoing>,
     distances: &Vector,
@@ -252,7 +252,7 @@ fn told_from(
     Ok(frames)
 }
 
-/// Puts the frame that tells these distances on a port after the others, if it is live.
+/// Puts the frame that announces these distances on a port after the others, if it is live.
 fn push_told(
     frames: &mut Vec<Outgoing>,
     distances: &Vector,

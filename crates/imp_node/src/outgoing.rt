@@ -10,7 +10,7 @@ use std::alloc::AllocError;
 pub struct Outgoing {
     /// The port of the line.
     pub port: u8,
-    /// The frame that goes on it.
+    /// The frame that is sent on it.
     pub frame: Frame,
 }
 

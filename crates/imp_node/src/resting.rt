@@ -27,7 +27,7 @@ impl Imp {
     }
 
     /// Returns whether one of the two ends of a line is down, this IMP's port or the other IMP's, or the distances that
-    /// this IMP heard last at its port are those that the other would tell. This takes no memory.
+    /// this IMP heard last at its port are those that the other would announce. This takes no memory.
     pub fn has_heard(&self, port: u8, other: &Imp, other_port: u8) -> bool
         ensures { (result ≡ true) ↔ ((port_at other.now.ports other_port).up ≡ true → (port_at self.now.ports port).up ≡ true → slice_index_or self.now.routes.heard port None ≡ Some (vector_of other.now.routes)) }
     {

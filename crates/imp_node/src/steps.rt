@@ -157,7 +157,7 @@ impl Imp {
     }
 }
 
-/// Returns the packet that tells a message's source what became of it.
+/// Returns the packet that notifies a message's source of what became of it.
 pub(crate) fn answer_packet(alloc: Global, kind: PacketKind, flow: Flow, number: Number) -> Packet
     requires flow { IsPacketFlow flow }
     requires answer { Carries kind 0 true 0 }

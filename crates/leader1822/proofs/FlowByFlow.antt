@@ -40,7 +40,7 @@ mail_more hosts f (crossing.Up h) log = by (same_host f.source h) (same_host f.d
   by false true = refl
   by false false = refl
 
--- a flow's own story tells its hosts and its box
+-- a flow's own story names its hosts and its box
 pub mail_is : (hosts : List Host) (f : Flow) (log : List Crossing) → mail_of (opening_mail hosts f) (passed f log) ≡ mail_at hosts f log
 mail_is hosts f [] = refl
 mail_is hosts f (c ∷ log) =

@@ -1,4 +1,4 @@
--- The flows from a host stand together in the order of flows.
+-- The flows from a host are together in the order of flows.
 use Rattle.std.proofs.Common.{◌≡◌, ℕ, ◌≤◌, ◌==◌, nat_lt, Bool, true, false, not, ◌&&◌, List, [], ◌∷◌, filter, cond, Option, Some, None, IsSome, is_some, refl, ap, sym, ◌∙◌, arith}
 use Rattle.std.specs.Option.{MatchOption}
 use Rattle.std.specs.BTreeMap.{is_at}

@@ -182,7 +182,7 @@ kinds_elsewhere h (a ∷ xs) g p e = by (is_about g a) refl (kinds_elsewhere h x
       absurd (let c : true ≡ false = sym same ∙ e in cc)
   by false o others = rw o others
 
--- ---- what is told of messages that a host leaves behind
+-- ---- what is reported of messages that a host leaves to others
 
 pub told_told : (hosts down : List Host) (q : Queues WaitingAnswer) (ms : List HostMessage) → ((h : Host) → AreToldTo h (for_host q h)) → (h : Host) → AreToldTo h (for_host (told_dead hosts down q ms) h)
 told_told hosts down q [] all h = all h

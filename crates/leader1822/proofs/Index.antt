@@ -1,4 +1,4 @@
--- The map by flow tells what waits, and goes on doing so.
+-- The map by flow says what waits, and continues to do so.
 use Rattle.std.proofs.Common.{◌≡◌, Bool, true, false, not, ◌&&◌, ◌||◌, List, [], ◌∷◌, ◌++◌, cond, Option, Some, None, IsSome, is_some, refl, ap, sym, subst, ◌∙◌, if◌then◌else◌, inl, inr}
 use Rattle.std.proofs.lemmas.List.{append-nil}
 use Rattle.std.proofs.lemmas.Bool.{false≢true}
@@ -28,7 +28,7 @@ use Rattle.leader1822.proofs.Sound.{same_fits, fits_empty, Waits, Offerable, off
 use Rattle.leader1822.proofs.SoundEvents.{down_kinds, down_stands, runs_less, Outstanding, outstanding, GivesUp, gives_up, given_here, given_there, stopped_waits, texts_there, kinds_there}
 use Rattle.leader1822.proofs.SoundCalls.{first_is, taken_sound}
 
--- ---- what the map tells
+-- ---- what the map says
 
 pub some_pending : (ts : List (List Bool)) (ks : List Answer) → is_some (pending_of ts ks) ≡ (has_any ts || has_any ks)
 some_pending (t ∷ ts) ks = refl
@@ -281,7 +281,7 @@ get_turned hosts down m (x ∷ ms) g =
             alike false p q e = e
       by false e = rw e refl
 
--- what the map tells of a flow when its source (a) or its destination (b) goes down
+-- what the map says of a flow when its source (a) or its destination (b) goes down
 abbrev left_pending : Bool → Bool → Bool → List (List Bool) → List Answer → Option Pending
 left_pending a b s ts ks = if has_any (if b then ts else []) then answer_if (if a then false else s) answer.Dead else (if has_any (if a then ks else []) then None else pending_of ts ks)
 

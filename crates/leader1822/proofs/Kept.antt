@@ -64,7 +64,7 @@ shown_same {A} {Z} es h xs items = shown_with es es h (queue_in es h) xs (λ g. 
 
 -- ---- the ends of a queue
 
--- what is taken off the front is the first, and leaves the rest
+-- what is taken off the beginning is the first, and leaves the rest
 pub record Popped {A : Type 0} (r : Option A) (old new : List A) : Type 0 where
   pub oldest : r ≡ first_of_list old
   pub left : new ≡ rest old

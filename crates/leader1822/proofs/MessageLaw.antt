@@ -1,4 +1,4 @@
--- From a run of the mailboxes alone: messages are answered and taken as they should be.
+-- From a run of the mailboxes only: messages are answered and taken as they should be.
 use Rattle.std.proofs.Common.{◌≡◌, ℕ, Bool, true, false, List, [], ◌∷◌, ◌++◌, length, refl, ap, sym, subst, ◌∙◌, inl, inr, ◌⊎◌, if◌then◌else◌}
 use Rattle.leader1822.specs.Host.{Host, same_host}
 use Rattle.leader1822.specs.Mailboxes.{Box, Empty, Waiting, Taken, WaitsWith, Fits, fetched, box_of, same_flow, IsRun}

@@ -1,4 +1,4 @@
--- From a run of the mailboxes alone: a message of which its source was told Dead or NotTaken is taken neither before nor after.
+-- From a run of the mailboxes only: a message whose source was notified of Dead or NotTaken is taken neither before nor after.
 use Rattle.std.proofs.Common.{◌≡◌, Bool, true, false, ◌&&◌, ◌||◌, List, [], ◌∷◌, ◌++◌, length, refl, sym, subst, if◌then◌else◌}
 use Rattle.leader1822.specs.Host.{Host, same_host}
 use Rattle.leader1822.specs.Mailboxes.{Box, Empty, Waiting, Taken, Fits, box_of, same_flow, IsRun}
@@ -30,7 +30,7 @@ quiet_not_taken f g kind says log since text fit tells e =
     let P : Flow → Type 0 = λ x. Fits kind (box_of x log) in
     record { empty = refl; none = none_taken kind says (box_of f log) text (taken_in f since) (subst P (sym (same_flow-true f g e)) fit) tells }
 
--- the box, and what was taken since the message went out, after one answer more: it is Dead or NotTaken, or that was told before
+-- the box, and what was taken since the message went out, after one answer more: it is Dead or NotTaken, or that was reported before
 quiet_answer : (f g : Flow) (kind : Answer) (log since : List Crossing) (text : List Bool) → Fits kind (box_of g log) → Tells (box_of f log) text (taken_in f since)
     → (told_not_taken f since ≡ true → Quiet (box_of f log) (taken_in f since)) → (b : Bool) → same_flow f g ≡ b → ((b && is_not_taken kind) || told_not_taken f since) ≡ true
     → Quiet (if b then Empty else box_of f log) (taken_in f since)
@@ -40,7 +40,7 @@ quiet_answer f g answer.Incomplete log since text fit tells below true e told = 
 quiet_answer f g answer.Dead log since text fit tells below true e told = quiet_not_taken f g answer.Dead refl log since text fit tells e
 quiet_answer f g answer.NotTaken log since text fit tells below true e told = quiet_not_taken f g answer.NotTaken refl log since text fit tells e
 
--- once its source is told Dead or NotTaken, the box is empty and nothing was taken
+-- once its source is notified of Dead or NotTaken, the box is empty and nothing was taken
 quiet_told : (hosts : List Host) (since : List Crossing) (m : HostMessage) (before : List Crossing) → IsRun hosts (since ++ crossing.Out m ∷ before) → went_out m.flow since ≡ false
     → told_not_taken m.flow since ≡ true → Quiet (box_of m.flow (since ++ crossing.Out m ∷ before)) (taken_in m.flow since)
 quiet_told hosts [] m before r n told = absurd (cc)

@@ -66,7 +66,7 @@ same_cmp x y e =
     let same : (x == y) ≡ true = grind (arith, nat_tests, e) in
     rw less (rw same refl)
 
--- a host at an earlier IMP, or of a lower number at the same one, stands before another
+-- a host at an earlier IMP, or of a lower number at the same one, is before another
 pub before_from_numbers : (g h : Host) → (g.imp < h.imp) ⊎ ((g.imp ≡ h.imp) × (g.host < h.host)) → host_before g h ≡ true
 before_from_numbers g h lower = elim lower [
   | inl imp ↦ rw (less_cmp g.imp h.imp imp) refl
@@ -79,7 +79,7 @@ flow_before_trans f g h = trans_of flows_total f g h
 pub flow_before_never : (f : Flow) → flow_before f f ≡ false
 flow_before_never f = never_of flows_total f
 
--- of two flows that differ one stands before the other
+-- of two flows that differ one is before the other
 pub flow_before_else : (f g : Flow) → same_flow g f ≡ false → flow_before f g ≡ false → flow_before g f ≡ true
 flow_before_else f g differ h = elim (other_way (flow_cmp f g) (flow_cmp g f) (flows_total.antisymm g f) h) [
   | inl same ↦ (

@@ -44,7 +44,7 @@ fits_told : (s d : Bool) (box : Box) → Fits answer.Incomplete box → FitsBox 
 fits_told true d box h = record { queued = inl refl; told = λ u n. inr (answer.Incomplete, refl, h); shut = λ u. absurd (cc) }
 fits_told false d box h = record { queued = inl refl; told = λ u n. absurd (cc); shut = λ u. refl }
 
--- what was outstanding is told Incomplete
+-- what was outstanding is answered Incomplete
 pub record GivesUp (s : Bool) (ks : List Answer) (box : Box) : Type 0 where
   pub rest : others ks ≡ []
   pub fit : s ≡ true → Fits answer.Incomplete box

@@ -1,4 +1,4 @@
--- The boxes after Dead was told of some messages.
+-- The boxes after some messages were answered Dead.
 use Rattle.std.proofs.Common.{List}
 use Rattle.leader1822.specs.Boxes.{told_dead}
 use Rattle.leader1822.specs.Inside.Held.{Held, flows_dead}

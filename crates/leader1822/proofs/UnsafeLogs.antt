@@ -50,9 +50,9 @@ early m safe =
     let no : m.text ∷ [] ≡ [] = sym given ∙ safe.none_before [] (crossing.In m ∷ []) m.flow refl refl in
     cc
 
--- ---- messages of which the source was told Dead or NotTaken
+-- ---- messages whose source was notified of Dead or NotTaken
 
--- one text was taken since the message went out, though its source was told that it was not
+-- one text was taken since the message went out, though its source was notified that it was not
 not_never : (m : HostMessage) (newer since : List Crossing) → went_out m.flow since ≡ false → told_not_taken m.flow since ≡ true → taken_in m.flow since ≡ m.text ∷ []
     → NeverTaken (newer ++ (since ++ crossing.Out m ∷ [])) → ⊥
 not_never m newer since last told taken safe = let no : m.text ∷ [] ≡ [] = sym taken ∙ safe.never newer since [] m refl last told in cc

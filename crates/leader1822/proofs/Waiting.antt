@@ -10,7 +10,7 @@ use Rattle.leader1822.specs.declared.crossing.Answer.{Answer}
 use Rattle.leader1822.specs.declared.message.HostMessage.{HostMessage}
 use Rattle.leader1822.proofs.Lists.{same_flow-true, same_flow-refl, same_host-refl, or_false}
 
--- ---- one behind another
+-- ---- one after another
 
 pub texts_of-append : (f : Flow) (xs ys : List HostMessage) → texts_of f (xs ++ ys) ≡ texts_of f xs ++ texts_of f ys
 texts_of-append f [] ys = refl

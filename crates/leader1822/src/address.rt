@@ -135,7 +135,7 @@ impl fmt::Display for HostAddr {
     }
 }
 
-/// A link number: it tells the conversations between two hosts apart (BBN Report 1822).
+/// A link number: it distinguishes the conversations between two hosts (BBN Report 1822).
 #[derive(Clone, Copy, Debug, PartialEq, Eq, PartialOrd, Ord)]
 pub struct Link(pub u8);
 

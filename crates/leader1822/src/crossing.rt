@@ -14,7 +14,7 @@ pub enum Answer {
     Incomplete,
     /// The destination is down, not there or out of reach. It did not take the message, and never will.
     Dead,
-    /// The destination did not take the message, and never will. Hosts gets `Incomplete` for it.
+    /// The destination did not take the message, and never will. Hosts get `Incomplete` for it.
     NotTaken,
 }
 

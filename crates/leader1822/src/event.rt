@@ -34,7 +34,7 @@ pub enum NetEvent {
     },
     /// An IMP sends again what is not acknowledged.
     Resend(ImpNumber),
-    /// An IMP tells its neighbours its distances.
+    /// An IMP sends its neighbours its distances.
     Route(ImpNumber),
     /// An IMP's end of a line stops.
     EndDown {

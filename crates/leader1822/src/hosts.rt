@@ -1,4 +1,4 @@
-//! The hosts of a network, and a table that tells at once whether a host is one of them.
+//! The hosts of a network, and a table that says at once whether a host is one of them.
 
 ghost use Rattle.std.specs.Prelude.{◌≡◌, ◌<◌, ◌||◌, ℕ, false, slice_index_or};
 ghost use Rattle.leader1822.specs.Host.{Host, IsAddress, address_octet, is_host, same_host};

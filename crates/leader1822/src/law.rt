@@ -71,7 +71,7 @@ pub fn mailboxes()
     // the box of a text that waits is that of a message which waits, with this text
     ensures waiting { (box : Box) (text : List Bool) → WaitsWith box text → (place : ℕ) × (box ≡ Waiting place text) }
 
-    // a flow's own part of a log tells its hosts and its box
+    // a flow's own part of a log names its hosts and its box
     ensures own_story { (hosts : List Host) (f : Flow) (log : List Crossing) → mail_of (opening_mail hosts f) (passed f log) ≡ record { source = is_up hosts f.source log; destination = is_up hosts f.destination log; box = box_of f log } }
 {}
 

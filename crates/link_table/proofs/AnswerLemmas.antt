@@ -11,7 +11,7 @@ use Rattle.link_table.specs.declared.source.Standing.TheVariants as standing
 use Rattle.link_table.specs.declared.source.Release.TheVariants as release
 use Rattle.link_table.proofs.FlowLemmas.{get_changed, get_same}
 
--- what a change of a standing keeps of it, it keeps of each flow
+-- what a change of a `Standing` keeps of it, it keeps of each flow
 same_after : {X : Type 0} (F : Option Standing → X) (change : Standing → Standing) → ((o : Option Standing) → F (option_map change o) ≡ F o) → (m : Sources) (f g : Flow)
     → F (get (changed change m f) g) ≡ F (get m g)
 same_after {X} F change keeps m f g = ap F (get_changed change m f g) ∙ by (same_flow g f) refl where
@@ -23,7 +23,7 @@ same_after {X} F change keeps m f g = ap F (get_changed change m f g) ∙ by (sa
 at_named : (change : Standing → Standing) (m : Sources) (f : Flow) → get (changed change m f) f ≡ option_map change (get m f)
 at_named change m f = get_changed change m f f ∙ ap (λ (b : Bool). if b then option_map change (get m f) else get m f) (same_flow-refl f)
 
--- ---- one standing
+-- ---- one `Standing`
 
 by_test : {X : Type 0} (F : Standing → X) (b : Bool) (l : ℕ) → F (standing.Answered l) ≡ F (standing.Outstanding l) → F (if b then standing.Answered l else standing.Outstanding l) ≡ F (standing.Outstanding l)
 by_test F true l e = e

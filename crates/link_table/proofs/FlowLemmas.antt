@@ -119,7 +119,7 @@ get_dropped m imp g =
       turned true = refl
       turned false = refl
 
--- a flow from an IMP stands in no list in which none is from there
+-- a flow from an IMP is in no list in which none is from there
 apart : (imp : ℕ) (g : Flow) (fs : List Flow) → is_from imp g ≡ true → list_any (is_from imp) fs ≡ false → list_any (eq_by_cmp flow_cmp g) fs ≡ false
 apart imp g [] from none = refl
 apart imp g (f ∷ fs) from none =

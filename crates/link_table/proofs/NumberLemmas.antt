@@ -1,4 +1,4 @@
--- The window of this network. Here alone its two numbers are looked at.
+-- The window of this network. Only here are its two numbers looked at.
 use Rattle.std.proofs.Common.{◌≡◌, ◌≢◌, ℕ, ◌+◌, ◌-◌, ◌*◌, ◌<◌, ◌≤◌, true, false, Some, refl, arith}
 use Rattle.link_table.specs.Window.{NearOf}
 use Rattle.link_table.specs.Numbers.{modulus, window, next, ahead, oldest, is_new, Near}

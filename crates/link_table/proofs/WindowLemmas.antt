@@ -75,7 +75,7 @@ new_again m w wide some =
       by (Up e) = absurd (omega (arith, e, wide))
       by (Round lt e) = (let steps : ahead_of m (m - w) 0 ≡ w = omega (arith, e, wide) in grind (arith, nat_tests, some, steps))
 
--- a number that lies a window behind l is the oldest one
+-- a number that lies a window before l is the oldest one
 far_end : (m w l n : ℕ) → NearOf m w l n → w < m → ahead_of m n l ≡ w → n ≡ oldest_of m w l
 far_end m w l n h short e = by (way m n l h.number h.last) (way m w l short h.last) where
   by : Way m n l (ahead_of m n l) → Way m w l (oldest_of m w l) → n ≡ oldest_of m w l
@@ -84,7 +84,7 @@ far_end m w l n h short e = by (way m n l h.number h.last) (way m w l short h.la
   by (Round lt a) (Up b) = absurd (omega (arith, a, b, e, h.number))
   by (Round lt a) (Round more b) = omega (arith, a, b, e)
 
--- the distance to l and to the number after it, for a number behind l
+-- the distance to l and to the number after it, for a number before l
 one_more : (m w l n k a b : ℕ) → 2 * w + 1 ≤ m → l < m → n < m → a < w → Way m n l a → After m l k → Way m n k b → b ≤ w
 one_more m w l n k a b wide lm nm close (Up e) (Up f) (Up g) = omega (arith, close, e, f, g)
 one_more m w l n k a b wide lm nm close (Up e) (Up f) (Round lt g) = absurd (omega (arith, e, f, lt))

@@ -11,7 +11,7 @@ use Rattle.link_table.specs.declared.destination.Fate.{Fate}
 use Rattle.link_table.specs.declared.destination.Fate.TheVariants as fate
 use Rattle.link_table.specs.declared.destination.Noted.{Noted}
 
--- a standing as two numbers
+-- a `Standing` as two numbers
 abbrev pub number_of : Standing → ℕ × ℕ
 number_of (standing.Idle l) = (0, l)
 number_of (standing.Outstanding l) = (1, l)

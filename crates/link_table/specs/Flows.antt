@@ -20,7 +20,7 @@ use Rattle.link_table.specs.declared.destination.Asked.TheVariants as asked
 use Rattle.link_table.specs.declared.destination.Age.{Age}
 use Rattle.link_table.specs.declared.destination.Age.TheVariants as age
 
--- ---- one flow at its source: nothing was begun (None), or it has a standing with the number begun last
+-- ---- one flow at its source: nothing was begun (None), or it has a `Standing` with the number begun last
 
 -- the number begun last
 abbrev pub last_of : Standing → ℕ

@@ -19,7 +19,7 @@ next n = next_of modulus n
 unfoldable pub ahead : ℕ → ℕ → ℕ
 ahead l n = ahead_of modulus l n
 
--- the number `window` behind l
+-- the number `window` before l
 unfoldable pub oldest : ℕ → ℕ
 oldest l = oldest_of modulus window l
 
@@ -27,7 +27,7 @@ oldest l = oldest_of modulus window l
 unfoldable pub is_new : Option ℕ → ℕ → Bool
 is_new kept n = is_new_of modulus window kept n
 
--- n is l, or lies at most `window` behind it
+-- n is l, or is at most `window` before it
 pub record Near (l n : ℕ) : Type 0 where
   pub last : l < modulus
   pub number : n < modulus

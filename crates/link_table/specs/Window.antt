@@ -18,7 +18,7 @@ abbrev pub is_new_of : ℕ → ℕ → Option ℕ → ℕ → Bool
 is_new_of m w None n = true
 is_new_of m w (Some l) n = nat_le 1 (ahead_of m l n) && nat_le (ahead_of m l n) w
 
--- n is the number l, or lies at most w steps behind it
+-- n is the number l, or is at most w steps before it
 pub record NearOf (m w l n : ℕ) : Type 0 where
   pub last : l < m
   pub number : n < m

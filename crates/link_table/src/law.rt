@@ -18,21 +18,21 @@ ghost use Rattle.link_table.specs.Window.{next_of, oldest_of, is_new_of, NearOf}
 ghost use Rattle.link_table.specs.Numbers.{modulus, window, next, oldest, is_new, Near};
 
 /// Any window over numbers that wrap around, where there are more than twice as many numbers as the window
-/// is wide: what lies behind the last number and what lies ahead of it never meet.
+/// is wide: what lies before the last number and what lies ahead of it never meet.
 pub fn any_window()
     // the next number is a number
     ensures next_in { (m w n : ℕ) → 2 * w + 1 ≤ m → next_of m n < m }
 
-    // a number lies within the window behind itself
+    // a number lies within the window before itself
     ensures near_same { (m w l : ℕ) → 2 * w + 1 ≤ m → l < m → NearOf m w l l }
 
-    // nothing within the window behind the last number is new against it
+    // nothing within the window before the last number is new against it
     ensures near_old { (m w l n : ℕ) → 2 * w + 1 ≤ m → NearOf m w l n → is_new_of m w (Some l) n ≡ false }
 
     // with the number at the window's far end gone, what lay within the window still does after one more
     ensures near_next { (m w l n : ℕ) → 2 * w + 1 ≤ m → NearOf m w l n → n ≢ oldest_of m w l → NearOf m w (next_of m l) n }
 
-    // of two numbers or more, the next one does not lie within the window behind the last
+    // of two numbers or more, the next one does not lie within the window before the last
     ensures not_next { (m w l : ℕ) → 2 * w + 1 ≤ m → 1 < m → NearOf m w l (next_of m l) → ⊥ }
 
     // the next number is new against the last one
@@ -51,16 +51,16 @@ pub fn window_holds()
     // the next number is a number
     ensures next_in { (n : ℕ) → next n < modulus }
 
-    // a number lies within the window behind itself
+    // a number lies within the window before itself
     ensures near_same { (l : ℕ) → l < modulus → Near l l }
 
-    // nothing within the window behind the last number is new against it
+    // nothing within the window before the last number is new against it
     ensures near_old { (l n : ℕ) → Near l n → is_new (Some l) n ≡ false }
 
     // with the number at the window's far end gone, what lay within the window still does after one more
     ensures near_next { (l n : ℕ) → Near l n → n ≢ oldest l → Near (next l) n }
 
-    // the next number does not lie within the window behind the last one
+    // the next number does not lie within the window before the last one
     ensures not_next { (l : ℕ) → Near l (next l) → ⊥ }
 
     // and is new against it

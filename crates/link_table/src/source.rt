@@ -49,8 +49,8 @@ impl Standing {
         matches!(self, Standing::Outstanding(_))
     }
 
-    /// Returns the standing after an answer to the message of this number: only the outstanding message is answered by
-    /// it.
+    /// Returns the [`Standing`] after an answer to the message of this number: only the outstanding message is answered
+    /// by it.
     fn answered(self, number: Number) -> Standing
         ensures { result ≡ answered_in number self }
     {
@@ -60,7 +60,7 @@ impl Standing {
         }
     }
 
-    /// Returns the standing after an outstanding message was given up.
+    /// Returns the [`Standing`] after an outstanding message was given up.
     fn given_up(self) -> Standing
         ensures { result ≡ given_up_in self }
     {
@@ -70,7 +70,7 @@ impl Standing {
         }
     }
 
-    /// Returns the standing after the host took the answer.
+    /// Returns the [`Standing`] after the host took the answer.
     fn handed(self) -> Standing
         ensures { result ≡ handed_in self }
     {
@@ -170,7 +170,7 @@ impl SourceFlows {
         }
     }
 
-    /// Returns each flow of which a message was begun, with its standing, in the order of the flows.
+    /// Returns each flow of which a message was begun, with its [`Standing`], in the order of the flows.
     pub fn iter(&self) -> btree_map::Iter<'_, Flow, Standing>
         ensures { result ≡ map.entries self.now }
     {

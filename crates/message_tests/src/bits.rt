@@ -4,7 +4,7 @@ use crate::values::{alike, is_told};
 use bit_messages::{BitFault, Bits};
 use std::alloc::Global;
 
-/// A 1, and behind it the first three bits of an octet: 1011.
+/// A 1, and after it the first three bits of an octet: 1011.
 fn four(alloc: Global) -> Result<Bits, BitFault> {
     let mut bits = Bits::new(alloc);
     bits.push(true)?;

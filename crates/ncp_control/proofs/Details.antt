@@ -2,7 +2,7 @@
 use Rattle.std.proofs.Common.{◌≡◌, ℕ, List, [], ◌∷◌, ◌++◌, length, take, drop, min, refl, arith}
 use Rattle.ncp_control.specs.Command.{detail_of}
 
--- so many octets of these, and the rest of ten zeros
+-- this many octets of these, and the rest of ten zeros
 abbrev filled : List ℕ → ℕ → List ℕ
 filled octets count = take count octets ++ drop (length (take count octets)) (0 ∷ 0 ∷ 0 ∷ 0 ∷ 0 ∷ 0 ∷ 0 ∷ 0 ∷ 0 ∷ 0 ∷ [])
 

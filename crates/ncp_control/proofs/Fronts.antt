@@ -22,7 +22,7 @@ above_cons room c cs n fits rest (suc m) above there =
     let over : room - length (spelling c) < length (spellings (take m cs)) = rest.longest m (omega (arith, above)) (omega (arith, there)) in
     omega (arith, over, fits, length-append (spelling c) (spellings (take m cs)))
 
--- a first command without room is in no front but the empty one
+-- a first command without room is in no prefix but the empty one
 above_none : (room : ℕ) (c : Command) (cs : List Command) → room < length (spelling c) → (more : ℕ) → 0 < more → more ≤ length (c ∷ cs) → room < length (spellings (take more (c ∷ cs)))
 above_none room c cs over zero above there = absurd (omega (arith, above))
 above_none room c cs over (suc m) above there = omega (arith, over, length-append (spelling c) (spellings (take m cs)))

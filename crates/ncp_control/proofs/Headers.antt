@@ -18,7 +18,7 @@ within n d h long enough =
     let is_enough : nat_lt n (40 + d) ≡ false = grind (arith, nat_tests, enough) in
     rw (is_long, is_enough) refl
 
--- a text whose fields are these, with its data behind them, has this header
+-- a text whose fields are these, followed by its data, has this header
 header_of-is : (text : List Bool) (h : DataHeader) → fields_of text ≡ h → 40 + data_bits h ≤ length text → header_of text ≡ Some h
 header_of-is text h fields there =
     let enough : 40 + data_bits (fields_of text) ≤ length text = subst (λ (h : DataHeader). 40 + data_bits h ≤ length text) (sym fields) there in
@@ -119,7 +119,7 @@ header_spelled text h e =
 bit_behind : (front rest : List Bool) (k m : ℕ) → length front + k ≡ m → get_or rest k false ≡ get_or (front ++ rest) m false
 bit_behind front rest k m at = sym (get_or-append-add front rest k false) ∙ ap (λ (n : ℕ). get_or (front ++ rest) n false) at
 
--- behind eight bits an octet is one further
+-- after eight bits an octet is one further
 octet_behind : (front rest : List Bool) (k : ℕ) → length front ≡ 8 → octet_at rest (8 * k) ≡ octet_at (front ++ rest) (8 * suc k)
 octet_behind front rest k eight =
     same_octet (bit_behind front rest (8 * k) (8 * suc k) (omega (arith, eight))) (bit_behind front rest (8 * k + 1) (8 * suc k + 1) (omega (arith, eight))) (bit_behind front rest (8 * k + 2) (8 * suc k + 2) (omega (arith, eight)))
@@ -147,7 +147,7 @@ octets_enough text =
     let all : 8 * length (octets_of text) ≡ length text + length (replicate (spare_bits (length text)) false) = sym (length-bits_of (octets_of text)) ∙ ap length (bits_again text) ∙ length-append text _ in
     omega arith
 
--- the fields that stand in the octets of a text
+-- the fields that are in the octets of a text
 pub fields_read : (text : List Bool) (octets : List ℕ) → octets ≡ octets_of text → 40 ≤ length text
     → (let read : DataHeader = record { size = get_or octets 1 0; count = from_be_bytes w16 (get_or octets 2 0 ∷ get_or octets 3 0 ∷ []) } in read ≡ fields_of text)
 fields_read text octets same there =

@@ -18,7 +18,7 @@ use Rattle.ncp_control.specs.Reading.{read_of, read_as, command_of, rts_from, rt
 some_same : {X : Type 0} (x y : X) → Some x ≡ Some y → x ≡ y
 some_same {X} x y e = ap (λ (o : Option X). unwrap_or o x) e
 
--- what reading a command tells of the octets
+-- what reading a command says of the octets
 pub record IsRead (code : ℕ) (fields : List ℕ) (c : Command) (used : ℕ) : Type 0 where
   pub legal : code ≤ 13
   pub whole : length_of code ≤ length (code ∷ fields)
@@ -262,18 +262,18 @@ chosen false x c e = absurd cc
 found_as : (x : Command) (octets : List ℕ) (c : Command) (used : ℕ) → Some x ≡ Some c → IsSpelled octets x used → IsSpelled octets c used
 found_as x octets c used found s = subst (λ (c : Command). IsSpelled octets c used) (some_same x c found) s
 
--- two sockets behind a code octet
+-- two sockets after a code octet
 sockets_again : (code : ℕ) (fields : List ℕ) → All IsOctet (code ∷ fields) → 8 ≤ length fields
     → take 8 fields ≡ to_be_bytes w32 (number_at w32 (code ∷ fields) 1) ++ to_be_bytes w32 (number_at w32 (code ∷ fields) 5)
 sockets_again code fields small there =
     take-add 4 4 fields ∙ joined (sym (word_again (code ∷ fields) 1 small (omega (arith, there)))) (sym (word_again (code ∷ fields) 5 small (omega (arith, there))))
 
--- and an octet behind them
+-- and an octet after them
 request_again : (code : ℕ) (fields : List ℕ) → All IsOctet (code ∷ fields) → 9 ≤ length fields
     → take 9 fields ≡ to_be_bytes w32 (number_at w32 (code ∷ fields) 1) ++ to_be_bytes w32 (number_at w32 (code ∷ fields) 5) ++ get_or (code ∷ fields) 9 0 ∷ []
 request_again code fields small there = take-add 8 1 fields ∙ joined (sockets_again code fields small (omega (arith, there))) (one_at fields 8 (omega (arith, there)))
 
--- counts of messages and bits behind a code octet and a link
+-- counts of messages and bits after a code octet and a link
 counts_again : (code link : ℕ) (fields : List ℕ) → All IsOctet (code ∷ link ∷ fields) → 6 ≤ length fields
     → take 6 fields ≡ to_be_bytes w16 (number_at w16 (code ∷ link ∷ fields) 2) ++ to_be_bytes w32 (number_at w32 (code ∷ link ∷ fields) 4)
 counts_again code link fields small there =

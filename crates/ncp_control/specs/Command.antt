@@ -5,7 +5,7 @@ use Rattle.ncp_control.specs.declared.command.Command.{Command}
 use Rattle.ncp_control.specs.declared.command.Command.TheVariants as command
 use Rattle.ncp_control.specs.Numbers.{is_receive_socket, is_send_socket, is_connection_link, is_byte_size}
 
--- the code octet, and the fields behind it
+-- the code octet, and the fields after it
 abbrev pub spelling : Command → List ℕ
 spelling command.Nop = 0 ∷ []
 spelling (command.Rts receive send link) = 1 ∷ to_be_bytes w32 receive ++ to_be_bytes w32 send ++ link ∷ []
@@ -49,7 +49,7 @@ IsCommand command.Nop = Unit {0}
 IsCommand command.Rst = Unit {0}
 IsCommand command.Rrp = Unit {0}
 
--- RST and RRP go alone in their messages
+-- RST and RRP are the only commands in their messages
 abbrev pub is_alone : Command → Bool
 is_alone command.Rst = true
 is_alone command.Rrp = true

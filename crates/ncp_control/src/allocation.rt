@@ -72,7 +72,7 @@ impl Allocation {
     }
 
     /// Takes back what a GVB asks for: from each counter its own fraction in 128ths, rounded down. A
-    /// fraction above 128 counts as the whole. Returns the messages and the bits that the RET tells.
+    /// fraction above 128 counts as the whole. Returns the messages and the bits that the RET reports.
     pub fn give_back(&mut self, message_fraction: u8, bit_fraction: u8) -> (u16, u32)
         ensures messages { result.0 ≡ share self.old.messages message_fraction }
         ensures bits { result.1 ≡ share self.old.bits bit_fraction }

@@ -83,14 +83,14 @@ impl Command {
     ghost use Rattle.ncp_control.specs.Reading.{read_of};
     ghost use Rattle.ncp_control.specs.declared.command.Command.TheVariants as command;
 
-    /// Returns whether the command goes alone in its message: RST and RRP.
+    /// Returns whether the command is the only one in its message: RST and RRP.
     pub fn is_alone(&self) -> bool
         ensures { result ≡ is_alone self.now }
     {
         matches!(self, Command::Rst | Command::Rrp)
     }
 
-    /// Returns the ERR that tells of an error in these octets: the first ten, filled with zeros.
+    /// Returns the ERR that reports an error in these octets: the first ten, filled with zeros.
     pub fn error(code: u8, octets: &[u8]) -> Command
         ensures { result ≡ command.Err code (detail_of octets.now) }
     {

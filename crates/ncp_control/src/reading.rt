@@ -42,7 +42,7 @@ pub fn read_one(octets: &[u8]) -> Result<(Command, usize), ControlFault>
 }
 
 #[tactic(auto, unfolding(crate::specs::Reading::command_of))]
-/// Returns the command of this code with the fields that are behind it; `None` where a field is outside its range.
+/// Returns the command of this code with the fields that follow it; `None` where a field is outside its range.
 fn command_of(code: u8, octets: &[u8]) -> Option<Command>
     requires legal { code ≤ 13 }
     requires whole { length_of code ≤ length octets.now }

@@ -1,4 +1,4 @@
--- The book of a world: what each event puts into it, and what it keeps. Main lemmas: Whole `step_whole` (after an event the book still tells one list
+-- The book of a world: what each event puts into it, and what it keeps. Main lemmas: Whole `step_whole` (after an event it still describes one list
 -- of moments), Whole `run_whole` (after a list of events), Marks `all_changed` (what is done at the known places is done to all lives), Booked (the book has
 -- what crossed), Reported `step_reported` (what services have reported is so), Refusals `step_stands` (a refusal, and running out of memory, leave it as it was).
 pub mod Always

@@ -1,5 +1,5 @@
--- Hosts, their seats and their services in one event, and the rounds of a calm. Main lemmas: Serving `serves` (services stand where their seat does),
--- Doing `call_done` (a call and the turns of its services), Seats `found_seat` (where a host sits), Telling (what is kept is what the moments tell),
+-- Hosts, their seats and their services in one event, and the rounds of a calm. Main lemmas: Serving `serves` (services are where their seat is),
+-- Doing `call_done` (a call and the turns of its services), Seats `found_seat` (where a host sits), Telling (what is kept is what the moments say),
 -- Calming `all_repeated` (the rounds of a calm).
 pub mod Asks
 pub mod Calming

@@ -31,7 +31,7 @@ clean_point h peer contacts log = (monitor h peer (events_in contacts log)).clea
 abbrev pub IsText : HostMessage → Type 0
 IsText m = message_on m.flow.link.0 m.text ≡ Other m.text
 
--- a call tells its user nothing, and leaves every pair and what listens as they were
+-- a call notifies its user of nothing, and leaves every pair and what listens as they were
 pub record IsUnheard (s : NcpState) (done : NcpState × List Notice) : Type 0 where
   pub told : done.1 ≡ []
   pub pairs : (h : Host) → pair_with h done.0.peers ≡ pair_with h s.peers

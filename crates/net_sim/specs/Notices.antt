@@ -1,4 +1,4 @@
--- Which messages the notices of data tell of (NIC 8246, messages of data): one notice of each that goes out, and at most one of each that comes in.
+-- Which messages the notices of data report (NIC 8246, messages of data): one notice of each that goes out, and at most one of each that comes in.
 use Rattle.std.specs.Prelude.{◌≡◌, ◌⊎◌, ℕ, ◌+◌, ◌==◌, Bool, true, false, if◌then◌else◌, List, [], ◌∷◌, ◌++◌, length}
 use Rattle.leader1822.specs.Host.{Host}
 use Rattle.leader1822.specs.declared.crossing.Crossing.{Crossing}
@@ -38,7 +38,7 @@ pub record HasLink (h peer : Host) (socket link : ℕ) (log : List Crossing) : T
   pub own : HasCrossed going h peer own_stamp (request socket foreign (if is_receive_socket socket then link else size)) log
   pub partner : HasCrossed coming peer h partner_stamp (request foreign socket (if is_receive_socket socket then size else link)) log
 
--- a notice of data tells of a message just after it crossed: to the host that sent or took it, with the message's data, and a socket whose
+-- a notice of data reports a message just after it crossed: to the host that sent or took it, with the message's data, and a socket whose
 -- connection has the message's link, which isn't 0
 pub record TellsOf (takes : Bool) (h peer : Host) (m : HostMessage) (log : List Crossing) (t : Told) : Type 0 where
   pub socket : ℕ
@@ -55,18 +55,18 @@ Tells (crossing.Out m) log t = TellsOf false m.flow.source m.flow.destination m 
 Tells (crossing.In m) log t = TellsOf true m.flow.destination m.flow.source m log t
 Tells c log t = ⊥
 
--- of what goes out on another link than 0 a notice has to tell
+-- what goes out on another link than 0 has to be reported by a notice
 abbrev pub MayBeUntold : Crossing → Type 0
 MayBeUntold (crossing.Out m) = (m.flow.link.0 == 0) ≡ true
 MayBeUntold c = Unit {0}
 
--- crossings and notices of data, both newest first, one beside the other: each notice tells of one crossing, and no two of the same one
+-- crossings and notices of data, both newest first, one beside the other: each notice reports one crossing, and no two of the same one
 abbrev pub AreTold : List Crossing → List Told → Type 0
 AreTold [] [] = Unit {0}
 AreTold [] (t ∷ told) = ⊥
 AreTold (c ∷ log) [] = MayBeUntold c × AreTold log []
 AreTold (c ∷ log) (t ∷ told) = (MayBeUntold c × AreTold log (t ∷ told)) ⊎ (Tells c log t × AreTold log told)
 
--- the notices of a book are formed where those of data tell of the messages that crossed
+-- the notices of a book are formed where those of data report the messages that crossed
 abbrev pub FormedNotices : List Crossing → List Told → Type 0
 FormedNotices log told = AreTold log (data_told told)

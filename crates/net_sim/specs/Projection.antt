@@ -69,7 +69,7 @@ phase_of phase.Ready = law.Ready
 abbrev pub has_asked : List Entry → Bool
 has_asked entries = list_any (λ e. is_some e.asked) entries
 
--- an end whose data go on the control link
+-- an end whose data are sent on the control link
 abbrev pub on_control : Option ℕ → Bool
 on_control None = false
 on_control (Some link) = link == 0
@@ -104,7 +104,7 @@ pub record Agrees (q : PairState) (p : Pair) : Type 0 where
   pub ready : has_asked q.entries ≡ true → program.is_ready q.phase ≡ true
   pub begun : has_asked q.entries ≡ true → p.begun ≡ true
   pub plain : ArePlain q.queue
-  -- data go on connections' links only
+  -- data are sent on connections' links only
   pub linked : has_control q.entries ≡ false
 
 -- ---- texts

@@ -28,7 +28,7 @@ last_out f [] = None
 last_out f (crossing.Out m ∷ log) = if same_flow f m.flow then Some (length log) else last_out f log
 last_out f (c ∷ log) = last_out f log
 
--- requests go on link 0
+-- requests are sent on link 0
 abbrev pub control_flow : Host → Host → Flow
 control_flow from to = record { source = from; destination = to; link = record { 0 = 0 } }
 

@@ -1,4 +1,4 @@
--- What is kept of a world, as its moments determine it. At each moment something crosses or is asked for, and the host's program tells
+-- What is kept of a world, as its moments determine it. At each moment something crosses or is asked for, and the host's program reports
 -- its user what came of it (NIC 8246).
 use Rattle.std.specs.Prelude.{List, [], ◌∷◌}
 use Rattle.leader1822.specs.Host.{Host}

@@ -1,4 +1,4 @@
--- What is kept of a world tells one list of moments.
+-- What is kept of a world describes one list of moments.
 use Rattle.std.specs.Prelude.{◌≡◌, false, if◌then◌else◌, List, [], ◌∷◌, map, Some, None, All}
 use Rattle.leader1822.specs.Calls.{Seen}
 use Rattle.leader1822.specs.Host.{Host, IsAddress}
@@ -20,7 +20,7 @@ pub record AreServed (hosts : List Host) (all : List ServiceSeat) : Type 0 where
   pub named : All (λ s. NamePeers s.services) all
 
 -- the book has the crossings and the contacts of these moments, and all else that is kept, except for what services report, is what
--- they tell. Until memory runs out each host that is up has the program that comes of them
+-- they say. Until memory runs out each host that is up has the program that comes of them
 pub record IsWhole {C : Type 0} (seen : C → Seen) (hosts : List Host) (w : WorldState C) : Type 0 where
   pub moments : List Moment
   pub timeline : IsTimeline hosts moments

@@ -138,7 +138,7 @@ noticed w = length w.kept.book.notices
 abbrev pub done_by : Host → ServiceDeskState → Kept → Kept
 done_by h d k = all_reported d.reports (all_asked h d.asked k)
 
--- the services of a host are told this of its program, notice by notice, where this many notices was in the book before
+-- the services of a host are notified of this by its program, notice by notice, where this many notices were in the book before
 abbrev pub turn_of : Host → ℕ → ServicesState → NcpState × List Notice → ServicesState × ServiceDeskState
 turn_of h before s turn = services.services_told turn.1 s (opening_desk h before turn.0)
 

@@ -155,7 +155,7 @@ fn has_text(request: &Request) -> bool {
     matches!(request, Request::Send { .. })
 }
 
-/// Asks the program in a seat for something, which it refuses or serves. Returns what it tells.
+/// Asks the program in a seat for something, which it refuses or serves. Returns its notices.
 fn asked_of(seat: &mut Seat, request: &Request) -> Result<Vec<Notice>, WorldFault>
     requires live { IfSome seat.old.program (λ p. p.spent ≡ false) }
     ensures refused { (s : NcpState) (f : NcpFault) → seat.old.program ≡ Some s → refusal s request.now ≡ Some f → (result ≡ Err (world.Program f)) × (seat.new ≡ seat.old) }

@@ -129,7 +129,7 @@ pub(crate) fn ask<C: Carrier>(
     requires order { hosts_served services.old ≡ hosts_of seats.old }
     ensures { EventGives (shown (record { seen = C.seen; offers = C.offers; takes = C.takes; steps = C.steps; rounds = C.rounds })) (running carrier.old seats.old services.old book.old) (Ask host request.now) result (world_ended carrier.new seats.new services.new book.new result) }
 {
-    // for the proof only: the carrier is asked nothing else here, and `log` tells what it shows, which stays the same
+    // for the proof only: the carrier is asked nothing else here, and `log` says what it shows, which stays the same
     let _ = carrier.log();
     let at = up_at(seats, host)?;
     ask_at(alloc, seats, services, at, book, request)

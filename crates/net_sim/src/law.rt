@@ -109,7 +109,7 @@ pub fn mailboxes()
     ensures needs { (hosts : List Host) (c : Crossing) (moments : List Moment) → Needs hosts c (crossings_of moments) → runs.Needs hosts (event_of c) (events_of moments) }
 {}
 
-/// The book of a world tells one list of moments, the crossings and what users asked for and weren't refused, whatever the carrier is
+/// The book of a world describes one list of moments, the crossings and what users asked for and weren't refused, whatever the carrier is
 /// made of. All that is kept, except for what services report, is theirs, and until memory runs out each host has the program that
 /// comes of them.
 pub fn worlds<C: Carrier>()
@@ -123,7 +123,7 @@ pub fn worlds<C: Carrier>()
     ensures calm { (hosts : List Host) (old new : WorldState C) (times : ℕ) (r : Result (Unit {0}) WorldFault) → IsWhole C.seen hosts old → CalmGives (shown (record { seen = C.seen; offers = C.offers; takes = C.takes; steps = C.steps; rounds = C.rounds })) times old r new → IsWhole C.seen hosts new }
 {}
 
-/// What becomes of resets in a world, told by the contacts and crossings in its book only. The carrier's log is a run of the
+/// What becomes of resets in a world, by the contacts and crossings in its book only. The carrier's log is a run of the
 /// mailboxes, as every carrier promises of it.
 pub fn clean_resets<C: Carrier>()
     // a host that is through a reset with a peer takes of it only what went out after its last clean point
@@ -138,16 +138,16 @@ pub fn clean_resets<C: Carrier>()
 {}
 
 /// Both halves of a clean reset, over any list of moments: of whatever a host takes of a peer, except for RST and RRP, either it went out
-/// after the host's last clean point for that peer, or its taking leaves every pair and what listens as they were, and tells nothing.
+/// after the host's last clean point for that peer, or its taking leaves every pair and what listens as they were, and reports nothing.
 pub fn clean_takings<C: Carrier>()
     ensures stories { (hosts : List Host) (newer older : List Moment) (m : HostMessage) → HaveAddresses hosts → IsRun hosts (crossings_of (newer ++ Crossed (crossing.In m) ∷ older)) → IsTimeline hosts (newer ++ Crossed (crossing.In m) ∷ older) → IsText m → IsFresh m (contacts_of older) (crossings_of older) ⊎ IsUnheard (program m.flow.destination older) (accepted (program m.flow.destination older) (inbound.Message m) (places older)) }
 
-    // so of the moments that the book of a world tells
+    // so of the moments that the book of a world describes
     ensures worlds { (hosts : List Host) (w : WorldState C) → (lawful : IsLawful C.seen hosts w) → (newer older : List Moment) (m : HostMessage) → lawful.whole.moments ≡ newer ++ Crossed (crossing.In m) ∷ older → IsText m → IsFresh m (contacts_of older) (crossings_of older) ⊎ IsUnheard (program m.flow.destination older) (accepted (program m.flow.destination older) (inbound.Message m) (places older)) }
 {}
 
 /// The worlds of which that is said: those that began over a carrier whose log is empty, between hosts with addresses, however
-/// they went on.
+/// they continued.
 pub fn lawful_worlds<C: Carrier>()
     ensures opening { (c : C) → (C.seen c).log ≡ [] → HaveAddresses (C.seen c).hosts → IsLawful C.seen (C.seen c).hosts (opening_world (shown (record { seen = C.seen; offers = C.offers; takes = C.takes; steps = C.steps; rounds = C.rounds })) c) }
 

@@ -22,7 +22,7 @@ ghost use Rattle.sockets.specs.declared.request.Request.TheVariants as request;
 
 /// What becomes of a life.
 pub fn worked_lives()
-    // one begins at each host when its end is open, in the order in which they are told
+    // one begins at each host when its end is open, in the order in which they are reported
     ensures opened { opened_kept.book.lives ≡ sender ∷ receiver ∷ [] }
 
     // it has what was sent or taken, what was granted and what was returned

@@ -60,7 +60,7 @@ pub fn unformed_data()
     ensures way { IsFormed (crossing.Out eight_sent ∷ crossing.In str ∷ crossing.Out rts ∷ []) one_taken → ⊥ }
 {}
 
-/// A notice of data tells its host, with the data of the message, of a socket whose connection has the message's link.
+/// A notice of data reports to its host, with the message's data, a socket whose connection has the message's link.
 pub fn unformed_notices()
     // nothing arrives on a socket that sends, though a connection of it has this link
     ensures kind { FormedNotices (crossing.In eight_sent ∷ crossing.In (moved second first 0 rts) ∷ crossing.Out (moved first second 0 str) ∷ []) (record taken_told { notice = notice.Arrived 33 eight } ∷ []) → ⊥ }
@@ -74,6 +74,6 @@ pub fn unformed_notices()
     ensures sent_socket { FormedNotices given_log (record given_told { notice = notice.Sent 35 eight } ∷ []) → ⊥ }
     ensures arrived_socket { FormedNotices taken_log (record taken_told { notice = notice.Arrived 18 eight } ∷ []) → ⊥ }
 
-    // an arrival is told to the host that took the message
+    // an arrival is reported to the host that took the message
     ensures another_host { FormedNotices taken_log (record taken_told { host = third } ∷ []) → ⊥ }
 {}

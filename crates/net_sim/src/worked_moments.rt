@@ -21,7 +21,7 @@ pub fn worked_tellings()
     // each host is informed that the pair is ready, the second where it takes the RST and the first where it takes the RRP
     ensures ready { (map notice_of (kept_in contacted).book.notices ≡ (second, notice.Ready first) ∷ (first, notice.Ready second) ∷ []) × (map stamp_of (kept_in contacted).book.notices ≡ (second, 2) ∷ (first, 5) ∷ []) }
 
-    // a contact tells its own host that an older one is over, and nobody else
+    // a contact notifies its own host that an older one is over, and nobody else
     ensures again { notices_by (Asked second (request.Contact first)) contacted ≡ notice.PairReset first ∷ [] }
     ensures others { notices_by (Asked second (request.Listen 35 8)) contacted ≡ [] }
 

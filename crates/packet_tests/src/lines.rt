@@ -58,7 +58,7 @@ const NO_FRAMES: [(&[u8], ChannelFault); 20] = [
         &[0xF2, 0, 0, 0, 1, 0x01, 0x42, 5, 0, 0, 0x80, 0, 16, 0, 0],
         ChannelFault::BadLength,
     ),
-    // another version: only, with a frame's rest and with a whole frame behind it; a frame without its
+    // another version: only, with a frame's rest and with a whole frame after it; a frame without its
     // version; then with a kind that is none, with a cut packet, and with an answer that has bits
     (&[0xF3], ChannelFault::BadVersion),
     (&[0xF3, 1, 1], ChannelFault::BadVersion),
@@ -627,7 +627,7 @@ fn a_reset_line_gives_its_packets_back_and_begins_anew(rt: HostRuntime) {
     assert_eq!(rt; fitting(rt.alloc(), &BEGUN_ANEW), Ok(9));
 }
 
-/// What comes of telling distances, which has to give a frame of these octets.
+/// What comes of sending distances, which has to give a frame of these octets.
 fn tell(alloc: Global, line: &Line, octets: &[u8]) -> Came {
     let Some(vector) = Vector::from_slice(distances_in(octets)) else {
         return Came::Failed;
@@ -674,7 +674,7 @@ fn every_frame_brings_acknowledgements(rt: HostRuntime) {
     assert_eq!(rt; fitting(rt.alloc(), &ACKNOWLEDGED), Ok(14));
 }
 
-/// Whether a routes frame brings its distances to an end, and what comes of telling them in a frame of these
+/// Whether a routes frame brings its distances to an end, and what comes of sending them in a frame of these
 /// octets.
 fn told_on(alloc: Global, octets: &[u8], onward: &[u8]) -> Result<(bool, Came), ChannelFault> {
     let mut line = Line::new(alloc)?;

@@ -383,7 +383,7 @@ fn a_question_is_answered_by_the_fate_of_the_number_noted_last(rt: HostRuntime) 
     }
 }
 
-/// What questions come to where no number is kept, and where the kept one lies 32,767 and 32,768 behind.
+/// What questions give where no number is kept, and where the kept one is 32,767 and 32,768 numbers older.
 fn asked_far_off(alloc: Global) -> Result<[Asked; 3], FlowFault> {
     let flow = flow(5);
     let mut flows = DestFlows::new(alloc);

@@ -116,7 +116,7 @@ whole_gathered slots p h piece out =
 
 -- ---- the size of a whole body
 
--- so many bits from a place on, up to the end of the last piece
+-- this many bits from a place on, up to the end of the last piece
 record FitsFrom (place size : ℕ) : Type 0 where
   pub some : 0 < size
   pub units : size % 16 ≡ 0
@@ -146,7 +146,7 @@ size_from f number place (q ∷ qs) pieces packets whole =
           record { some = omega (arith, all, full); units = omega (arith, all, full, rest.units); most = omega (arith, all, full, rest.most) })
     ]
 
--- the answer tells what became of a packet
+-- the answer says what became of a packet
 outcome_from : (o : Outcome) (slots : List SlotState) (p : PacketFields) (w : List Bool) → answer_by o slots p ≡ answer.Whole w → o ≡ outcome.Whole
 outcome_from outcome.Kept slots p w said = absurd (cc)
 outcome_from outcome.Whole slots p w said = refl

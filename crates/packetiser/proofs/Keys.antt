@@ -1,4 +1,4 @@
--- What stands at the keys of a list, where each key has something.
+-- What is at the keys of a list, where each key has something.
 use Rattle.std.proofs.Common.{◌≡◌, ◌≢◌, ℕ, zero, suc, ◌+◌, ◌<◌, ◌≤◌, Bool, List, [], ◌∷◌, length, get_or, set, refl, ap, sym, ◌∙◌, arith, All, Option, Some, None, IsSome, insert, remove, filter_map, inl, inr}
 use Rattle.std.specs.List.{position_or_len, slice_get}
 use Rattle.std.proofs.lemmas.Bool.{cases_Bool}

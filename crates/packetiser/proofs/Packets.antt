@@ -18,7 +18,7 @@ use Rattle.packetiser.specs.declared.packet.PacketKind.TheVariants as kind
 use Rattle.packetiser.specs.declared.fault.PacketFault.{PacketFault}
 use Rattle.packetiser.specs.declared.fault.PacketFault.TheVariants as fault
 
--- ---- what the tests tell
+-- ---- what the tests say
 
 pub record IsLong (octets : List ℕ) : Type 0 where
   pub header : header_octets ≤ length octets

@@ -30,7 +30,7 @@ piece_and_rest w place =
     let next : 1008 * (place + 1) ≡ 1008 * place + 1008 = omega arith in
     ap (λ (n : ℕ). piece w place ++ drop n w) next ∙ ap (λ (b : List Bool). piece w place ++ b) (sym (drop-drop 1008 (1008 * place) w)) ∙ take-append-drop 1008 (drop (1008 * place) w)
 
--- behind the last piece there is nothing
+-- after the last piece there is nothing
 nothing_behind : (w : List Bool) (place : ℕ) → place ≡ piece_count w → from_piece w place ≡ []
 nothing_behind w place end = drop_all (1008 * place) w (omega (arith, end))
 
@@ -446,7 +446,7 @@ some_came flow number w ks j lt here =
     let some : 0 < length (filter (came ks) (places (piece_count w))) = any_some (λ (i : ℕ). i == j) (filter (came ks) (places (piece_count w))) any in
     omega (arith, some, length-map (filter (came ks) (places (piece_count w))) (piece_packet flow number w))
 
--- what leaves the flow's slot alone leaves the message held
+-- what leaves the flow's slot unchanged leaves the message held
 untouched : (flow : Flow) (number : ℕ) (w : List Bool) (old new : List SlotState) (ks : List ℕ) (j : ℕ) → Holds flow number w ks old → j < piece_count w → came ks j ≡ true
     → slot_of new flow ≡ slot_of old flow → Holds flow number w ks new
 untouched flow number w old new ks j h lt here same =

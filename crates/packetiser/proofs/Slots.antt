@@ -113,7 +113,7 @@ or_rest : (a b : Bool) → (a || b) ≡ false → b ≡ false
 or_rest true b e = absurd (cc)
 or_rest false b e = e
 
--- a piece that isn't old stands at a place of its own
+-- a piece that isn't old is at a place of its own
 rise_with_piece : (p : PacketFields) (ps : List PacketFields) → is_old ps p ≡ false → PlacesRise ps → PlacesRise (with_piece p ps)
 rise_with_piece p [] new rise = (All-nil (λ r. p.place < r.place), tt)
 rise_with_piece p (q ∷ qs) new rise =

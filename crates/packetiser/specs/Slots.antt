@@ -159,6 +159,6 @@ grows_by outcome.Full held = false
 abbrev pub grows : List SlotState → PacketFields → Bool
 grows slots p = grows_by (outcome_of slots p) (kept_for slots p)
 
--- an unspecified order of the slots: callers rely only on each slot standing in it once
+-- an unspecified order of the slots: callers rely only on each slot being in it once
 unfoldable pub in_some_order : List SlotState → List SlotState
 in_some_order slots = slots

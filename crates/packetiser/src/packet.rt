@@ -34,7 +34,7 @@ pub enum PacketKind {
     Never,
 }
 
-/// A packet: a piece of a message, an answer that tells what became of one (Heart et al., SJCC 1970), or a
+/// A packet: a piece of a message, an answer that reports what became of one (Heart et al., SJCC 1970), or a
 /// question about one.
 ///
 /// An answer or a question names its message's source and destination as a piece of the message does. An

@@ -79,7 +79,7 @@ module _ (number other : ℕ → ℕ → ℕ → ℕ) (tells : IsTelling number)
 
     module _ (told : (own foreign : ℕ) → said_of gone q.entries own foreign ≡ closings_in pending (heard_by b) own foreign) (line : Line number link (heard_by b) pending x.receiver.asked x.to_sender y.to_receiver)
         (news : AskedSame number link x.receiver.asked (all_received rm x.receiver).asked (said_of gone q.entries)) where
-      -- what was said before tells the same
+      -- what was said before says the same
       still_asked : AskedSame number link x.receiver.asked (all_received rm x.receiver).asked (closings_in pending (heard_by b))
       still_asked own foreign g l = news own foreign g (subst (λ (n : ℕ). g < n) (sym (told own foreign)) l)
 

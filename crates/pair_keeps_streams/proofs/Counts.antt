@@ -1,4 +1,4 @@
--- What commands say as words, where they are said one after another, and where so many CLS were said before.
+-- What commands say as words, where they are said one after another, and where this many CLS were said before.
 use Rattle.std.proofs.Common.{◌≡◌, ◌⊎◌, ◌≤◌, ℕ, suc, ◌==◌, ◌&&◌, Bool, true, false, if◌then◌else◌, List, [], ◌∷◌, refl, ap, sym, subst, inl, inr, arith, eq-eqb}
 use Rattle.ncp_control.specs.Numbers.{is_receive_socket}
 use Rattle.ncp_control.specs.declared.command.Command.{Command}

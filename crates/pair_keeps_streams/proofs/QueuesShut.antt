@@ -15,7 +15,7 @@ use Rattle.pair_keeps_streams.specs.Words.{plain, counted, has_said, said_of, se
 use Rattle.pair_keeps_streams.proofs.Joint.{AreLinked}
 use Rattle.pair_keeps_streams.proofs.Queues.{AreSeparate, IsAlike, Told, closing_elsewhere, is_said, many_closings, none_at, passes_at, said_after, separate, swept_said}
 
--- ---- so many CLS as these ends have said
+-- ---- as many CLS as these ends have said
 
 abbrev pub Counts : (ℕ → ℕ → ℕ) → (ℕ → ℕ → ℕ) → List Entry → Type 0
 Counts gone n es = (x y : ℕ) (e : Entry) → entry_at x y es ≡ Some e → n x y ≡ counted (has_cls e.closing) (gone x y)

@@ -1,4 +1,4 @@
--- The words of one list of commands behind another, and how many CLS they are.
+-- The words of one list of commands after another, and how many CLS they are.
 use Rattle.std.proofs.Common.{◌≡◌, ℕ, suc, eq-eqb, ◌<◌, ◌≤◌, Bool, true, false, ◌&&◌, ◌==◌, if◌then◌else◌, List, [], ◌∷◌, ◌++◌, refl, ap, sym, ◌∙◌, arith}
 use Rattle.std.proofs.lemmas.List.{append_assoc}
 use Rattle.ncp_control.specs.Numbers.{is_receive_socket}
@@ -82,7 +82,7 @@ module _ (number : ℕ → ℕ → ℕ → ℕ) (link : ℕ) where
       ap (λ (l : List Word). sender_word number link n c ++ l) (sender_append xs ys (with_closing c n))
       ∙ sym (append_assoc (sender_word number link n c) (sender_words number link (with_closing c n) xs) (sender_words number link (closings_in xs (with_closing c n)) ys))
 
-  -- what the words tell of these commands is the same by both counts, and for both lists of what was asked for
+  -- what the words say of these commands is the same by both counts, and for both lists of what was asked for
   abbrev pub AskedSame : (ℕ → Bool) → (ℕ → Bool) → (ℕ → ℕ → ℕ) → Type 0
   AskedSame asked more n = (own foreign g : ℕ) → g < n own foreign → asked (number own foreign g) ≡ more (number own foreign g)
 

@@ -30,7 +30,7 @@ use Rattle.pair_keeps_streams.proofs.StepAsks.{calm, nothing_new, room_here, ste
 
 -- ---- texts
 
--- the data behind a header are read again
+-- the data after a header are read again
 text_read : (h : DataHeader) (bits : List Bool) → IsHeader h → length bits ≡ data_bits h → data_of (data_bits h) (header_bits h ++ bits) ≡ bits
 text_read h bits r e =
     let four : length (header_bits h) ≡ 40 = refl in
@@ -38,7 +38,7 @@ text_read h bits r e =
     let all : take (40 + data_bits h) (header_bits h ++ bits) ≡ header_bits h ++ bits = ap (λ (n : ℕ). take n (header_bits h ++ bits)) (sym long) ∙ take-length (header_bits h ++ bits) in
     ap (λ (t : List Bool). drop 40 t) all ∙ ap (λ (n : ℕ). drop n (header_bits h ++ bits)) (sym four) ∙ drop-append_seam (header_bits h) bits
 
--- a program sends nothing behind what a header announces
+-- a program sends nothing after what a header announces
 all_behind : (h : DataHeader) (bits : List Bool) → drop 40 (header_bits h ++ bits) ≡ bits
 all_behind h bits = let four : length (header_bits h) ≡ 40 = refl in ap (λ (n : ℕ). drop n (header_bits h ++ bits)) (sym four) ∙ drop-append_seam (header_bits h) bits
 

@@ -1,4 +1,4 @@
--- What the commands of a host say on one link, as words of the law of streams (NIC 8246, the control commands). Sockets are told as the
+-- What the commands of a host say on one link, as words of the law of streams (NIC 8246, the control commands). Sockets are named as the
 -- speaker sees them: its own first.
 use Rattle.std.specs.Prelude.{ℕ, suc, ◌==◌, ◌&&◌, Bool, false, if◌then◌else◌, List, [], ◌∷◌, ◌++◌, Option, Some, None}
 use Rattle.ncp_control.specs.Numbers.{is_receive_socket}
@@ -68,7 +68,7 @@ heard_from gone es foreign own = heard_of gone es own foreign
 
 -- ---- the words of commands
 
--- what a host that receives on a link says by a command, where this many CLS were said before. `number` tells a connection by its sockets and how many
+-- what a host that receives on a link says by a command, after this many CLS. `number` identifies a connection by its sockets and how many
 -- of theirs are over; the CLS of one that was never asked for on the link is no word there
 abbrev pub receiver_word : (ℕ → ℕ → ℕ → ℕ) → ℕ → (ℕ → Bool) → (ℕ → ℕ → ℕ) → Command → List Word
 receiver_word number link asked n (command.Rts receive send l) = if l == link then Rts (number receive send (n receive send)) ∷ [] else []

@@ -34,7 +34,7 @@ turned a b j = record { floor = j.other; other = j.floor; here = j.there; there 
 
 -- ---- a word that goes out
 
--- an end that goes on, or is over, used its requests
+-- an end that continues, or is over, used its requests
 pub gone_used : (m : Mark) (e : End) (next : ℕ) (x : Life) → IsLater m next → x.own < next → (e.asked ≡ Some x.own → e.partner ≢ None) → (e.partner ≡ Some x.partner → e.asked ≢ None)
     → ((gone m e).asked ≡ Some x.own → (gone m e).partner ≢ None) × ((gone m e).partner ≡ Some x.partner → (gone m e).asked ≢ None)
 gone_used (Ask p) e next x later less own partner = (λ same. absurd (let h : p ≡ x.own = some_is p x.own same in let l : next ≤ p = later in omega (arith, h, l, less)), λ same none. absurd (cc))

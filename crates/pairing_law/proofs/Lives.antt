@@ -1,4 +1,4 @@
--- The lives of one host beside the words of both: where their requests stand, and what a new one keeps.
+-- The lives of one host beside the words of both: where their requests are, and what a new one keeps.
 use Rattle.std.proofs.Common.{◌≡◌, ◌≢◌, ◌⊎◌, ℕ, ◌<◌, ◌≤◌, List, [], ◌∷◌, Some, None, refl, sym, subst, inl, inr, arith}
 use Rattle.pairing_law.specs.Marks.{Mark, Ask, closes, Asks, IsOlder}
 use Rattle.pairing_law.specs.Ends.{End}
@@ -28,7 +28,7 @@ pub none_took : (P : Life → Type 0) (p : ℕ) (lives : List Life) → ((x : Li
 none_took P p [] f h = tt
 none_took P p (x ∷ lives) f h = (f x h.0, none_took P p lives f h.1)
 
--- ---- where its requests stand
+-- ---- where its requests are
 
 -- both are of one connection of this stay
 abbrev pub IsNew : List Mark → List Mark → Life → Type 0
@@ -87,7 +87,7 @@ pub record Lived (floor other : ℕ) (s t : List Mark) (e : End) (lives others :
   pub both : AreBoth lives others
   pub back : AreBoth others lives
 
--- where each stands as before
+-- where each is as before
 pub lived_on : (floor other floor' other' : ℕ) (s t s' t' : List Mark) (e e' : End) (lives others : List Life) → ((x : Life) → Stands floor other s t e x → Stands floor' other' s' t' e' x)
     → Lived floor other s t e lives others → Lived floor' other' s' t' e' lives others
 lived_on floor other floor' other' s t s' t' e e' lives others f l = record {

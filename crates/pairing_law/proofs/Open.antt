@@ -14,7 +14,7 @@ open_balanced floor other own partner a b h o = by a.stays refl where
   by true e = subst (λ x. Balanced a.said a.heard x) (h.same e) h.balanced
   by false e = absurd (none_some a.end.partner partner (h.alone e) o.1)
 
--- the partner's request of an open end was said in its own connection, so the other end isn't behind
+-- the partner's request of an open end was said in its own connection, so the other end doesn't lag
 not_behind : (floor other own partner : ℕ) (a b : Side) (h : Half floor other a b) (s : Balanced a.said a.heard a.end) (t : Balanced b.said b.heard b.end) → IsOpen own partner a.end → s.now ≤ t.now
 not_behind floor other own partner a b h s t o = t.within s.now partner (asks_said s.now partner a.heard b.said h.older (s.partner_at partner o.1))
 

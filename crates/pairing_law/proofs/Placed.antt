@@ -21,7 +21,7 @@ tail_of : List Bool → List Bool
 tail_of [] = []
 tail_of (b ∷ bits) = bits
 
--- the place and the text are told by the tagged text
+-- the place and the text are determined by the tagged text
 pub tagged_once : (p q : ℕ) (s t : List Bool) → tagged p s ≡ tagged q t → (p ≡ q) × (s ≡ t)
 unfolding head_of tail_of
 tagged_once zero zero s t e = (refl, ap tail_of e)

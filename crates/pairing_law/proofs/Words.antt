@@ -77,6 +77,6 @@ grows_older [] word g = g
 grows_older (Ask q ∷ new) word g = grows_older new word g.1
 grows_older (Close ∷ new) word g = grows_older new word g
 
--- a request that isn't among the older ones stands at another place
+-- a request that isn't among the older ones is at another place
 pub asks_apart : (k p q : ℕ) (new word : List Mark) → Grows (new ++ Ask p ∷ word) → Asks k q word → q < p
 asks_apart k p q new word g a = below_asks k p q word (grows_older new (Ask p ∷ word) g).0 a

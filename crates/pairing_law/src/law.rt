@@ -58,7 +58,7 @@ pub fn resets()
 
 /// What was heard is a prefix of what was said with its places too: each text begins with the place where it went out.
 pub fn places()
-    // a text so tagged tells both
+    // a text so tagged determines both
     ensures tagged { (p q : ℕ) (s t : List Bool) → tagged p s ≡ tagged q t → (p ≡ q) × (s ≡ t) }
 
     // events whose texts are tagged are a run too, with the same pairs and stays
@@ -76,7 +76,7 @@ pub fn worked_places()
     ensures heard { stay.heard_in_stay one two 0 (placed (reset.In one two 0 (reset.Other (true ∷ [])) ∷ message)) ≡ tagged 5 (true ∷ []) ∷ [] }
     ensures bits { tagged 2 (true ∷ []) ≡ true ∷ true ∷ false ∷ true ∷ [] }
 
-    // a text with the same bits at another place is told from it
+    // a text with the same bits at another place is distinguished from it
     ensures two { stay.said_in_stay one two 0 (placed (reset.Out one two 0 (reset.Other (true ∷ [])) ∷ reset.Told one two 0 answer.Rfnm ∷ reset.In one two 0 (reset.Other (true ∷ [])) ∷ message)) ≡ tagged 5 (true ∷ []) ∷ tagged 8 (true ∷ []) ∷ [] }
 {}
 
@@ -110,7 +110,7 @@ pub fn worked_connection()
 
 /// Hosts that leave, and begin anew.
 pub fn worked_stays()
-    // a host that leaves forgets its end, and its peer goes on
+    // a host that leaves forgets its end, and its peer continues
     ensures left { ((both left_events).one.end ≡ nothing) × ((both left_events).one.stays ≡ false) × ((both left_events).two.stays ≡ true) × ((both left_events).two.end ≡ record { asked = None; partner = Some 3; gone = false; taken = false }) }
 
     // after a reset words begin anew, and the same sockets are connected by new requests

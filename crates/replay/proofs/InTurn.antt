@@ -1,4 +1,4 @@
--- Events in turn go on, and end.
+-- Events in turn continue, and end.
 use Rattle.std.proofs.Common.{◌≡◌, ℕ, ◌<◌, ◌+◌, List, [], ◌∷◌, ◌++◌, drop, get_or, length, take, Option, refl, ap, ap₂, sym, subst, ◌∙◌}
 use Rattle.std.proofs.lemmas.Grind.{flat_map-append}
 use Rattle.std.proofs.lemmas.List.{append_assoc, append-nil, drop_more, take-append-drop, take_more}
@@ -58,7 +58,7 @@ last_written Happens Goes text old mid new events done e left a b c parts h k = 
 pub one_more : {E : Type 0} (events : List E) (i : ℕ) (e : E) → i < length events → e ≡ get_or events i e → take i events ++ e ∷ [] ≡ take (i + 1) events
 one_more {E} events i e lt is = ap (λ (x : E). take i events ++ x ∷ []) is ∙ sym (take_more events i e lt)
 
--- the events before this one, this one, and those behind it
+-- the events before this one, this one, and those after it
 pub cut_at : {E : Type 0} (events : List E) (i : ℕ) (e : E) → i < length events → e ≡ get_or events i e → events ≡ take i events ++ e ∷ drop (i + 1) events
 cut_at {E} events i e lt is =
     sym (take-append-drop i events) ∙ ap (λ es. take i events ++ es) (drop_more events i e lt ∙ ap (λ (x : E). x ∷ drop (i + 1) events) (sym is))

@@ -1,4 +1,4 @@
--- A line that is put together from its end to its front.
+-- A line that is put together from its end to its beginning.
 use Rattle.std.proofs.Common.{◌≡◌, ℕ, ◌++◌, List, ◌∷◌, codes, append_assoc}
 use Rattle.std.specs.Fmt.{decimal}
 use Rattle.leader1822.specs.Host.{Host}

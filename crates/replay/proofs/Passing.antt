@@ -1,4 +1,4 @@
--- A calm goes on, and ends.
+-- A calm continues, and ends.
 use Rattle.std.proofs.Common.{◌≡◌, ℕ, zero, suc, Bool, true, false, ◌||◌, if◌then◌else◌, ◌+◌, ◌-◌, ◌<◌, ◌≤◌, List, [], ◌∷◌, ◌++◌, Option, Some, None, Result, Ok, Err, IfErr, drop, length, get_or, reverse, refl, sym, ap, subst, ◌∙◌, arith, inr}
 use Rattle.std.proofs.lemmas.Bool.{false≢true}
 use Rattle.std.proofs.lemmas.List.{append_assoc, append-nil, drop_all, drop_more, reverse-append}
@@ -30,7 +30,7 @@ grew_none old = record { crossings = []; grown = refl; hosts = refl }
 
 -- ---- a host's takings
 
--- so many takings of a host gave something: whatever it takes in those that are left goes on from there
+-- this many takings of a host gave something: whatever it takes in those that are left continues from there
 pub record Took {C : Type 0} (calls : Calls C) (h : Host) (first : C) (i : ℕ) (now : C) : Type 0 where
   pub few : i ≤ 16
   pub goes : (left : ℕ) → i + left ≡ 16 → (r : Result (Unit {0}) CarrierFault) (new : C) → Takings calls h left now r new → Takings calls h 16 first r new
@@ -63,7 +63,7 @@ took_refused calls h first now next i f r lt before taken is = before.goes (suc 
 
 -- ---- a round
 
--- the quiet round and the takings of the first hosts are done: whatever the other hosts take goes on from there
+-- the quiet round and the takings of the first hosts are done: whatever the other hosts take continues from there
 pub record Turned {C : Type 0} (calls : Calls C) (first : C) (i : ℕ) (now : C) : Type 0 where
   pub goes : (r : Result (Unit {0}) CarrierFault) (new : C) → AllTake calls (drop i (calls.seen first).hosts) now r new → Round calls first r new
   pub grew : Grew (calls.seen first) (calls.seen now)
@@ -95,7 +95,7 @@ all_turned calls first now i le before =
 
 -- ---- rounds
 
--- so many rounds have passed, and what crossed in them is printed
+-- this many rounds have passed, and what crossed in them is printed
 pub record Passed {C : Type 0} (calls : Calls C) (detail : Detail) (first : C) (times i : ℕ) (now : C) (before after : Option (List ℕ)) : Type 0 where
   pub few : i ≤ times
   pub goes : (left : ℕ) (r : Result (Unit {0}) CarrierFault) (new : C) → Rounds calls left now r new → Rounds calls (i + left) first r new

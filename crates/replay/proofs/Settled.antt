@@ -103,7 +103,7 @@ steady_chain calls First Next sf sn = record {
 
 -- ---- takings, quiet rounds, rounds
 
--- a taking behind which a host goes on, or ends without running out of memory, went on
+-- a taking after which a host continues, or ends without running out of memory, continued
 taking_goes : (a : Result (Option Inbound) CarrierFault) (r : Result (Unit {0}) CarrierFault) (More Left : Type 0) → IfGiven a More ((r ≡ calmly (outcome_of a)) × Left) → GoesOn r → GoesOn (outcome_of a)
 taking_goes (Ok (Some given)) r More Left h goes = tt
 taking_goes (Ok None) r More Left h goes = tt

@@ -129,7 +129,7 @@ print_ends contents detail crossings outcome (Err fault.OutOfMemory) a mid new c
     (out.0, subst (λ w. Appends a (contents w) (output detail (shown_crossings crossings))) (sym out.1) crossed)
 print_ends contents detail crossings outcome (Err fault.CannotWrite) a mid new crossed refusal goes memory = tt
 
--- what a log gained is what stands behind the crossings of before
+-- what a log gained is what follows the crossings of before
 pub gained : (old new : Seen) (before after : List Crossing) → Grew old new → before ≡ reverse old.log → after ≡ reverse new.log → new.log ≡ reverse (drop (length before) after) ++ old.log
 gained old new before after grew was is =
     let back : after ≡ before ++ reverse grew.crossings =
@@ -137,7 +137,7 @@ gained old new before after grew was is =
     let fresh : drop (length before) after ≡ reverse grew.crossings = ap (drop (length before)) back ∙ drop_at before (reverse grew.crossings) (length before) refl in
     grew.grown ∙ ap (λ cs. cs ++ old.log) (sym (reverse-reverse grew.crossings) ∙ ap reverse (sym fresh))
 
--- nothing is gained where the log stands
+-- nothing is gained where the log is unchanged
 none_gained : (old new : Seen) (before after : List Crossing) → new.log ≡ old.log → before ≡ reverse old.log → after ≡ reverse new.log → drop (length before) after ≡ []
 none_gained old new before after same was is =
     let one : after ≡ before = is ∙ ap reverse same ∙ sym was in

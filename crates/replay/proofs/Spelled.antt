@@ -55,7 +55,7 @@ again m =
     let octets : List ℕ = codes " " ++ octets_text m.text in
     ap (λ xs. codes "out " ++ xs) (append_assoc (flow_text m.flow) (codes " " ++ bits) octets)
 
--- a crossing, what stands behind its bits, and the end of the line
+-- a crossing, what follows its bits, and the end of the line
 pub text_line : {E : Type 0} (detail : Detail) (c : Crossing) (outcome : Result (Unit {0}) E) (first second third last : Option (List ℕ)) → detail ≡ Texts
     → Appends first second (crossing_text c) → Appends second third (spelled c) → OnOk outcome (Appends third last (codes "\n")) → OnOk outcome (Appends first last (ended_line (crossing_line detail c)))
 text_line detail c (Err f) first second third last is crossed behind end = tt

@@ -25,7 +25,7 @@ abbrev pub outcome_of : Result (Option Inbound) CarrierFault → Result (Unit {0
 outcome_of (Ok taken) = Ok tt
 outcome_of (Err e) = Err e
 
--- ---- a calm: rounds in which the network is left alone, and its hosts take what comes
+-- ---- a calm: rounds in which nothing is done to the network, and its hosts take what comes
 
 -- how a part of a calm may go: the carrier before, the fault that ended it, if memory ran out, and the carrier after
 abbrev pub Part : Type 0 → Type 1
@@ -43,7 +43,7 @@ Onward Next (Err f) mid r new = (r ≡ Err f) × (new ≡ mid)
 abbrev pub Chain : {C : Type 0} → Part C → Part C → Part C
 Chain {C} First Next old r new = (first : Result (Unit {0}) CarrierFault) × (mid : C) × First old first mid × Onward Next first mid r new
 
--- a calm continues after a refusal and doesn't tell it, but ends when memory runs out
+-- a calm continues after a refusal and doesn't report it, but ends when memory runs out
 abbrev pub calmly : Result (Unit {0}) CarrierFault → Result (Unit {0}) CarrierFault
 calmly (Ok done) = Ok done
 calmly (Err f) = if is_halt f || is_memory f then Err f else Ok tt

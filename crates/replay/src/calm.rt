@@ -1,4 +1,4 @@
-//! A calm: rounds in which the network is left alone, and its hosts take what comes.
+//! A calm: rounds in which nothing is done to the network, and its hosts take what comes.
 
 ghost use Rattle.std.specs.Prelude.{◌≡◌, Err, IfErr, false};
 ghost use Rattle.replay.specs.Failing.{TellsCannotWrite};

@@ -7,7 +7,7 @@
 //! written is what the events showed. Where memory runs out, the output is a prefix of that: it ends
 //! after the last event that was replayed whole, or within a calm after what crossed in it.
 //!
-//! What is printed goes to an [`Output`], which tells whether a write failed. `CannotWrite` is answered where one
+//! What is printed goes to an [`Output`], which says whether a write failed. `CannotWrite` is answered where one
 //! failed, and nowhere else, and after that nothing more is printed.
 //!
 //! Nothing here knows what a carrier is made of, where the events come from, or who reads the output.

@@ -1,4 +1,4 @@
-//! A line that is printed, put together from its end to its front.
+//! A line that is printed, put together from its end to its beginning.
 
 ghost use Rattle.std.specs.Prelude.{◌≡◌, ◌+◌, ◌≤◌, ◌++◌, ◌∷◌, [], codes, drop, length};
 ghost use Rattle.std.specs.Fmt.{decimal};
@@ -13,7 +13,7 @@ use std::marker::Model;
 /// How many octets a line has room for, with its end.
 const ROOM: usize = 256;
 
-/// A line with its end, put together from its end to its front in a buffer of its own, so that it is printed by one call. The
+/// A line with its end, put together from its end to its beginning in a buffer of its own, so that it is printed by one call. The
 /// buffer serves one line after the other. It is seen as its octets, and has room for 256 of them.
 #[derive(Drop)]
 pub struct Line {
@@ -86,7 +86,7 @@ impl Line {
         &self.octets[self.start..]
     }
 
-    /// Puts an octet in front.
+    /// Prepends an octet.
     #[inline]
     pub fn put_octet(&mut self, octet: u8)
         requires { length self.old ≤ 255 }
@@ -98,7 +98,7 @@ impl Line {
         self.start = at;
     }
 
-    /// Puts a word in front.
+    /// Prepends a word.
     pub fn put_word(&mut self, word: &[u8])
         requires { length word.now + length self.old ≤ 256 }
         ensures text { self.new ≡ word.now ++ self.old }
@@ -107,7 +107,7 @@ impl Line {
         self.start = put_before(&mut self.octets, self.start, word);
     }
 
-    /// Puts a number in front, in decimal digits.
+    /// Prepends a number, in decimal digits.
     pub fn put_number(&mut self, number: u64)
         requires { length self.old ≤ 236 }
         ensures text { self.new ≡ decimal number ++ self.old }
@@ -116,7 +116,7 @@ impl Line {
         self.start = put_digits(&mut self.octets, self.start, number);
     }
 
-    /// Puts a number in front that is mostly less than 10.
+    /// Prepends a number that is mostly less than 10.
     #[inline]
     fn put_small(&mut self, number: u8)
         requires { length self.old ≤ 236 }
@@ -130,7 +130,7 @@ impl Line {
         }
     }
 
-    /// Puts a host in front: its number, a slash, and its IMP's number.
+    /// Prepends a host: its number, a slash, and its IMP's number.
     #[tactic(auto, using(crate::proofs::Lines::host_before))]
     pub fn put_host(&mut self, host: HostAddr)
         requires { length self.old ≤ 215 }
@@ -142,7 +142,7 @@ impl Line {
         self.put_small(host.host());
     }
 
-    /// Puts a flow in front: its source, its destination and its link, with spaces between.
+    /// Prepends a flow: its source, its destination and its link, with spaces between.
     #[tactic(auto, using(crate::proofs::Lines::flow_before))]
     pub fn put_flow(&mut self, flow: &Flow)
         requires { length self.old ≤ 140 }
@@ -156,7 +156,7 @@ impl Line {
         self.put_host(flow.source);
     }
 
-    /// Puts a message that crosses in front, after this word: its flow and how many bits its text has.
+    /// Prepends a message that crosses, after this word: its flow and how many bits its text has.
     #[tactic(auto, using(crate::proofs::Lines::message_before))]
     fn put_message(&mut self, word: &[u8], message: &HostMessage)
         requires { (length word.now ≤ 4) × (length self.old ≤ 2) }
@@ -168,7 +168,7 @@ impl Line {
         self.put_word(word);
     }
 
-    /// Puts an answer in front.
+    /// Prepends an answer.
     #[tactic(auto, using(crate::proofs::Lines::answer_before))]
     fn put_answer(&mut self, kind: Answer, flow: &Flow)
         requires { length self.old ≤ 2 }
@@ -178,7 +178,7 @@ impl Line {
         self.put_word(answer_head(kind));
     }
 
-    /// Puts a host that goes down or comes up in front, after this word.
+    /// Prepends a host that goes down or comes up, after this word.
     #[tactic(auto, using(crate::proofs::Lines::one_before))]
     fn put_change(&mut self, word: &[u8], host: HostAddr)
         requires { (length word.now ≤ 5) × (length self.old ≤ 2) }
@@ -188,7 +188,7 @@ impl Line {
         self.put_word(word);
     }
 
-    /// Puts a crossing in front. Of a text only the number of bits is printed.
+    /// Prepends a crossing. Of a text only the number of bits is printed.
     pub(crate) fn put_crossing(&mut self, crossing: &Crossing)
         requires { length self.old ≤ 2 }
         ensures { self.new ≡ crossing_text crossing.now ++ self.old }

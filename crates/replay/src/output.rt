@@ -1,4 +1,4 @@
-//! Where a replay prints: a writer that tells whether a write failed.
+//! Where a replay prints: a writer that says whether a write failed.
 
 ghost use Rattle.std.specs.Prelude.{◌≡◌, Bool, IfSome, List, OnOk, Option, false, true, ℕ};
 ghost use Rattle.std.specs.Io.KnownBytes.{Appends, Keeps};
@@ -14,7 +14,7 @@ use thiserror::Error;
 #[error("cannot write")]
 pub struct WriteFailed;
 
-/// Where a replay prints. It tells whether a write or a flush has failed, which the contract of the standard
+/// Where a replay prints. It says whether a write or a flush has failed, which the contract of the standard
 /// library's writers doesn't.
 ///
 /// Each call requires that none has failed. So after its first failure nothing more is asked of the writer.
@@ -90,7 +90,7 @@ impl<W: Write> Printer<W> {
         self.writer
     }
 
-    /// Keeps and tells whether a write or a flush failed.
+    /// Keeps and says whether a write or a flush failed.
     fn tell(&mut self, outcome: io::Result<()>) -> Result<(), WriteFailed>
         ensures answer { TellsFailure outcome self.new.failed }
         ensures failed { TellsFailure result self.new.failed }

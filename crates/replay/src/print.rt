@@ -25,7 +25,7 @@ const DIGITS: [u8; 16] = *b"0123456789ABCDEF";
 pub enum Detail {
     /// How many bits its text has.
     Sizes,
-    /// That, and behind it the octets of its text, as a script spells them.
+    /// That, and after it the octets of its text, as a script spells them.
     Texts,
 }
 

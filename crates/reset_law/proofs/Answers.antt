@@ -1,4 +1,4 @@
--- An answer that a host is told keeps the invariant.
+-- An answer that a host is given keeps the invariant.
 use Rattle.std.proofs.Common.{◌≡◌, ◌≢◌, ◌⊎◌, ℕ, Bool, true, false, Option, Some, None, refl, ap, sym, subst, ◌∙◌, inl, inr, if◌then◌else◌, ◌==◌}
 use Rattle.std.specs.Prelude.{is_some}
 use Rattle.leader1822.specs.declared.crossing.Answer.{Answer}
@@ -12,7 +12,7 @@ use Rattle.reset_law.proofs.Links.{at, boxed_at}
 
 -- ---- what is outstanding
 
--- an answer is told of a message that is outstanding
+-- an answer is given to a message that is outstanding
 fits_some : (k : Answer) (x : Box) → Fits k x → is_some (kind_in x) ≡ true
 fits_some k (Waiting place m) fits = refl
 fits_some k (Taken place m) fits = refl

@@ -91,7 +91,7 @@ sound_run hosts (Up x ∷ events) r a b up =
     came_up (same_host a x) (is_up hosts a events) (place events) (pair a b events) (monitor a b events) (boxes a b events) up (λ before. sound_run hosts events r.2 a b before)
 sound_run hosts (Idle ∷ events) r a b up = sound_run hosts events r.2 a b up
 
--- ---- RST and RRP go alone
+-- ---- RST and RRP each go by themselves
 
 -- a signal waits or is unanswered on link 0, and every other box is empty then
 pub record IsAlone (bs : ℕ → Box) : Type 0 where
@@ -174,7 +174,7 @@ alone_run hosts (Down x ∷ events) r a b = alone_run hosts events r.2 a b
 alone_run hosts (Up x ∷ events) r a b = alone_if (same_host a x) ClearAll (place events) (boxes a b events) (λ e. none_alone) (alone_run hosts events r.2 a b)
 alone_run hosts (Idle ∷ events) r a b = alone_run hosts events r.2 a b
 
--- ---- a host that is down is as at the opening
+-- ---- a host that is down is in the initial state
 
 opened_if : (t : Bool) (part : Part) (p : Pair) → (t ≡ true → ⊥) → p ≡ opening_pair → pair_moved (when t part) p ≡ opening_pair
 opened_if true part p no_part e = absurd (no_part refl)

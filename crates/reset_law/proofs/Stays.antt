@@ -211,7 +211,7 @@ failed_owed Heard false e = absurd (cc)
 failed_owed Ready true e = refl
 failed_owed Ready false e = absurd (cc)
 
--- a host that is told of a message stays ready by RFNM, or because it owes an RRP
+-- a host that is notified of a message's answer stays ready by RFNM, or because it owes an RRP
 told_owed : (t : Bool) (k : ℕ) (kind : Answer) (p : Pair) → t ≡ true → (pair_moved (when t (Hear k kind)) p).phase ≡ Ready → (kind ≡ answer.Rfnm) ⊎ (p.owed ≡ true)
 told_owed true k answer.Rfnm p same e = inl refl
 told_owed true k answer.Dead p same e = inr (failed_owed p.phase p.owed e)
@@ -371,7 +371,7 @@ stay_step hosts Idle events a b l s r kept h = quiet hosts Idle events a b l (jo
 anew : (b : Bool) (xs : List (List Bool)) → b ≡ true → (if b then [] else xs) ≡ []
 anew b xs e = rw e refl
 
--- and go on where it doesn't
+-- and continue where it doesn't
 goes_on : (b : Bool) (xs : List (List Bool)) → b ≡ false → (if b then [] else xs) ≡ xs
 goes_on b xs e = rw e refl
 

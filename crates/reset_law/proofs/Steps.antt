@@ -36,7 +36,7 @@ sound_contact here p m boxes s =
 
 -- ---- messages that go out
 
--- a signal goes out alone, on link 0
+-- a signal goes out by itself, on link 0
 signal_on_zero : (out : ℕ → Option Kind) (l : ℕ) (x : Option Kind) → l ≡ 0 → IsFreePair out → (k : ℕ) → is_signal (at_link out l x k) ≡ true → k ≡ 0
 signal_on_zero out l x zero free k signal = elim (at out l x k) [
   | inl t ↦ (t.0 ∙ zero)

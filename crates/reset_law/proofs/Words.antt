@@ -1,4 +1,4 @@
--- What was heard begins what was said: lists of texts alone.
+-- What was heard begins what was said: lists of texts only.
 use Rattle.std.proofs.Common.{◌≡◌, ◌⊎◌, Bool, true, false, List, [], ◌++◌, refl, ap, sym, subst, ◌∙◌, inl, inr, if◌then◌else◌, append_assoc, append-nil}
 use Rattle.reset_law.specs.Stays.{IsPrefix}
 

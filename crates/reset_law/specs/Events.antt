@@ -4,7 +4,7 @@ use Rattle.std.specs.Prelude.{ℕ, ◌+◌, Bool, true, false, ◌&&◌, List, [
 use Rattle.leader1822.specs.Host.{Host, same_host, is_host}
 use Rattle.leader1822.specs.declared.crossing.Answer.{Answer}
 
--- a message from host to host: RST and RRP go alone, and nothing else matters to a reset
+-- a message from host to host: RST and RRP each go by themselves, and nothing else matters to a reset
 pub data Message : Type 0 where
   Reset : Message
   Reply : Message

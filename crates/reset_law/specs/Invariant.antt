@@ -21,7 +21,7 @@ is_signal (Some Plain) = false
 pub record Outstanding (p : Pair) (m : Monitor) (boxes : ℕ → Box) : Type 0 where
   pub boxed : (k : ℕ) → p.out k ≡ kind_in (boxes k)
   pub owes : m.owed ≡ p.owed
-  -- RST and RRP go on link 0, and nothing is outstanding beside them
+  -- RST and RRP are sent on link 0, and nothing is outstanding beside them
   pub on_zero : (k : ℕ) → is_signal (p.out k) ≡ true → k ≡ 0
   pub alone : is_signal (p.out 0) ≡ true → (k : ℕ) → k ≢ 0 → p.out k ≡ None
   -- while an RRP is owed or outstanding nothing has been said on connections

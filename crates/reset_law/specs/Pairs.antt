@@ -66,7 +66,7 @@ pair a b (e ∷ events) = pair_moved (part_of a b e) (pair a b events)
 abbrev pub IsFreePair : (ℕ → Option Kind) → Type 0
 IsFreePair out = (k : ℕ) → out k ≡ None
 
--- RST and RRP go alone, on link 0, the RST first. Nothing else goes while one of them waits, and nothing on a connection's
+-- RST and RRP each go by themselves, on link 0, the RST first. Nothing else goes while one of them waits, and nothing on a connection's
 -- link before a request went out
 abbrev pub MaySend : Pair → ℕ → Message → Type 0
 MaySend p l Reset = (l ≡ 0) × (p.phase ≡ Want) × IsFreePair p.out

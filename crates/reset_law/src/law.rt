@@ -28,7 +28,7 @@ pub fn clean_reset()
     // a host that is through a reset takes of its peer only what went out after its last clean point for that peer
     ensures clean { (hosts : List Host) (events : List Event) (a b : Host) (link : ℕ) (text : List Bool) → IsRun hosts (In a b link (Other text) ∷ events) → (pair b a events).phase ≡ Ready → WaitsAfterClean a b link text events }
 
-    // RST and RRP go on link 0, and while one of them waits or has no answer nothing else does
+    // RST and RRP are sent on link 0, and while one of them waits or has no answer nothing else is
     ensures signals { (hosts : List Host) (events : List Event) → IsRun hosts events → (a b : Host) (link : ℕ) → is_signal (kind_in (boxes a b events link)) ≡ true → link ≡ 0 }
     ensures alone { (hosts : List Host) (events : List Event) → IsRun hosts events → (a b : Host) (link : ℕ) → is_signal (kind_in (boxes a b events 0)) ≡ true → link ≢ 0 → boxes a b events link ≡ Empty }
 

@@ -1,4 +1,4 @@
--- Tables that hear one another in rounds come to tell the lengths of shortest walks.
+-- Tables that exchange distances in rounds converge to the lengths of shortest walks.
 use Rattle.std.proofs.Common.{◌≡◌, ℕ, zero, suc, ◌+◌, ◌-◌, ◌<◌, ◌≤◌, List, [], ◌∷◌, length, get_or, map, Option, Some, None, refl, sym, ◌∙◌, ap, arith, inl, inr, subst, All, add-one, ◌==◌, true}
 use Rattle.std.proofs.lemmas.Bool.{cases_lt}
 use Rattle.std.proofs.lemmas.Bool.Decides.{nat_tests}

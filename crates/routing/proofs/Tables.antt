@@ -58,7 +58,7 @@ distance_past distances imp past =
     let some : (imp == 0) ≡ false = grind (arith, nat_tests) in
     rw some (get_or_past distances (imp - 1) infinite (omega (arith, past)))
 
--- the port at a place and those behind it
+-- the port at a place and those after it
 pub heard_next : (ports : List (Option (List ℕ))) (i : ℕ) (heard : Option (List ℕ)) (imp : ℕ) → i < length ports → heard ≡ get_or ports i heard
     → least_heard (drop i ports) imp ≡ min (heard_distance heard imp) (least_heard (drop (i + 1) ports) imp)
 heard_next ports i heard imp there is =

@@ -46,7 +46,7 @@ cut graph imp from [] to e is_walk distinct = cut_by (eqb imp from) graph imp fr
 cut graph imp from (next ∷ walk) to e is_walk distinct =
     cut_by (eqb imp from) graph imp from (next ∷ walk) to refl (λ e. cut graph imp next walk to e is_walk.1 distinct.1) e is_walk distinct
 
--- one more IMP in front of a simple walk
+-- one more IMP before a simple walk
 lengthened : (t : Bool) (graph : List (ℕ × ℕ)) (from next to : ℕ) → AreJoined graph from next → (s : IsSimple graph next to) → list_any (eqb from) (next ∷ s.walk) ≡ t → IsSimple graph from to
 unfolding IsDistinct
 lengthened true graph from next to joined s e = cut graph from next s.walk to e s.is_walk s.distinct

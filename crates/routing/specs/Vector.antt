@@ -1,4 +1,4 @@
--- What an IMP tells its neighbours of its distances (Heart et al., SJCC 1970, routing).
+-- What an IMP announces to its neighbours of its distances (Heart et al., SJCC 1970, routing).
 use Rattle.std.specs.Prelude.{◌≡◌, ℕ, ◌≤◌, Bool, List, length, All, nat_le, ◌==◌, ◌&&◌}
 use Rattle.std.specs.List.{list_all}
 use Rattle.leader1822.specs.Host.{most_imps}

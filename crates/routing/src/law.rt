@@ -8,7 +8,7 @@ ghost use Rattle.routing.specs.Settle.{AreTablesOf, IsImp, IsNearer, IsRight, se
 ghost use Rattle.routing.specs.Walks.{IsDistance};
 ghost use Rattle.routing.specs.RouteTable.{Table, opening_table, distance_in, distance_to, vector_of, next_of, IsNext};
 
-/// A table's vector tells its distances, and its next line attains the distance to another IMP.
+/// A table's vector announces its distances, and its next line attains the distance to another IMP.
 pub fn tables()
     ensures vector { (t : Table) → IsVector (vector_of t) }
     ensures told { (t : Table) (imp : ℕ) → 0 < imp → imp ≤ most_imps → distance_in (vector_of t) imp ≡ distance_to t imp }

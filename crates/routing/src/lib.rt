@@ -1,6 +1,6 @@
 //! Distances between the IMPs of a network.
 //!
-//! Every IMP tells its neighbours how many lines lie between it and each IMP that there can be, itself
+//! Every IMP announces to its neighbours how many lines lie between it and each IMP that there can be, itself
 //! among them (Heart et al., "The interface message processor for the ARPA computer network", SJCC 1970,
 //! "Routing algorithm"). Such a list of distances is a [`Vector`].
 //!

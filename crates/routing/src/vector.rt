@@ -1,4 +1,4 @@
-//! What an IMP tells its neighbours: its distance to every IMP.
+//! What an IMP announces to its neighbours: its distance to every IMP.
 
 ghost use Rattle.std.specs.Prelude.{◌≡◌, ◌≤◌, ◌<◌, ◌↔◌, ℕ, min, slice_index_or, All, IsTrue, nat_le, true, Some, None, if◌then◌else◌};
 ghost use Rattle.leader1822.specs.Host.{most_imps};

@@ -158,7 +158,7 @@ spelled_more word octets i n high low there room small_high small_low is first s
     ∙ ap (λ (c : ℕ). front ++ (slice_index word (2 * i) ∷ c ∷ [])) second
     ∙ sym (ap (λ (k : ℕ). take k word) two ∙ both ∙ ap (λ (cs : List ℕ). cs ++ slice_index word (2 * i + 1) ∷ []) one ∙ append_assoc front (slice_index word (2 * i) ∷ []) (slice_index word (2 * i + 1) ∷ []))
 
--- digits spell octets: no digit stands behind the sixteenth
+-- digits spell octets: no digit follows the sixteenth
 behind_digits : (k : ℕ) → 16 ≤ k → slice_index upper_digits k ≡ 0
 behind_digits k far = get_or_past upper_digits k 0 far
 

@@ -1,4 +1,4 @@
--- Events as lines: a keyword, and what stands behind it.
+-- Events as lines: a keyword, and what follows it.
 use Rattle.std.proofs.Common.{◌≡◌, ◌≢◌, ℕ, ◌==◌, Bool, true, false, List, [], ◌∷◌, ◌++◌, codes, refl, sym, ap, ◌∙◌, subst, eqb, if◌then◌else◌}
 use Rattle.std.proofs.lemmas.Bool.{false≢true, or_parts, eq-eqb}
 use Rattle.std.proofs.lemmas.List.Elements.{All-nil, All-cons}
@@ -35,7 +35,7 @@ pub differs : (word key : List ℕ) (slice : List ℕ) (test : Bool) → test �
 differs word key slice test compared is unlike e =
     false≢true (sym unlike ∙ compared ∙ ap (λ xs. pointwise eqb word xs) (is ∙ sym e) ∙ same_octets word)
 
--- and one that `is_word` tells apart
+-- and one that `is_word` distinguishes
 pub other_word : (word key : List ℕ) (test : Bool) → (IsTrue test ↔ (word ≡ key)) → test ≡ false → word ≢ key
 other_word word key test compared unlike e = false≢true (sym unlike ∙ compared.1 e)
 

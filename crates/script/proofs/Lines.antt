@@ -7,7 +7,7 @@ use Rattle.std.proofs.lemmas.List.Elements.{All-append, All-cons, All-nil, filte
 use Rattle.std.specs.List.{All}
 use Rattle.script.specs.Script.{lines_of, is_passed_over, asks, AskForAs, IsFirstBadAs, IsReachedAs, RanOutAs}
 
--- the first line is what stands before the first octet 10
+-- the first line is what is before the first octet 10
 pub lines_cut : (text line more : List ℕ) → text ≡ line ++ 10 ∷ more → All (λ x. (x == 10) ≡ false) line → lines_of text ≡ line ∷ lines_of more
 lines_cut text line more is h = ap lines_of is ∙ slice_split_at (λ b. b == 10) line 10 more h refl
 

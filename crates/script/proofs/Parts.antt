@@ -17,7 +17,7 @@ pub record Passed (input : List ℕ) (passed : ℕ) (rest : Option (Bor (List �
 pub none_passed : (input : Bor (List ℕ)) → Passed input.now 0 (Some input)
 none_passed input = record { before = []; unmarked = All-nil (λ line. line ≢ codes "%"); lines = refl; whole = (refl, refl) }
 
--- the front with one more line
+-- the prefix with one more line
 front_more : (before : List (List ℕ)) (line : List ℕ) → flat_map ended_line (before ++ line ∷ []) ≡ flat_map ended_line before ++ (line ++ 10 ∷ [])
 front_more before line = flat_map-append ended_line before (line ∷ []) ∙ ap (λ xs. flat_map ended_line before ++ xs) (append-nil (line ++ 10 ∷ []))
 

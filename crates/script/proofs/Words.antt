@@ -9,7 +9,7 @@ use Rattle.script.specs.Steps.{Lacks}
 self_mark : (mark : ℕ) → (mark == mark) ≡ true
 self_mark mark = grind (arith, nat_tests)
 
--- the first octet, and those behind it
+-- the first octet, and those after it
 unmarked_first : (mark x : ℕ) (xs : List ℕ) → Lacks mark (x ∷ xs) → (x == mark) ≡ false
 unmarked_first mark x xs h = All-head (λ z. (z == mark) ≡ false) x xs h
 

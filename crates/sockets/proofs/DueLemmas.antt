@@ -74,7 +74,7 @@ one_due ps os at p g is stands =
     let one : position has_parcel ps ≡ Some at = sym (first_place os ps g) ∙ is in
     next_found ps ∙ ap (λ (o : Option Peer). next_to o) (one_found has_parcel at p ps one) ∙ ap (λ (q : Peer). parcel_for q (next_of q.pair) None) (sym stands)
 
--- what stands beside a peer goes to it
+-- what is kept beside a peer is what goes to it
 beside : (os : List Due) (ps : List Peer) → GoNext os ps → (at : ℕ) (o : Due) (p : Peer) → at < length ps → GoesNext (slice_index_or ps at p).pair (slice_index_or os at o)
 beside [] [] g at o p lt = absurd (omega (arith, lt))
 beside [] (q ∷ ps) g at o p lt = absurd g
@@ -130,7 +130,7 @@ set_due (q ∷ ps) [] at p o g n = absurd g
 set_due (q ∷ ps) (x ∷ os) zero p o g n = (n, g.1)
 set_due (q ∷ ps) (x ∷ os) (suc at) p o g n = (g.0, set_due ps os at p o g.1 n)
 
--- nothing goes to a peer with a pair as at the opening
+-- nothing goes to a peer with a pair in the initial state
 pub opening_due : (h : Host) (q : PairState) (ps : List Peer) (os : List Due) (at : ℕ) (p : Peer) → GoNext os ps → q ≡ opening_pair → p ≡ record { host = h; pair = q }
     → GoNext (slice_set os at due.Nothing) (slice_set ps at p)
 opening_due h q ps os at p g o is =

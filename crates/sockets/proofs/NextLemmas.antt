@@ -1,4 +1,4 @@
--- The peer that something goes to stands among the peers with its pair.
+-- The peer that something goes to is among the peers with its pair.
 use Rattle.std.proofs.Common.{◌≡◌, ℕ, ◌<◌, Bool, true, false, List, [], ◌∷◌, Option, Some, None, refl, ap, subst, arith}
 use Rattle.leader1822.specs.Host.{Host, same_host, address_octet}
 use Rattle.leader1822.proofs.lemmas.{same_host-refl}

@@ -1,4 +1,4 @@
--- What a host is told of one peer names that peer.
+-- What a host is notified of about one peer names that peer.
 use Rattle.std.proofs.Common.{◌≡◌, ℕ, Bool, true, false, cond, List, [], ◌∷◌, Some, refl}
 use Rattle.leader1822.specs.Host.{Host, same_host}
 use Rattle.leader1822.specs.declared.address.Flow.{Flow}

@@ -1,4 +1,4 @@
--- Peers in order: where a host stands among them.
+-- Peers in order: where a host is among them.
 use Rattle.std.proofs.Common.{◌≡◌, ℕ, ◌<◌, ◌≤◌, ◌-◌, ◌++◌, Bool, true, false, not, ◌&&◌, ◌==◌, List, [], ◌∷◌, length, find, Option, Some, None, Result, Ok, Err, OnOk, slice_set, slice_index_or, refl, ap, sym, subst, ◌∙◌, arith, suc, zero, nat_lt, eq-eqb}
 use Rattle.std.specs.List.{count_by}
 use Rattle.std.proofs.lemmas.List.Sums.{length-filter, count_by-le-length}
@@ -100,7 +100,7 @@ differs_below h p lt false e = refl
 other_below : (h : Host) (p : Peer) → below h p ≡ true → same_host h p.host ≡ false
 other_below h p lt = differs_below h p lt (same_host h p.host) refl
 
--- a host that stands here is found here, goes from here, and is placed here
+-- a host that is here is found here, goes from here, and is placed here
 pub record StandsAt (h : Host) (ps : List Peer) (at : ℕ) : Type 0 where
   pub found : (d : Peer) → find (λ (p : Peer). same_host h p.host) ps ≡ Some (slice_index_or ps at d)
   pub removed : remove ps at ≡ without_peer h ps
@@ -137,7 +137,7 @@ stands_at h n (p ∷ ps) (suc at) d s lt e =
 less_of : (m n : ℕ) → n ≤ m → (n ≡ m → ⊥) → n < m
 less_of m n le ne = omega (arith, le, ne)
 
--- a host that doesn't stand here, where it would, stands nowhere, and is placed here
+-- a host that isn't here, where it would be, is nowhere, and is placed here
 pub record IsMissing (h : Host) (ps : List Peer) (at : ℕ) : Type 0 where
   pub found : find (λ (p : Peer). same_host h p.host) ps ≡ None
   pub removed : without_peer h ps ≡ ps
@@ -193,7 +193,7 @@ without_above h n (p ∷ ps) s = without_one h n p ps s (λ m t. without_above h
 
 -- ---- what was taken out is put back
 
--- below all peers it is placed in front
+-- below all peers it is placed first
 placed_first : (p : Peer) (n : ℕ) (ps : List Peer) → address_octet p.host ≤ n → StandAbove n ps → placed p ps ≡ p ∷ ps
 placed_first p n [] le s = refl
 placed_first p n (q ∷ qs) le s =
@@ -244,7 +244,7 @@ swapped_by : (h : Host) (o q : PairState) (ps : List Peer) → (b : Bool) → is
 swapped_by h o q ps true e = rw e (without_placed h o ps)
 swapped_by h o q ps false e = rw e (placed_twice h o q ps)
 
--- what stood in a peer's place doesn't matter once the peer is put back
+-- what was in a peer's place doesn't matter once the peer is put back
 pub again_swapped : (h : Host) (o q : PairState) (ps qs : List Peer) → qs ≡ placed (peer_at h o) ps → with_pair h q qs ≡ with_pair h q ps
 again_swapped h o q ps qs e = ap (λ (rs : List Peer). with_pair h q rs) e ∙ swapped_by h o q ps (is_opening q) refl
 
@@ -335,7 +335,7 @@ owner_known s socket change order (Some (h, e)) is =
     none_more (length (with_pair h (change e (pair_with h s.peers)) s.peers)) (length s.peers)
     (known_with socket s.peers h e (change e (pair_with h s.peers)) order is (is_opening (change e (pair_with h s.peers))) refl)
 
--- ---- what stands where a peer was put
+-- ---- what is where a peer was put
 
 pub order_removed : (h : Host) (ps qs : List Peer) → AreInOrder ps → qs ≡ without_peer h ps → AreInOrder qs
 order_removed h ps qs s e = subst (λ (rs : List Peer). AreInOrder rs) (sym e) (without_above h 0 ps s)
@@ -343,7 +343,7 @@ order_removed h ps qs s e = subst (λ (rs : List Peer). AreInOrder rs) (sym e) (
 pub order_placed : (p : Peer) (ps qs : List Peer) → IsAddress p.host → AreInOrder ps → qs ≡ placed p ps → AreInOrder qs
 order_placed p ps qs a s e = subst (λ (rs : List Peer). AreInOrder rs) (sym e) (placed_above 0 p ps (omega (arith, a.imp_from)) a s)
 
--- ---- a link that is freed where the pair stands
+-- ---- a link that is freed where the pair is
 
 ready_not_closed : (p : Phase) → is_ready p ≡ true → is_closed p ≡ false
 ready_not_closed phase.Closed e = absurd (cc)
@@ -369,7 +369,7 @@ freed_there h link at p ps qs found stands quiet is =
     let put : qs ≡ placed (record { host = h; pair = freed link p.pair }) ps = is p ∙ ap (λ (q : Peer). placed (record { host = h; pair = freed link q.pair }) ps) (sym stands) in
     rw (pair, quiet_stays link p.pair quiet) put
 
--- ---- a command that waits where the pair stands
+-- ---- a command that waits where the pair is
 
 not_none : (n : ℕ) (b : Bool) → (suc n == 0) ≡ b → b ≡ false
 not_none n true e = absurd (omega (arith, eqb-true (suc n) 0 e))
@@ -428,7 +428,7 @@ pub granted_there : (h : Host) (s messages bits : ℕ) (c : Command) (at : ℕ) 
 granted_there h s messages bits c at ps qs done there found is =
     changed_there h (λ (q : PairState). commanded c (with_end s (granted messages bits) q)) at ps qs done (grant_stays s messages bits c) there found is
 
--- ---- bits that wait where the pair stands
+-- ---- bits that wait where the pair is
 
 as_many_by : (test : Entry → Bool) (change : Entry → Entry) (e : Entry) (es : List Entry) → length (changed_first test change es) ≡ length es → (b : Bool) → test e ≡ b
     → length (changed_first test change (e ∷ es)) ≡ length (e ∷ es)

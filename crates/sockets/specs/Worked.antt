@@ -110,7 +110,7 @@ first_in steps = state_of (talk steps) first
 abbrev pub second_in : List Step → NcpState
 second_in steps = state_of (talk steps) second
 
--- what the later steps tell
+-- what the later steps report
 abbrev pub news : List Step → List Step → List (Host × Notice)
 news before steps = (played steps (record (talk before) { notices = [] })).notices
 
@@ -173,7 +173,7 @@ ECO octet = 9 ∷ octet ∷ []
 abbrev pub ERP : ℕ → List ℕ
 ERP octet = 10 ∷ octet ∷ []
 
--- a kind of error, and what it quotes, with this many zeros behind it
+-- a kind of error, and what it quotes, with this many zeros after it
 abbrev pub ERR : ℕ → List ℕ → ℕ → List ℕ
 ERR code octets zeros = 11 ∷ code ∷ octets ++ replicate zeros 0
 

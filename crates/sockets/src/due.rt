@@ -21,7 +21,7 @@ pub(crate) enum Due {
 }
 
 /// Returns whether commands wait, and the link of commands has no message outstanding. It promises nothing: what goes
-/// next is told either way, and bytes that go while commands have to wait are looked for once.
+/// next is answered either way, and bytes that go while commands have to wait are looked for once.
 fn commands_may_go(pair: &Pair) -> bool {
     !pair.queue.as_slice().is_empty() && !is_busy(&pair.busy, 0)
 }
@@ -44,7 +44,7 @@ impl Due {
         Due::exact(pair, pair.next())
     }
 
-    /// Returns what goes out of a pair next, as the pair tells it.
+    /// Returns what goes out of a pair next, as the pair says.
     #[tactic(auto, using(crate::proofs::DueLemmas::known_next))]
     pub(crate) fn exact(pair: &Pair, out: Option<Outgoing>) -> Due
         requires next { MatchOption out (next_of pair.now ≡ None) (λ out. next_of pair.now ≡ Some (parcel_of pair.now.entries out)) }

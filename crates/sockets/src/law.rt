@@ -121,11 +121,11 @@ pub fn parcels()
 
 /// Whom the host's user is notified of.
 pub fn notices()
-    // what a message tells is about its source, what an answer tells about the destination of what is answered
+    // what a message reports is about its source, what an answer reports is about the destination of what is answered
     ensures message { (s : NcpState) (m : HostMessage) (stamp : ℕ) → AreAbout m.flow.source (accepted s (inbound.Message m) stamp).1 }
     ensures answer { (s : NcpState) (kind : Answer) (f : Flow) (stamp : ℕ) → AreAbout f.destination (accepted s (inbound.Answer kind f) stamp).1 }
 
-    // what goes out tells about the peer that it goes to, and a contact about its peer
+    // what is reported of what goes out is about the peer that it goes to, and of a contact about its peer
     ensures offer { (s : NcpState) (stamp : ℕ) (p : Peer) (parcel : Parcel) → next_in s.peers ≡ Some (p, parcel) → AreAbout p.host (offered s stamp).1 }
     ensures contact { (s : NcpState) (peer : Host) → AreAbout peer (served_notices s (request.Contact peer)) }
 {}

@@ -296,7 +296,7 @@ pub fn worked_errors()
     ensures greatest_control { (control_heard (second_in reset) first (replicate 118 0 ++ ERP 65)).1 ≡ notice.Echoed first 65 ∷ [] }
     ensures too_great_control { next_out (control_heard (second_in reset) first (replicate 119 0 ++ ECO 65)).0 ≡ Some (control second first (ERR 3 (0 ∷ 8 ∷ 0 ∷ 121 ∷ 0 ∷ []) 5)) }
 
-    // after a field outside its range the reading goes on; after an illegal code and missing octets it doesn't, but what came before is heard
+    // after a field outside its range the reading continues; after an illegal code and missing octets it doesn't, but what came before is heard
     ensures goes_on { next_out (control_heard (second_in reset) first (RTS 16 33 1 ++ RTS 17 33 5 ++ RTS 16 34 5 ++ RTS 16 33 32 ++ STR 33 16 0 ++ ECO 65)).0 ≡ Some (control second first (ERR 3 (RTS 16 33 1) 0 ++ ERR 3 (RTS 17 33 5) 0 ++ ERR 3 (RTS 16 34 5) 0 ++ ERR 3 (RTS 16 33 32) 0 ++ ERR 3 (STR 33 16 0) 0 ++ ERP 65)) }
     ensures ends_at_an_illegal_code { next_out (control_heard (second_in reset) first (ECO 65 ++ 14 ∷ ECO 66)).0 ≡ Some (control second first (ERP 65 ++ ERR 1 (14 ∷ ECO 66) 7)) }
 

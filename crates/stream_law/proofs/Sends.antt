@@ -23,7 +23,7 @@ opens c s e =
 both_are : (o : Option ℕ) (c k : ℕ) → o ≡ Some c → o ≡ Some k → k ≡ c
 both_are o c k e f = some_is k c (sym f ∙ e)
 
--- a size that is told once stays so
+-- a size that is said once stays so
 size_more : (c z : ℕ) (size : ℕ → Option ℕ) → size c ≡ None → (k y : ℕ) → size k ≡ Some y → for c (Some z) size k ≡ Some y
 size_more c z size none k y e = elim (at c (Some z) size k) [
   | inl t ↦ (let both : None ≡ Some y = sym none ∙ (ap size (sym t.0) ∙ e) in absurd (cc))
@@ -253,7 +253,7 @@ module _ (r : Receiver) (s : Sender) (d u : List Word) (h : Inv (made r s d u Em
     there : r.end ≡ Some c
     there = sole (made r s d u Empty) h c (h.heard c end) not_closed
 
--- it is told that its message was taken
+-- it is notified that its message was taken
 pub kept_told : (r : Receiver) (s : Sender) (d u : List Word) → Inv (made r s d u Taken) → Inv (made r s d u Empty)
 kept_told r s d u h = record {
   known = h.known;

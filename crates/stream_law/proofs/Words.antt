@@ -86,7 +86,7 @@ down_asked over asked more c f g own view (Ret k m b ∷ w) d = absurd d
 
 -- ---- from the sender to the receiver
 
--- a return stands before the CLS of its connection
+-- a return is before the CLS of its connection
 abbrev pub UpFits : (ℕ → Bool) → (ℕ → Bool) → (ℕ → Bool) → (ℕ → Option ℕ) → List Word → Type 0
 UpFits over asked closed size [] = Unit {0}
 UpFits over asked closed size (Str c z ∷ w) = (size c ≡ Some z) × UpFits over asked closed size w

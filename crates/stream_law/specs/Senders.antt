@@ -26,7 +26,7 @@ is_open c s = s.opened && not s.shut && not (s.closed c)
 -- ---- what it does
 
 pub data Move : Type 0 where
-  -- it asks for a connection, whatever its link will be, and tells its byte size
+  -- it asks for a connection, whatever its link will be, and says its byte size
   Ask : (connection size : ℕ) → Move
   -- its end opens
   Open : (connection : ℕ) → Move

@@ -94,7 +94,7 @@ step_grows n (event.Ask f) = grows_at (imp_at n.imps f.source.imp) (λ s. ask_gr
 abbrev pub brings_bits : List (Option State) → Wire → Bool
 brings_bits imps w = (imp_is_up (imp_at imps w.b) && list_any copy_grows w.forward) || (imp_is_up (imp_at imps w.a) && list_any copy_grows w.back)
 
--- A quiet round may run out of memory in two cases: an IMP that is up puts a frame on a line when it tells its distances, as it does on
+-- A quiet round may run out of memory in two cases: an IMP that is up puts a frame on a line when it sends its distances, as it does on
 -- each of its ends that is up; or a frame that has bits goes to an IMP that is up, and is copied when it is delivered. In every other
 -- subnet no IMP sends anything in the round, and nothing is copied
 abbrev pub round_grows : Net → Bool

@@ -58,7 +58,7 @@ accepted s = None
 
 -- ---- offering
 
--- the number that would lie one step too far behind, once the next is begun, is alive
+-- the number that would be one step too old, once the next is begun, is alive
 abbrev pub alive_behind : Net → Flow → Option ℕ → Bool
 alive_behind n f None = false
 alive_behind n f (Some number) = is_alive n f (oldest number)
@@ -135,7 +135,7 @@ frame_refusal n l d k = if nat_lt l (length n.lines) && nat_lt k (length (frames
 
 -- ---- a quiet round
 
--- an IMP tells its distances and sends again
+-- an IMP sends its distances and sends again
 abbrev pub refreshed : Net → ℕ → Net
 refreshed n i = (let told : Net = at_imp (imp_at n.imps i) i route n in at_imp (imp_at told.imps i) i resend told)
 
@@ -157,7 +157,7 @@ abbrev pub all_turns : List ℕ → Net → Net
 all_turns [] n = n
 all_turns (l ∷ lines) n = all_turns lines (turn_of l way.Back (turn_of l way.Forward n))
 
--- First each IMP that is up, in order, tells its distances and sends again. Then the frames of each line are delivered, from `a`
+-- First each IMP that is up, in order, sends its distances and sends again. Then the frames of each line are delivered, from `a`
 -- and then from `b`; frames that this puts on later lines are delivered in the same round
 abbrev pub quiet_round : Net → Net
 quiet_round n = all_turns (range_with_len 0 (length n.lines)) (all_refreshed (range_with_len 0 (length n.imps)) n)

@@ -11,7 +11,7 @@ use Rattle.routing.specs.Vector.{IsVector}
 use Rattle.imp_node.specs.State.{State}
 use Rattle.subnet.specs.Net.{Net, Wire}
 
--- the distances that a frame tells
+-- the distances that a frame announces
 abbrev pub TellsVector : Content → Type 0
 TellsVector (content.Packet carried) = Unit {0}
 TellsVector content.Nothing = Unit {0}

@@ -21,7 +21,7 @@ pub enum ImpCall {
     Arrive(u8, Frame),
     /// What is not acknowledged is sent again.
     Resend,
-    /// It tells its neighbours its distances.
+    /// It sends its neighbours its distances.
     Route,
     /// The end of a line at a port stops.
     EndDown(u8),

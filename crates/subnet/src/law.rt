@@ -145,7 +145,7 @@ pub fn sound_messages()
     // a host takes what waits for it, where that is not refused: an answer, a message, for which its source is notified, or nothing
     ensures take_in { (n : Net) (h : Host) → take_refusal n h ≡ None → IsSound n → IsSound (take_in n h) }
 
-    // a frame is delivered: it is lost, or its packet goes on, is joined with others, makes its message whole, can't be delivered, or
+    // a frame is delivered: it is lost, or its packet continues, is joined with others, makes its message whole, can't be delivered, or
     // brings an answer
     ensures deliver { (n : Net) (l : ℕ) (d : Direction) (k : ℕ) → IsSound n → IsSound (stepped n (event.Deliver l d k)) }
 {}
@@ -205,7 +205,7 @@ pub fn sound_steps()
     // any event, where it is not refused
     ensures step { (n : Net) (e : NetEvent) → step_refusal n e ≡ None → IsSound n → IsSound (stepped n e) }
 
-    // all IMPs tell their distances and send again, and all frames are delivered
+    // all IMPs send their distances and send again, and all frames are delivered
     ensures quiet_round { (n : Net) → IsSound n → IsSound (quiet_round n) }
 {}
 
@@ -352,7 +352,7 @@ pub fn worked_third_imps()
 
 /// An IMP asks what became of a message.
 pub fn worked_asking()
-    // the question goes on the line to the destination's IMP. Without a live route nothing does
+    // the question is put on the line to the destination's IMP. Without a live route nothing is
     ensures goes { (stepped (pair (Some expecting) (Some imp_2) [] []) (event.Ask ours)).lines ≡ wire (ask_frame 0 ∷ []) [] ∷ [] }
     ensures unrouted { (stepped (pair (Some expecting_cut_off) (Some imp_2) [] []) (event.Ask ours)).lines ≡ wire [] [] ∷ [] }
 
@@ -417,10 +417,10 @@ pub fn worked_refusals()
 
 /// What a quiet round does to IMPs and frames.
 pub fn worked_rounds()
-    // after one round from the opening each IMP has heard what the other could tell before the round, and no frame is left
+    // after one round from the opening each IMP has heard what the other could announce before the round, and no frame is left
     ensures heard { quiet_round opened_pair ≡ pair (Some imp_1) (Some imp_2) [] [] }
 
-    // an IMP tells its distances before it sends again
+    // an IMP sends its distances before it sends again
     ensures told_first { (refreshed (pair (Some sending_ours) None [] []) 1).lines ≡ wire (record { acks = no_acks; content = content.Routes (0 ∷ 1 ∷ replicate (most_imps - 2) infinite) } ∷ data_frame 0 ∷ []) [] ∷ [] }
 
     // a packet that came before is sent again and acknowledged, and its acknowledgement is delivered in the same round
@@ -433,7 +433,7 @@ pub fn worked_rounds()
     // and what comes over the second line is on the first one after it
     ensures too_late { frames_on way.Back (wire_at (quiet_round (row (Some first_in_row) (Some middle_in_row) (Some last_in_row) [] (packet_frame 0 (only_packet flow_3_1 0) ∷ []))).lines 0) ≡ packet_frame 0 (only_packet flow_3_1 0) ∷ [] }
 
-    // an IMP that is down tells nothing, and frames to it are dropped
+    // an IMP that is down announces nothing, and frames to it are dropped
     ensures down { quiet_round (pair (Some imp_1) None (data_frame 0 ∷ []) []) ≡ pair (Some imp_1) None [] [] }
 {}
 
@@ -442,7 +442,7 @@ pub fn worked_memory()
     // an IMP that stops: only where a host goes down with it
     ensures stops { (step_grows (pair (Some one_host_down) (Some imp_2) [] []) (event.ImpDown 1) ≡ true) × (step_grows (pair (Some hosts_down) (Some imp_2) [] []) (event.ImpDown 1) ≡ false) }
 
-    // a quiet round: an IMP that is up tells its distances. A frame that goes to an IMP that is down is dropped, and not copied
+    // a quiet round: an IMP that is up sends its distances. A frame that goes to an IMP that is down is dropped, and not copied
     ensures told { round_grows (pair (Some imp_1) None [] []) ≡ true }
     ensures ignored { round_grows (pair None None (data_frame 0 ∷ []) (rfnm_frame 0 ∷ [])) ≡ false }
 

@@ -14,7 +14,7 @@ use std::alloc::{AllocError, Global};
 use std::collections::VecDeque;
 use std::marker::Model;
 
-/// How many numbers an IMP can have that an octet tells.
+/// How many numbers an IMP can have that fit in an octet.
 const NUMBERS: usize = 256;
 
 /// The lines at the ports of one IMP, in their order.

@@ -51,7 +51,7 @@ impl Parts {
         Ok(())
     }
 
-    /// Returns whether an offer would begin a number of this flow while the number that lies too far behind the last
+    /// Returns whether an offer would begin a number of this flow while the number that lies too far before the last
     /// one is alive, or while the destination's IMP keeps the number that would be begun.
     fn is_in_the_way(&self, flow: &Flow, highest: Number) -> bool
         requires sound { IsSound self.now }
@@ -66,7 +66,7 @@ impl Parts {
         }
     }
 
-    /// Returns whether the number that lies too far behind the last one of this source's IMP is alive.
+    /// Returns whether the number that lies too far before the last one of this source's IMP is alive.
     fn is_behind(&self, imp: &Imp, flow: &Flow, highest: Number) -> bool
         requires here { imp_at self.now.imps flow.now.source.imp ≡ Some imp.now }
         requires sound { IsSound self.now }

@@ -1,4 +1,4 @@
-//! Quiet rounds: every IMP tells and sends again, and every frame arrives once.
+//! Quiet rounds: every IMP sends its distances and sends again, and every frame arrives once.
 
 ghost use Rattle.std.specs.Prelude.{◌≡◌, ◌<◌, length, slice_get, true, false, IfOk, OnOk, OnErr};
 ghost use Rattle.std.specs.List.{range_with_len};

@@ -21,7 +21,7 @@ use std::alloc::AllocError;
 
 impl Parts {
     /// Lets the IMP of this number send again, if it is up. Where no packet waits in it, the call would do nothing
-    /// else, and its frames go on the lines one by one.
+    /// else, and its frames are put on the lines one by one.
     ///
     /// Errors: memory runs out, and nothing else.
     #[tactic(auto, using(crate::proofs::Calls::Attempting::resend_ignores, crate::proofs::Calls::Resending::resent_alone, crate::proofs::Calls::Telling::told_lives, crate::proofs::Calls::Resending::resent_grows))]

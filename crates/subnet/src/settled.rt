@@ -15,8 +15,8 @@ use imp_node::Imp;
 use leader1822::{Direction, HostAddr};
 
 impl Parts {
-    /// Returns whether no frame is on a line, no IMP stores a packet, and what each IMP would tell its neighbours they
-    /// heard last. A quiet round then changes nothing.
+    /// Returns whether no frame is on a line, no IMP stores a packet, and each IMP's neighbours heard last what it
+    /// would announce. A quiet round then changes nothing.
     #[tactic(auto, using(crate::proofs::Calls::Settled::round_rests))]
     pub(crate) fn is_settled(&self) -> bool
         ensures { result ≡ true → events.quiet_round self.now ≡ self.now }
@@ -86,7 +86,7 @@ impl Parts {
     }
 
     /// Returns whether the IMP that the frames of a directed line go to has heard last what the IMP that they come from
-    /// would tell it.
+    /// would announce.
     #[tactic(auto, using(crate::proofs::Calls::Settled::heard_at))]
     fn has_heard(&self, line: usize, direction: Direction) -> bool
         requires { line < length self.now.lines }

@@ -252,7 +252,7 @@ impl Carrier for Subnet {
         self.round()
     }
 
-    /// It is known from the first quiet round on that finds no frame on a line, no packet in an IMP and no distances to tell,
+    /// It is known from the first quiet round on that finds no frame on a line, no packet in an IMP and no distances to announce,
     /// until something is done in the network, and only while nothing waits for any host that is up.
     fn rests(&self) -> bool {
         self.is_at_rest()

@@ -1,4 +1,4 @@
-//! An IMP tells its distances, in a quiet round.
+//! An IMP sends its distances, in a quiet round.
 
 ghost use Rattle.std.specs.Prelude.{◌≡◌, ◌<◌, true, length, OnOk, OnErr};
 ghost use Rattle.routing.specs.RouteTable.{vector_of};
@@ -19,7 +19,7 @@ use std::alloc::AllocError;
 
 impl Parts {
     /// Lets the IMP of this number send its distances, if it is up. Where no packet waits in it, the call would do
-    /// nothing else, and its frames go on the lines one by one.
+    /// nothing else, and its frames are put on the lines one by one.
     ///
     /// Errors: memory runs out, and nothing else.
     #[tactic(auto, using(crate::proofs::Calls::Attempting::route_ignores, crate::proofs::Calls::Telling::told_alone, crate::proofs::Calls::Telling::told_lives, crate::proofs::Calls::Telling::told_grows))]
@@ -36,7 +36,7 @@ impl Parts {
         self.put_told(imp)
     }
 
-    /// Returns whether the IMP of this number is up and would tell its distances and do nothing else.
+    /// Returns whether the IMP of this number is up and would send its distances and do nothing else.
     fn only_tells(&self, imp: u8) -> bool
         ensures tells { result ≡ true → OnlyTells (imp_at self.now.imps imp) }
         ensures there { result ≡ true → imp < length self.now.imps }
@@ -59,7 +59,7 @@ impl Parts {
     }
 }
 
-/// Returns whether the IMP of a place is up and would tell its distances and do nothing else.
+/// Returns whether the IMP of a place is up and would send its distances and do nothing else.
 fn only_tells(place: &Option<Imp>) -> bool
     ensures { result ≡ true → OnlyTells place.now }
 {

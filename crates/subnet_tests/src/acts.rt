@@ -77,7 +77,7 @@ pub(crate) enum Act {
     Takes(u8),
     /// The acknowledgement of the frame of the octets beside it, which was taken at this port before.
     Answers(u8),
-    /// Whether what IMP 2, with this many ports, tells as it opens was heard last at this port.
+    /// Whether what IMP 2, with this many ports, announces as it opens was heard last at this port.
     HasHeard(u8, u8),
     /// All queries are made about a flow and its message 0.
     Look(Way),
@@ -101,7 +101,7 @@ pub(crate) enum Want {
     Up(bool),
     /// It is so, or it isn't.
     Is(bool),
-    /// The queries tell this.
+    /// The queries say this.
     Seen(Seen),
 }
 
@@ -122,7 +122,7 @@ pub(crate) enum Outcome {
     Up(bool),
     /// It is so, or it isn't.
     Is(bool),
-    /// The queries tell this.
+    /// The queries say this.
     Seen(Seen),
 }
 
@@ -271,7 +271,7 @@ fn answered(
     sent(alloc, Ok(frames), out)
 }
 
-/// Whether what IMP 2, with this many ports, tells as it opens was heard last at a port.
+/// Whether what IMP 2, with this many ports, announces as it opens was heard last at a port.
 fn heard(alloc: Global, imp: &Imp, port: u8, ports: u8) -> Result<Outcome, CarrierFault> {
     let other = opened(alloc, 2, ports)?;
     Ok(Outcome::Is(imp.has_heard(port, &other, 0)))

@@ -214,7 +214,7 @@ const TOLD_OUT: [u8; 134] = [
     63, 63, 63, 63, 63, 63, 63, 63, 63, 63, 63, 63, 63, 63, 63, 63, 63, 63,
 ];
 
-/// The middle of three hears its neighbours and tells its distances.
+/// The middle of three hears its neighbours and sends its distances.
 const TOLD: [Row<'static>; 3] = [
     (Act::Hear(0), &FROM_1, Want::Sent(0), &[]),
     (Act::Hear(1), &FROM_3, Want::Sent(0), &[]),

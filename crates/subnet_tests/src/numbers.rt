@@ -5,7 +5,7 @@ use leader1822::{Answer, CarrierFault, Direction};
 use std::alloc::{AllocError, Global};
 use subnet::Subnet;
 
-/// Message 0 to a host two lines away is taken and answered. Then IMP 2 forgets what IMP 1 told it, tells IMP 1 its own
+/// Message 0 to a host two lines away is taken and answered. Then IMP 2 forgets IMP 1's distances, sends IMP 1 its own
 /// distances once more, and is cut off from that host's IMP.
 const FIRST: [Row; 14] = [
     (Act::Rounds(2), Want::Done),

@@ -1,4 +1,4 @@
-//! Worked examples of the queries that tell which calls of an IMP would change nothing.
+//! Worked examples of the queries that say which calls of an IMP would change nothing.
 
 use crate::acts::{Act, Row, Want, Way, other_at};
 use crate::imps::{EIGHT_BITS_OUT, EMPTY, FROM_2, FROM_3, long_text, pieces_out};

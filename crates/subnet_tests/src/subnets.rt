@@ -47,8 +47,8 @@ fn flow_to(who: Who, link: u8) -> Flow {
     }
 }
 
-/// Something done to a subnet, or asked of it. Flows are told by their destination, and are on link 5 where no
-/// link is told.
+/// Something done to a subnet, or asked of it. Flows are named by their destination, and are on link 5 where no
+/// link is named.
 #[derive(Clone, Copy)]
 pub(crate) enum Act {
     /// A message on this link is offered, with this many bits of octets that are all this one.
@@ -91,7 +91,7 @@ pub(crate) enum Event {
     Drop(Direction, u32),
     /// IMP 1 sends again.
     Resend,
-    /// IMP 2 tells its distances.
+    /// IMP 2 sends its distances.
     Route,
     /// The end of line 0 at this IMP stops.
     EndDown(At),
@@ -494,7 +494,7 @@ fn sixteen_messages_wait_for_a_host_and_no_more(rt: HostRuntime) {
 
 /// Single events: a message of which a piece is thrown away, a line that is cut, an IMP that stops.
 const BY_EVENTS: [Row; 25] = [
-    // IMP 2 tells IMP 1 its distances
+    // IMP 2 sends IMP 1 its distances
     (Act::Step(Event::Route), Want::Done),
     (Act::Step(Event::Deliver(Direction::Back, 0)), Want::Done),
     // a message of two packets, of which one arrives and is thrown away
@@ -556,7 +556,7 @@ const NEVER_SENT: [Row; 8] = [
     (Act::Rounds(2), Want::Done),
     (Act::Offer(Who::Near, 5, 8, 0xFF), Want::Done),
     (Act::Step(Event::Ask(Who::Near)), Want::Done),
-    // the question is the second frame, behind the message's packet
+    // the question is the second frame, after the message's packet
     (Act::Step(Event::Deliver(Direction::Forward, 1)), Want::Done),
     (Act::Rounds(3), Want::Done),
     (
@@ -576,7 +576,7 @@ fn what_never_came_is_not_taken_later(rt: HostRuntime) {
     assert_eq!(rt; played_by_two(rt.alloc(), &NEVER_SENT, log), Ok((8, true)));
 }
 
-/// A message that was taken while its RFNM had no line to go on.
+/// A message that was taken while its RFNM had no line to be sent on.
 const RFNM_LOST: [Row; 11] = [
     (Act::Rounds(2), Want::Done),
     (Act::Offer(Who::Near, 5, 8, 0xFF), Want::Done),
@@ -695,7 +695,7 @@ fn a_source_that_is_down_may_be_asked_for(rt: HostRuntime) {
     assert_eq!(rt; played_by_two(rt.alloc(), &WHO_ASKS, log), Ok((13, true)));
 }
 
-/// The network rests once its IMPs have told their distances, and no longer when a message goes out: not while its packet is on a
+/// The network rests once its IMPs have sent their distances, and no longer when a message goes out: not while its packet is on a
 /// line, nor while it waits for its host, nor while its RFNM waits for the source. An event that is refused leaves it at rest, and a
 /// host that is down takes nothing.
 const AT_REST: [Row; 22] = [

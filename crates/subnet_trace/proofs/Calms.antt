@@ -112,7 +112,7 @@ delivered_log : (n : Net) (l : ℕ) (d : Direction) (o : Option Frame) → (deli
 delivered_log n l d None = refl
 delivered_log n l d (Some f) = at_log n _ (imp_at n.imps (far_end d (wire_at n.lines l))) _
 
--- ---- IMPs tell and send again
+-- ---- IMPs send their distances and send again
 
 -- an IMP of the network that is up, or none that is up
 data Standing (n : Net) (i : ℕ) : Type 0 where
@@ -261,7 +261,7 @@ does_quiet hosts lines round n =
 
 -- ---- takings
 
--- a call that was refused, in a calm that goes on
+-- a call that was refused, in a calm that continues
 pub refused : (refusal : Option CarrierFault) (grows : Bool) (old new : Kept) (f : CarrierFault) → Fails refusal grows (is_memory f) f old new → (is_halt f || is_memory f) ≡ false → (refusal ≡ Some f) × (new ≡ old)
 refused refusal grows old new f k calm = by (is_memory f) (or_second (is_halt f) (is_memory f) calm) k where
   or_second : (a b : Bool) → (a || b) ≡ false → b ≡ false

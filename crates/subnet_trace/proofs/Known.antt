@@ -1,4 +1,4 @@
--- All that is in a subnet can be told after each event, if it could be before.
+-- All that is in a subnet can be printed after each event, if it could be before.
 use Rattle.std.proofs.Common.{◌≡◌, ℕ, zero, suc, ◌+◌, ◌≤◌, ◌<◌, List, [], ◌∷◌, length, map, count_by, Option, Some, None, IfSome, slice_get, refl, ap, ◌∙◌, arith}
 use Rattle.std.proofs.lemmas.Bool.Decides.{nat_tests}
 use Rattle.std.proofs.lemmas.List.{length-set}
@@ -56,7 +56,7 @@ packet_told p is = record {
   place = omega (arith, is.place);
 }
 
--- ---- a subnet of this network of which all flows and channels can be told
+-- ---- a subnet of this network of which all flows and channels can be printed
 
 abbrev ImpKnows : Option State → Type 0
 ImpKnows None = Unit {0}
@@ -212,7 +212,7 @@ opening_known hosts sites ends = record {
   network = record { hosts = refl; sites = refl; lines = refl };
 }
 
--- ---- so it is told
+-- ---- so it is printed
 
 frame_told : (c : Content) → ContentFits c → TellsVector c → ContentHas IsPacket c → IsContentTold c
 frame_told (content.Packet carried) fits tells has = record { channel = fits; packet = packet_told carried.packet has }

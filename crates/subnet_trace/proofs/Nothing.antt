@@ -71,7 +71,7 @@ none_carried zero n l d none = refl
 none_carried (suc count) n l d none =
     ap (λ (m : Net). carried count l d m) (ap (λ (m : Net). drop_frame m l d 0) (none_delivered n l d none) ∙ none_dropped n l d none) ∙ none_carried count n l d none
 
--- ---- frames that an IMP puts on lines come behind those that are live
+-- ---- frames that an IMP puts on lines come after those that are live
 
 followed_live : (fs : List Frame) (f : Frame) → 0 < length fs → 0 < length (followed_by fs f)
 followed_live fs f live = by (nat_lt (length fs) line_places) where

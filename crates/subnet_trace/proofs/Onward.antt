@@ -1,4 +1,4 @@
--- A calm of a subnet goes on.
+-- A calm of a subnet continues.
 use Rattle.std.proofs.Common.{◌≡◌, ℕ, suc, ◌+◌, ◌-◌, ◌<◌, ◌&&◌, nat_lt, not, is_none, is_some, Bool, true, false, List, [], if◌then◌else◌, length, Option, Some, None, Result, Ok, Err, slice_get, slice_set, refl, sym, ap, ◌∙◌, subst, arith}
 use Rattle.std.proofs.lemmas.Bool.{ltb-false}
 use Rattle.std.proofs.lemmas.List.{get_or_past, nil_from_length, set-get_or}
@@ -104,7 +104,7 @@ took old new h (Err f) may goes k =
     let w = refused (refusal_of old (λ n. take_refusal n h)) (take_grows old.net h) old new f k goes in
     absurd (not_some (sym (given_takes old.net h may) ∙ refusal_is old.stopped (take_refusal old.net h) f w.0 (or_first (is_halt f) (is_memory f) goes)))
 
--- so where it happens and the subnet goes on, the subnet is as is said
+-- so where it happens and the subnet continues, the subnet is as is said
 came : (old new : Kept) (e : RawEvent) (shown : List Shown) → MayCome old.net e → Happens of_subnet old e new shown → new.net ≡ after old.net e
 came old new (event.Net e) shown may k = called old new e k.outcome may k.goes_on k.gives
 came old new (event.Take h) shown may k = took old new h k.gives.0 may (subst GoesOn k.gives.2 k.goes_on) k.gives.1
@@ -117,7 +117,7 @@ once n (event.Take h) may = tt
 once n (event.Out m) may = absurd may
 once n (event.Calm rounds) may = absurd may
 
--- ---- a calm goes on
+-- ---- a calm continues
 
 abbrev left : Kept → Place → List Element
 left k p = calm_left k.net p

@@ -1,4 +1,4 @@
--- The parts of a subnet are printed: an IMP, and behind it its lines.
+-- The parts of a subnet are printed: an IMP, and after it its lines.
 use Rattle.std.proofs.Common.{◌≡◌, ℕ, suc, Bool, true, false, ◌<◌, ◌≤◌, ◌+◌, ◌-◌, List, [], ◌∷◌, ◌++◌, codes, filter, if◌then◌else◌, length, map, Option, refl, sym, ap, subst, ◌∙◌, arith}
 use Rattle.std.proofs.lemmas.List.{append_assoc}
 use Rattle.std.specs.Io.KnownBytes.{Appends}

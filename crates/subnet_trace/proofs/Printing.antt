@@ -64,7 +64,7 @@ ports_printed t i place a b c past remains last =
 
 -- ---- frames
 
--- what a frame has behind its acknowledgement bits
+-- what a frame has after its acknowledgement bits
 abbrev behind_acks : Content → List ℕ
 behind_acks content = codes "\"" ++ further (codes "}") (content_members content)
 
@@ -111,7 +111,7 @@ flows_printed name word number place es a b c remains last = end_printed (codes 
 
 -- ---- bits
 
--- the digit of the bit at a place, and those of the bits behind it
+-- the digit of the bit at a place, and those of the bits after it
 pub digit_before : (bits : List Bool) (i x : ℕ) (xs : List ℕ) → i < length bits → x ∷ [] ≡ bit_text (slice_index_or bits i false) → xs ≡ bits_text (drop (i + 1) bits) → x ∷ xs ≡ bits_text (drop i bits)
 digit_before bits i x xs lt is rest =
     ap (λ zs. x ∷ zs) rest ∙ ap (λ zs. zs ++ bits_text (drop (i + 1) bits)) is ∙ sym (at_drop_more bits_text bits i false lt)

@@ -1,4 +1,4 @@
--- Each subnet that a replay comes to is told by the texts of its parts.
+-- Each subnet that a replay comes to is determined by the texts of its parts.
 use Rattle.std.proofs.Common.{◌≡◌, ℕ, zero, suc, ◌+◌, ◌≤◌, ◌||◌, Bool, true, false, List, [], ◌∷◌, length, Option, Some, None, Result, Ok, Err, refl, sym, ap, ◌∙◌, subst, arith}
 use Rattle.std.proofs.lemmas.Bool.{false≢true}
 use Rattle.std.proofs.lemmas.Bool.Decides.{nat_tests}
@@ -41,9 +41,9 @@ address h is = record { imp_from = grind (arith, nat_tests); imp_to = grind (ari
 host_message : (m : HostMessage) → IsMessage m → IsHostMessage m
 host_message m is = record { source = address m.flow.source is.0.0; destination = address m.flow.destination is.0.1; link = is.0.2; text = is.1 }
 
--- ---- calls that went on
+-- ---- calls that continued
 
--- a subnet in which memory never ran out, and of which all can be told
+-- a subnet in which memory never ran out, and of which all can be printed
 record Holds (o : Net) (k : Kept) : Type 0 where
   working : IsWorking k
   runs : k.stopped ≡ false
@@ -90,7 +90,7 @@ round_holds old new (Err f) h goes holds = same_holds old new (unchanged _ _ old
 
 -- ---- a calm
 
--- after a part of a calm that goes on it holds as before
+-- after a part of a calm that continues it holds as before
 abbrev PartHolds : Net → Part Kept → Type 0
 PartHolds o P = (old new : Kept) (r : Result (Unit {0}) CarrierFault) → P old r new → GoesOn r → Holds o old → Holds o new
 

@@ -200,7 +200,7 @@ step_rest n (net.Forget at from) p placed ok there none = imp_rest n at _ p plac
 step_rest n (net.Abandon f) p placed ok there none = imp_rest n f.destination.imp _ p placed there none
 step_rest n (net.Ask f) p placed ok there none = imp_rest n f.source.imp _ p placed there none
 
--- ---- a call that went on
+-- ---- a call that continued
 
 -- it succeeded, or was refused and changed nothing
 abbrev Went : {T : Type 0} → (T → Type 0) → Option CarrierFault → Kept → Kept → Result T CarrierFault → Type 0

@@ -84,7 +84,7 @@ at_settles n i call each = by (imp_at n.imps i) refl where
   by None down = λ t is. absurd (not_some (sym down ∙ is))
   by (Some s) up = λ t is. subst IsStill (some_is (sym (set_here n.imps i s (Some (call s).state) up) ∙ is)) (each s)
 
--- ---- telling and sending again
+-- ---- sending distances and sending again
 
 route_still : (s : State) → IsStill (route s).state
 route_still s = pump_still (told_from (vector_of s.routes) 0 s.ports) s

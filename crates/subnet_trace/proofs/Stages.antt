@@ -95,7 +95,7 @@ sending_size round i n = by (can_resend n i) where
   by true = at_imp_size n i (imp_at n.imps i) _
   by false = same_size n
 
--- what is left where an IMP stands first
+-- what is left where an IMP is first
 imps_from : (round i : ℕ) (n : Net) → i < length n.imps
     → round_from_imp round i n ≡ then_course (telling round i n) (λ m. then_course (sending round i m) (λ o. then_course (all_refreshing round (numbers_from (i + 1) (length n.imps)) o) (round_from_line round 0)))
 imps_from round i n lt =
@@ -150,7 +150,7 @@ carrying_size round l d (suc frames) n = by (λ m. carrying_size round l d frame
       size_then n m (carrying round l d frames o).left (delivering_size (is_heard n l d)) (size_then m o (carrying round l d frames o).left (dropped_size m l d) (more o))
   by more false = same_size n
 
--- what is left where a line stands first is its turn forward, and what follows that
+-- what is left where a line is first is its turn forward, and what follows that
 lines_from : (round l : ℕ) (n : Net) → l < length n.lines → round_from_line round l n ≡ round_left round (stage.Carrying l way.Forward (live_frames n l way.Forward) false) n
 lines_from round l n lt =
     ap (λ ls. then_course (all_turning round ls n) (round_of_hosts round)) (numbers_here l (length n.lines) lt)
@@ -198,7 +198,7 @@ lines_past round l n le =
 
 -- ---- what comes next
 
--- what is left may be told in another way
+-- what is left may be said in another way
 pub next_as : (n : Net) (f g : ℕ → Course Net) (r : Option (RawEvent × Stage)) → ((round : ℕ) → g round ≡ f round) → IsNext n f r → IsNext n g r
 next_as n f g None same h = λ round. same round ∙ h round
 next_as n f g (Some next) same h = (h.0, λ round. same round ∙ h.1 round)

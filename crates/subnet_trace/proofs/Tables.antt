@@ -125,7 +125,7 @@ all_above : {V : Type 0} (f : Flow) (es : List (Flow × V)) → below_all flow_c
 all_above f [] h = All-nil (IsAbove f)
 all_above f (e ∷ es) h = let parts = both (is_lt (flow_cmp f e.0)) (below_all flow_cmp f es) h in All-cons (IsAbove f) e es parts.0 (all_above f es parts.1)
 
--- what is found behind an entry is found also with it
+-- what is found after an entry is found also with it
 later_found : {V : Type 0} (P : Flow × V → Type 0) (e : Flow × V) (es : List (Flow × V)) → ((f : Flow) (v : V) → find flow_cmp f (e ∷ es) ≡ Some v → P (f, v)) → (f : Flow) (v : V) → find flow_cmp f es ≡ Some v → IsAbove e.0 (f, v) → P (f, v)
 later_found {V} P e es found f v at above =
     let other : eq_by_cmp flow_cmp f e.0 ≡ false = ap is_eq (flows_total.antisymm f e.0) ∙ above_is_other (flow_cmp e.0 f) above in

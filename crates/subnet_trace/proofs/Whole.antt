@@ -1,4 +1,4 @@
--- The texts of all parts tell a subnet, but for its log.
+-- The texts of all parts determine a subnet, but for its log.
 use Rattle.std.proofs.Common.{◌≡◌, ℕ, suc, true, nat_lt, List, [], ◌∷◌, codes, length, map, Option, Some, None, is_some, slice_index_or, refl, sym, ap, ap₂, ◌∙◌, arith}
 use Rattle.std.proofs.lemmas.List.{get_or_default, same_lists}
 use Rattle.std.proofs.lemmas.List.Elements.{All-cons, All-head, All-nil, All-tail}

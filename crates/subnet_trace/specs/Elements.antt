@@ -51,7 +51,7 @@ from_subnet = record { is_given = gives; after = take_in }
 abbrev pub calling : ℕ → NetEvent → Net → Course Net
 calling round e n = one_event round (event.Net e) (stepped n e)
 
--- an IMP tells its distances, if it is up
+-- an IMP sends its distances, if it is up
 abbrev pub telling : ℕ → ℕ → Net → Course Net
 telling round i n = if is_working n i then calling round (net.Route i) n else no_course n
 
@@ -102,7 +102,7 @@ round_of_hosts round n = all_takings from_subnet round n.hosts n
 abbrev pub round_from_line : ℕ → ℕ → Net → Course Net
 round_from_line round l n = then_course (all_turning round (numbers_from l (length n.lines)) n) (round_of_hosts round)
 
--- the IMPs from this one on tell their distances and send again, and then lines and hosts have their turns
+-- the IMPs from this one on send their distances and send again, and then lines and hosts have their turns
 abbrev pub round_from_imp : ℕ → ℕ → Net → Course Net
 round_from_imp round i n = then_course (all_refreshing round (numbers_from i (length n.imps)) n) (round_from_line round 0)
 
@@ -118,7 +118,7 @@ elements_of n e = elements_in (calm_of n) e
 
 -- ---- in the middle of a calm
 
--- what is left of an IMP's part of a round, where it has told its distances, or has not
+-- what is left of an IMP's part of a round, where it has sent its distances, or has not
 abbrev pub imp_left : ℕ → ℕ → Bool → Net → Course Net
 imp_left round i false n = round_from_imp round i n
 imp_left round i true n = then_course (sending round i n) (round_from_imp round (i + 1))

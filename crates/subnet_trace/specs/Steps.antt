@@ -15,7 +15,7 @@ use Rattle.subnet_trace.specs.declared.place.Stage.TheVariants as stage
 
 -- ---- what comes next in a round
 
--- a call that may come in a calm: an IMP tells or sends again only where it is up, and of a line's frames the oldest is moved
+-- a call that may come in a calm: an IMP sends its distances or sends again only where it is up, and of a line's frames the oldest is moved
 abbrev pub MayCall : Net → NetEvent → Type 0
 MayCall n (net.Route i) = is_working n i ≡ true
 MayCall n (net.Resend i) = is_working n i ≡ true
@@ -45,7 +45,7 @@ IsNext n course (Some next) =
 
 -- ---- single events, and the stages after them
 
--- what an IMP does, where it has told its distances, or has not
+-- what an IMP does, where it has sent its distances, or has not
 abbrev pub call_of : Net → ℕ → Bool → Option (RawEvent × Stage)
 call_of n i false = if is_working n i then Some (event.Net (net.Route i), stage.Refreshing i true) else None
 call_of n i true = if can_resend n i then Some (event.Net (net.Resend i), stage.Refreshing (i + 1) false) else None

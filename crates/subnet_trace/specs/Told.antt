@@ -1,4 +1,4 @@
--- What the texts of a subnet's parts tell: all that is in it but its log, where memory has not run out, numbers are not too long for a
+-- What the texts of a subnet's parts say: all that is in it but its log, where memory has not run out, numbers are not too long for a
 -- decimal, and all distances are vectors.
 use Rattle.std.specs.Prelude.{◌≡◌, ℕ, ◌+◌, ◌<◌, ◌≤◌, ◌^◌, true, false, List, Option, Some, None, IfSome, All, length, map}
 use Rattle.std.specs.FinMap as fin
@@ -33,8 +33,8 @@ use Rattle.subnet_trace.specs.Parts.{Part, is_part, of_subnet, part_text}
 
 -- ---- values
 
--- its bits may be as many as they like: their octets tell how many there are to within eight, and the last digit of the decimal
--- tells the rest
+-- its bits may be as many as they like: their octets say how many there are to within eight, and the last digit of the decimal
+-- says the rest
 pub record IsPacketTold (p : PacketFields) : Type 0 where
   pub flow : IsFlowNamed (flow_of p)
   pub number : IsShort p.number
@@ -69,7 +69,7 @@ pub record IsPieceTold (s : SlotState) (p : PacketFields) : Type 0 where
   pub number : p.number ≡ s.number
   pub told : IsPacketTold p
 
--- pieces tell the message; without any there is no slot
+-- pieces determine the message; without any there is no slot
 pub record IsSlotTold (s : SlotState) : Type 0 where
   pub some : 0 < length s.pieces
   pub pieces : All (IsPieceTold s) s.pieces
@@ -122,7 +122,7 @@ pub record IsLineTold (w : Wire) : Type 0 where
 abbrev pub IsPlaced : Net → Type 0
 IsPlaced n = (i : ℕ) → site_at n i ≡ None → imp_at n.imps i ≡ None
 
--- there is a place for each IMP of the network and for no other, and what is in each part is told
+-- there is a place for each IMP of the network and for no other, and what is in each part is said
 pub record IsTold (n : Net) : Type 0 where
   pub places : length n.imps ≡ length n.sites
   pub there : IsPlaced n

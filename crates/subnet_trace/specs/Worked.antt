@@ -64,7 +64,7 @@ nowhere imps = record { hosts = []; sites = None ∷ []; imps = imps; lines = []
 
 -- ---- calms of the subnets of subnet's worked rows: IMPs 1 and 2, with two hosts each, and line 0 between them
 
--- in a round an IMP tells its distances, or sends again
+-- in a round an IMP sends its distances, or sends again
 abbrev pub tells : ℕ → ℕ → Element
 tells round i = record { round = round; event = event.Net (net.Route i) }
 

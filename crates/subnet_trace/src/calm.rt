@@ -81,7 +81,7 @@ fn next_in_round(subnet: &Subnet, stage: Stage) -> Option<(RawEvent, Stage)>
 
 // ---- IMPs
 
-/// Returns the next event from an IMP on, which has told its distances, or has not.
+/// Returns the next event from an IMP on, which has sent its distances, or has not.
 fn from_imp(subnet: &Subnet, imp: u8, mut told: bool) -> Option<(RawEvent, Stage)>
     ensures { IsNext subnet.now.net (λ round. imp_left round imp told subnet.now.net) result }
 {
@@ -94,7 +94,7 @@ fn from_imp(subnet: &Subnet, imp: u8, mut told: bool) -> Option<(RawEvent, Stage
     from_line(subnet, 0)
 }
 
-/// Returns what an IMP does, if it is up: it tells its distances, or, where it has told them, sends again if it holds a
+/// Returns what an IMP does, if it is up: it sends its distances, or, where it has sent them, sends again if it holds a
 /// packet.
 fn call_of(subnet: &Subnet, number: u8, told: bool) -> Option<(RawEvent, Stage)>
     ensures { result ≡ steps.call_of subnet.now.net number told }

@@ -44,7 +44,7 @@ pub fn rest()
     ensures opening { (hosts : List Host) (sites : List (Option ℕ)) (ends : List Ends) → IsPlaced (opening_subnet hosts sites ends) }
 {}
 
-/// The texts of all parts tell the whole state, but for the log, in every state that a replay comes to.
+/// The texts of all parts determine the whole state, but for the log, in every state that a replay comes to.
 pub fn whole()
     // of two subnets of one network of which `IsTold` holds
     ensures texts { (one other : Net) → IsTold one → IsTold other → IsOneNetwork one other → SameTexts one other → other ≡ record one { log = other.log } }

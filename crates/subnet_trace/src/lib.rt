@@ -1,6 +1,6 @@
 //! Traces of subnets: what happens inside IMPs and on lines, event by event.
 //!
-//! The *parts* of a subnet are its IMPs and its lines. Each has a JSON text, which tells all that is in it: an IMP's hosts
+//! The *parts* of a subnet are its IMPs and its lines. Each has a JSON text, which says all that is in it: an IMP's hosts
 //! with what waits for them, its ports with their channels, what its neighbours announced, the packets that it stores, the
 //! messages in reassembly and what it knows of flows; and the frames that are live on a line. An elementary event can
 //! change only the parts that `parts_of` names, and [`print_parts`] prints these.
@@ -10,7 +10,7 @@
 //!
 //! A reader of traces may rely on three laws ([`law`]). A calm is its elementary events one after another. What an event's
 //! parts do not name is as before. Of the subnets that replays come to, those with equal texts of all parts are equal, but
-//! for their logs; and the first line of a trace tells the network. So a trace leaves nothing out.
+//! for their logs; and the first line of a trace describes the network. So a trace leaves nothing out.
 #![tactic(auto)]
 
 mod calm;

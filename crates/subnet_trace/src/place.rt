@@ -16,11 +16,11 @@ pub struct Place {
 /// What comes next in a round of a calm.
 #[derive(Clone, Copy, Debug)]
 pub enum Stage {
-    /// An IMP tells its distances and sends again, and then those after it do.
+    /// An IMP sends its distances and sends again, and then those after it do.
     Refreshing {
         /// The number of the IMP.
         imp: u8,
-        /// Whether it has told its distances.
+        /// Whether it has sent its distances.
         told: bool,
     },
     /// The frames of a line are delivered and dropped, the oldest first, and then those of the lines after it.

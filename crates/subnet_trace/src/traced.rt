@@ -121,7 +121,7 @@ impl Inspect for TracedSubnet {
         print_whole(&self.subnet, writer)
     }
 
-    /// What crossed in the event does not matter: an event only tells which parts it can change.
+    /// What crossed in the event does not matter: an event only says which parts it can change.
     fn print_parts<W: Output>(
         &self,
         event: &RawEvent,

@@ -62,7 +62,7 @@ pub fn worked_parts()
 
 /// Why `IsTold` asks what it asks: in each row two values have one text.
 pub fn worked_untold()
-    // a decimal has 64 digits, so it doesn't tell numbers apart that have more: of packets, of frames, of messages and of flows
+    // a decimal has 64 digits, so it doesn't distinguish numbers that have more: of packets, of frames, of messages and of flows
     ensures number { packet_text (record rfnm { number = long }) ≡ packet_text (record rfnm { number = 2 * long }) }
     ensures place { packet_text (record rfnm { place = long }) ≡ packet_text (record rfnm { place = 2 * long }) }
     ensures link { packet_text (record rfnm { link = long }) ≡ packet_text (record rfnm { link = 2 * long }) }
@@ -139,11 +139,11 @@ pub fn worked_names()
 
 /// The elementary events of calms.
 pub fn worked_calms()
-    // all IMPs tell their distances, and then each frame is delivered and dropped: first those that go forward, and then those
+    // all IMPs send their distances, and then each frame is delivered and dropped: first those that go forward, and then those
     // that go back
     ensures opened { calm_of opened_pair 1 ≡ tells 1 1 ∷ tells 1 2 ∷ arrives 1 0 way.Forward ∷ gone 1 0 way.Forward ∷ arrives 1 0 way.Back ∷ gone 1 0 way.Back ∷ [] }
 
-    // an IMP that holds a packet sends it again, after it has told its distances. The acknowledgement comes in the same round, so
+    // an IMP that holds a packet sends it again, after it has sent its distances. The acknowledgement comes in the same round, so
     // that the IMP holds nothing in the next one
     ensures again { calm_of (pair (Some sending_ours) (Some past_one) [] []) 2 ≡ tells 1 1 ∷ sends 1 1 ∷ tells 1 2 ∷ arrives 1 0 way.Forward ∷ gone 1 0 way.Forward ∷ arrives 1 0 way.Forward ∷ gone 1 0 way.Forward ∷ arrives 1 0 way.Back ∷ gone 1 0 way.Back ∷ arrives 1 0 way.Back ∷ gone 1 0 way.Back ∷ tells 2 1 ∷ tells 2 2 ∷ arrives 2 0 way.Forward ∷ gone 2 0 way.Forward ∷ arrives 2 0 way.Back ∷ gone 2 0 way.Back ∷ [] }
 
@@ -161,7 +161,7 @@ pub fn worked_calms()
     // a taking that would be refused is none: the store of the IMP has no room for the RFNM
     ensures no_room { calm_of (pair None (Some full_at_2) [] []) 1 ≡ tells 1 2 ∷ sends 1 2 ∷ replicate 9 (gone 1 0 way.Back) }
 
-    // an IMP that is down tells nothing, and frames to it are dropped and not delivered
+    // an IMP that is down announces nothing, and frames to it are dropped and not delivered
     ensures down { calm_of (pair (Some imp_1) None (data_frame 0 ∷ []) []) 1 ≡ tells 1 1 ∷ gone 1 0 way.Forward ∷ gone 1 0 way.Forward ∷ [] }
     ensures all_down { calm_of two_lines 2 ≡ gone 1 0 way.Forward ∷ gone 1 0 way.Forward ∷ gone 1 0 way.Back ∷ gone 1 1 way.Back ∷ [] }
     ensures quiet { calm_of (pair None None [] []) 2 ≡ [] }
@@ -169,7 +169,7 @@ pub fn worked_calms()
 
 /// What is left of a calm at a place.
 pub fn worked_places()
-    // an IMP has told its distances, or has not
+    // an IMP has sent its distances, or has not
     ensures told { calm_left (pair (Some sending_ours) None [] []) (record { round = 1; rounds = 1; stage = stage.Refreshing 1 true }) ≡ sends 1 1 ∷ gone 1 0 way.Forward ∷ [] }
     ensures telling { calm_left (pair (Some imp_1) (Some imp_2) [] []) (record { round = 1; rounds = 1; stage = stage.Refreshing 2 false }) ≡ tells 1 2 ∷ arrives 1 0 way.Back ∷ gone 1 0 way.Back ∷ [] }
 

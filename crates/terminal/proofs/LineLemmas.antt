@@ -107,7 +107,7 @@ open_push : (rest : List ℕ) (x : ℕ) → ends_line rest x ≡ false → has_e
 open_push [] x stays endless = refl
 open_push (y ∷ ys) x stays endless = push_at (y ∷ ys) (length (y ∷ ys) - 1) x (omega arith) stays endless
 
--- what stands before octets without an end has none
+-- what is before octets without an end has none
 open_front : (xs ys : List ℕ) → has_end (xs ++ ys) ≡ false → has_end xs ≡ false
 open_front [] ys endless = refl
 open_front (x ∷ []) ys endless = refl

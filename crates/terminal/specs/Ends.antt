@@ -24,7 +24,7 @@ abbrev pub sending : ℕ → List Bool → List Request
 sending send [] = []
 sending send (b ∷ bs) = request.Send send (b ∷ bs) ∷ []
 
--- the bits that a notice tells of, where they arrived on this socket
+-- the bits that a notice reports, where they arrived on this socket
 abbrev pub arrived_on : ℕ → Notice → Option (List Bool)
 arrived_on receive (notice.Arrived socket bits) = if socket == receive then Some bits else None
 arrived_on receive n = None

@@ -34,7 +34,7 @@ ends_line rest octet = (octet == 10) && (slice_index_or rest (length rest - 1) 0
 abbrev pub Heard : Type 0
 Heard = List (List ℕ) × List ℕ
 
--- what is kept and told after one more octet
+-- what is kept and reported after one more octet
 abbrev pub hear : Heard → ℕ → Heard
 hear (lines, rest) octet =
     if ends_line rest octet then (lines ++ take (length rest - 1) rest ∷ [], []) else (lines, rest ++ octet ∷ [])

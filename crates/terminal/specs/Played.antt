@@ -39,7 +39,7 @@ echo_played s (n ∷ ns) =
 
 -- ---- the line terminal
 
--- what these notices leave of it, and all lines that it tells
+-- what these notices leave of it, and all lines that it reports
 abbrev pub terminal_played : TerminalState → List Notice → TerminalState × List (List ℕ)
 terminal_played s [] = (s, [])
 terminal_played s (n ∷ ns) =

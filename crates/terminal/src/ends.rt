@@ -37,7 +37,7 @@ pub(crate) fn granted_again(receive: u32, bits: &Bits) -> Request
     }
 }
 
-/// Returns the bits of a notice that tells of bits on this socket.
+/// Returns the bits of a notice that reports bits on this socket.
 pub(crate) fn arrived_on(receive: u32, notice: &Notice) -> Option<&Bits>
     ensures { MatchOption result (ends.arrived_on receive notice.now ≡ None) (λ bits. ends.arrived_on receive notice.now ≡ Some bits.now) }
 {
@@ -47,7 +47,7 @@ pub(crate) fn arrived_on(receive: u32, notice: &Notice) -> Option<&Bits>
     }
 }
 
-/// Returns the socket of a connection that a notice tells the end of.
+/// Returns the socket of a connection that a notice reports the end of.
 fn socket_ended(notice: &Notice) -> Option<u32>
     ensures { (receive send : ℕ) → MatchOption result (ends.closed_by receive send notice.now ≡ []) (λ socket. ends.closed_by receive send notice.now ≡ ends.closing receive send socket) }
 {

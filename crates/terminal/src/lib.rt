@@ -2,10 +2,10 @@
 //!
 //! An initial connection leaves each of two hosts with a socket on which it receives and one on which it
 //! sends, both in octets. Here live the two programs that use them: one sends back what it receives, bit by
-//! bit, the other sends lines that a user types and tells of the lines that come in, read as octets. Each is
+//! bit, the other sends lines that a user types and reports the lines that come in, read as octets. Each is
 //! a machine: a notice of the network control program goes in, and requests to it come out.
 //!
-//! The layer above relies on what it says of lines (nothing that arrives is lost, and a line is told once it
+//! The layer above relies on what it says of lines (nothing that arrives is lost, and a line is reported once it
 //! has ended), and on the exact requests. Nothing here knows how the connections came about.
 #![tactic(auto)]
 

@@ -1,4 +1,4 @@
-//! The line terminal: it sends typed lines, and tells the lines that arrive.
+//! The line terminal: it sends typed lines, and reports the lines that arrive.
 
 ghost use Rattle.std.specs.Prelude.{◌≡◌, ◌<◌, [], ◌∷◌, true, false, length, MatchResult, IfOk, Err, OnErr, Ok};
 ghost use Rattle.terminal.specs.Ends as ends;
@@ -15,7 +15,7 @@ use sockets::{Notice, Request};
 use std::alloc::{AllocError, Global};
 use std::marker::Model;
 
-/// A terminal at which a user types lines, and which tells of the lines that come in.
+/// A terminal at which a user types lines, and which reports the lines that come in.
 ///
 /// A call that runs out of memory leaves it spent, and no call may follow.
 #[derive(Drop)]

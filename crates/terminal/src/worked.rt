@@ -70,10 +70,10 @@ pub fn worked_echo()
 /// What the line terminal does, with the sockets 18 and 19.
 #[tactic(auto, unfolding(crate::specs::Machines::terminal_turn, crate::specs::Machines::terminal_heard, bit_messages::specs::Octets::octets_of))]
 pub fn worked_terminal()
-    // a line and the beginning of the next: all is granted again, and the line is told
+    // a line and the beginning of the next: all is granted again, and the line is reported
     ensures line { terminal_turn (opening_terminal 18 19) (notice.Arrived 18 (bits_of (72 ∷ 73 ∷ 13 ∷ 10 ∷ 74 ∷ []))) ≡ turn (record (opening_terminal 18 19) { rest = 74 ∷ [] }) (request.Grant 18 1 40 ∷ []) ((72 ∷ 73 ∷ []) ∷ []) }
 
-    // a line that comes in three messages, cut within an octet and within its end, is told once
+    // a line that comes in three messages, cut within an octet and within its end, is reported once
     ensures in_parts { terminal_played (opening_terminal 18 19) (notice.Arrived 18 (false ∷ true ∷ false ∷ []) ∷ notice.Arrived 18 (false ∷ true ∷ false ∷ false ∷ false ∷ bits_of (13 ∷ [])) ∷ notice.Arrived 18 (bits_of (10 ∷ [])) ∷ []) ≡ (opening_terminal 18 19, (72 ∷ []) ∷ []) }
 
     // its other socket and its ends

@@ -35,7 +35,7 @@ here : (test : Bool) (g h : Host) → test ≡ true → h ≡ g → is_host (hos
 here true g h t e = left_true (same_host h g) false (subst (λ (k : Host). same_host h k ≡ true) e (same_host-refl h))
 here false g h t e = absurd (false≢true t)
 
--- a host that stands in the list is one of its IMP
+-- a host that is in the list is one of its IMP
 stands : (imps : List ImpHosts) (n : ℕ) (h : Host) → is_host (hosts_below imps n) h ≡ true → has_host imps h.imp h.host ≡ true
 unfolding hosts_below
 stands imps zero h e = absurd (false≢true e)
@@ -63,7 +63,7 @@ last_or_before m n h = by (nat_lt m (n + 4)) refl
     by true e = inl (grind (arith, nat_tests))
     by false e = let most : n + 4 ≤ m = grind (arith, nat_tests) in inr (omega arith)
 
--- a host of an IMP stands at its place
+-- a host of an IMP is at its place
 stood : (imps : List ImpHosts) (n : ℕ) (h : Host) → has_host imps h.imp h.host ≡ true → 1 ≤ h.imp → h.host < 4 → 4 * h.imp + h.host < n + 4 → is_host (hosts_below imps n) h ≡ true
 unfolding hosts_below
 stood imps zero h has some few low = absurd (omega arith)

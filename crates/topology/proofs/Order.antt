@@ -16,7 +16,7 @@ ordered_more [] h o b = tt
 ordered_more (g ∷ []) h o b = (All-head (λ g. host_before g h ≡ true) g [] b, tt)
 ordered_more (g ∷ k ∷ hosts) h o b = (o.0, ordered_more (k ∷ hosts) h o.1 (All-tail (λ g. host_before g h ≡ true) g (k ∷ hosts) b))
 
--- a host stands at a place below this one
+-- a host is at a place below this one
 record StandsBelow (n : ℕ) (h : Host) : Type 0 where
   place : 4 * h.imp + h.host < n + 4
   host : h.host ≤ 3

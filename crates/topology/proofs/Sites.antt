@@ -14,7 +14,7 @@ use Rattle.topology.proofs.Hosts.{place_of}
 
 -- ---- one site
 
--- whether so many hosts are there that one has this number
+-- whether there are enough hosts that one has this number
 abbrev in_site : Option ℕ → ℕ → Bool
 in_site None host = false
 in_site (Some count) host = nat_lt host count
@@ -25,7 +25,7 @@ unlike x n other = elim (cases_Bool (x == n)) [
   | inr differs ↦ differs
 ]
 
--- no IMP behind one has its number or one below
+-- no IMP after one has its number or one below
 none_behind : (i : ImpHosts) (imps : List ImpHosts) (n host : ℕ) → IsRising (i ∷ imps) → n ≤ i.imp → has_host imps n host ≡ false
 none_behind i [] n host rising low = refl
 none_behind i (j ∷ imps) n host rising low =

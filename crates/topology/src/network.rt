@@ -203,7 +203,7 @@ impl Topology {
     }
 }
 
-/// Returns why a text is not a document, as a fault of a topology: only running out of memory is told as such.
+/// Returns why a text is not a document, as a fault of a topology: only running out of memory is reported as such.
 fn fault_of(error: &toml::de::Error) -> TopologyFault
     ensures memory { (result ≡ TopologyFault.OutOfMemory) ↔ IsMemory error.now }
 {

@@ -34,7 +34,7 @@ free_is b h none = by b.stopped (is_host b.hosts h) (is_host b.down h) none wher
   by false true true h = absurd (cc)
   by false true false h = (refl, refl)
 
--- and is refused otherwise, in a calm that goes on since it is down or not there
+-- and is refused otherwise, in a calm that continues since it is down or not there
 pub refused_is : (b : Boxes) (h : Host) (f : CarrierFault) → host_refusal b h ≡ Some f → is_halt f ≡ false → is_running b.hosts b.down h ≡ false
 refused_is b h f some apart = by b.stopped (is_host b.hosts h) (is_host b.down h) some where
   by : (s there down : Bool) → (if s then Some fault.Stopped else (if not there then Some fault.NoSuch else (if down then Some fault.IsDown else None))) ≡ Some f → (there && not down) ≡ false

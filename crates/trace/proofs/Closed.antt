@@ -1,4 +1,4 @@
--- JSON texts are told apart: what stands in front of a comma or a closing bracket is one value in one way.
+-- JSON texts are distinguished: what is before a comma or a closing bracket is one value in one way.
 use Rattle.std.proofs.Common.{◌≡◌, ◌≢◌, ℕ, zero, suc, ◌==◌, ◌||◌, Bool, true, false, not, List, [], ◌∷◌, ◌++◌, map, if◌then◌else◌, refl, sym, ap, ap₂, ◌∙◌, arith}
 use Rattle.std.proofs.lemmas.Bool.{false≢true}
 use Rattle.std.proofs.lemmas.Bool.Decides.{nat_tests}
@@ -26,7 +26,7 @@ opens c = c == 91 || c == 123
 abbrev pub closes : ℕ → Bool
 closes c = c == 93 || c == 125
 
--- the first value of a text, which is in so many brackets, and in a string or not
+-- the first value of a text, which is in this many brackets, and in a string or not
 abbrev pub front : ℕ → Bool → List ℕ → List ℕ
 front depth quoting [] = []
 front depth true (c ∷ cs) = c ∷ front depth (not (c == 34)) cs
@@ -37,7 +37,7 @@ front depth false (c ∷ cs) =
     else if c == 44 then inside depth (c ∷ front depth false cs)
     else c ∷ front depth false cs
 
--- a text whose brackets and strings are closed: whatever stands in front, it is passed as a whole
+-- a text whose brackets and strings are closed: whatever is before it, it is passed as a whole
 pub record IsClosed (t : List ℕ) : Type 0 where
   pub some : t ≢ []
   pub passes : (depth : ℕ) (r : List ℕ) → front depth false (t ++ r) ≡ t ++ front depth false r
@@ -88,7 +88,7 @@ both_closed t u p q = record {
 pub plain_closed : (t : List ℕ) → t ≢ [] → All (λ c. is_plain c ≡ true) t → IsClosed t
 plain_closed t some plain = record { some = some; passes = λ depth r. all_plain t plain depth r }
 
--- what stands in a string
+-- what is in a string
 in_string : (t : List ℕ) → Lacks 34 t → (depth : ℕ) (r : List ℕ) → front depth true (t ++ 34 ∷ r) ≡ t ++ 34 ∷ front depth false r
 in_string [] lacks depth r = refl
 in_string (c ∷ t) lacks depth r =
@@ -128,7 +128,7 @@ array_closed xs closed = record { some = λ e. absurd (cc); passes = λ depth r.
 pub object_closed : (xs : List (List ℕ)) → All IsClosed xs → IsClosed (object xs)
 object_closed xs closed = record { some = λ e. absurd (cc); passes = λ depth r. ap (λ zs. 123 ∷ zs) (listed_passes 125 (λ d s. refl) xs closed depth r) }
 
--- ---- items are told apart
+-- ---- items are distinguished
 
 pub first_same : {X : Type 0} {x y : X} {xs ys : List X} → x ∷ xs ≡ y ∷ ys → x ≡ y
 first_same e = cc

@@ -101,7 +101,7 @@ decimal_plain n = onto_all (λ c. is_plain c ≡ true) each 64 n [] (All-nil (λ
 pub decimal_closed : (n : ℕ) → IsClosed (decimal n)
 decimal_closed n = plain_closed (decimal n) (λ e. let ends = decimal_ends n in not_empty ends.front (glyph n) (sym e ∙ ends.is)) (decimal_plain n)
 
--- short numbers are told by their decimals
+-- short numbers are determined by their decimals
 pub short_once : (m n : ℕ) → IsShort m → IsShort n → decimal m ≡ decimal n → m ≡ n
 short_once m n p q e = sym (decimal_is_IsNumeral_wide m p).1 ∙ ap (digits_value 10) e ∙ (decimal_is_IsNumeral_wide n q).1
 

@@ -1,4 +1,4 @@
--- A part of a calm that goes on is the events of its course, one after another: over any carrier.
+-- A part of a calm that continues is the events of its course, one after another: over any carrier.
 use Rattle.std.proofs.Common.{◌≡◌, ◌||◌, ℕ, zero, suc, Bool, true, false, List, [], ◌∷◌, ◌++◌, Option, Some, None, Result, Ok, Err, if◌then◌else◌, reverse, refl, sym, ap, ◌∙◌, subst}
 use Rattle.std.proofs.lemmas.List.{append_assoc, append-nil, append_cancel_right, map-append, reverse-append, reverse-reverse}
 use Rattle.leader1822.specs.Calls.{is_halt, is_memory}
@@ -20,7 +20,7 @@ pub record Traced (C S : Type 0) : Type 1 where
   pub Holds : C → Type 0
   pub giving : Giving S
 
--- ---- events that go on, and what crossed
+-- ---- events that continue, and what crossed
 
 -- these events happen one after the other, and all that they show is what crossed
 pub record Run {C : Type 0} (calls : Calls C) (old : C) (events : List RawEvent) (new : C) : Type 0 where
@@ -64,7 +64,7 @@ crossings_are cs ds log new h k =
 
 -- ---- parts of a calm
 
--- a part of a calm went on: it succeeded, left what the course leaves, and is the events of the course
+-- a part of a calm continued: it succeeded, left what the course leaves, and is the events of the course
 pub record Goes {C S : Type 0} (x : Traced C S) (old : C) (c : Course S) (r : Result (Unit {0}) CarrierFault) (new : C) : Type 0 where
   pub ok : r ≡ Ok tt
   pub left : x.view new ≡ c.left
@@ -111,7 +111,7 @@ calm_is f e = rw e refl
 
 -- ---- takings
 
--- a taking that goes on gives something and is an event of its own, or gives nothing and changes nothing
+-- a taking that continues gives something and is an event of its own, or gives nothing and changes nothing
 abbrev pub TakesSo : {C S : Type 0} → Traced C S → C → Host → Result (Option Inbound) CarrierFault → C → Type 0
 TakesSo x old h answer new =
     IfGiven answer ((x.giving.is_given (x.view old) h ≡ true) × ((round : ℕ) → Goes x old (taking x.giving round h (x.view old)) (Ok tt) new))

@@ -75,7 +75,7 @@ offered_same old m h d s = (queued_other _ old.messages m.flow.destination m h d
 given_up_same : (old : Boxes) (f : Flow) (h : Host) → same_host h f.destination ≡ false → same_host h f.source ≡ false → Same old h (given_up old f)
 given_up_same old f h d s = (for_other old.messages f.destination _ h d, for_other old.answers f.source _ h s)
 
--- after what crossed, its source is told
+-- after what crossed, its source is notified
 source_told : (h : Host) (cs log new : List Crossing) (m : HostMessage) → new ≡ reverse cs ++ log → new ≡ crossing.In m ∷ log → is_source h cs ≡ false → same_host h m.flow.source ≡ false
 source_told h cs log new m grown is none =
     let one : cs ≡ crossing.In m ∷ [] = crossings_are cs (crossing.In m ∷ []) log new grown is in
@@ -121,7 +121,7 @@ queues_left old new (event.Calm rounds) shown h left k none = absurd left
 
 -- ---- hosts, and those that are down
 
--- the hosts stay, and memory has not run out in an event that went on
+-- the hosts stay, and memory has not run out in an event that continued
 pub record Frame (old new : Boxes) : Type 0 where
   pub hosts : new.hosts ≡ old.hosts
   pub stopped : new.stopped ≡ old.stopped

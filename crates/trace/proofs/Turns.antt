@@ -21,9 +21,9 @@ use Rattle.trace.proofs.Each.{Went, went}
 use Rattle.trace.proofs.Going.{or_first}
 use Rattle.trace.proofs.Rest.{taken_frame}
 
--- ---- a calm goes on
+-- ---- a calm continues
 
--- a taking that goes on gives what waits
+-- a taking that continues gives what waits
 taken : (b new : Boxes) (h : Host) (shown : List Shown) → is_given b h ≡ true → Happens plain b (event.Take h) new shown → new ≡ inbound_taken b h (next_for b h)
 taken b new h shown given k = by k.gives.0 k.gives.1 (subst GoesOn k.gives.2 k.goes_on)
   where
@@ -80,7 +80,7 @@ idle_calm b round rounds none =
     ap (λ (c : Course Boxes). rest_of_calm round_of round rounds c) none
     ∙ ap (λ (c : Course Boxes). c.elements) (idle_rounds round_of (suc round) (rounds - round) b (λ other. idle_takings from_boxes round other b.hosts b (takings_all from_boxes round b.hosts b ∙ none)))
 
--- where a round is over, the calm goes on as the next one does
+-- where a round is over, the calm continues as the next one does
 pub in_next_round : (b : Boxes) (t : Turn) (next : Option (Element × Turn)) → t.round < t.rounds → round_left b t ≡ no_course b → IsNext b (record { round = t.round + 1; rounds = t.rounds; host = 0; times = 16 }) next
     → GoesOnWith plain calm_left b t next
 in_next_round b t None lt over h = next_round b t lt over ∙ idle_calm b (t.round + 1) t.rounds h

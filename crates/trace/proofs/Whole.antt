@@ -1,4 +1,4 @@
--- The texts of all parts tell the mailboxes, but for their log.
+-- The texts of all parts determine the mailboxes, but for their log.
 use Rattle.std.proofs.Common.{◌≡◌, true, List, sym, subst, ◌∙◌}
 use Rattle.std.proofs.lemmas.List.Elements.{All-weaker}
 use Rattle.std.specs.List.{All}

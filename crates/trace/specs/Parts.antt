@@ -34,7 +34,7 @@ is_source h [] = false
 is_source h (crossing.In m ∷ crossings) = same_host h m.flow.source || is_source h crossings
 is_source h (c ∷ crossings) = is_source h crossings
 
--- An event and what crossed in it tell the hosts for which other messages or answers may wait now: the two hosts of a message that
+-- An event and what crossed in it show the hosts for which other messages or answers may wait now: the two hosts of a message that
 -- goes out or is given up, the host that takes and the source of what came in, and all hosts when one stops
 abbrev pub reaches : RawEvent → List Crossing → Host → Bool
 reaches (event.Out m) crossings h = same_host h m.flow.destination || same_host h m.flow.source

@@ -13,7 +13,7 @@ use Rattle.trace.specs.declared.fate.Fate.{Fate}
 use Rattle.trace.specs.Elements.{elements_in}
 use Rattle.trace.specs.Texts.{opening_line, trace_line}
 
--- what a carrier tells of its inside: the elementary events of a calm of this many rounds; the object of all parts, and that of the
+-- what a carrier shows of its inside: the elementary events of a calm of this many rounds; the object of all parts, and that of the
 -- parts that an event can change in which this crossed; and, before an event, what becomes of the frame that it delivers
 pub record Inside (C : Type 0) : Type 0 where
   pub calm : C → ℕ → List Element

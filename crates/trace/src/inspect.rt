@@ -15,7 +15,7 @@ use leader1822::{Carrier, Crossing};
 use replay::{Output, WriteFailed};
 use script::RawEvent;
 
-/// A carrier whose inside can be traced: it tells the elementary events of a calm one after another, and prints the parts
+/// A carrier whose inside can be traced: it lists the elementary events of a calm one after another, and prints the parts
 /// that an event can change.
 pub trait Inspect: Carrier {
     /// A place in a calm, between two of its elementary events.

@@ -29,7 +29,7 @@ pub fn rest()
     ensures hosts { (old new : Boxes) (e : RawEvent) (shown : List Shown) → IsOneCall e → Happens plain old e new shown → new.hosts ≡ old.hosts }
 {}
 
-/// The texts of all parts tell the whole state, but for the log, in every state that a replay comes to.
+/// The texts of all parts determine the whole state, but for the log, in every state that a replay comes to.
 pub fn whole()
     ensures texts { (one other : Boxes) → IsTold one → IsTold other → one.hosts ≡ other.hosts → ((p : Part) → IsPart one.hosts p → part_text one p ≡ part_text other p) → other ≡ record one { log = other.log } }
 
@@ -37,7 +37,7 @@ pub fn whole()
     ensures reached { (hosts : List Host) (events : List RawEvent) (new : Boxes) (shown : List Shown) → All IsEvent events → Replays plain (opening_boxes hosts) events new shown → IsTold new }
 {}
 
-/// The first line of a trace tells the network: which carrier it has, its IMPs with their hosts, and its lines in their order.
+/// The first line of a trace describes the network: which carrier it has, its IMPs with their hosts, and its lines in their order.
 pub fn network()
     ensures one { (one other : TopologyFields) (parts rest : List ℕ) → IsTopology one → IsTopology other → opening_line one parts ≡ opening_line other rest → one ≡ other }
 {}

@@ -27,7 +27,7 @@ pub fn worked_texts()
     ensures queues { queues_text (short ∷ empty ∷ []) ((answer.Rfnm, flow) ∷ (answer.Dead, flow) ∷ []) ≡ codes "{\"messages\":[{\"from\":\"0/1\",\"to\":\"0/2\",\"link\":5,\"bits\":3,\"octets\":\"A0\"},{\"from\":\"0/1\",\"to\":\"0/2\",\"link\":6,\"bits\":0,\"octets\":\"\"}],\"answers\":[{\"kind\":\"rfnm\",\"from\":\"0/1\",\"to\":\"0/2\",\"link\":5},{\"kind\":\"dead\",\"from\":\"0/1\",\"to\":\"0/2\",\"link\":5}]}" }
     ensures no_queues { queues_text [] [] ≡ codes "{\"messages\":[],\"answers\":[]}" }
 
-    // two answers that hosts are told alike are told apart
+    // two answers that are alike to hosts are distinguished
     ensures incomplete { answer_object (answer.Incomplete, flow) ≡ codes "{\"kind\":\"incomplete\",\"from\":\"0/1\",\"to\":\"0/2\",\"link\":5}" }
     ensures not_taken { crossing_object (crossing.Answer answer.NotTaken flow) ≡ codes "{\"kind\":\"nottaken\",\"from\":\"0/1\",\"to\":\"0/2\",\"link\":5}" }
 
@@ -76,7 +76,7 @@ pub fn worked_names()
 
 /// Lines of a trace.
 pub fn worked_lines()
-    // the network: the order of its lines tells which of them line 0 is, and which way `+` is
+    // the network: the order of its lines says which of them line 0 is, and which way `+` is
     ensures opening { opening_line (record { carrier = kind.Subnet; raw = true; imps = record { imp = 1; hosts = 2 } ∷ record { imp = 3; hosts = 0 } ∷ []; lines = record { a = 3; b = 1 } ∷ [] }) (codes "{}") ≡ codes "{\"trace\":2,\"carrier\":\"subnet\",\"raw\":true,\"imps\":[[1,2],[3,0]],\"lines\":[[3,1]],\"parts\":{}}" }
     ensures all_parts { whole_text (opening_boxes (third ∷ [])) ≡ codes "{\"down\":[],\"host 0/2\":{\"messages\":[],\"answers\":[]}}" }
 

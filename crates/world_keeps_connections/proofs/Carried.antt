@@ -44,7 +44,7 @@ module _ (origin : ℕ → ℕ) (own foreign : ℕ) where
   pub carries : (q : PairState) (x y : End) (k : List Life) → HasEnd origin own foreign q x → HasEnd origin own foreign q y → Knows k x → Knows k y
   carries q x y k h j knows = subst (λ (z : End). Knows k z) (end_once q x y h j) knows
 
-  -- what a call tells, and what its program has afterwards
+  -- what a call reports, and what its program has afterwards
   abbrev pub Carries : Host → NcpState → NcpState → List Notice → Type 0
   Carries p old new ns = (x y : End) (k : List Life) → HasEnd origin own foreign (pair_with p old.peers) x → HasEnd origin own foreign (pair_with p new.peers) y → Knows k x → Knows (all_known origin p own foreign ns k) y
 
@@ -86,7 +86,7 @@ module _ (origin : ℕ → ℕ) (own foreign : ℕ) where
       → AreFree m.flow.source stamp (orders_of m.text) (turn_of s m.flow.source) × AllFit (marks_in (origin stamp) foreign own (orders_of m.text)) x
 
   module _ (s : NcpState) (m : HostMessage) (stamp : ℕ) (mine : same_host s.own m.flow.destination ≡ true) (apart : IsApart m.flow.link.0 m.text (message_on m.flow.link.0 m.text)) where
-    -- nothing is told of it, and the end stays
+    -- nothing is reported of it, and the end stays
     stays : (x y : End) (k : List Life) → all_known origin m.flow.source own foreign (accepted s (inbound.Message m) stamp).1 k ≡ k → HasEnd origin own foreign (pair_with m.flow.source (accepted s (inbound.Message m) stamp).0.peers) x
         → HasEnd origin own foreign (pair_with m.flow.source (accepted s (inbound.Message m) stamp).0.peers) y → Knows k x → Knows (all_known origin m.flow.source own foreign (accepted s (inbound.Message m) stamp).1 k) y
     stays x y k same h j knows = subst (λ (l : List Life). Knows l y) (sym same) (carries (pair_with m.flow.source (accepted s (inbound.Message m) stamp).0.peers) x y k h j knows)

@@ -1,4 +1,4 @@
--- Each life of the book that goes on is known to its user.
+-- Each life of the book that continues is known to its user.
 use Rattle.std.proofs.Common.{◌≡◌, inl, inr, ℕ, zero, suc, ◌<◌, Bool, true, false, not, ◌&&◌, ◌==◌, if◌then◌else◌, List, [], ◌∷◌, ◌++◌, length, get_or, refl, sym, subst, ◌∙◌, eq-eqb, arith}
 use Rattle.std.proofs.lemmas.Bool.{eqb-true}
 use Rattle.std.specs.List.{Contains}
@@ -39,7 +39,7 @@ abbrev upon : Bool → Bool → Life → List Life → List Life
 upon b c l k = if b then (if c then l ∷ k else k) else k
 
 module _ (origin : ℕ → ℕ) (h p : Host) (own foreign : ℕ) where
-  -- a life of these ends that goes on
+  -- a life of these ends that continues
   abbrev pub goes : book.Life → Bool
   goes x = is_between h p own foreign x && not x.ended
 
@@ -56,7 +56,7 @@ module _ (origin : ℕ → ℕ) (h p : Host) (own foreign : ℕ) where
   more l k [] a = tt
   more l k (x ∷ xs) a = (λ e. inr (a.0 e), more l k xs a.1)
 
-  -- what a life has that goes on
+  -- what a life has that continues
   record Has (x : book.Life) : Type 0 where
     host : h ≡ x.host
     peer : p ≡ x.peer

@@ -36,7 +36,7 @@ module _ (s : Sockets) (is_pair : IsPair s) (who : Who) (h p : Host) (origin : �
   abbrev pub IsKnown : List Moment → Type 0
   IsKnown moments = Knows (known_in origin h p (own_of who s) (foreign_of who s) moments) (Side_of s is_pair who h p origin moments).end
 
-  -- what its program is told by a moment, where it is its own
+  -- what its program reports at a moment, where it is its own
   turn_if : (b : Bool) (new old : NcpState) (now k : List Life) (x y : End) → (b ≡ true → HasEnd origin (own_of who s) (foreign_of who s) (pair_with p new.peers) y → Knows now y) → HasEnd origin (own_of who s) (foreign_of who s) (pair_with p old.peers) x
       → HasEnd origin (own_of who s) (foreign_of who s) (pair_with p (if b then new else old).peers) y → Knows k x → Knows (if b then now else k) y
   turn_if true new old now k x y work t next knows = work refl next

@@ -1,4 +1,4 @@
--- Lives of the book that go on at both ends of the same sockets match.
+-- Lives of the book that continue at both ends of the same sockets match.
 use Rattle.std.proofs.Common.{◌≡◌, ℕ, true, false, ◌==◌, List, Option, Some, None, IsSome, refl, ap, sym, subst, ◌∙◌, eq-eqb}
 use Rattle.std.specs.List.{Contains}
 use Rattle.leader1822.specs.Host.{Host, same_host}
@@ -23,7 +23,7 @@ use Rattle.world_keeps_connections.specs.Users.{AreOpposite}
 use Rattle.world_keeps_connections.proofs.Going.{life_known}
 use Rattle.world_keeps_connections.proofs.Users.{known_partners}
 
--- the request that a place tells
+-- the request that a place names
 request_is : (o : Option ℕ) (x y : book.Life) → IsSome (named x o) → place_or 0 o ≡ y.own_stamp → x.foreign ≡ y.socket → y.foreign ≡ x.socket → named x o ≡ Some (own_request y)
 request_is None x y some e f g = absurd (let r : false ≡ true = some in cc)
 request_is (Some n) x y some e f g =

@@ -17,7 +17,7 @@ pub record HasReported (host : Host) (what : Report) (reports : List Reported) :
   pub by : entry.host ≡ host
   pub report : entry.report ≡ what
 
--- a life of the book that goes on: a host's end on this socket of its own, which opened with that socket of the peer
+-- a life of the book that continues: a host's end on this socket of its own, which opened with that socket of the peer
 pub record IsEnd (book : Book) (holder : Host) (own : ℕ) (partner : Host) (other : ℕ) (x : Life) : Type 0 where
   pub there : Contains book.lives x
   pub host : x.host ≡ holder
@@ -27,7 +27,7 @@ pub record IsEnd (book : Book) (holder : Host) (own : ℕ) (partner : Host) (oth
   pub live : x.ended ≡ false
 
 -- a server with the base `s` and a user with the socket `u` are both done. The server's two ends opened with the user's, crosswise, and
--- all four go on: it receives on `s` from `u` + 3, and the user receives on `u` + 2 from `s` + 1
+-- all four continue: it receives on `s` from `u` + 3, and the user receives on `u` + 2 from `s` + 1
 pub record IsConnected (book : Book) (server user : Host) (s u : ℕ) (server_receives server_sends user_receives user_sends : Life) : Type 0 where
   pub served : HasReported server (report.Server (outcome.Done s (s + 1))) book.reports
   pub asked : HasReported user (report.User (outcome.Done (u + 2) (u + 3))) book.reports

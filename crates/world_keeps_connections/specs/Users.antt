@@ -1,4 +1,4 @@
--- What the users of a world's hosts know of their ends, by all that their programs told them (NIC 8246, RTS, STR and CLS).
+-- What the users of a world's hosts know of their ends, by all that their programs notified them of (NIC 8246, RTS, STR and CLS).
 use Rattle.std.specs.Prelude.{◌≡◌, ℕ, Bool, true, false, if◌then◌else◌, List, [], ◌∷◌}
 use Rattle.leader1822.specs.Host.{Host, same_host}
 use Rattle.leader1822.specs.declared.crossing.Crossing.TheVariants as crossing
@@ -15,7 +15,7 @@ is_outage (Crossed (crossing.Up h)) = true
 is_outage x = false
 
 -- the openings on two sockets with a peer that the user of a host knows of after these moments: none where the host starts, and then what
--- its program told
+-- its program reported
 abbrev pub known_in : (ℕ → ℕ) → Host → Host → ℕ → ℕ → List Moment → List Life
 known_in origin host peer own foreign [] = []
 known_in origin host peer own foreign (x ∷ moments) =

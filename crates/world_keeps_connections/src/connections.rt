@@ -16,8 +16,8 @@ ghost use Rattle.world_keeps_connections.specs.Connections.{IsConnected, IsEnd, 
 use leader1822::Carrier;
 
 /// A finished initial connection pairs the right four sockets, in the book of every world over every carrier: where a server and a
-/// user are both done, and their four ends opened with one another and go on, the server's sending end matches the user's receiving
-/// one, and the user's sending end the server's receiving one. What makes ends match is that both go on.
+/// user are both done, and their four ends opened with one another and continue, the server's sending end matches the user's receiving
+/// one, and the user's sending end the server's receiving one. What makes ends match is that both continue.
 ///
 /// Each report in such a book is so at its place (`AreReported`, which is part of `IsLawful`): a machine that reported Done began with
 /// sockets of the right parity, and its host was notified of the openings that make it done.

@@ -38,19 +38,19 @@ pub fn users()
     ensures partners { (hosts : List Host) (moments : List Moment) → HaveAddresses hosts → mail.IsRun hosts (crossings_of moments) → IsTimeline hosts moments → (a b : Host) → (s : Sockets) → is_receive_socket s.receive ≡ true → is_send_socket s.send ≡ true → (x y : Life) → IsIn x (known_in (origin_in (crossings_of moments) a b) a b s.receive s.send moments) → IsIn y (known_in (origin_in (crossings_of moments) b a) b a s.send s.receive moments) → ArePartners x y }
 {}
 
-/// The lives of the book that go on, over any list of moments of a world.
+/// The lives of the book that continue, over any list of moments of a world.
 pub fn lives()
     // each is an opening that the user of its host knows of
     ensures known { (hosts : List Host) (moments : List Moment) → mail.IsRun hosts (crossings_of moments) → IsTimeline hosts moments → (origin : ℕ → ℕ) (x : book.Life) → Contains (kept_in moments).book.lives x → x.ended ≡ false → IsIn (life_of origin x) (known_in origin x.host x.peer x.socket x.foreign moments) }
 
-    // so where a life that receives and one that sends go on at the two ends of the same sockets, they match: each has the other's own request
+    // so where a life that receives and one that sends continue at the two ends of the same sockets, they match: each has the other's own request
     // for its partner's
     ensures matches { (hosts : List Host) (moments : List Moment) → HaveAddresses hosts → mail.IsRun hosts (crossings_of moments) → IsTimeline hosts moments → (receiver sender : book.Life) → Contains (kept_in moments).book.lives receiver → Contains (kept_in moments).book.lives sender → receiver.ended ≡ false → sender.ended ≡ false → AreOpposite receiver sender → receives receiver ≡ true → sends sender ≡ true → Match (crossings_of moments) receiver sender }
 {}
 
-/// The lives in the book of a world that go on, over any carrier.
+/// The lives in the book of a world that continue, over any carrier.
 pub fn books<C: Carrier>()
-    // where one that receives and one that sends go on at the two ends of the same sockets, they match
+    // where one that receives and one that sends continue at the two ends of the same sockets, they match
     ensures matches { (hosts : List Host) (w : WorldState C) → IsLawful C.seen hosts w → (receiver sender : book.Life) → Contains w.kept.book.lives receiver → Contains w.kept.book.lives sender → receiver.ended ≡ false → sender.ended ≡ false → AreOpposite receiver sender → receives receiver ≡ true → sends sender ≡ true → Match w.kept.book.crossings receiver sender }
 {}
 
@@ -75,7 +75,7 @@ pub fn worked_users()
 
 /// Lives at two ends: the lives of a small book.
 pub fn worked_lives()
-    // the first host's life of socket 16 and the second's of socket 33 are at the two ends of the same sockets, and both go on
+    // the first host's life of socket 16 and the second's of socket 33 are at the two ends of the same sockets, and both continue
     ensures both { map (λ x. x.ended) (kept_in connected).book.lives ≡ false ∷ false ∷ [] }
     ensures opposite { (x y : book.Life) → (kept_in connected).book.lives ≡ x ∷ y ∷ [] → AreOpposite x y }
 

@@ -69,7 +69,7 @@ module _ (a : Host) (k : ℕ) where
       each_where test life_ended P Q lives handed (λ x. refl) (λ x t there is o. (end_one x t o.0, λ goes. absurd (let r : true ≡ false = goes in cc)))
       (λ x t there is o. (o.0, λ goes. not_both (Q x t) (test x) (all x t there goes (o.1 goes)) is)) e
 
-  -- a change of those that go on
+  -- a change of those that continue
   pub there_at : (x : Life) → at_socket a k x ≡ true → lives_at a k x ≡ false → x.ended ≡ true
   there_at x there off = by x.ended refl where
     by : (b : Bool) → x.ended ≡ b → x.ended ≡ true

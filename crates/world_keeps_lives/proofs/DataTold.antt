@@ -1,4 +1,4 @@
--- What each moment tells of data: one notice of what goes out on a connection's link, at most one of what comes in on it, and none otherwise.
+-- What each moment reports of data: one notice of what goes out on a connection's link, at most one of what comes in on it, and none otherwise.
 use Rattle.std.proofs.Common.{◌≡◌, ◌⊎◌, inl, inr, ℕ, ◌*◌, ◌==◌, Bool, true, false, if◌then◌else◌, List, [], ◌∷◌, ◌++◌, take, find, Option, Some, None, refl, ap, sym, subst, ◌∙◌}
 use Rattle.std.proofs.lemmas.Bool.{eqb-true}
 use Rattle.leader1822.specs.Host.{Host, same_host}
@@ -45,7 +45,7 @@ no b e f = absurd (let both : true ≡ false = sym e ∙ f in cc)
 
 -- ---- data
 
--- what is told of data that come in
+-- what is reported of data that come in
 pub record Takes (link : ℕ) (text : List Bool) (es : List Entry) (ns : List Notice) : Type 0 where
   pub end : Entry
   pub header : DataHeader
@@ -90,12 +90,12 @@ message_takes s m stamp off = by (same_host s.own m.flow.destination) where
   by true = turn (m.flow.link.0 == 0) refl
   by false = inl refl
 
--- what is told of data that go out
+-- what is reported of data that go out
 pub bytes_told : (s : NcpState) (stamp : ℕ) (g : Peer) (e : Entry) (size count : ℕ) → next_in s.peers ≡ Some (g, parcel.Bytes e size count) → (offered s stamp).1 ≡ notice.Sent e.own (take (size * count) e.bits) ∷ []
 unfolding offered
 bytes_told s stamp g e size count next = ap (λ (o : Option (Peer × Parcel)). (offered_by s stamp o).1) next
 
--- ---- all else tells of no data
+-- ---- all else reports no data
 
 module _ (hosts : List Host) (addresses : HaveAddresses hosts) (moments : List Moment) (run : mail.IsRun hosts (crossings_of moments)) (time : IsTimeline hosts moments) where
   grounds_after : (a b : Host) (c : Crossing) → Ends (Grounded a b (c ∷ crossings_of moments)) b (program a moments)

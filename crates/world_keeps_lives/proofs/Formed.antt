@@ -61,7 +61,7 @@ no_place b e = absurd (cc)
 one_place : (a b : ℕ) → Some a ≡ Some b → a ≡ b
 one_place a b e = cc
 
--- ---- the end of a life that goes on has the link of its messages
+-- ---- the end of a life that continues has the link of its messages
 
 abbrev pub Bound : Life → ℕ → Entry → Type 0
 Bound x link e = e.mine ≡ true → e.own ≡ x.socket → e.asked ≡ Some x.own_stamp → e.partner ≡ Some x.partner_stamp → e.link ≡ Some link
@@ -111,7 +111,7 @@ module _ (x : Life) (link : ℕ) where
 abbrev pub IsBound : List Moment → Life → ℕ → Type 0
 IsBound moments x link = x.ended ≡ false → Each (Bound x link) (pair_with x.peer (program x.host moments).peers).entries
 
--- it is made of messages that crossed, and its end, where it goes on, has their link
+-- it is made of messages that crossed, and its end, where it continues, has their link
 pub record Made (moments : List Moment) (x : Life) : Type 0 where
   pub formed : IsFormed (crossings_of moments) x
   pub bound : IsBound moments x formed.link

@@ -72,7 +72,7 @@ pub record Grounded (h p : Host) (log : List Crossing) (e : Entry) : Type 0 wher
   pub asked : e.mine ≡ true → (a : ℕ) → e.asked ≡ Some a → IsAsked h p log e a
   pub partner : e.mine ≡ true → (b : ℕ) → e.partner ≡ Some b → IsAnswered h p log e b
 
--- what is told of an opening
+-- what is reported of an opening
 pub record Opens (h p : Host) (log : List Crossing) (s f a b : ℕ) : Type 0 where
   pub link : ℕ
   pub size : ℕ

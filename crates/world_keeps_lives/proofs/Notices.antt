@@ -89,7 +89,7 @@ same_notices (Asked h r) k = refl
 abbrev Told_in : List Moment → Type 0
 Told_in moments = FormedNotices (crossings_of moments) (kept_in moments).book.notices
 
--- ---- a moment that tells of no data
+-- ---- a moment that reports no data
 
 untold : (c : Crossing) (log : List Crossing) (told : List Told) → MayBeUntold c → AreTold log told → AreTold (c ∷ log) told
 untold c log [] u a = (u, a)
@@ -117,7 +117,7 @@ quiet_crossing : (c : Crossing) (moments : List Moment) (h p : Host) (log : List
 quiet_crossing c moments h p log may told old =
     subst (λ (ts : List Told). AreTold (c ∷ crossings_of moments) ts) (sym (quiet_moment (Crossed c) moments h p log told)) (untold c (crossings_of moments) (data_told (kept_in moments).book.notices) may old)
 
--- ---- a moment that tells of data
+-- ---- a moment that reports data
 
 one_more : (c : Crossing) (log : List Crossing) → 1 + length log ≡ length (c ∷ log)
 one_more c log = omega arith

@@ -78,7 +78,7 @@ row_told = subst (λ (told : List Told). AreTold sent_log told) (sym row_both) b
 
 -- ---- bad ones
 
--- what went out has to be told
+-- what went out has to be reported
 must_tell : (t : Told) (told : List Told) → AreTold untaken_log (t ∷ told) → Tells (crossing.Out eight_sent) unsent_log t × AreTold unsent_log told
 must_tell t told (inl a) = absurd (let no : false ≡ true = a.0 in cc)
 must_tell t told (inr a) = a

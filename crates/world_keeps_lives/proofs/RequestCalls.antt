@@ -90,7 +90,7 @@ module _ (P : Entry → Type 0) (N : Notice → Type 0) (p : Host) (rules : Rule
 
   -- ---- what comes in
 
-  -- what becomes of a call: the ends with the peer, and what is told
+  -- what becomes of a call: the ends with the peer, and what is reported
   pub record Done (turn : NcpState × List Notice) : Type 0 where
     pub ends : Ends P p turn.0
     pub told : Each N turn.1
@@ -101,7 +101,7 @@ module _ (P : Entry → Type 0) (N : Notice → Type 0) (p : Host) (rules : Rule
   here : (q : PairState) (peers : List Peer) → Of q → Of (pair_with p (with_pair p q peers))
   here q peers h = peer_here (λ (x : PairState). Each P x.entries) p p q peers (same_host-refl p) h
 
-  -- whatever it says, where it is a control message by the rules and data are told by them
+  -- whatever it says, where it is a control message by the rules and data are reported by them
   abbrev pub MayTake : NcpState → HostMessage → ℕ → Type 0
   MayTake s m stamp =
       ((m.flow.link.0 == 0) ≡ true → Hears P stamp (orders_of m.text))

@@ -117,7 +117,7 @@ quiet_when false e = record { own = refl; foreign = refl; mine = refl; asked = r
 pub quiet_off : (e : Entry) → Quiet e (closed_by_partner e)
 quiet_off e = record { own = refl; foreign = refl; mine = refl; asked = refl; partner = refl; link = refl; closing = λ c. due_still e.closing c; off = λ c. refl }
 
--- whoever stands at two sockets has them
+-- whatever is at two sockets has them
 pub sockets_of : (own foreign : ℕ) (e : Entry) → is_at own foreign e ≡ true → (e.own ≡ own) × (e.foreign ≡ foreign)
 sockets_of own foreign e t = let parts : ((e.own == own) ≡ true) × ((e.foreign == foreign) ≡ true) = both (e.own == own) (e.foreign == foreign) t in (eqb-true e.own own parts.0, eqb-true e.foreign foreign parts.1)
 
@@ -198,7 +198,7 @@ module _ (P : Entry → Type 0) (N : Notice → Type 0) (peer : Host) (rules : R
   found_told None k = tt
   found_told (Some e) k = opening_told e e.asked e.partner (k e refl) refl refl
 
-  -- a request is there now, and an opening is told of by it
+  -- a request is there now, and an opening is reported by it
   pub good_opening : (own foreign : ℕ) (change : Entry → Entry) (d : DeskState) → ((e : Entry) → is_at own foreign e ≡ true → P e → P (change e)) → Good d
       → Good (desk_told (opening_notices peer (entry_at own foreign (changed_first (is_at own foreign) change d.entries))) (changed (is_at own foreign) change d))
   good_opening own foreign change d k h =
@@ -360,7 +360,7 @@ module _ (P : Entry → Type 0) (N : Notice → Type 0) (peer : Host) (rules : R
   some_commands (suc n) [] h = tt
   some_commands (suc n) (c ∷ cs) h = (h.0, some_commands n cs h.1)
 
-  -- what goes out may: of commands each is by the rules, and what is told of bits is so
+  -- what goes out may: of commands each is by the rules, and what is reported of bits is so
   abbrev pub MayTell : ℕ → Parcel → PairState → Type 0
   MayTell stamp parcel.Reset q = Unit {0}
   MayTell stamp parcel.Reply q = Unit {0}

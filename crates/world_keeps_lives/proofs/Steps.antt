@@ -103,7 +103,7 @@ module _ (a : Host) (k : ℕ) (m : Place) (p : Host) (k0 : Kept) where
   pub good_queued : (c : Command) (d : DeskState) → Good d → Good (command_queued c d)
   good_queued c d h = record { refusing = h.refusing; on = h.on }
 
-  -- what is told of something done, where the rest is done
+  -- what is reported of something done, where the rest is done
   pub told_on : (ns : List Notice) (d : DeskState) → AreRefusing d.entries → At a k m p (mine_on k d.entries) (listens_on k d.listening) (all_told a ns (all_told a d.notices k0)) → Good (desk_told ns d)
   told_on ns d r h = record { refusing = r; on = subst (λ (κ : Kept). At a k m p (mine_on k d.entries) (listens_on k d.listening) κ) (sym (all_told_append a d.notices ns k0)) h }
 
@@ -116,7 +116,7 @@ module _ (a : Host) (k : ℕ) (m : Place) (p : Host) (k0 : Kept) where
     on = at_lessened a k m p test change d.entries (listens_on k d.listening) (all_told a d.notices k0) less h.on;
   }
 
-  -- an end is changed, and this is told
+  -- an end is changed, and this is reported
   pub good_changed : (test : Entry → Bool) (change : Entry → Entry) (ns : List Notice) (d : DeskState) (e : Entry) → find test d.entries ≡ Some e → is_mine_on k (change e) ≡ is_mine_on k e → ((e : Entry) → IsRefusing e → IsRefusing (change e))
       → (is_mine_on k e ≡ true → (l : Bool) (κ : Kept) → At a k m p (e ∷ []) l κ → At a k m p (change e ∷ []) l (all_told a ns κ))
       → (is_mine_on k e ≡ false → AreAside a k ns)

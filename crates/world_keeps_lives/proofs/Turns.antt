@@ -71,7 +71,7 @@ module _ (a : Host) (k : ℕ) (m : Place) (p : Host) (k0 : Kept) where
     by Near (e ∷ f ∷ ms) l i = absurd i
     by (Elsewhere g y) (e ∷ ms) l i = absurd i
 
-  -- the pair's ends are gone, and this is told of it
+  -- the pair's ends are gone, and this is reported of it
   cleared : (ns : List Notice) (t : TurnState) (new : TurnState) → new.pair.entries ≡ [] → new.listening ≡ t.listening → new.notices ≡ t.notices ++ ns
       → At a k m p [] (listens_on k t.listening) (all_told a ns (all_told a t.notices k0)) → GoodTurn new
   cleared ns t new entries listening notices h = record {

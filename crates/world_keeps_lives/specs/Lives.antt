@@ -79,12 +79,12 @@ NoneOf x handed = ⊥
 
 -- ---- a socket
 
--- a host has no end on a socket, and no life there goes on
+-- a host has no end on a socket, and no life there continues
 pub record IsFreeSocket (h : Host) (socket : ℕ) (s : NcpState) (k : Kept) : Type 0 where
   pub none : (peer : Host) → mine_on socket (pair_with peer s.peers).entries ≡ []
   pub lives : EachIn h socket NoneOf k
 
--- it has one end there, with one peer; then the socket doesn't listen, and each life there that goes on is that end's
+-- it has one end there, with one peer; then the socket doesn't listen, and each life there that continues is that end's
 pub record IsOwned (h : Host) (socket : ℕ) (s : NcpState) (k : Kept) : Type 0 where
   pub peer : Host
   pub end : Entry

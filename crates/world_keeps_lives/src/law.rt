@@ -33,7 +33,7 @@ use leader1822::Carrier;
 
 /// What each host has, over every list of moments in which what crosses is a run of the mailboxes.
 pub fn programs()
-    // each of its sockets is free, or has one end of the host's own, whose lives are all that go on there
+    // each of its sockets is free, or has one end of the host's own, whose lives are all that continue there
     ensures sockets { (hosts : List Host) (moments : List Moment) → HaveAddresses hosts → mail.IsRun hosts (crossings_of moments) → IsTimeline hosts moments → (h : Host) (socket : ℕ) → IsFreeSocket h socket (program h moments) (kept_in moments) ⊎ IsOwned h socket (program h moments) (kept_in moments) }
 
     // ends that aren't its own refuse, and pairs that aren't through a reset have none
@@ -54,14 +54,14 @@ pub fn programs()
     // each life is made of messages that crossed: its two requests are in those at its stamps, and its bits are those of its data messages
     ensures formed { (hosts : List Host) (moments : List Moment) → HaveAddresses hosts → mail.IsRun hosts (crossings_of moments) → IsTimeline hosts moments → FormedBook (crossings_of moments) (kept_in moments).book.lives }
 
-    // each notice of data tells of a message of data just after it crossed, on the link of a connection of its socket; each such message that
+    // each notice of data reports a message of data just after it crossed, on the link of a connection of its socket; each such message that
     // goes out has its notice
     ensures told { (hosts : List Host) (moments : List Moment) → HaveAddresses hosts → mail.IsRun hosts (crossings_of moments) → IsTimeline hosts moments → FormedNotices (crossings_of moments) (kept_in moments).book.notices }
 {}
 
 /// The same of the book of every world, whatever its carrier is made of: the two clauses of the safe book that are about one host
 /// only, the bound of grants, the end of each life that isn't over, in the program that comes of the world's moments, the messages that a
-/// life is made of, and those of which notices tell.
+/// life is made of, and those that notices report.
 pub fn worlds<C: Carrier>()
     ensures live { (hosts : List Host) (w : WorldState C) → (lawful : IsLawful C.seen hosts w) → (x : Life) → Contains w.kept.book.lives x → x.ended ≡ false → HasOpenEnd (program x.host lawful.whole.moments) x }
     ensures taken { (hosts : List Host) (w : WorldState C) → IsLawful C.seen hosts w → (receiver : Life) → Contains w.kept.book.lives receiver → receives receiver ≡ true → IsGranted receiver receiver.messages (length receiver.bits) }
@@ -107,7 +107,7 @@ pub fn worked_lives()
     ensures here { at_socket first 16 (life_ended (new_life first 16 second 33 6 10)) ≡ true }
     ensures elsewhere { (at_socket second 16 (new_life first 16 second 33 6 10) ≡ false) × (at_socket first 18 (new_life first 16 second 33 6 10) ≡ false) }
 
-    // where none goes on, those that have ended are safe; each has what was handed over in it
+    // where none continues, those that have ended are safe; each has what was handed over in it
     ensures gone { EachOn first 16 NoneOf (life_ended (new_life first 16 second 33 6 10) ∷ []) ([] ∷ []) }
     ensures goes { EachOn first 16 NoneOf (new_life first 16 second 33 6 10 ∷ []) ([] ∷ []) → ⊥ }
     ensures unequal { EachOn first 16 NoneOf [] ([] ∷ []) → ⊥ }
@@ -174,7 +174,7 @@ pub fn worked_notices()
     ensures both { data_told (kept_in sent_moments).book.notices ≡ arrived_told ∷ sent_told ∷ [] }
     ensures told { FormedNotices sent_log (kept_in sent_moments).book.notices }
 
-    // of what comes in a user need not be told, but of what goes out
+    // of what comes in a user need not be notified, but of what goes out
     ensures untaken { FormedNotices sent_log (sent_told ∷ []) }
     ensures unsent { FormedNotices sent_log (arrived_told ∷ []) → ⊥ }
 
@@ -184,7 +184,7 @@ pub fn worked_notices()
     ensures early { FormedNotices sent_log (sent_told ∷ record arrived_told { place = 16 } ∷ []) → ⊥ }
     ensures twice { FormedNotices sent_log (sent_told ∷ arrived_told ∷ arrived_told ∷ []) → ⊥ }
 
-    // the sender is told, and no other host
+    // the sender is notified, and no other host
     ensures another_host { FormedNotices sent_log (record sent_told { host = third } ∷ arrived_told ∷ []) → ⊥ }
 
     // a message on link 3 isn't that of a connection whose RTS names link 2

@@ -51,7 +51,7 @@ named_by x (Some place) name e =
       foreign = ap (λ (n : Name). n.foreign) is;
     }
 
--- a place that is told by the number after it where there is none
+-- a place that is named by the number after it where there is none
 pub place_there : (n : ℕ) (o : Option ℕ) → place_or (suc n) o ≡ n → o ≡ Some n
 place_there n None e = absurd (omega (arith, e))
 place_there n (Some k) e = ap (λ (j : ℕ). Some j) e
@@ -89,7 +89,7 @@ one_own x y (v ∷ lives) once (inl i) (inr j) e = absurd (not_owned v.own y liv
 one_own x y (v ∷ lives) once (inr i) (inl j) e = absurd (not_owned v.own x lives once.0 i (e ∙ ap (λ (l : Life). l.own) j))
 one_own x y (v ∷ lives) once (inr i) (inr j) e = one_own x y lives once.1 i j e
 
--- a place that is the same, whatever it is told by where there is none
+-- a place that is the same, whatever it is named by where there is none
 some_place : (o : Option ℕ) → place_or 0 o ≡ place_or 1 o → IsSome o
 some_place None e = absurd (omega (arith, e))
 some_place (Some k) e = refl

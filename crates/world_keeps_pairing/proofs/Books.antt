@@ -53,7 +53,7 @@ module _ (origin : ℕ → ℕ) (h p : Host) (own foreign : ℕ) where
 
   -- ---- a notice
 
-  -- what a notice of this host tells of the peer
+  -- what a notice of this host reports of the peer
   abbrev pub of_peer : Notice → List Life → List Life
   of_peer (notice.Opened socket peer other asked partner) told =
       if same_host p peer && (socket == own && other == foreign) then record { own = asked; partner = origin partner } ∷ told else told
@@ -149,7 +149,7 @@ module _ (origin : ℕ → ℕ) (h p : Host) (own foreign : ℕ) where
   one_other q (notice.Echoed peer octet) told about away = refl
   one_other q (notice.RemoteError peer code detail) told about away = refl
 
-  -- those about this peer are what the program told of the two sockets, and those about another none
+  -- those about this peer are what the program reported of the two sockets, and those about another none
   pub about_peer : (q : Host) (ns : List Notice) (told : List Life) → AreAbout q ns → same_host p q ≡ true → all_of_peer ns told ≡ with_openings origin own foreign ns told
   about_peer q [] told about same = refl
   about_peer q (n ∷ ns) told about same =
@@ -159,7 +159,7 @@ module _ (origin : ℕ → ℕ) (h p : Host) (own foreign : ℕ) where
   about_other q [] told about away = refl
   about_other q (n ∷ ns) told about away = ap (all_of_peer ns) (one_other q n told about.0 away) ∙ about_other q ns told about.1 away
 
-  -- notices that tell of no opening
+  -- notices that report no opening
   pub about_none : (q : Host) (ns : List Notice) (told : List Life) → AreAbout q ns → with_openings origin own foreign ns told ≡ told → all_of_peer ns told ≡ told
   about_none q ns told about none = by (same_host p q) refl where
     by : (b : Bool) → same_host p q ≡ b → all_of_peer ns told ≡ told
@@ -170,7 +170,7 @@ module _ (origin : ℕ → ℕ) (h p : Host) (own foreign : ℕ) where
   contact_none peer true told = refl
   contact_none peer false told = refl
 
-  -- what a user asks for tells of none
+  -- what a user asks for reports none
   pub asked_none : (s : NcpState) (r : Request) (told : List Life) → all_of_peer (served_notices s r) told ≡ told
   unfolding served_notices
   asked_none s (request.Contact peer) told = contact_none peer (is_ready (pair_with peer s.peers).phase) told

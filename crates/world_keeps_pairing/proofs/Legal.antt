@@ -14,7 +14,7 @@ use Rattle.world_keeps_pairing.specs.Steps.{words_of, onto, all_heard, heard_in,
 use Rattle.world_keeps_pairing.proofs.Views.{View, view, lawful, same_view, after_said, sender_hears_if, words_join, onto_join, onto_if}
 use Rattle.world_keeps_pairing.proofs.Sides.{at_texts, before, receiver_before, sender_before, receiver_half, sender_half, nothing_there}
 
--- ---- fronts
+-- ---- prefixes
 
 onto_above : (ws base : List Word) → AreOlder base (onto ws base)
 onto_above [] base = ([], refl)

@@ -1,4 +1,4 @@
--- Lives of a book at two sockets, one by one: each is told, and two of them at two places.
+-- Lives of a book at two sockets, one by one: each is reported, and two of them at two places.
 use Rattle.std.proofs.Common.{◌≡◌, ◌≢◌, inl, inr, ℕ, zero, suc, ◌<◌, Bool, true, false, if◌then◌else◌, List, [], ◌∷◌, ◌++◌, length, get_or, refl, ap, sym, subst, ◌∙◌, eq-eqb, arith}
 use Rattle.std.specs.List.{Contains}
 use Rattle.leader1822.specs.Host.{Host}
@@ -67,7 +67,7 @@ module _ (origin : ℕ → ℕ) (h p : Host) (own foreign : ℕ) where
   lives_join [] ys told = refl
   lives_join (x ∷ xs) ys told = lives_join xs ys (with_life origin h p own foreign x told)
 
-  -- what is told stays told
+  -- what is reported stays reported
   in_one : (l : Life) (x : book.Life) (told : List Life) → IsIn l told → IsIn l (with_life origin h p own foreign x told)
   in_one l x told i = by (is_between h p own foreign x) where
     by : (b : Bool) → IsIn l (if b then life_of origin x ∷ told else told)
@@ -81,7 +81,7 @@ module _ (origin : ℕ → ℕ) (h p : Host) (own foreign : ℕ) where
   with_it : (x : book.Life) (told : List Life) → is_between h p own foreign x ≡ true → with_life origin h p own foreign x told ≡ life_of origin x ∷ told
   with_it x told e = ap (λ (b : Bool). if b then life_of origin x ∷ told else told) e
 
-  -- each life of these ends is told
+  -- each life of these ends is reported
   in_at : (x : book.Life) (k : ℕ) (xs : List book.Life) (told : List Life) → k < length xs → get_or xs k x ≡ x → is_between h p own foreign x ≡ true → IsIn (life_of origin x) (with_lives origin h p own foreign xs told)
   in_at x k [] told lt e b = absurd (omega (arith, lt))
   in_at x zero (y ∷ xs) told lt e b =
@@ -116,7 +116,7 @@ module _ (origin : ℕ → ℕ) (h p : Host) (own foreign : ℕ) where
     none_under n [] told i = i
     none_under n (x ∷ xs) told i = none_one n x told (none_under n xs (with_life origin h p own foreign x told) i)
 
-    -- lives at two places of the book have two numbers, where each number is told once
+    -- lives at two places of the book have two numbers, where each number is reported once
     pub two_apart : (x y : book.Life) (xs : List book.Life) → AreTwo xs x y → is_between h p own foreign x ≡ true → is_between h p own foreign y ≡ true → IsOnce key (with_lives origin h p own foreign xs [])
         → key (life_of origin x) ≡ key (life_of origin y) → ⊥
     two_apart x y xs two bx by once same =

@@ -106,7 +106,7 @@ alone swept origin place [] s (t ∷ ts) ws x h = absurd h
 alone swept origin place (a ∷ []) s ts ws x h = absurd h
 alone swept origin place (a ∷ b ∷ ss) s ts ws x h = absurd h
 
--- its standing is the only one of its sockets
+-- its `Standing` is the only one of its sockets
 pub stands_alone : (swept : Bool) (origin : ℕ → ℕ) (place own foreign : ℕ) (front : List Entry) (e : Entry) (rest : List Entry) (ws : List Mark) (x : End) → is_at own foreign e ≡ true → Stand swept origin place (at own foreign (front ++ e ∷ rest)) ws x
     → Stand swept origin place (standing e ∷ []) ws x
 stands_alone swept origin place own foreign front e rest ws x here h =

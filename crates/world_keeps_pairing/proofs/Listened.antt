@@ -1,4 +1,4 @@
--- A message that a host takes of its peer tells of no openings but those that the law says.
+-- A message that a host takes of its peer reports no openings but those that the law says.
 use Rattle.std.proofs.Common.{◌≡◌, inl, inr, ℕ, ◌==◌, Bool, true, false, ◌&&◌, if◌then◌else◌, List, [], ◌∷◌, refl, ap, sym, subst, ◌∙◌}
 use Rattle.leader1822.specs.Host.{Host, same_host}
 use Rattle.leader1822.specs.declared.crossing.Crossing.TheVariants as crossing
@@ -54,7 +54,7 @@ module _ (s : Sockets) (is_pair : IsPair s) (who : Who) (origin : ℕ → ℕ) (
   abbrev Lives : Message → List Life
   Lives n = (hears_if (stay.stays m.flow.destination m.flow.source (law_events moments)) (at_texts s (other who) (stay.heard_by m.flow.source m.flow.destination 0 (In m.flow.source m.flow.destination m.flow.link.0 n))) x0).lives
 
-  -- what the program tells
+  -- what the program reports
   abbrev Tells : List Life → Type 0
   Tells more = AreAmong (with_openings origin (own_of who s) (foreign_of who s) (accepted (program m.flow.destination moments) (inbound.Message m) (places moments)).1 T) more
 
@@ -67,7 +67,7 @@ module _ (s : Sockets) (is_pair : IsPair s) (who : Who) (origin : ℕ → ℕ) (
       (sym (about_peer origin m.flow.destination m.flow.source (own_of who s) (foreign_of who s) m.flow.source (accepted (program m.flow.destination moments) (inbound.Message m) (places moments)).1 T
       (message_about (program m.flow.destination moments) m (places moments)) (same_host-refl m.flow.source))) k))
 
-  -- where it tells of none
+  -- where it reports none
   told_none : (n : Message) → boxed s is_pair who origin hosts m moments story run ≡ n → Lives n ≡ x0.lives
       → with_openings origin (own_of who s) (foreign_of who s) (accepted (program m.flow.destination moments) (inbound.Message m) (places moments)).1 T ≡ T
       → Among s is_pair who m.flow.destination m.flow.source origin moments → Among s is_pair who m.flow.destination m.flow.source origin (Crossed (crossing.In m) ∷ moments)

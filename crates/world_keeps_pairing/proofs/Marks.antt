@@ -178,7 +178,7 @@ pub texts_pairs : (who : Who) (texts : List (List Bool)) → AllPairs (words_of 
 texts_pairs who [] = tt
 texts_pairs who (x ∷ texts) = pairs_join (words_by who (untagged x).0 (orders_of (untagged x).1)) (words_of who texts) (orders_pairs who (untagged x).0 (orders_of (untagged x).1)) (texts_pairs who texts)
 
--- ---- all requests of a message are told by its place
+-- ---- all requests of a message are named by its place
 
 abbrev pub AllAt : ℕ → List Mark → Type 0
 AllAt place [] = Unit {0}

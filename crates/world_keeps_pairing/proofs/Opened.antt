@@ -1,4 +1,4 @@
--- Each moment tells of no openings at two sockets but those that the law says.
+-- Each moment reports no openings at two sockets but those that the law says.
 use Rattle.std.proofs.Common.{◌≡◌, ◌⊎◌, inl, inr, ℕ, Bool, true, false, if◌then◌else◌, List, [], ◌∷◌, refl, ap, sym, subst, ◌∙◌}
 use Rattle.leader1822.specs.Host.{Host, same_host}
 use Rattle.leader1822.specs.declared.address.Flow.{Flow}
@@ -75,7 +75,7 @@ module _ (s : Sockets) (is_pair : IsPair s) (who : Who) (h p : Host) (origin : �
   abbrev pub Among : List Moment → Type 0
   Among moments = AreAmong (with_lives origin h p (own_of who s) (foreign_of who s) (kept_in moments).book.lives []) (Side_of s is_pair who h p origin moments).lives
 
-  -- what is told by a moment upon older ones
+  -- what is reported by a moment, added to older ones
   abbrev pub Now : Moment → List Moment → List Life
   Now x moments = all_of_peer origin h p (own_of who s) (foreign_of who s) (notices_by x moments) (with_lives origin h p (own_of who s) (foreign_of who s) (kept_in moments).book.lives [])
 

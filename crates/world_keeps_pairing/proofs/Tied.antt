@@ -275,7 +275,7 @@ pub record Tied (origin : Host → Host → ℕ → ℕ) (a b : Host) (moments :
   pub receiver_next : (s : Sockets) (q : IsPair s) → (Side_of s q Receiver a b (origin a b) moments).next ≤ places moments
   pub sender_next : (s : Sockets) (q : IsPair s) → (Side_of s q Sender b a (origin b a) moments).next ≤ places moments
 
--- a place by which requests are told is that of the box
+-- a place by which requests are named is that of the box
 abbrev pub IsOrigin : (Host → Host → ℕ → ℕ) → Moment → List Moment → Type 0
 IsOrigin origin (Crossed (crossing.In m)) moments =
     (place : ℕ) → boxes m.flow.source m.flow.destination (events_of moments) m.flow.link.0 ≡ Waiting place (message_on m.flow.link.0 m.text) → (m.flow.link.0 == 0) ≡ true → origin m.flow.destination m.flow.source (places moments) ≡ place
@@ -322,7 +322,7 @@ tie_turn s q who h p origin hosts (Crossed (crossing.Up g)) moments story run ra
 tie_turn s q who h p origin hosts (Asked g r) moments story run ranged served k t =
     asked_turn s q who h p origin g r moments story (λ e. subst (λ (y : Host). refusal (program y moments) r ≡ None) (sym (same_host-true h g e)) served.0) t
 
--- what a message says that is taken of a peer is in order, and is told by its origin
+-- what a message says that is taken of a peer is in order, and is named by its origin
 module _ (hosts : List Host) (origin : Host → Host → ℕ → ℕ) (a b : Host) (x : Moment) (moments : List Moment) (from : IsOrigin origin x moments) (takes : TakesFreeAt x moments) where
   from_there : (m : HostMessage) → x ≡ Crossed (crossing.In m) → IsOrigin origin (Crossed (crossing.In m)) moments
   from_there m is = subst (λ (y : Moment). IsOrigin origin y moments) is from

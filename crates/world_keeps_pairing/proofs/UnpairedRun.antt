@@ -1,4 +1,4 @@
--- At all moments no program has an end of two sockets that both receive or both send, and none was told to be open.
+-- At all moments no program has an end of two sockets that both receive or both send, and none was reported to be open.
 use Rattle.std.proofs.Common.{◌≡◌, ℕ, ◌==◌, Bool, true, false, if◌then◌else◌, List, [], ◌∷◌, None, refl, ap, sym, subst, ◌∙◌}
 use Rattle.leader1822.specs.Host.{Host, same_host}
 use Rattle.leader1822.specs.declared.address.Flow.{Flow}
@@ -78,7 +78,7 @@ module _ (origin : ℕ → ℕ) (own foreign : ℕ) where
     abbrev Lives_at : List Moment → List Life
     Lives_at moments = with_lives origin h p own foreign (kept_in moments).book.lives []
 
-    -- its program has no end, and it told of no opening
+    -- its program has no end, and it reported no opening
     abbrev pub IsBare : List Moment → Type 0
     IsBare moments = Has origin own foreign p (program h moments) nothing × AreAmong (with_lives origin h p own foreign (kept_in moments).book.lives []) []
 

@@ -167,7 +167,7 @@ words_more who true stay xs ys = refl
 words_more who false true xs ys = ap (λ (l : List Word). onto l []) (words_join who xs ys) ∙ onto_join (words_of who xs) (words_of who ys) []
 words_more who false false xs ys = ap (λ (l : List (List Bool)). onto (words_of who l) []) (append-nil xs)
 
--- the parts of a view that begins anew, or goes on
+-- the parts of a view that begins anew, or continues
 parts : (begin : Bool) (rs ss : Bool) (r s h k : List Word) → (if begin then fresh else record { receiver_stays = rs; sender_stays = ss; receiver_said = r; sender_said = s; receiver_heard = h; sender_heard = k })
     ≡ record {
       receiver_stays = begin || rs;

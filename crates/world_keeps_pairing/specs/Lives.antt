@@ -25,7 +25,7 @@ openings h peer own foreign moments =
 abbrev pub is_between : Host → Host → ℕ → ℕ → book.Life → Bool
 is_between h peer own foreign x = same_host h x.host && (same_host peer x.peer && (x.socket == own && x.foreign == foreign))
 
--- a life as the law tells it: the place where the own request went out, and that where the partner's did
+-- a life as the law describes it: the place where the own request went out, and that where the partner's did
 abbrev pub life_of : (ℕ → ℕ) → book.Life → Life
 life_of origin x = record { own = x.own_stamp; partner = origin x.partner_stamp }
 

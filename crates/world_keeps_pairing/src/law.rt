@@ -107,7 +107,7 @@ pub fn books<C: Carrier>()
     ensures one { (hosts : List Host) (w : WorldState C) → IsLawful C.seen hosts w → (receiver x y : Life) → AreTwo w.kept.book.lives x y → Match w.kept.book.crossings receiver x → Match w.kept.book.crossings receiver y → ⊥ }
 {}
 
-/// Lives of a book, as the law tells them.
+/// Lives of a book, as the law describes them.
 pub fn worked_lives()
     // the first host's life of socket 16 with the second's 33, and the other way; the newest comes first
     ensures receiver { with_lives (λ p. p + 20) dialogue.first dialogue.second 16 33 worked.used.book.lives [] ≡ record { own = 0; partner = 24 } ∷ [] }

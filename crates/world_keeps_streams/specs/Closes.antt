@@ -1,4 +1,4 @@
--- What the end of a connection by CLS tells the user who receives (NIC 8246, CLS).
+-- What the end of a connection by CLS says to the user who receives (NIC 8246, CLS).
 use Rattle.std.specs.Prelude.{◌≡◌, ℕ, false, true, List, ◌++◌, Some}
 use Rattle.std.specs.List.{Contains}
 use Rattle.leader1822.specs.declared.crossing.Crossing.{Crossing}

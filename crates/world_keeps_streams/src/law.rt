@@ -96,7 +96,7 @@ pub fn worked_arrivals()
     ensures open { ComesFor eight_sent bits_sent took }
     ensures arrives { Arrives eight_sent bits_sent took }
 
-    // where its user has closed the end, they don't come for the life, though it goes on; and nobody is notified of them
+    // where its user has closed the end, they don't come for the life, though it continues; and nobody is notified of them
     ensures closing { ComesFor eight_sent (Asked dialogue.first (request.Close 16) ∷ bits_sent) took → ⊥ }
     ensures dropped { notices_by (Crossed (crossing.In eight_sent)) (Asked dialogue.first (request.Close 16) ∷ bits_sent) ≡ [] }
 {}

@@ -137,7 +137,7 @@ told_count h (n ∷ ns) k =
     let more : length (all_told h ns (book_told h n k)).book.notices ≡ length (book_told h n k).book.notices + length ns = told_count h ns (book_told h n k) in
     omega (arith, one, more)
 
--- a book that grew by no report, and then by what services did, who were told of its new notices
+-- a book that grew by no report, and then by what services did, who were notified of its new notices
 grew_done : (k j : Kept) (h : Host) (d : ServiceDeskState) → Grew k j → j.book.reports ≡ k.book.reports → AreAbout (length k.book.notices) (length j.book.notices) d.reports → Grew k (done_by h d j)
 grew_done k j h d g none about =
     let same : SameNews j (all_asked h d.asked j) = asked_same h d.asked j in
@@ -167,7 +167,7 @@ gains_done k h d =
       said = ap (λ rs. rs ++ d.reports) same.reports;
     }
 
--- notices are told to the services of a host, of which so many stood in the book before
+-- the services of a host are given notices, of which this many were in the book before
 grew_heard : (h : Host) (ns : List Notice) (x : ServicesState) (p : NcpState) (k j : Kept) → Grew k j → j.book.reports ≡ k.book.reports → j.book.notices ≡ k.book.notices
     → Grew k (done_by h (turn_of h (length k.book.notices) x (p, ns)).1 (all_told h ns j))
 grew_heard h ns x p k j g none same =
@@ -310,7 +310,7 @@ module _ {C : Type 0} (calls : Calls C) where
   step_gains e old r new h =
       if_stopped (EventGives calls old e r new) (Gains old.kept new.kept) old r new old.stopped (λ is. gains_same old.kept new.kept (ap (λ (w : WorldState C). w.kept) is)) (λ g. event_gains e old r new g) h
 
-  -- where memory runs out, the book stands
+  -- where memory runs out, the book is unchanged
   pub step_kept : (e : Event) (old : WorldState C) (r : Result (Unit {0}) WorldFault) (new : WorldState C) → StepGives calls old e r new → stops r ≡ true → new.kept ≡ old.kept
   step_kept e old (Ok done) new h halts = absurd (false≢true halts)
   step_kept e old (Err f) new h halts = step_stands calls f old (Err f) new refl e h

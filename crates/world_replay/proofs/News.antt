@@ -44,7 +44,7 @@ fronts_more detail first mid last crossings left rest xs ys a b c h k = record {
   written = subst (Appends a c) (sym (output-append detail h.shown k.shown)) (appends_more a b c (output detail h.shown) (output detail k.shown) h.written k.written);
 }
 
--- one piece of news behind the crossings that were before it
+-- one piece of news after the crossings that were before it
 one_front : (detail : Detail) (before : ℕ) (crossings : List Crossing) (s : Shown) (a b c : Option (List ℕ)) → Appends a b (output detail (shown_crossings (take (place_of s - before) crossings))) → Appends b c (ended_line (shown_text detail s))
     → Fronts detail before crossings (s ∷ []) (max before (place_of s)) (drop (place_of s - before) crossings) a c
 one_front detail before crossings s a b c crossed told =
@@ -271,12 +271,12 @@ abbrev pub Want : ℕ → List Shown → Type 0
 Want high [] = Unit {0}
 Want high (s ∷ xs) = (place_of s ≤ high) × Want high xs
 
--- the first of the news, if there are any, wants so many
+-- the first of the news, if there are any, wants this many
 abbrev pub Begin : ℕ → List Shown → Type 0
 Begin high [] = Unit {0}
 Begin high (s ∷ xs) = high ≤ place_of s
 
--- news of a later time, with the crossings since, are shown behind those of an earlier one
+-- news of a later time, with the crossings since, are shown after those of an earlier one
 pub news_later : (first high : ℕ) (cs ds : List Crossing) (xs ys : List Shown) → high ≡ first + length cs → Want high xs → Begin high ys → shown_in_turn first (cs ++ ds) (xs ++ ys) ≡ shown_in_turn first cs xs ++ shown_in_turn high ds ys
 news_later first high cs ds [] [] is h k = shown_crossings-append cs ds
 news_later first high cs ds [] (s ∷ ys) is h k =
@@ -302,7 +302,7 @@ news_later first high cs ds (s ∷ xs) ys is h k =
 
 -- ---- places of notices
 
--- none of them is before the one place, and none behind the other
+-- none of them is before the one place, and none after the other
 abbrev pub AreBetween : ℕ → ℕ → List Told → Type 0
 AreBetween low high [] = Unit {0}
 AreBetween low high (t ∷ ts) = (low ≤ t.place) × (t.place ≤ high) × AreBetween low high ts

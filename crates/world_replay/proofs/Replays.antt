@@ -67,13 +67,13 @@ happens_once {C} calls settled old e new other shown more h k =
       h.lines ∙ ap (λ xs. xs ++ shown_refusal h.outcome) (same_news old.kept new.kept other.kept h.gains k.gains same) ∙ ap (λ r. gained k.gains ++ shown_refusal r) one.0 ∙ sym k.lines,
     )
 
--- so many crossings were there, and so many came
+-- this many crossings were there, and this many came
 counted : (old new : Kept) (g : Gains old new) → length new.book.crossings ≡ length old.book.crossings + length g.crossings
 counted old new g =
     let all : length new.book.crossings ≡ length (reverse g.crossings ++ old.book.crossings) = ap length g.crossed in
     omega (arith, all, length-append (reverse g.crossings) old.book.crossings, length-reverse g.crossings)
 
--- and so many notices
+-- and this many notices
 noticed : (old new : Kept) (g : Gains old new) → length new.book.notices ≡ length old.book.notices + length g.notices
 noticed old new g =
     let all : length new.book.notices ≡ length (old.book.notices ++ g.notices) = ap length g.told in
@@ -173,7 +173,7 @@ pub event_gains : {C : Type 0} (calls : Calls C) (e : WorldEvent) (old : WorldSt
 event_gains calls (event.Happen e) old r new h = step_gains calls e old r new h
 event_gains calls (event.Calm rounds) old r new h = (calm_grows calls rounds old r new h).gains
 
--- the crossings, notices and reports behind those of before are what the book gained
+-- the crossings, notices and reports after those of before are what the book gained
 news_is : (old new : Kept) (g : Gains old new) (crossed told said : ℕ) → crossed ≡ length old.book.crossings → told ≡ length old.book.notices → said ≡ length old.book.reports
     → shown_in_turn crossed (drop crossed (reverse new.book.crossings)) (told_in_turn told (drop told new.book.notices) (drop said new.book.reports)) ≡ gained g
 news_is old new g crossed told said is same alike =

@@ -147,7 +147,7 @@ tells_all (n ∷ ns) services d =
           (about_wider t.1.notices (t.1.notices + length ns) d.notices (d.notices + length (n ∷ ns)) k.reports (omega (arith, h.notices)) (omega (arith, h.notices)) k.about);
     }
 
--- services that are told of new notices report about these alone
+-- services that are given new notices report only about these
 pub told_about : (ns : List Notice) (s : ServicesState) (d : ServiceDeskState) → d.reports ≡ [] → AreAbout d.notices (d.notices + length ns) (services_told ns s d).1.reports
 unfolding services_told
 told_about ns s d none =

@@ -97,9 +97,9 @@ round_ends : {C : Type 0} (calls : Calls C) (k : ℕ) (now mid : WorldState C) (
 round_ends calls k now mid answer halts h true is = calm_stopped calls k now mid answer is (is_true _ _ now.stopped is h)
 round_ends calls k now mid answer halts h false is = calm_ends calls k now mid answer halts (is_false _ _ now.stopped is h)
 
--- ---- so many rounds
+-- ---- this many rounds
 
--- so many rounds have passed, and what they showed is written
+-- this many rounds have passed, and what they showed is written
 pub record HaveRounds {C : Type 0} (calls : Calls C) (detail : Detail) (count : ℕ) (old now : WorldState C) (a b : Option (List ℕ)) : Type 0 where
   pub went : (k : ℕ) (r : Answer) (new : WorldState C) → Calms calls k now r new → Calms calls (count + k) old r new
   pub begun : count ≡ 0 → old ≡ now
@@ -117,7 +117,7 @@ no_rounds calls detail w a = record {
   written = appends_none a;
 }
 
--- where a round showed something, it is written behind what was shown before
+-- where a round showed something, it is written after what was shown before
 both_written : {C : Type 0} (detail : Detail) (old now mid : WorldState C) (g : Grew old.kept now.kept) (k : Grew now.kept mid.kept) (a b c : Option (List ℕ)) (own : List Shown)
     → Appends a b (output detail (gained g.gains)) → Appends b c (output detail own) → own ≡ gained k.gains → Appends a c (output detail (gained (grew_more old.kept now.kept mid.kept g k).gains))
 both_written detail old now mid g k a b c own before now_written is =

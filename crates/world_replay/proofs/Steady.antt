@@ -62,7 +62,7 @@ on_either true f g h = f refl h
 on_either false f g h = g refl h
 
 module _ {C : Type 0} (k : Kept) (P : Result (Unit {0}) WorldFault → WorldState C → Type 0) (Next : WorldState C → Result (Unit {0}) WorldFault → WorldState C → Type 0) (sp : Steady k P) (sn : (mid : WorldState C) → Steady mid.kept (Next mid)) where
-  -- what went on to its end went on behind its first part
+  -- what continued to its end continued after its first part
   went_on : (a : Result (Unit {0}) WorldFault) (mid : WorldState C) (r : Result (Unit {0}) WorldFault) (new : WorldState C) → Onward Next a mid r new → stops r ≡ false → (stops a ≡ false) × Next mid r new
   went_on a mid r new h goes = on_either (stops a) (λ s e. absurd (no_stop a s (ap stops (sym e.0) ∙ goes))) (λ s n. (s, n)) h
 

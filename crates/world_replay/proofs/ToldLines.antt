@@ -1,4 +1,4 @@
--- The lines of what users are told, put together from their ends.
+-- The lines of what users are notified of, put together from their ends.
 use Rattle.std.proofs.Common.{◌≡◌, ℕ, ◌++◌, List, [], ◌∷◌, codes, append_assoc}
 use Rattle.script.specs.Input.{ended_line}
 use Rattle.world_replay.specs.Printed.{words}

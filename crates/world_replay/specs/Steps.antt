@@ -23,7 +23,7 @@ OneEnds calls detail old e (Ok done) new before after = Writes detail (Happens c
 OneEnds calls detail old e (Err fault.OutOfMemory) new before after = Writes detail (StopsIn calls old e new) before after
 OneEnds calls detail old e (Err fault.CannotWrite) new before after = (outcome : Result (Unit {0}) WorldFault) × EventGives calls old e outcome new
 
--- these news are written, with the crossings before them: what is shown of more news goes on from there, with the crossings that
+-- these news are written, with the crossings before them: what is shown of more news continues from there, with the crossings that
 -- are left
 pub record Fronts (detail : Detail) (before : ℕ) (crossings : List Crossing) (news : List Shown) (later : ℕ) (left : List Crossing) (a b : Option (List ℕ)) : Type 0 where
   pub shown : List Shown

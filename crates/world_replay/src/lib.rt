@@ -1,7 +1,7 @@
 //! Replaying the events of a world's script over any carrier.
 //!
 //! [`replay_events`] lets each event happen in a world. It writes one line for each crossing of the interface between a
-//! host and its IMP, one for each thing that the user of a host is told, one for each thing that a service of a host
+//! host and its IMP, one for each notice to the user of a host, one for each thing that a service of a host
 //! reports, and one for each refusal. A notice is after the crossings that were before it, and a report after its
 //! notice. [`print_lives`] writes the lives of connections, one line each.
 //!

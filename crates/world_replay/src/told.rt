@@ -11,7 +11,7 @@ use net_sim::Told;
 use replay::Line;
 use sockets::Notice;
 
-/// Puts a word and a host in front, each with a space behind it.
+/// Prepends a word and a host, each with a space after it.
 fn put_head(line: &mut Line, word: &[u8], host: HostAddr)
     requires { length word.now + length line.old ≤ 200 }
     ensures { line.new ≡ word.now ++ (codes " " ++ (host_text host ++ (codes " " ++ line.old))) }
@@ -99,7 +99,7 @@ fn put_peer_octet(line: &mut Line, word: &[u8], host: HostAddr, peer: HostAddr, 
 }
 
 /// Puts the line for A notice to the user of a host: a word for what it is, the host, and what it is about. Of bits their
-/// number is told.
+/// number is given.
 fn put_notice(line: &mut Line, host: HostAddr, notice: &Notice)
     ensures { line.new ≡ ended_line (notice_text host notice.now) }
 {

@@ -1,4 +1,4 @@
--- Events of a world as lines: a first word, and what stands behind it.
+-- Events of a world as lines: a first word, and what follows it.
 use Rattle.std.proofs.Common.{arith, ◌≡◌, ◌≢◌, ℕ, Bool, true, false, List, [], ◌∷◌, ◌++◌, codes, Some, None, refl, sym, ap, ◌∙◌, subst, if◌then◌else◌}
 use Rattle.std.specs.Fmt.{decimal}
 use Rattle.std.specs.List.{list_all}
@@ -24,7 +24,7 @@ use Rattle.world_script.specs.declared.verb.Verb.TheVariants as verb
 use Rattle.world_script.proofs.Requests as requests
 use Rattle.world_script.proofs.Requests.{OperandOf, behind_host, request_again, request_of, spelled_request, verb_again, verb_unmarked}
 
--- ---- the first word, and what stands behind it
+-- ---- the first word, and what follows it
 
 abbrev pub first : WorldEvent → List ℕ
 first (world.Happen (event.Net e)) = keyword (raw.Net e)
@@ -203,7 +203,7 @@ event_again (world.Happen (event.User h p l u)) meant = refl
 event_again (world.Happen (event.Typed h text)) meant = refl
 event_again (world.Calm n) meant = refl
 
--- words that stand behind a first word for no operand are those of no event
+-- words that follow a first word for no operand are those of no event
 no_operand : (k : Head) (word words : List ℕ) → Lacks 32 word → head_of word ≡ k → ((z : OperandAt k) → IsWorldEvent (event_at k z) → words ≢ behind (event_at k z)) → (x : WorldEvent) → IsWorldEvent x → word ++ 32 ∷ words ≢ world_spelling x
 no_operand k word words lacks is none x meant e =
     let cut : SameCut word words (first x) (behind x) = cut_alike word words x meant lacks e in

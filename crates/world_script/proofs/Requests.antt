@@ -1,4 +1,4 @@
--- Requests as words behind a verb and a host.
+-- Requests as words after a verb and a host.
 use Rattle.std.proofs.Common.{◌≡◌, ◌≢◌, ℕ, ◌<◌, ◌≤◌, ◌^◌, ◌==◌, Bool, false, List, ◌∷◌, ◌++◌, length, None, refl, sym, ap, ◌∙◌, arith, subst, lit<}
 use Rattle.std.proofs.lemmas.Fmt.{decimal_injective}
 use Rattle.std.specs.Fmt.{decimal}
@@ -15,7 +15,7 @@ use Rattle.world_script.specs.WorldSpelling.{IsRequest, request_spelling}
 use Rattle.world_script.specs.declared.verb.Verb.{Verb}
 use Rattle.world_script.specs.declared.verb.Verb.TheVariants as verb
 
--- ---- words at the front
+-- ---- words at the beginning
 
 number_unmarked : (n limit : ℕ) → limit < 2 ^ 32 → n ≤ limit → Lacks 32 (decimal n)
 number_unmarked n limit few small = All-unmarked_decimal 32 n (lit< tt) (omega arith)
@@ -154,7 +154,7 @@ verb_plain verb.Close = refl
 pub verb_unmarked : (v : Verb) → Lacks 32 (verb_text v)
 verb_unmarked v = unmarked_where 32 (verb_text v) (verb_plain v)
 
--- ---- behind a host or a number
+-- ---- after a host or a number
 
 pub host_front : (words a b : List ℕ) (h : Host) → words ≡ a ++ 32 ∷ b → a ≡ host_text h → words ≡ host_text h ++ 32 ∷ b
 host_front words a b h is same = is ∙ ap (λ v. v ++ 32 ∷ b) same

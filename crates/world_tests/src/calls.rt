@@ -39,7 +39,7 @@ const CALLS: &str =
 
 /// Services fail as they begin; then a line that is typed goes to a server and comes back. It is the stored input
 /// `cases/scenes_show_what_was_written_down/a_server_a_user_and_a_terminal`, whose calms are here the single events of which
-/// the output tells there; and so do the counts, by its lines.
+/// the output says there; and so do the counts, by its lines.
 const SERVICES: &str =
     "type 0/1 A\nserver 0/2 8 100\nuser 0/1 0/2 7 16\nserver 0/3 7 100\nserver 0/2 7 100\ncontact 0/1 0/2\noffer 0/1\ntake 0/2\noffer 0/2\ntake 0/1\ntake 0/1\ntake 0/2\nuser 0/1 0/2 7 18\noffer 0/1\ntake 0/2\noffer 0/2\ntake 0/1\ntake 0/1\noffer 0/1\ntake 0/2\ntake 0/2\noffer 0/2\ntake 0/1\ntake 0/1\noffer 0/1\ntake 0/2\ntake 0/2\noffer 0/2\ntake 0/1\ntake 0/1\noffer 0/1\ntake 0/2\ntake 0/2\noffer 0/2\ntake 0/1\ntake 0/1\ntake 0/2\ntype 0/1 A ~\noffer 0/1\ntake 0/2\noffer 0/2\noffer 0/2\ntake 0/1\ntake 0/1\ntake 0/1\noffer 0/1\ntake 0/2\ntake 0/2\ntake 0/2\ntake 0/1\nhostdown 0/1\ntype 0/1 A\n";
 
@@ -83,7 +83,7 @@ enum Way {
     Calm(u32),
 }
 
-/// How many were refused by the carrier and by a program, or 0 of both if nobody tells.
+/// How many were refused by the carrier and by a program, or 0 of both if nobody says.
 type Refused = [usize; 2];
 
 /// Lets each event happen by a step. `None` where memory runs out.

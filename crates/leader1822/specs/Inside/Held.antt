@@ -1,4 +1,4 @@
--- The boxes, and a map that tells at once whether something of a flow waits.
+-- The boxes, and a map that says at once whether something of a flow waits.
 use Rattle.std.specs.Prelude.{◌≡◌, Bool, true, false, not, List, [], ◌∷◌, ◌++◌, Option, Some, None, IsSome, if◌then◌else◌}
 use Rattle.std.specs.FinMap as map
 use Rattle.leader1822.specs.Host.{Host, is_host}
@@ -40,7 +40,7 @@ is_unanswered None = false
 is_unanswered (Some pending.Message) = true
 is_unanswered (Some (pending.Answer kind)) = is_rfnm kind
 
--- the map tells of each flow what waits
+-- the map says of each flow what waits
 pub record IsIndexed (c : Held) : Type 0 where
   pub each : (f : Flow) → map.get c.flows f ≡ pending_of (texts_for c.boxes f) (kinds_for c.boxes f)
   pub named : (f : Flow) → IsSome (map.get c.flows f) → IsNamed f

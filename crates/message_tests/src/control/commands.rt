@@ -237,7 +237,7 @@ fn octets_are_read_as_a_command_or_a_fault(rt: HostRuntime) {
             &[2, 0, 0, 0, 0x21, 0, 0, 0, 0x10, 0, 7],
             Err(ControlFault::Erroneous { quoted: 10 }),
         ),
-        // what follows is left alone
+        // what follows is left as it is
         (&[9, 0x41, 14, 7], Ok((Command::Eco { octet: 0x41 }, 2))),
     ];
     for (octets, read) in table {

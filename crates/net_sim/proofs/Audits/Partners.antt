@@ -35,7 +35,7 @@ two_there lives x y (front, between, rest, e) = (
   subst (λ (zs : List Life). Contains zs y) (sym e) (Contains-append_right (front ++ x ∷ between) (y ∷ rest) y (contains_head y rest)),
 )
 
--- two that are there are one, or stand at two places in one order or the other
+-- two that are there are one, or are at two places in one order or the other
 two_of : (lives : List Life) (x y : Life) → Contains lives x → Contains lives y → (x ≡ y) ⊎ (AreTwo lives x y ⊎ AreTwo lives y x)
 two_of [] x y c d = absurd (contains_none x c)
 two_of (z ∷ lives) x y c d = elim (contains_cases z lives x c) [

@@ -48,7 +48,7 @@ pub asked_crossings : (h : Host) (rs : List Request) (k : Kept) → (all_asked h
 asked_crossings h [] k = refl
 asked_crossings h (r ∷ rs) k = asked_crossings h rs (asked h r k)
 
--- what a program told, and what its host's services did then
+-- what a program reported, and what its host's services did then
 heard_crossings : (h : Host) (ns : List Notice) (rs : List Request) (k : Kept) → (all_asked h rs (all_told h ns k)).book.crossings ≡ k.book.crossings
 heard_crossings h ns rs k = asked_crossings h rs (all_told h ns k) ∙ told_crossings h ns k
 
@@ -199,7 +199,7 @@ module _ {C : Type 0} (own : Calls C) where
     | inr x ↦ halt_books old old.carrier [] r new b running refl tt x
   ]
 
-  -- something of the services alone
+  -- something of the services only
   begun_books : (h : Host) (t : ServicesState × ServiceDeskState) (old : WorldState C) (r : Result (Unit {0}) WorldFault) (new : WorldState C) → IsBooked own.seen old → old.stopped ≡ false
       → DoesOrHalts (tended h t old) old r new → IsBooked own.seen new
   begun_books h t old r new b running (inl d) = done_books old old.carrier [] (tended h t old) r new b running refl refl (asked_crossings h t.1.asked old.kept) d

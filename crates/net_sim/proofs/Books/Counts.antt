@@ -25,7 +25,7 @@ counts_later n m x le h = record {
 pub counts_set : (n m : ℕ) (xs : List Life) (at : ℕ) (y : Life) → n ≤ m → AreWithin n xs → IsWithin m y → AreWithin m (slice_set xs at y)
 counts_set n m xs at y le h is = All-set (IsWithin m) xs at y is (All-weaker (IsWithin n) (IsWithin m) (λ x one. counts_later n m x le one) xs h)
 
--- what a loop made of the lives stands in their place
+-- what a loop made of the lives is in their place
 pub counts_put : (n : ℕ) (xs ys zs : List Life) (k : ℕ) → k ≡ length xs → AreKept xs ys → AreWithin n ys → AreWithin n (take k (ys ++ zs))
 counts_put n xs ys zs k long kept h =
     subst (λ (all : List Life). AreWithin n all) (sym (ap (λ (j : ℕ). take j (ys ++ zs)) (long ∙ sym (kept_long xs ys kept)) ∙ take-append_seam ys zs)) h

@@ -38,7 +38,7 @@ use Rattle.net_sim.specs.World.{Calls, WorldState, WorldFault, Carrier, Event, S
 use Rattle.net_sim.proofs.Resets.Clean.{opening_lawful, step_lawful}
 use Rattle.net_sim.proofs.Books.Whole.{step_whole}
 
--- ---- hosts in order stand once each
+-- ---- hosts in order are there once each
 
 not_same : (g h : Host) → host_before g h ≡ true → (b : Bool) → same_host g h ≡ b → b ≡ false
 not_same g h before true e =
@@ -154,7 +154,7 @@ held_live seen w held running =
     let whole : IsWhole seen (seen w.carrier).hosts w = held.lawful.whole in
     subst AreLive (sym (whole.seats running)) (seats_live (seen w.carrier).hosts (seen w.carrier).hosts whole.moments)
 
--- the services stand in the order of the seats
+-- the services are in the order of the seats
 pub held_order : {C : Type 0} (seen : C → Seen) (w : WorldState C) → IsHeld seen w → w.stopped ≡ false → hosts_served w.services ≡ hosts_of w.seats
 held_order seen w held running =
     let whole : IsWhole seen (seen w.carrier).hosts w = held.lawful.whole in

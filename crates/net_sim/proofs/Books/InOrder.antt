@@ -47,7 +47,7 @@ same_kept : (xs ys : List Crossing) (ns ms : List Told) (us vs : List Called) (p
     (record { book = record { crossings = ys; notices = ms; contacts = vs; reports = qs; lives = l.lives }; handed = l.handed })
 same_kept xs ys ns ms us vs ps qs l x n a p = cc
 
--- what stands in a book once all of that is written down
+-- what is in a book once all of that is written down
 pub written_so : (cs : List Crossing) (a : Option (Host × Request)) (calls : List Called) (ts : List Told) (h : Option Host) (rs : List Request) (reports : List Reported) (k : Kept) (before after : List Crossing) (ns : List Told) (us : List Called)
     (ps : List Reported) (l : LivesState) → k.book.crossings ≡ reverse before → after ≡ before ++ cs → ns ≡ k.book.notices ++ ts → us ≡ k.book.contacts ++ calls → ps ≡ k.book.reports ++ reports
     → l ≡ followed cs a ts h rs (of_kept k)
@@ -57,11 +57,11 @@ written_so cs a calls ts h rs reports k before after ns us ps l was more n u p f
     same_kept (reverse after) (reverse cs ++ k.book.crossings) ns (k.book.notices ++ ts) us (k.book.contacts ++ calls) ps (k.book.reports ++ reports) l x n u p
     ∙ ap (λ (m : LivesState). let after : Kept = record { book = record { crossings = reverse cs ++ k.book.crossings; notices = k.book.notices ++ ts; contacts = k.book.contacts ++ calls; reports = k.book.reports ++ reports; lives = m.lives }; handed = m.handed } in after) f
 
--- crossings and what users were told, and nothing else
+-- crossings and what users were notified of, and nothing else
 abbrev pub plain : List Crossing → List Told → Kept → Kept
 plain cs ts k = written cs None [] ts None [] [] k
 
--- what users were told, one after another
+-- what users were notified of, one notice after another
 written_told : (h : Host) (ns : List Notice) (k : Kept) → plain [] (map (told_at h (length k.book.crossings)) ns) k ≡ all_told h ns k
 written_told h [] k =
     same_kept k.book.crossings k.book.crossings (k.book.notices ++ []) k.book.notices (k.book.contacts ++ []) k.book.contacts (k.book.reports ++ []) k.book.reports (of_kept k) refl (append-nil k.book.notices)
@@ -96,7 +96,7 @@ written_before h place cs ns k is =
 
 -- ---- what services asked for, and reported
 
--- their contacts stand at one place
+-- their contacts are at one place
 written_ran : (h : Host) (rs : List Request) (reports : List Reported) (k : Kept)
     → ◌≡◌ {A = Kept} (record {
       book = record {
@@ -181,7 +181,7 @@ written_alone cs k =
     ∙ same_kept after.book.crossings after.book.crossings (after.book.notices ++ []) after.book.notices (after.book.contacts ++ []) after.book.contacts (after.book.reports ++ []) after.book.reports (of_kept after) refl
     (append-nil after.book.notices) (append-nil after.book.contacts) (append-nil after.book.reports)
 
--- the same, as what stands in a book then
+-- the same, as what is in a book then
 pub crossed_so : (cs : List Crossing) (k : Kept) (before after : List Crossing) (ns : List Told) (us : List Called) (ps : List Reported) (l : LivesState) → k.book.crossings ≡ reverse before → after ≡ before ++ cs
     → ns ≡ k.book.notices → us ≡ k.book.contacts → ps ≡ k.book.reports → l ≡ all.all_crossed cs (of_kept k)
     → ◌≡◌ {A = Kept} (record { book = record { crossings = reverse after; notices = ns; contacts = us; reports = ps; lives = l.lives }; handed = l.handed }) (all_crossed (reverse cs) k)
@@ -189,7 +189,7 @@ crossed_so cs k before after ns us ps l was more n u p f =
     written_so cs None [] [] None [] [] k before after ns us ps l was more (n ∙ sym (append-nil k.book.notices)) (u ∙ sym (append-nil k.book.contacts)) (p ∙ sym (append-nil k.book.reports)) f
     ∙ written_alone cs k
 
--- ---- what a host's user asked for, and what it was told, as what stands in a book then
+-- ---- what a host's user asked for, and what it was notified of, as what is in a book then
 
 pub asked_so : (h : Host) (r : Request) (k : Kept) (before : List Crossing) (place : ℕ) (ns : List Told) (us : List Called) (ps : List Reported) (l : LivesState) → k.book.crossings ≡ reverse before → place ≡ length before
     → ns ≡ k.book.notices → us ≡ k.book.contacts ++ contacts_asked h place r → ps ≡ k.book.reports → l ≡ all.asked h r (of_kept k)

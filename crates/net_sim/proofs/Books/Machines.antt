@@ -1,4 +1,4 @@
--- What services report while they have their turns is so, by what their host was told.
+-- What services report while they have their turns is so, by what their host was notified of.
 use Rattle.std.proofs.Common.{◌≡◌, inl, inr, ℕ, ◌+◌, Bool, true, false, List, [], ◌∷◌, ◌++◌, map, filter, length, take, Option, Some, None, All, refl, ap, sym, subst, ◌∙◌, append_assoc, length-append, arith}
 use Rattle.std.proofs.lemmas.List.{append-nil, map-append, take-append-le, take_all}
 use Rattle.std.proofs.lemmas.List.Elements.{All-cons, All-head, All-nil, All-push, All-tail, All-weaker, filter-append}
@@ -32,7 +32,7 @@ use Rattle.net_sim.specs.Reports.{BegunServer, BegunUser, IsBacked, IsRunning, I
 
 -- ---- one notice more
 
--- what a host is told of this one
+-- what a host is notified of about this one
 told_parts : (h : Host) (told : List Told) (x : Told) → told_to h (told ++ x ∷ []) ≡ told_to h told ++ told_to h (x ∷ [])
 told_parts h told x =
     ap (map (λ (y : Told). y.notice)) (filter-append (λ (y : Told). same_host h y.host) told (x ∷ []))
@@ -149,7 +149,7 @@ user_so ns (Some x) over f so receive send e = so receive send e
 
 -- ---- a host's desk
 
--- all that is reported on a desk is so, where so much was told to all hosts
+-- all that is reported on a desk is so, where all hosts were given these notices
 record IsGood (h : Host) (told : List Told) (d : ServiceDeskState) : Type 0 where
   host : d.host ≡ h
   count : d.notices ≡ length told
@@ -200,7 +200,7 @@ module _ (h : Host) (told : List Told) where
   good_lines [] d g = g
   good_lines (line ∷ lines) d g = good_lines lines (line_told d line) (good_report (report.Line line) d tt g)
 
-  -- ---- how a server goes on
+  -- ---- how a server continues
 
   server_fine_ends : (s : Service) (d : ServiceDeskState) (o : Option Outcome) → IsRunning (told_to h told) s → SoServer (told_to h told) o → IsGood h told d → IsFine h told (became s (server_ends d o))
   server_fine_ends s d None r so g = record { runs = r; good = g }
@@ -239,7 +239,7 @@ module _ (h : Host) (told : List Told) where
 
 -- ---- a notice
 
--- one that is told to this host, where so much was told before
+-- one that is given to this host, after these notices
 module _ (h : Host) (told : List Told) (x : Told) (own : same_host h x.host ≡ true) where
   abbrev now : List Told
   now = told ++ x ∷ []

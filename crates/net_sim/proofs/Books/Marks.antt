@@ -205,7 +205,7 @@ kept_long [] (y ∷ ys) h = absurd h
 kept_long (x ∷ xs) [] h = absurd h
 kept_long (x ∷ xs) (y ∷ ys) h = ap suc (kept_long xs ys h.1)
 
--- what a loop made of the lives stands in their place
+-- what a loop made of the lives is in their place
 pub kept_put : (xs ys zs : List Life) (n : ℕ) → n ≡ length xs → AreKept xs ys → AreKept xs (take n (ys ++ zs))
 kept_put xs ys zs n long h =
     subst (λ (all : List Life). AreKept xs all) (sym (ap (λ (k : ℕ). take k (ys ++ zs)) (long ∙ sym (kept_long xs ys h)) ∙ take-append_seam ys zs)) h

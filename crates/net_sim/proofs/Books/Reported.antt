@@ -1,4 +1,4 @@
--- After every event of a world, what services have reported is so, and all that runs is as its host was told.
+-- After every event of a world, what services have reported is so, and all that runs is as its host was notified.
 use Rattle.std.proofs.Common.{◌≡◌, ◌⊎◌, inl, inr, ℕ, Bool, true, false, if◌then◌else◌, find, List, [], ◌∷◌, ◌++◌, length, Option, Some, None, All, Result, Ok, Err, refl, sym, subst, ◌∙◌}
 use Rattle.std.specs.Bool.{MatchBool}
 use Rattle.std.proofs.lemmas.List.Elements.{All-append, All-cons, All-head, All-nil, All-tail}
@@ -54,7 +54,7 @@ told_reports : (h : Host) (ns : List Notice) (k : Kept) → (all_told h ns k).bo
 told_reports h [] k = refl
 told_reports h (n ∷ ns) k = told_reports h ns (book_told h n k)
 
--- ---- what a host is told, another isn't
+-- ---- what a host is notified of, another isn't
 
 told_others : (h : Host) (ns : List Notice) (k : Kept) (g : Host) → same_host g h ≡ false → told_to g (all_told h ns k).book.notices ≡ told_to g k.book.notices
 told_others h [] k g away = refl
@@ -82,7 +82,7 @@ runs_of h told [] old = All-nil (IsRunning (told_to h told))
 runs_of h told (s ∷ all) old =
     found_runs h told (same_host h s.host) s (find (λ (x : ServiceSeat). same_host h x.host) all) refl (All-head (Runs told) s all old) (runs_of h told all (All-tail (Runs told) s all old))
 
--- a host's services are now these, where the others were told nothing more
+-- a host's services are now these, where the others were notified of nothing more
 module _ (h : Host) (x : ServicesState) (old new : List Told) (mine : All (IsRunning (told_to h new)) x.running) (others : (g : Host) → same_host g h ≡ false → told_to g new ≡ told_to g old) where
   one_runs : (s : ServiceSeat) (b c : Bool) → same_host h s.host ≡ b → same_host s.host h ≡ c → Runs old s → Runs new (with_services b x s)
   one_runs s true c e f here = subst (λ (g : Host). All (IsRunning (told_to g new)) x.running) (same_host-true h s.host e) mine
@@ -124,7 +124,7 @@ tended_reported h t before w left others backed old =
       services = λ running. subst (λ (told : List Told). AreRunning told (serviced h t.0 w.services)) same (all_run h t.0 before now left.runs others w.services old);
     }
 
--- a program told this
+-- a program reported this
 heard_reported : {C : Type 0} (h : Host) (turn : NcpState × List Notice) (w : WorldState C) → AreReported w → w.stopped ≡ false → AreReported (world_heard h turn w)
 heard_reported {C} h turn w old running =
     let k : Kept = all_told h turn.1 w.kept in

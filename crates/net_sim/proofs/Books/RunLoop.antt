@@ -6,7 +6,7 @@ use Rattle.leader1822.specs.declared.carrier.CarrierFault.TheVariants as fault
 
 module _ {C : Type 0} (calls : Calls C) (events : List Event) (i : ℕ) (e : Event) (is : drop i events ≡ e ∷ drop (i + 1) events) (old mid : WorldState C) (answer : Result (Unit {0}) WorldFault)
     (step : StepGives calls old e answer mid) where
-  -- one event, after which the rest goes on
+  -- one event, after which the rest continues
   pub run_more : stops answer ≡ false → (r : Result (Unit {0}) WorldFault) (new : WorldState C) → Runs calls mid (drop (i + 1) events) r new → Runs calls old (drop i events) r new
   run_more on r new rest =
       let now : MatchBool (stops answer) ((r ≡ answer) × (new ≡ mid)) (Runs calls mid (drop (i + 1) events) r new) =

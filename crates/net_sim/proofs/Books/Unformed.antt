@@ -158,7 +158,7 @@ foreign_socket f =
 
 -- ---- data
 
--- nothing is carried by crossings that aren't behind a request
+-- nothing is carried by crossings that aren't after a request
 none_before : (Does : Crossing → ℕ → List Bool → Type 0) (stamp : ℕ) → ((c : Crossing) (place : ℕ) (bits : List Bool) → Does c place bits → stamp < place)
     → (log : List Crossing) → length log ≤ stamp + 1 → (count : ℕ) (bits : List Bool) → AreCarried Does log count bits → (count ≡ 0) × (bits ≡ [])
 none_before Does stamp after [] few count bits none = none
@@ -166,7 +166,7 @@ none_before Does stamp after (c ∷ log) few count bits (inl rest) = none_before
 none_before Does stamp after (c ∷ log) few count bits (inr (before, front, last, e, f, does, rest)) =
     absurd (let later : stamp < length log = after c (length log) last does in omega (arith, few, later))
 
--- so at most one message is carried where one crossing is behind it
+-- so at most one message is carried where one crossing is after it
 pub one_behind : (Does : Crossing → ℕ → List Bool → Type 0) (stamp : ℕ) → ((c : Crossing) (place : ℕ) (bits : List Bool) → Does c place bits → stamp < place)
     → (c : Crossing) (log : List Crossing) → length log ≤ stamp + 1 → (count : ℕ) (bits : List Bool) → AreCarried Does (c ∷ log) count bits
     → (count ≡ 0) ⊎ ((count ≡ 1) × Does c (length log) bits)

@@ -10,7 +10,7 @@ use Rattle.net_sim.specs.Book.{Life}
 use Rattle.net_sim.specs.Safe.{Name, SafeBook, IsGranted, Source, Match, IsPrefix, sends, own_request, partner_request}
 use Rattle.net_sim.specs.Worked.{eight, eight_zeros, four, crossings, message, receiver, sender, taker, giver, elsewhere, asker, stranger}
 
--- ---- where a life stands
+-- ---- where a life is
 
 pub one_there : (x y : Life) → Contains (x ∷ []) y → x ≡ y
 one_there x y (zero, lt, e) = e

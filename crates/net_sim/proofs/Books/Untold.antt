@@ -1,4 +1,4 @@
--- Notices that tell of the messages of a small log, and notices that don't.
+-- Notices that report the messages of a small log, and notices that don't.
 use Rattle.std.proofs.Common.{◌≡◌, inl, inr, ℕ, ◌+◌, ◌≤◌, Bool, true, false, List, [], ◌∷◌, length, refl, ap, sym, subst, ◌∙◌, arith}
 use Rattle.std.specs.List.{Contains}
 use Rattle.leader1822.specs.Host.{Host}
@@ -49,7 +49,7 @@ row_sent = inr (record { socket = 33; bits = eight; told = refl; holds = refl; w
 
 -- ---- bad ones
 
--- a notice tells of nothing that crossed later
+-- a notice reports nothing that crossed later
 told_by : (log : List Crossing) (t : Told) (told : List Told) → AreTold log (t ∷ told) → t.place ≤ length log
 told_by [] t told a = absurd a
 told_by (crossing.Out m ∷ log) t told (inl a) = omega (arith, told_by log t told a.1)
@@ -63,7 +63,7 @@ told_by (crossing.Down h ∷ log) t told (inr a) = absurd a.0
 told_by (crossing.Up h ∷ log) t told (inl a) = omega (arith, told_by log t told a.1)
 told_by (crossing.Up h ∷ log) t told (inr a) = absurd a.0
 
--- so the notice with the newest place tells of the newest crossing
+-- so the notice with the newest place reports the newest crossing
 of_taken : (m : HostMessage) (log : List Crossing) (t : Told) → t.place ≡ 1 + length log → AreTold (crossing.In m ∷ log) (t ∷ []) → TellsOf true m.flow.destination m.flow.source m log t
 of_taken m log t place (inl a) = absurd (omega (arith, place, told_by log t [] a.1))
 of_taken m log t place (inr a) = a.0

@@ -1,4 +1,4 @@
--- After every event of a world its book still tells one list of moments.
+-- After every event of a world its book still describes one list of moments.
 use Rattle.std.proofs.Common.{◌≡◌, ◌⊎◌, inl, inr, ℕ, Bool, true, false, ◌||◌, if◌then◌else◌, List, [], ◌∷◌, ◌++◌, map, length, All, Option, Some, None, Result, Ok, Err, refl, ap, sym, subst, ◌∙◌}
 use Rattle.std.specs.Bool.{MatchBool}
 use Rattle.std.specs.List.{fold}
@@ -144,7 +144,7 @@ module _ {C : Type 0} (own : Calls C) (hosts : List Host) where
       let x : (mail.is_up hosts h (crossings_of moments) ≡ true) × (program h moments ≡ s) = program_is (mail.is_up hosts h (crossings_of moments)) (program h moments) s (ap (λ (y : Seat). y.program) (sym mine)) in
       record { up = x.0; program = x.1 }
 
-  -- a program told this of a moment, and then its services had their turns
+  -- a program reported this of a moment, and then its services had their turns
   heard_whole : (h : Host) (turn : NcpState × List Notice) (before moments : List Moment) (old : WorldState C) (mid : WorldState C) (r : Result (Unit {0}) WorldFault) (new : WorldState C) → IsTimeline hosts moments
       → (own.seen mid.carrier).hosts ≡ hosts → mid.kept.book.crossings ≡ crossings_of moments → mid.kept.book.contacts ≡ contacts_of moments → without_reports (all_told h turn.1 mid.kept) ≡ kept_in moments
       → mid.seats ≡ map (seat_in hosts before) hosts → ((g : Host) → with_program (same_host h g) (Some turn.0) (seat_in hosts before g) ≡ seat_in hosts moments g)
@@ -156,7 +156,7 @@ module _ {C : Type 0} (own : Calls C) (hosts : List Host) where
       tended_whole h (opening_desk h (noticed mid) turn.0) (turn_of h (noticed mid) (services_of h mid.services) turn) before moments (record mid { kept = all_told h turn.1 mid.kept }) r new timeline network
       (told_crossings h turn.1 mid.kept ∙ crossings) (told_contacts h turn.1 mid.kept ∙ contacts) kept (up_by h turn.0 before moments each) seats each served_here refl asks.0 asks.1 does
 
-  -- what crosses for a host that is up, and what it is told
+  -- what crosses for a host that is up, and what it is notified of
   crossed_whole : (h : Host) (x : Crossing) (c : C) (turn : NcpState × List Notice) (old : WorldState C) (r : Result (Unit {0}) WorldFault) (new : WorldState C) → (w : Whole old) → old.stopped ≡ false
       → (own.seen c).hosts ≡ hosts → Happens hosts (Crossed x) w.moments → host_in (Crossed x) ≡ h → turn.1 ≡ notices_by (Crossed x) w.moments
       → ((g : Host) → with_program (same_host h g) (Some turn.0) (seat_in hosts w.moments g) ≡ seat_in hosts (Crossed x ∷ w.moments) g)
@@ -318,7 +318,7 @@ module _ {C : Type 0} (own : Calls C) (hosts : List Host) where
   pub calm_whole : (times : ℕ) (old : WorldState C) (r : Result (Unit {0}) WorldFault) (new : WorldState C) → Whole old → CalmGives calls times old r new → Whole new
   calm_whole times old r new w h = calm_keeps calls Whole IsNamed tt (λ x. tt) (λ x. tt) step_whole times old r new w h
 
--- a host that stands among some is one of them
+-- a host that is among some is one of them
 host_by : (hs : List Host) (h : Host) → (rest : Bool) → (same_host h h || rest) ≡ true
 host_by hs h rest = rw (same_host-refl h) refl
 

@@ -108,7 +108,7 @@ module _ {C : Type 0} (calls : Calls C) where
   no_halt : {P : Type 0} (c : C) (old : WorldState C) (r : Answer) (new : WorldState C) → stops r ≡ false → Halts c old r new → P
   no_halt c old r new on h = absurd (apart (stops r) (ap stops h.answer ∙ memory_stops h.fault h.memory) on)
 
-  -- the hosts stand as they did, and the world runs on
+  -- the hosts are as they were, and the world runs on
   abbrev Same : WorldState C → WorldState C → Type 0
   Same old new = (standings new.seats ≡ standings old.seats) × (new.stopped ≡ old.stopped)
 
@@ -202,7 +202,7 @@ module _ {C : Type 0} (calls : Calls C) where
       (λ n. ap (λ (w : WorldState C). standings w.seats) n ∙ first)
       (nat_lt (length old.kept.book.crossings) (length h.1.kept.book.crossings)) a)) (stops h.0) refl h.3
 
-  -- so many times are done, and what is left makes the whole
+  -- this many times are done, and what is left makes the whole
   abbrev pub Repeated : Event → ℕ → ℕ → WorldState C → WorldState C → Type 0
   Repeated e total count begin now = (r : Answer) (new : WorldState C) → Repeats calls e (total - count) now r new → Repeats calls e total begin r new
 
@@ -258,7 +258,7 @@ module _ {C : Type 0} (calls : Calls C) where
 
   -- ---- a round
 
-  -- the hosts whose seats stand before this place have had their turns
+  -- the hosts whose seats are before this place have had their turns
   pub record Turned (begin : WorldState C) (place : ℕ) (now : WorldState C) : Type 0 where
     pub same : standings now.seats ≡ standings begin.seats
     pub once : IsOnce (hosts_of begin.seats)
@@ -330,7 +330,7 @@ module _ {C : Type 0} (calls : Calls C) where
       ap ups_of (sym (drop_all place (standings begin.seats) (omega (arith, le, length-map begin.seats standing)))) in
       t.left (Ok tt) now (subst (λ (hosts : List Host). TurnsOf calls hosts now (Ok tt) now) none (refl, refl))
 
-  -- as long as the hosts stand as they did, there are as many seats
+  -- as long as the hosts are as they were, there are as many seats
   pub as_many : (begin now : WorldState C) (place : ℕ) → Turned begin place now → length now.seats ≡ length begin.seats
   as_many begin now place t = sym (length-map now.seats standing) ∙ ap (λ (xs : List Standing). length xs) t.same ∙ length-map begin.seats standing
 
@@ -349,7 +349,7 @@ module _ {C : Type 0} (calls : Calls C) where
   pub begun : (times : ℕ) (old : WorldState C) (r : Answer) (new : WorldState C) → old.stopped ≡ false → Calms calls times old r new → CalmGives calls times old r new
   begun times old r new running h = begun_by (Calms calls times old r new) old r new h old.stopped running
 
-  -- so many have passed, and what is left makes the whole
+  -- this many have passed, and what is left makes the whole
   abbrev pub Passed : ℕ → ℕ → WorldState C → WorldState C → Type 0
   Passed total count begin now = (r : Answer) (new : WorldState C) → Calms calls (total - count) now r new → Calms calls total begin r new
 

@@ -99,7 +99,7 @@ settled_of h g t before k1 p seat y d host is = record {
   kept_is = d.kept_is;
 }
 
--- services that are told nothing do nothing
+-- services that are notified of nothing do nothing
 told_none : (h g : Host) (n : ℕ) (x : ServicesState) (s : NcpState) (k k1 : Kept) (seat : Seat) (y : ServiceSeat) → seat ≡ record { host = g; program = Some s } → y ≡ record { host = h; services = x } → k1 ≡ k
     → IsSettled h g (turn_of h n x (s, [])) k seat y k1
 unfolding services_told
@@ -156,7 +156,7 @@ tended_settled h g n x old taken s p ns before k1 seat y had is d host put =
 pub given_by : {X : Type 0} (turn : NcpState × List Notice) (r : Result X NcpFault) (new : NcpState) (x : X) (notices : X → List Notice) → r ≡ Ok x → Turns notices turn r new → turn ≡ (new, notices x)
 given_by {X} turn r new x notices is gives = subst (λ (q : Result X NcpFault). Turns notices turn q new) is gives
 
--- what the program was told is what its call gives
+-- what the program reported is what its call gives
 pub turned_so : {E : Type 0} (r : Result (Unit {0}) E) (h g : Host) (n : ℕ) (x : ServicesState) (old mid : Option NcpState) (was p : NcpState) (ns : List Notice) (turn : NcpState → NcpState × List Notice) (k k1 : Kept) (seat : Seat) (y : ServiceSeat)
     → old ≡ Some was → turn was ≡ (p, ns) → mid ≡ Some p → OnOk r ((s : NcpState) → mid ≡ Some s → IsSettled h g (turn_of h n x (s, ns)) (all_told h ns k) seat y k1)
     → OnOk r ((s : NcpState) → old ≡ Some s → IsSettled h g (turn_of h n x (turn s)) (all_told h (turn s).1 k) seat y k1)

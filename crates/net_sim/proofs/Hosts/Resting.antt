@@ -56,7 +56,7 @@ neither true b e n = absurd (cc)
 neither false b e n = n
 
 module _ {C : Type 0} (calls : Calls C) where
-  -- an event that changes nothing, and by which a calm goes on
+  -- an event that changes nothing, and by which a calm continues
   record Still (e : Event) (w : WorldState C) : Type 0 where
     pub answer : Result (Unit {0}) WorldFault
     pub step : StepGives calls w e answer w

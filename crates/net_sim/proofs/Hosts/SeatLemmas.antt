@@ -95,7 +95,7 @@ some_place : (b : Bool) (n at len : ℕ) → nat_lt n len ≡ b → n ≡ at →
 some_place true n at len e same lt = ap (λ (k : ℕ). Some k) same
 some_place false n at len e same lt = absurd (let le : len ≤ n = ltb-false n len e in omega (arith, le, same, lt))
 
--- where a host's seat stands it is found
+-- where a host's seat is it is found
 pub placed : (h : Host) (seats : List Seat) (at : ℕ) → IsOnce (hosts_of seats) → at < length seats → ((d : Seat) → same_host h (slice_index_or seats at d).host ≡ true)
     → position (λ s. same_host h s.host) seats ≡ Some at
 placed h seats at once lt is =

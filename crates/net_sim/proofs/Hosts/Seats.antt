@@ -93,7 +93,7 @@ abbrev pub AreTurns : List Crossing → Type 0
 AreTurns [] = Unit {0}
 AreTurns (c ∷ cs) = IsTurn c × AreTurns cs
 
--- so many crossings more, newest first
+-- this many crossings more, newest first
 abbrev pub with_crossings : List Crossing → List Moment → List Moment
 with_crossings [] moments = moments
 with_crossings (c ∷ cs) moments = Crossed c ∷ with_crossings cs moments

@@ -1,4 +1,4 @@
--- A host's services stand where its seat stands.
+-- A host's services are where its seat is.
 use Rattle.std.proofs.Common.{◌≡◌, ℕ, zero, suc, ◌<◌, Bool, true, false, ◌||◌, List, [], ◌∷◌, length, Option, Some, slice_index_or, refl, ap, sym, subst, ◌∙◌, arith}
 use Rattle.leader1822.specs.Host.{Host, same_host, is_host}
 use Rattle.leader1822.proofs.lemmas.{or_false, same_host-refl}
@@ -33,7 +33,7 @@ there [] place o h lt is = absurd (omega (arith, lt))
 there (g ∷ hosts) zero o h lt is = first_by (same_host h g) (is_host hosts h) (same_is g h is)
 there (g ∷ hosts) (suc place) o h lt is = there_by (same_host h g) (is_host hosts h) (there hosts place o h (omega (arith, lt)) is)
 
--- where one that is later stands, the first one is another
+-- where one that is later is found, the first one is another
 not_first : (g h : Host) (hosts : List Host) → ((x : Host) → same_host x g ≡ true → is_host hosts x ≡ false) → is_host hosts h ≡ true → (b : Bool) → same_host h g ≡ b → b ≡ false
 not_first g h hosts once later true e = absurd (let no : is_host hosts h ≡ false = once h e in let both : true ≡ false = sym later ∙ no in cc)
 not_first g h hosts once later false e = refl

@@ -1,4 +1,4 @@
--- What is kept of a world, but for what services report, is what its moments tell.
+-- What is kept of a world, but for what services report, is what its moments say.
 use Rattle.std.proofs.Common.{◌≡◌, List, [], ◌∷◌, All, refl, ap, sym, ◌∙◌}
 use Rattle.std.proofs.lemmas.List.Elements.{All-head, All-tail}
 use Rattle.leader1822.specs.Host.{Host}
@@ -25,14 +25,14 @@ bare_by : (x : Moment) (k : Kept) → without_reports (kept_by x k) ≡ kept_by 
 bare_by (Crossed c) k = refl
 bare_by (Asked h r) k = refl
 
--- one moment more, and what a user is told by it
+-- one moment more, and what a user is notified of by it
 pub kept_more : (x : Moment) (h : Host) (ns : List Notice) (k : Kept) (moments : List Moment) → host_in x ≡ h → ns ≡ notices_by x moments → without_reports k ≡ kept_in moments
     → without_reports (all_told h ns (kept_by x k)) ≡ kept_in (x ∷ moments)
 kept_more x h ns k moments host notices same =
     bare_told h ns (kept_by x k) ∙ ap (λ (y : Kept). all_told h ns y) (bare_by x k) ∙ ap (λ (y : Kept). all_told h ns (kept_by x y)) same
     ∙ ap (λ (ms : List Notice). all_told h ms (kept_by x (kept_in moments))) notices ∙ ap (λ (g : Host). all_told g (notices_by x moments) (kept_by x (kept_in moments))) (sym host)
 
--- nothing is told of a request that is silent
+-- nothing is reported of a request that is silent
 silent : (s : NcpState) (r : Request) → IsSilent r → served_notices s r ≡ []
 unfolding served_notices
 silent s (request.Contact peer) is = absurd is

@@ -35,7 +35,7 @@ use Rattle.net_sim.proofs.Resets.StoryLemmas.{story_agrees}
 
 -- ---- what waits
 
--- what waits is an RST or an RRP alone, or has neither, and comes from a host of the network
+-- what waits is an RST or an RRP by itself, or has neither, and comes from a host of the network
 abbrev pub Stands : List Host → Flow → mail.Box → Type 0
 Stands hosts f mail.Empty = Unit {0}
 Stands hosts f (mail.Waiting place text) = IsApart f.link.0 text (message_on f.link.0 text) × (is_host hosts f.source ≡ true)

@@ -102,7 +102,7 @@ module _ (T : Entry → Bool) where
       let k : (list_any T xs || (false || false)) ≡ true = ap (λ (b : Bool). list_any T xs || (b || false)) (sym none) ∙ g in
       or_false (list_any T xs) k
 
--- an end whose request went out, and one whose data go on the control link
+-- an end whose request went out, and one whose data are sent on the control link
 abbrev pub asks : Entry → Bool
 asks e = is_some e.asked
 

@@ -181,7 +181,7 @@ data_asked q e size count n =
     data_found (has_asked q.entries ≡ true) e size count q (λ link f. found_asked (may_send_on q.busy link) (may_asked q.busy link) q.entries e f)
     (program.is_want q.phase) q.owed (program.is_ready q.phase) refl refl refl n
 
--- data go on a connection's link
+-- data are sent on a connection's link
 later_any : (T : Entry → Bool) (x : Entry) (xs : List Entry) → list_any T xs ≡ true → list_any T (x ∷ xs) ≡ true
 later_any T x xs h = or_later (T x) (list_any T xs) h
 
@@ -351,7 +351,7 @@ offer_agrees s stamp g x h p order n a =
     λ b. (goes g.host stamp s.listening g.pair p x (subst (λ (q : PairState). Agrees q p) pair b) (next_is g x s.peers n)).agrees in
     rw (n, same_host-refl s.own) (part_by g.host h (after g.host stamp s.listening x g.pair) s.peers p (Send (link_for x) (message_on (link_for x) (text_for g.pair x))) a step (same_host h g.host) refl)
 
--- what goes out is an RST or an RRP alone, or has neither
+-- what goes out is an RST or an RRP by itself, or has neither
 apart : (q : PairState) (p : Pair) (x : Parcel) → Agrees q p → MayGo q x → next_of q ≡ Some x → IsApart (link_for x) (text_for q x) (message_on (link_for x) (text_for q x))
 apart q p parcel.Reset a m n = subst (λ (m : Message). IsApart 0 (text_for q parcel.Reset) m) (sym (says_reset q)) tt
 apart q p parcel.Reply a m n = subst (λ (m : Message). IsApart 0 (text_for q parcel.Reply) m) (sym (says_reply q)) tt

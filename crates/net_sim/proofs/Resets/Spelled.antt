@@ -1,4 +1,4 @@
--- Commands that wait to go out are read as neither RST nor RRP, whatever numbers stand in them.
+-- Commands that wait to go out are read as neither RST nor RRP, whatever numbers are in them.
 use Rattle.std.proofs.Common.{◌≡◌, ℕ, ◌*◌, ◌/◌, ◌%◌, ◌≤◌, Bool, true, false, not, ◌==◌, ◌&&◌, nat_lt, nat_le, if◌then◌else◌, List, [], ◌∷◌, ◌++◌, map, length, take, drop, Option, Some, None, Result, refl, ap, sym, subst, ◌∙◌, arith, zero, suc}
 use Rattle.std.proofs.lemmas.Bool.{eqb-true, ltb-true}
 use Rattle.std.proofs.lemmas.List.{take_all, length-append, length-map}

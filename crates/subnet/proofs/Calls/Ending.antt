@@ -6,7 +6,7 @@ use Rattle.imp_node.specs.State.{State}
 use Rattle.imp_node.specs.Turns.{Turned}
 use Rattle.subnet.specs.Inside.Calling.{CallEnds}
 
--- an IMP's answer as that of what stands at its place
+-- an IMP's answer as that of what is at its place
 pub ends_of_turned : {T : Type 0} (refusal : Option CarrierFault) (grows : Bool) (Gives : T → Type 0) (s t : State) (r : Result T CarrierFault) → Turned refusal grows Gives s t r → CallEnds refusal grows Gives (Some s) (Some t) r
 ends_of_turned refusal grows Gives s t (Ok x) h = h
 ends_of_turned refusal grows Gives s t (Err fault.OutOfMemory) h = (h.0, h.1)

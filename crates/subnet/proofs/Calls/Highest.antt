@@ -355,7 +355,7 @@ asked_low h n f low =
     by None below = All-nil (PacketUpTo h n.imps)
     by (Some s) below = question (outstanding s f) (below f)
 
--- a packet that comes in, and what is told about it
+-- a packet that comes in, and what is answered about it
 answer_low : (h : ℕ) (imps : List (Option State)) (a : Arrival) (p : PacketFields) → PacketUpTo h imps p → All (PacketUpTo h imps) (told_for a p)
 answer_low h imps (Undeliverable new told) p low = All-cons (PacketUpTo h imps) (answer_packet told (flow_of p) p.number) [] low (All-nil (PacketUpTo h imps))
 answer_low h imps (Replying told) p low = All-cons (PacketUpTo h imps) (answer_packet told (flow_of p) p.number) [] low (All-nil (PacketUpTo h imps))

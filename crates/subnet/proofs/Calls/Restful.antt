@@ -50,7 +50,7 @@ one_by false n k i is earlier here below = earlier i (grind (arith, nat_tests, i
 pub one_more : (n : Net) (k : ℕ) (b : Bool) → b ≡ true → ((j : ℕ) → j < k → TakesNoneAt n j) → (b ≡ true → TakesNoneAt n k) → (i : ℕ) → i < k + 1 → TakesNoneAt n i
 one_more n k b said earlier here = λ i below. one_by (i == k) n k i refl earlier (here said) below
 
--- where a host stands among these
+-- where a host is among these
 record Place (hosts : List Host) (h : Host) : Type 0 where
   pub place : ℕ
   pub within : place < length hosts

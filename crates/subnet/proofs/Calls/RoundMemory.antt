@@ -107,7 +107,7 @@ none_again routes ports (p ∷ ps) none =
     in
     again_by routes ports p (pumped routes first.ports ps).waits (next_of routes (target p)) refl each.0 rest
 
--- ---- an IMP that tells nobody its distances: its ends are down, and no packet goes out
+-- ---- an IMP that sends its distances to nobody: its ends are down, and no packet goes out
 
 record IsSilent (s : State) : Type 0 where
   pub ends : list_any (λ port. port.up) s.ports ≡ false

@@ -1,4 +1,4 @@
--- A quiet round: distances are told, packets sent again, and frames delivered and dropped. What these four keep, it keeps.
+-- A quiet round: distances are sent, packets sent again, and frames delivered and dropped. What these four keep, it keeps.
 use Rattle.std.proofs.Common.{ℕ, zero, suc, List, [], ◌∷◌, length}
 use Rattle.std.specs.List.{range_with_len}
 use Rattle.leader1822.specs.declared.event.Direction.{Direction}

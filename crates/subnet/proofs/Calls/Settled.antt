@@ -1,4 +1,4 @@
--- A quiet round of a settled network changes nothing: the frames that it puts on lines tell what was heard, and are gone at its end.
+-- A quiet round of a settled network changes nothing: the frames that it puts on lines repeat what was heard, and are gone at its end.
 use Rattle.std.specs.Prelude.{if◌then◌else◌, IfSome, not}
 use Rattle.std.specs.List.{AllByRecursion, range_with_len, list_all}
 use Rattle.std.proofs.Common.{◌≡◌, ℕ, ◌+◌, ◌-◌, ◌<◌, ◌≤◌, zero, suc, Bool, true, false, List, [], ◌∷◌, ◌++◌, length, map, take, set, slice_get, nat_lt, ◌==◌, ◌||◌, ◌&&◌, count_by, Option, Some, None, refl, ap, sym, subst, ◌∙◌, arith}
@@ -131,7 +131,7 @@ Ignores (Some s) q f = from_line s q f ≡ ignored s
 abbrev Harmless : Net → ℕ → Direction → Frame → Type 0
 Harmless n l d f = Ignores (imp_at n.imps (far_end d (wire_at n.lines l))) (port_of n.lines (far_end d (wire_at n.lines l)) l) f
 
--- the lines of the network, with such frames alone
+-- the lines of the network, with such frames only
 record AreStill (n : Net) (lines : List Wire) : Type 0 where
   pub alike : Alike lines n.lines
   pub harmless : (l : ℕ) (d : Direction) → AllByRecursion (Harmless n l d) (frames_on d (wire_at lines l))
@@ -158,7 +158,7 @@ put_still n lines i l f still new = record {
       (put_harmless (λ (d : Direction) (f : Frame). Harmless n l d f) ((wire_at lines l).a == i) (wire_at lines l) f (λ d. still.harmless l d) new d);
 }
 
--- ---- what an IMP tells
+-- ---- what an IMP announces
 
 heard_by : (s : State) (k q : ℕ) (o : Option State) → (port_at s.ports k).up ≡ true → IfSome o (λ t. holds_packet t ≡ false) → IsHeard (Some s) k o q
     → Ignores o q (routes_frame (port_at s.ports k).line (vector_of s.routes))

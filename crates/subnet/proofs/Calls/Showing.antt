@@ -167,7 +167,7 @@ downs_are i k (suc count) up (h ∷ hs) is =
     ap (λ (cs : List Crossing). cs ++ (if h.up then crossing.Down (host_of i k) ∷ [] else [])) (downs_are i (k + 1) count up hs rest)
     ∙ next_down (ours i up) (host_of i k) (hosts_of_one i (k + 1) count) h.up (test_is i k up h.up (here_is i k (suc count) up (h ∷ hs) is))
 
--- an IMP of so many hosts
+-- an IMP of this many hosts
 site_downs : (n : Net) (i count : ℕ) (s : State) → imp_at n.imps i ≡ Some s → site_at n i ≡ Some count → IsListed n → IsSound n → downs_from i 0 s.hosts ≡ step_crossings (seen n) (event.ImpDown i)
 site_downs n i count s there site listed is =
     let up : Host → Bool = λ h. is_up n.hosts h n.log in

@@ -1,4 +1,4 @@
--- What a question tells that finds nothing alive.
+-- What is answered to a question that finds nothing alive.
 use Rattle.std.proofs.Common.{◌≡◌, ℕ, zero, suc, Bool, true, false, List, [], ◌∷◌, ◌++◌, ◌&&◌, ◌||◌, ◌==◌, get_or, Option, Some, None, refl, cond, All}
 use Rattle.std.specs.List.{list_any, flat_map}
 use Rattle.std.proofs.lemmas.List.Elements.{All-nil, All-cons, All-head, All-tail, All-append}

@@ -94,7 +94,7 @@ hosts_fit sites h =
 
 -- ---- their order
 
--- a host stands before the first of a list
+-- a host is before the first of a list
 abbrev Before : Host → List Host → Type 0
 Before g [] = Unit {0}
 Before g (h ∷ hosts) = host_before g h ≡ true

@@ -21,7 +21,7 @@ drop_past [] (suc k) past = refl
 drop_past (h ∷ hosts) zero past = absurd (omega arith)
 drop_past (h ∷ hosts) (suc k) past = drop_past hosts k (omega arith)
 
--- a list of crossings behind the log, which the definitions have newest first
+-- a list of crossings after the log, which the definitions have newest first
 pub all_crossed : (log items downs : List Crossing) → items ≡ reverse downs → reverse (log ++ items) ≡ downs ++ reverse log
 all_crossed log items downs is =
     ap (λ (xs : List Crossing). reverse (log ++ xs)) is

@@ -1,4 +1,4 @@
--- An IMP that tells its distances, or sends again, and does nothing else: its frames are put on lines one by one.
+-- An IMP that sends its distances, or sends again, and does nothing else: its frames are put on lines one by one.
 use Rattle.std.specs.Prelude.{if◌then◌else◌}
 use Rattle.std.proofs.Common.{◌≡◌, ℕ, ◌+◌, ◌<◌, ◌≤◌, zero, suc, Bool, true, false, List, [], ◌∷◌, ◌++◌, length, drop, set, nat_lt, Option, Some, None, Result, Ok, Err, OnOk, OnErr, refl, ap, sym, subst, ◌∙◌, arith}
 use Rattle.std.proofs.lemmas.List.{drop_more, set-get_or, length-append}

@@ -384,7 +384,7 @@ step_done : (old : Kept) (e : NetEvent) (n : Net) (r : Result (Unit {0}) Carrier
 step_done old e n (Ok done) goes ends same = (went_on (λ k. step_refusal k e) old goes ends.0, ap running ends.1)
 step_done old e n (Err f) goes ends same = failed (λ k. step_refusal k e) (step_grows old.net e) f old n (is_memory f) refl goes ends same
 
--- the IMPs of a subnet that goes on were not short of memory
+-- the IMPs of a subnet that continues were not short of memory
 pub live : (k : Kept) → k.stopped ≡ false → IsWorking k → AreLive k.net.imps
 live k goes is i = by (imp_at k.net.imps i) ((is.whole goes).sound.imps i) where
   by : (o : Option State) → IsAt i o → IsLive i o

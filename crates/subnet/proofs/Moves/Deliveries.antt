@@ -152,11 +152,11 @@ noted_sound n i s p turn made lost gone b new moved only of_flow formats dead is
       begun = inl refl;
     }) is
 
--- a packet of any kind but data that tells of this one is by the format
+-- a packet of any kind but data that reports on this one is by the format
 reply_format : (told : PacketKind) (p : PacketFields) → IsPacket p → Carries told 0 true 0 → IsPacket (answer_packet told (flow_of p) p.number)
 reply_format told p format carries = answer_format told (flow_of p) p.number carries format.source format.destination format.link format.number
 
--- what is told of a number that is noted without its message being taken
+-- what is answered about a number that is noted without its message being taken
 record RefusedWith (new : Fate) (told : PacketKind) : Type 0 where
   pub lost : IsLost new
   pub refusal : is_refusal (kind_of told) ≡ true
@@ -185,7 +185,7 @@ undeliverable_sound n i s p turn new told refused b here moved only is =
 
 -- ---- a question about the number that is kept
 
--- what is told of a fate is true
+-- what is reported of a fate is true
 record RepliedWith (old : Fate) (told : PacketKind) : Type 0 where
   pub tells : law.Tells old (kind_of told)
   pub carries : Carries told 0 true 0
@@ -196,7 +196,7 @@ replied_with fate.Taken told says = subst (RepliedWith fate.Taken) (sym says) (r
 replied_with fate.Dead told says = subst (RepliedWith fate.Dead) (sym says) (record { tells = refl; carries = record { first = refl; only = refl; empty = refl } })
 replied_with fate.Never told says = subst (RepliedWith fate.Never) (sym says) (record { tells = refl; carries = record { first = refl; only = refl; empty = refl } })
 
--- it moves no flow, and what is told goes to the source
+-- it moves no flow, and what is reported goes to the source
 replying_sound : (n : Net) (i : ℕ) (s : State) (p : PacketFields) (turn : ImpTurn) (told : PacketKind) → IsBrought n i s p turn → IsAskedHere s p told → AllUnmoved s turn.state
     → OnlyNew n (answer_packet told (flow_of p) p.number ∷ []) (with_turn i turn n) → IsSound n → IsSound (with_turn i turn n)
 replying_sound n i s p turn told b asked still only is =
@@ -367,7 +367,7 @@ arrival_sound (Answering k) n i s p turn b says moves only is = by (release_in p
   by release.Freed frees moved = answered_sound n i s p turn k b says.0 says.1 frees moved only is
   by release.Stale stale still = silent_arrival n i s p turn b still only is
 
--- a turn that moves no flow tells that a message wasn't taken only if its number was noted, so nothing was noted anew
+-- a turn that moves no flow reports that a message wasn't taken only if its number was noted, so nothing was noted anew
 still_sound : (a : Arrival) (k : ℕ) (f : Frame) (n : Net) (i : ℕ) (s : State) (p : PacketFields) → (let turn : ImpTurn = pump (acknowledged k (frame_taken k f s)) (arrived a p (frame_taken k f s)) in
     IsBrought n i s p turn → ArrivalSays a s p → AllUnmoved s turn.state → OnlyNew n (told_for a p) (with_turn i turn n) → IsSound n → IsSound (with_turn i turn n))
 still_sound Passing k f n i s p b says still only is = silent_arrival n i s p _ b still only is

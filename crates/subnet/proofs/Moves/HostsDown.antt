@@ -400,7 +400,7 @@ told_follows false m old new before later source destination there awaited same 
   packets = λ x l. inl (less x l);
 }
 
--- what a flow has a message for, in a sound subnet: it is outstanding, and it is alone
+-- what a flow has a message for, in a sound subnet: it is outstanding, and it is the only one
 flow_goes : (n : Net) (h : Host) (s : State) (f : Flow) → Stopping n h s → OnlyNew n (host_down_makes s h.host) (after_stop n h s) → Invariant Piece (view n f) (Alive n f) → (o : Option Message) → waiting s h f ≡ o
     → Follows Piece (moves_by (same_host f.source h) (same_host f.destination h) o) (view n f) (view (after_stop n h s) f) (Alive n f) (Alive (after_stop n h s) f)
 flow_goes n h s f stop only law None is =

@@ -49,7 +49,7 @@ apart_below x k less = elim (cases_Bool (x == k)) [
   | inr other ↦ other
 ]
 
--- what stands below them is none of them
+-- what is below them is none of them
 below : (k x : ℕ) (hosts : List HostState) → x < k → up_from k hosts x ≡ false
 below k x [] less = refl
 below k x (h ∷ hosts) less = rw (apart_below x k less) (below (k + 1) x hosts (omega (arith, less)))

@@ -157,7 +157,7 @@ is_free n s g is away dead =
     let both : (alive_behind n g (last s g) ≡ false) × (is_kept n g (moves.next_number (last s g)) ≡ false) = or_false (alive_behind n g (last s g)) (is_kept n g (moves.next_number (last s g))) none in
     record { behind = both.0; unkept = both.1 }
 
--- nothing is alive that would lie too far behind
+-- nothing is alive that would be too old
 number_free : (n : Net) (s : State) (g : Flow) → imp_at n.imps g.source.imp ≡ Some s → alive_behind n g (last s g) ≡ false → NumberFree (view n g) (Alive n g)
 number_free n s g at behind l lasts x alive =
     let was : last s g ≡ Some l = sym (ap (λ (o : Option State). (sender_at o g).last) at) ∙ lasts in

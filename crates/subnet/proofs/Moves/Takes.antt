@@ -149,7 +149,7 @@ host_message m = record { flow = m.flow; text = m.text }
 box_fetched : (m : Message) (log : List Crossing) → box_of m.flow (crossing.In (host_message m) ∷ log) ≡ fetched (box_of m.flow log)
 box_fetched m log = rw (same_flow-refl m.flow) refl
 
--- what stands of its flow
+-- what is so of its flow
 record IsFirst (n : Net) (i : ℕ) (s : State) (k : ℕ) (m : Message) (others : List Message) : Type 0 where
   pub here : m.flow.destination.imp ≡ i
   pub host : m.flow.destination.host ≡ k
@@ -215,7 +215,7 @@ take_from_far n i s k m others take far is =
       begun = inl refl;
     }) is
 
--- its source is at this IMP, and is told at once
+-- its source is at this IMP, and is notified at once
 take_from_here : (n : Net) (i : ℕ) (s : State) (k : ℕ) (m : Message) (others : List Message) → IsTake n i s k [] (m ∷ others) → is_from_here s m ≡ true → IsSound n
     → IsSound (logging (crossing.In (host_message m) ∷ []) (with_turn i (to_host s k) n))
 take_from_here n i s k m others take near is =

@@ -1,4 +1,4 @@
--- Distances are told of the subnet's IMPs alone.
+-- Distances are sent of the subnet's IMPs only.
 use Rattle.std.proofs.Common.{◌≡◌, ℕ, zero, suc, ◌+◌, ◌-◌, ◌<◌, ◌≤◌, ◌==◌, Bool, true, false, List, [], ◌∷◌, length, map, min, Option, Some, None, Result, Ok, Err, refl, ap, sym, ◌∙◌, subst, inl, inr, eqb-true, eq-eqb, cond, arith, All, if◌then◌else◌}
 use Rattle.std.specs.Prelude.{is_some, slice_get, slice_set, count_by}
 use Rattle.std.proofs.lemmas.Bool.{cases_Bool, cases_lt}

@@ -3,7 +3,7 @@ use Rattle.std.specs.Prelude.{◌≡◌, ℕ, ◌+◌, ◌<◌, List, [], ◌∷
 use Rattle.subnet.specs.declared.lines.EndPorts.{EndPorts}
 use Rattle.subnet.specs.Net.{Wire, ends_at, port_of}
 
--- an octet tells this many numbers
+-- an octet is one of this many numbers
 abbrev pub numbers : ℕ
 numbers = 256
 

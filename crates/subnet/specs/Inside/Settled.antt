@@ -1,4 +1,4 @@
--- A network in which a quiet round changes nothing: no frame is on a line, no IMP stores a packet, and what each IMP would tell its
+-- A network in which a quiet round changes nothing: no frame is on a line, no IMP stores a packet, and what each IMP would announce to its
 -- neighbours they heard last.
 use Rattle.std.specs.Prelude.{◌≡◌, ℕ, ◌<◌, ◌==◌, ◌&&◌, Bool, true, false, not, [], length, Option, Some, None, IfSome, slice_index_or}
 use Rattle.leader1822.specs.declared.event.Direction.{Direction}
@@ -16,7 +16,7 @@ other_way way.Back = way.Forward
 abbrev pub near_end : Direction → Wire → ℕ
 near_end d w = far_end (other_way d) w
 
--- what an IMP would tell at its end of a line, the IMP at the other end heard there last, if both ends are up
+-- what an IMP would announce at its end of a line, the IMP at the other end heard there last, if both ends are up
 abbrev pub IsHeard : Option State → ℕ → Option State → ℕ → Type 0
 IsHeard None p far q = Unit {0}
 IsHeard (Some s) p None q = Unit {0}

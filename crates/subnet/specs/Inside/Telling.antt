@@ -1,4 +1,4 @@
--- An IMP that tells its distances, or sends again, and does nothing else.
+-- An IMP that sends its distances, or sends again, and does nothing else.
 use Rattle.std.specs.Prelude.{◌≡◌, List, [], Option, Some, None}
 use Rattle.routing.specs.RouteTable.{vector_of}
 use Rattle.imp_node.specs.declared.outgoing.Outgoing.{Outgoing}
@@ -18,7 +18,7 @@ OnlyPuts turn frames (Some s) = turn s ≡ record { state = s; frames = frames s
 abbrev pub tells : State → List Outgoing
 tells s = told_from (vector_of s.routes) 0 s.ports
 
--- what an IMP that is up tells, on each of its live ports
+-- what an IMP that is up announces, on each of its live ports
 abbrev pub told : Option State → List Outgoing
 told o = frames_by_up tells o
 

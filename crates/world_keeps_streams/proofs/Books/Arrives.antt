@@ -72,7 +72,7 @@ one_end name e (y ∷ []) r h (inl same) = (ap (λ (z : Entry). z ∷ []) same, 
 one_end name e (y ∷ []) r h (inr there) = absurd there
 one_end name e (y ∷ z ∷ zs) r h there = absurd h
 
--- a life that goes on has its end among those of its host's program
+-- a life that continues has its end among those of its host's program
 pub end_at : (x : Life) (s : NcpState) (h : HasOpenEnd s x) → Among h.end (pair_with x.peer s.peers).entries × (is_mine_on x.socket h.end ≡ true)
 end_at x s h = among_filter (is_mine_on x.socket) (pair_with x.peer s.peers).entries h.end (subst (λ (xs : List Entry). Among h.end xs) (sym h.one) (inl refl))
 
@@ -89,7 +89,7 @@ stays_of hosts ms l x there goes = by (stay.stays x.host x.peer (events_of ms)) 
   by true e = e
   by false e = absurd (unlike x.ended (over_when_left hosts ms l x.host x.peer e x (is_of x (lives_in ms) there) refl refl) goes)
 
--- what is told of data that an open end finds acceptable
+-- what is reported of data that an open end finds acceptable
 told_open : (link : ℕ) (text : List Bool) (e : Entry) (h : DataHeader) (d : DeskState) → find (receives_on link) d.entries ≡ Some e → is_open e ≡ true → header_of text ≡ Some h → is_acceptable e h ≡ true
     → (data_taken link text d).notices ≡ d.notices ++ notice.Arrived e.own (data_of (data_bits h) text) ∷ []
 told_open link text e h d found is header good =
@@ -205,7 +205,7 @@ module _ (hosts : List Host) (addresses : HaveAddresses hosts) (m : HostMessage)
       let long : length in_box.bits ≡ data_bits in_box.header = ap length (sym in_box.data_is) ∙ bits_there m.text in_box.header in_box.header_is in
       sym (accept_same c f.end.end r in_box.header in_box.bits the_end.1 f.opened long) ∙ ap (λ (z : ℕ). receivers.is_open c r && words.is_size z (r.size c) && covers r.allocation (length in_box.bits)) in_box.size_is ∙ fits
 
-  -- ---- what is told
+  -- ---- what is answered
 
   ready : phases.is_ready (pair_with x.peer (program x.host ms).peers).phase ≡ true
   ready = by (phases.is_ready (pair_with x.peer (program x.host ms).peers).phase) refl where

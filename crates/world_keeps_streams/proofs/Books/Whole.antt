@@ -61,7 +61,7 @@ pub nil_bits : (bs : List Bool) → bs ++ [] ≡ bs
 nil_bits [] = refl
 nil_bits (v ∷ bs) = ap (λ (vs : List Bool). v ∷ vs) (nil_bits bs)
 
--- the lives of `a` and `b` are told by requests: `Own` of the receiver's, `Heard` of those that the sender took
+-- the lives of `a` and `b` are named by requests: `Own` of the receiver's, `Heard` of those that the sender took
 module _ (a b : Host) (Own Heard : List Moment → ℕ → ℕ → ℕ → ℕ → Type 0) where
   abbrev pub Streams : List Moment → Type 0
   Streams ms = (n : ℕ) → Joined a b (suc n) ms
@@ -101,7 +101,7 @@ module _ (a b : Host) (Own Heard : List Moment → ℕ → ℕ → ℕ → ℕ �
     pub link : is.link ≡ n
     pub name : numbered life.foreign life.socket is.g ≡ c
 
-  -- one that goes on is of the connection of its end, and has all that the law's receiver took
+  -- one that continues is of the connection of its end, and has all that the law's receiver took
   pub record GoesOn (ms : List Moment) (j : (n : ℕ) → Joined a b (suc n) ms) (link g : ℕ) (x : Life) : Type 0 where
     pub bits : x.bits ≡ all_bits ((j link).x.receiver.taken (numbered x.socket x.foreign g))
     pub messages : x.messages ≡ length ((j link).x.receiver.taken (numbered x.socket x.foreign g))

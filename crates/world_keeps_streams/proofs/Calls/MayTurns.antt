@@ -197,7 +197,7 @@ module _ (origin : ℕ → ℕ) where
     heard_one command.Rst orders t is silent free fit = (is, tt, tt, tt)
     heard_one command.Rrp orders t is silent free fit = (is, tt, tt, tt)
 
-    -- what is heard behind an order
+    -- what is heard after an order
     behind : (o : Order) (orders : List Order) (t : TurnState) → AreJoint (o ∷ orders) → AreFree peer stamp (o ∷ orders) t → is_ready t.pair.phase ≡ true → ((own foreign : ℕ) → Fits (o ∷ orders) t own foreign)
         → (own foreign : ℕ) → Fits orders (order_taken peer stamp o t) own foreign
     behind o orders t joint free ready fit own foreign =

@@ -32,7 +32,7 @@ use Rattle.world_keeps_streams.proofs.Calls.May.{AllMay}
 
 -- ---- calls
 
--- the request of its partner was heard by these calls, where so many CLS were heard before it; if they follow one another and may be made
+-- the request of its partner was heard by these calls, where this many CLS were heard before it; if they follow one another and may be made
 abbrev pub Named : (ℕ → ℕ → ℕ → ℕ) → Host → List calls.Moment → ℕ → ℕ → ℕ → ℕ → Type 0
 Named number b cs own foreign g v = (link : ℕ) → IsHistory b cs → AreAllowed number b link cs → AllMay cs → (origin : ℕ → ℕ) → Asks g (origin v) (heard_list origin foreign own cs)
 
@@ -75,7 +75,7 @@ found_among name (y ∷ ys) apart e (inr there) = by (y.own == e.own) (y.foreign
   by true false f g rest = rw (f, g) rest
   by false w f g rest = rw f rest
 
--- one call more: `fits` is what it needs, and each life that goes on is that of the one own end on its socket, before it and after it
+-- one call more: `fits` is what it needs, and each life that continues is that of the one own end on its socket, before it and after it
 pub call_next : (number : ℕ → ℕ → ℕ → ℕ) (tells : IsTelling number) (a b : Host) (cs : List calls.Moment) (m : calls.Moment) (lives : List Life)
     → ((link : ℕ) → (link == 0) ≡ false → Holds number tells link (gone_now b cs) m.pair.entries (receiver_now number b link cs) (sender_now number b link cs))
     → AreRefusing m.pair.entries → Fits m.call m.pair → AreOwned a b m.pair.entries lives → AreOwned a b (ends_after b m) (After a b (deed_of m.call m.pair) lives)
@@ -104,7 +104,7 @@ among_contains (y ∷ ys) x (inr s) = let k : Contains ys x = among_contains ys 
 
 -- ---- a host's book
 
--- so many lives stood in the book where `a` dropped its ends with `b` last
+-- this many lives were in the book where `a` dropped its ends with `b` last
 abbrev pub since : Host → Host → List Moment → ℕ
 since a b [] = 0
 since a b (x ∷ ms) = if keeps a b (event_in x) (events_of ms) then since a b ms else length (kept_in (x ∷ ms)).book.lives

@@ -40,7 +40,7 @@ module _ (number : ℕ → ℕ → ℕ → ℕ) (tells : IsTelling number) (a b 
 
   -- ---- one command that is heard
 
-  -- RST and RRP stand alone in their messages
+  -- RST and RRP are the only commands in their messages
   abbrev pub IsOrdinary : Order → Type 0
   IsOrdinary (Legal command.Rst) = ⊥
   IsOrdinary (Legal command.Rrp) = ⊥
@@ -85,7 +85,7 @@ module _ (number : ℕ → ℕ → ℕ → ℕ) (tells : IsTelling number) (a b 
     placed_wrong : (c : Command) (t : TurnState) → Placed t → Placed (if_ready (command_queued c) t)
     placed_wrong c t p = placed_ready (command_queued c) t (λ k m g. good_ready a k m b κ (command_queued c) t (good_queued a k m b (all_told a t.notices κ) c (desk_of t.pair t.listening)) g) p
 
-    -- what is told by a call, since that place
+    -- what is reported by a call, since that place
     later_told : (t : TurnState) (call : calls.Call) (ns : List Notice) → ns ≡ notices_of b call t.pair t.listening → ((ls : List Life) → all_lives a (notices_of b call t.pair t.listening) ls ≡ After a b (deed_of call t.pair) ls) → n ≤ length (all_told a t.notices κ).book.lives
         → drop n (all_told a (t.notices ++ ns) κ).book.lives ≡ After a b (deed_of call t.pair) (drop n (all_told a t.notices κ).book.lives)
     later_told t call ns is told less =

@@ -1,4 +1,4 @@
--- The lives that stood in the book where a host dropped its ends with a peer have ended.
+-- The lives that were in the book where a host dropped its ends with a peer have ended.
 use Rattle.std.proofs.Common.{◌≡◌, inl, inr, ℕ, zero, suc, ◌≤◌, Bool, true, false, if◌then◌else◌, List, [], ◌∷◌, ◌++◌, length, refl, sym, subst, arith}
 use Rattle.leader1822.specs.Host.{Host}
 use Rattle.leader1822.specs.Mailboxes as mail
@@ -22,7 +22,7 @@ use Rattle.world_keeps_streams.proofs.Carried.Streams.{EndOf}
 use Rattle.world_keeps_streams.proofs.Carried.Calls.{since}
 use Rattle.world_keeps_streams.proofs.Carried.Owned.{by_length, owned_now, since_within, told_lives, told_longer}
 
--- the first so many lives of this host with this peer have ended
+-- the first lives, this many, of this host with this peer have ended
 abbrev pub AreOver : Host → Host → ℕ → List Life → Type 0
 AreOver a b zero ls = Unit {0}
 AreOver a b (suc n) [] = Unit {0}

@@ -1,4 +1,4 @@
--- Lives that go on and their ends, by what world_keeps_lives has of each socket; and the lives of a book since a host dropped its ends.
+-- Lives that continue and their ends, by what world_keeps_lives has of each socket; and the lives of a book since a host dropped its ends.
 use Rattle.std.proofs.Common.{◌≡◌, inl, inr, ℕ, zero, suc, ◌+◌, ◌≤◌, ◌==◌, Bool, true, false, if◌then◌else◌, List, [], ◌∷◌, ◌++◌, map, drop, length, refl, ap, sym, subst, ◌∙◌, eq-eqb, arith}
 use Rattle.std.proofs.lemmas.List.{length-append}
 use Rattle.leader1822.specs.Host.{Host, same_host}

@@ -20,7 +20,7 @@ use Rattle.world_keeps_streams.proofs.Carried.Streams.{EndOf, IsSent, IsTaken}
 
 -- ---- a life beside the law of its link
 
--- where so many connections are gone, and these ends are there. `r` and `s` are the law's receiver and sender of each link
+-- where this many connections are gone, and these ends are there. `r` and `s` are the law's receiver and sender of each link
 pub record CarriedOn (told : ℕ → ℕ → ℕ → ℕ → Type 0) (number : ℕ → ℕ → ℕ → ℕ) (gone : ℕ → ℕ → ℕ) (es : List Entry) (r : ℕ → Receiver) (s : ℕ → Sender) (link g : ℕ) (x : Life) : Type 0 where
   pub other : (link == 0) ≡ false
   pub taken : receives x ≡ true → IsTaken (number x.socket x.foreign g) (r link) x
@@ -28,7 +28,7 @@ pub record CarriedOn (told : ℕ → ℕ → ℕ → ℕ → Type 0) (number : �
   pub goes : x.ended ≡ false → g ≡ gone x.socket x.foreign
   pub linked : x.ended ≡ false → (e : Entry) → Among e es → e.mine ≡ true → e.own ≡ x.socket → e.link ≡ Some link
   pub over : x.ended ≡ true → suc g ≤ gone x.socket x.foreign
-  -- what is told of the request of its partner
+  -- what is reported of the request of its partner
   pub named : told x.socket x.foreign g x.partner_stamp
 
 -- nothing was granted, returned or taken in a connection
@@ -66,7 +66,7 @@ pub record Carry (told : ℕ → ℕ → ℕ → ℕ → Type 0) (a b : Host) (n
   pub opens : (e : Entry) → Among e es → e.mine ≡ true → is_open e ≡ true → LifeFor a b e lives
   pub linked : (e : Entry) → Among e es → IsLinked e
 
--- each life that goes on is that of the one own end on its socket
+-- each life that continues is that of the one own end on its socket
 abbrev pub AreOwned : Host → Host → List Entry → List Life → Type 0
 AreOwned a b es lives = (x : Life) → Among x lives → x.host ≡ a → x.peer ≡ b → x.ended ≡ false → EndOf es x
 

@@ -51,7 +51,7 @@ pub all_more : (ts : List (List Bool)) (bits : List Bool) → all_bits (ts ++ bi
 all_more [] bits = append-nil bits
 all_more (t ∷ ts) bits = ap (λ (l : List Bool). t ++ l) (all_more ts bits) ∙ sym (append_assoc t (all_bits ts) bits)
 
--- ---- the end of a life that goes on
+-- ---- the end of a life that continues
 
 pub record EndOf (es : List Entry) (x : Life) : Type 0 where
   pub end : Entry

@@ -1,4 +1,4 @@
--- What a host's user is told by a call, as what the call does to the lives.
+-- What a host's user is notified of by a call, as what the call does to the lives.
 use Rattle.std.proofs.Common.{◌≡◌, ℕ, ◌*◌, ◌&&◌, Bool, true, false, nat_le, if◌then◌else◌, List, [], ◌∷◌, ◌++◌, take, map, filter, find, Option, Some, None, is_some, refl, ap, sym, subst, ◌∙◌, append-nil}
 use Rattle.std.specs.List.{flat_map, list_any}
 use Rattle.leader1822.specs.Host.{Host}
@@ -31,7 +31,7 @@ notices_of p (Says stamp c) q listening = (command_gone p stamp c (desk_of q lis
 notices_of p (Sends stamp e size count) q listening = (parcel_gone p stamp q.busy (Bytes e size count) (desk_of q listening)).notices
 notices_of p c q listening = []
 
--- all but a grant, which a user asks for, is told
+-- all but a grant, which a user asks for, is reported
 abbrev pub IsTold : Call → Type 0
 IsTold (Grants socket messages bits e) = ⊥
 IsTold c = Unit {0}
@@ -193,7 +193,7 @@ module _ (a p : Host) where
     out_told stamp command.Rst = none_told
     out_told stamp command.Rrp = none_told
 
-    -- what is told of a call
+    -- what is reported of a call
     pub call_told : (c : Call) → IsTold c → (ls : List Life) → all_lives a (notices_of p c q listening) ls ≡ After (deed_of c q) ls
     call_told (Hears stamp said c) t = hear_told stamp c
     call_told (Takes link text) t = data_told link text (found_in (find (receives_on link) q.entries))

@@ -101,7 +101,7 @@ closes_call origin foreign own (AsksBack socket messages bits e) word = refl
 closes_call origin foreign own (Gives socket bits e) word = refl
 closes_call origin foreign own (Closes socket e) word = refl
 
--- as many CLS stand in the list as are counted
+-- as many CLS are in the list as are counted
 closes_heard : (origin : ℕ → ℕ) (foreign own : ℕ) (ms : List calls.Moment) → closes (heard_list origin foreign own ms) ≡ closes_in foreign own ms
 closes_heard origin foreign own [] = refl
 closes_heard origin foreign own (m ∷ ms) = closes_call origin foreign own m.call (heard_list origin foreign own ms) ∙ ap (λ (n : ℕ). closes_by m.call foreign own n) (closes_heard origin foreign own ms)

@@ -5,7 +5,7 @@ use Rattle.host_keeps_streams.specs.Histories as calls
 use Rattle.host_keeps_streams.specs.Histories.{Call, Hears}
 use Rattle.pairing_law.specs.Marks.{Mark}
 
--- what a command of the peer says of them, the peer's own socket first. A request is told by the place where its message went out
+-- what a command of the peer says of them, the peer's own socket first. A request is named by the place where its message went out
 abbrev pub mark_heard : (ℕ → ℕ) → ℕ → ℕ → Call → List Mark
 mark_heard origin foreign own (Hears stamp said c) = mark_of (origin stamp) foreign own c
 mark_heard origin foreign own k = []

@@ -51,7 +51,7 @@ said_heard (m ∷ ms) x = said_heard ms (says m x)
 -- ---- orders
 
 module _ (foreign own : ℕ) where
-  -- calls upon so many
+  -- the number of CLS after these calls, beginning with this many
   abbrev pub closes_on : List calls.Moment → ℕ → ℕ
   closes_on [] n = n
   closes_on (m ∷ ms) n = closes_by m.call foreign own (closes_on ms n)

@@ -72,7 +72,7 @@ module _ (hosts : List Host) (ms : List Moment) (l : Lawful hosts ms) (h p : Hos
     by None e = e
     by (Some t) f = absurd (some t f (is_receive_socket e.own && is_send_socket e.foreign) (is_send_socket e.own && is_receive_socket e.foreign) refl refl)
 
--- ---- moments with which a stay goes on
+-- ---- moments with which a stay continues
 
 module _ (h p : Host) (events : List Event) (ready : stay.ready h p events ≡ true) where
   still : (e : Event) → stay.ready h p (e ∷ events) ≡ true → stay.takes_reset h p e ≡ false → keeps h p e events ≡ true
@@ -99,7 +99,7 @@ module _ (h p : Host) (events : List Event) (ready : stay.ready h p events ≡ t
         let want : (pair h p events).phase ≡ law.Want = ap (λ (x : Host). (pair h x events).phase) peer ∙ may.1 in
         clash _ (stay.is_ready (pair h p events).phase) ready (ap stay.is_ready want)
 
--- ---- what the host of a moment is told by it, where it doesn't stay with a peer after it
+-- ---- what the host of a moment is notified of by it, where it doesn't stay with a peer after it
 
 module _ (hosts : List Host) (p : Host) where
   abbrev IsFine : Bool → Moment → List Moment → Type 0

@@ -18,7 +18,7 @@ use Rattle.world_keeps_streams.proofs.Lives.Lists.{IsOf, grown, of_either, of_ma
 -- ---- notices
 
 module _ (calm : Bool) (p : Host) where
-  -- it opens no end with the peer; and where this is asked for, it doesn't tell of messages or parts of a grant
+  -- it opens no end with the peer; and where this is asked for, it doesn't report messages or parts of a grant
   abbrev pub Fine : Notice → Type 0
   Fine (notice.Opened socket peer foreign own partner) = peer ≡ p → ⊥
   Fine (notice.Sent socket bits) = calm ≡ false

@@ -1,4 +1,4 @@
--- What a program tells of a peer with which its host does not stay, or which it leaves: none of it opens an end with that peer.
+-- What a program reports of a peer with which its host does not stay, or which it leaves: none of it opens an end with that peer.
 use Rattle.std.proofs.Common.{◌≡◌, ◌⊎◌, inl, inr, ℕ, ◌*◌, ◌==◌, ◌||◌, not, Bool, true, false, if◌then◌else◌, List, [], ◌∷◌, ◌++◌, filter, take, Option, Some, None, refl, ap, sym, subst, ◌∙◌}
 use Rattle.std.specs.List.{flat_map}
 use Rattle.leader1822.specs.Host.{Host, same_host}
@@ -49,7 +49,7 @@ unasked_changed test change es same none e i = by (among_changed test change es 
   by (inl there) = none e there
   by (inr c) = ap (λ (x : Entry). x.partner) (sym c.is) ∙ same c.end ∙ none c.end c.there
 
--- nothing is told of an opening
+-- nothing is reported of an opening
 opening_none : (peer : Host) (o : Option Entry) → ((e : Entry) → o ≡ Some e → e.partner ≡ None) → opening_notices peer o ≡ []
 opening_none peer None none = refl
 opening_none peer (Some e) none = ap (opening_by peer e e.asked) (none e refl) ∙ by e.asked where
@@ -115,7 +115,7 @@ module _ (calm : Bool) (p : Host) where
   parcel_fine loud peer stamp busy (parcel.Commands count) d h = (desk_all peer stamp (take count d.queue) d h).1
   parcel_fine loud peer stamp busy (parcel.Bytes e size count) d h = fine_both calm p d.notices (notice.Sent e.own (take (size * count) e.bits) ∷ []) h.1 (loud, tt)
 
-  -- ---- what is told of another peer
+  -- ---- what is reported of another peer
 
   away_fine : calm ≡ false → (g : Host) → same_host g p ≡ false → (n : Notice) → IsAbout g n → Fine calm p n
   away_fine loud g away (notice.Opened socket peer foreign own partner) about = λ e. clash ⊥ (same_host g p) (ap (λ (x : Host). same_host x p) (sym about ∙ e) ∙ same_host-refl p) away

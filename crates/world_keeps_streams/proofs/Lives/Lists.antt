@@ -95,7 +95,7 @@ drop_grown f zero xs more l = refl
 drop_grown f (suc n) [] more l = absurd (omega (arith, l))
 drop_grown f (suc n) (x ∷ xs) more l = drop_grown f n xs more (omega (arith, l))
 
--- two of a list are one, or stand at two places of it
+-- two of a list are one, or are at two places of it
 parted : (v : Life) (vs : List Life) → IsOf v vs → (front : List Life) × (rest : List Life) × (vs ≡ front ++ v ∷ rest)
 parted v [] i = absurd i
 parted v (w ∷ vs) (inl e) = ([], vs, ap (λ (u : Life). u ∷ vs) (sym e))

@@ -63,7 +63,7 @@ since_either a b [] = refl
 since_either a b (y ∷ ms) =
     ap (λ (v : Bool). if v then length (lives_in ms) else since b a ms) (begins_either b a (event_in y) (events_of ms)) ∙ ap (λ (n : ℕ). if stay.begins a b (event_in y) (events_of ms) then length (lives_in ms) else n) (since_either a b ms)
 
--- ---- what stands in a list behind a place
+-- ---- what is in a list after a place
 
 pub drop_more : (m n : ℕ) (x : Life) (xs : List Life) → m ≤ n → IsOf x (drop n xs) → IsOf x (drop m xs)
 drop_more zero n x xs less i = of_drop n x xs i
@@ -81,7 +81,7 @@ abbrev pub NoneBegin : List Host → Host → Host → Type 0
 NoneBegin hosts h p = (y : Moment) (ms : List Moment) → Lawful hosts (y ∷ ms) → stay.stays h p (events_of (y ∷ ms)) ≡ false → (x : Life) → IsOf x (grown y ms).more → x.host ≡ h → x.peer ≡ p → ⊥
 
 module _ (hosts : List Host) (h p : Host) (none : NoneBegin hosts h p) where
-  -- a life since its host dropped its ends stands since both met, and the host stays
+  -- a life since its host dropped its ends is there since both met, and the host stays
   pub recent_present : (ms : List Moment) → Lawful hosts ms → (x : Life) → IsOf x (drop (carried.since h p ms) (lives_in ms)) → x.host ≡ h → x.peer ≡ p → (stay.stays h p (events_of ms) ≡ true) × IsOf x (present_in h p ms)
   recent_present [] l x i f g = absurd (of_drop 0 x [] i)
   recent_present (y ∷ ms) l x i f g = by (recent_present ms (below hosts y ms l)) (keeps h p (event_in y) (events_of ms)) refl i where

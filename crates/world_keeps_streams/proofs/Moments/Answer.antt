@@ -56,7 +56,7 @@ failed_quiet p t none ready = by (is_gone t.pair.phase || not t.pair.owed) ready
   by true r = absurd (let no : true ≡ false = sym r ∙ failed_unready p t.pair.phase t refl in cc)
   by false r = ap (λ (ns : List Notice). ns ++ []) none
 
--- nothing is told of it
+-- nothing is reported of it
 answered_quiet : (p : Host) (kind : Answer) (l : ℕ) (t : TurnState) → t.notices ≡ [] → program_phases.is_ready (answered_turn p kind l t).pair.phase ≡ true → (answered_turn p kind l t).notices ≡ []
 answered_quiet p answer.Rfnm l t none ready = ap (λ (ns : List Notice). ns ++ []) none
 answered_quiet p answer.Dead l t none ready = failed_quiet p (record t { pair = freed l t.pair }) none ready

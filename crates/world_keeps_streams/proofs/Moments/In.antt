@@ -48,13 +48,13 @@ use Rattle.world_keeps_streams.proofs.Carried.Owned.{since_within, told_lives}
 use Rattle.world_keeps_streams.proofs.Carried.Still.{still_next}
 use Rattle.world_keeps_streams.proofs.Calls.Chain.{chain}
 
--- what a host tells its user of a message
+-- what a host notifies its user of about a message
 pub notices_there : (s : NcpState) (m : HostMessage) (stamp : ℕ) → same_host s.own m.flow.destination ≡ true
     → (accepted s (inbound.Message m) stamp).1 ≡ (message_taken m.flow.source stamp m.flow.link.0 m.text (turn_of s m.flow.source)).notices
 unfolding accepted
 notices_there s m stamp own = rw own refl
 
--- an RRP that is heard tells nothing of the lives
+-- an RRP that is heard reports nothing of the lives
 reply_lives : (a b : Host) (p : Phase) (ls : List Life) → all_lives a (reply_notices b p) ls ≡ ls
 reply_lives a b phase.Closed ls = refl
 reply_lives a b phase.Want ls = refl
@@ -209,7 +209,7 @@ module _ (number : ℕ → ℕ → ℕ → ℕ) (tells : IsTelling number) (host
           lives : (kept_in (Crossed (crossing.In m) ∷ ms)).book.lives ≡ (all_told a (orders_taken b (places ms) (orders_of m.text) t).notices (kept_in ms)).book.lives
           lives = lives_now ∙ ap (λ (u : TurnState). all_lives a u.notices (kept_in ms).book.lives) new_is ∙ sym (told_lives a (orders_taken b (places ms) (orders_of m.text) t).notices (kept_in ms))
 
-    -- an RRP tells nothing of the lives
+    -- an RRP reports nothing of the lives
     ready_reply : (m.flow.link.0 == 0) ≡ true → orders_of m.text ≡ Legal command.Rrp ∷ [] → all_lives a new.notices (kept_in ms).book.lives ≡ (kept_in ms).book.lives
     ready_reply zero orders = rw (zero, orders) (reply_lives a b (pair_with b (program a ms).peers).phase (kept_in ms).book.lives)
 

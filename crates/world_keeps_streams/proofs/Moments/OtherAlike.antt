@@ -101,7 +101,7 @@ module _ (a b : Host) where
   alike_where test f [] host peer none = tt
   alike_where test f (x ∷ xs) host peer none = (like_when (test x) f x host peer (none x (inl refl)), alike_where test f xs host peer (λ y there. none y (inr there)))
 
-  -- ---- what another host is told
+  -- ---- what another host is notified of
 
   module _ (h : Host) (off : same_host h a ≡ false) where
     at_other : (socket : ℕ) (x : Life) → x.host ≡ a → lives_at h socket x ≡ true → ⊥
@@ -142,7 +142,7 @@ module _ (a b : Host) where
     away_alike [] ls = alike_same ls
     away_alike (n ∷ ns) ls = alike_then ls (lives_told h n ls) (all_lives h ns (lives_told h n ls)) (away_told n ls) (away_alike ns (lives_told h n ls))
 
-  -- ---- what is told of another peer
+  -- ---- what is reported of another peer
 
   -- notices that name the peer, and none of a socket
   abbrev pub IsNamed : Host → Notice → Type 0
@@ -162,7 +162,7 @@ module _ (a b : Host) where
   named_append p [] ms l k = k
   named_append p (n ∷ ns) ms l k = (l.0, named_append p ns ms l.1 k)
 
-  -- no life of the two goes on at a socket
+  -- no life of the two continues at a socket
   abbrev pub IsClear : ℕ → List Life → Type 0
   IsClear k ls = (x : Life) → Among x ls → x.host ≡ a → x.peer ≡ b → lives_at a k x ≡ true → ⊥
 
@@ -199,7 +199,7 @@ module _ (a b : Host) where
 
     -- ---- a deed with another peer
 
-    -- no life of the two goes on where it is done
+    -- no life of the two continues where it is done
     abbrev pub IsClearOf : Deed → List Life → Type 0
     IsClearOf (deeds.Arrives e bits) ls = IsClear e.own ls
     IsClearOf (deeds.Leaves e bits) ls = IsClear e.own ls

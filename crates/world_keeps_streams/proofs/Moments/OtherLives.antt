@@ -136,7 +136,7 @@ module _ (a b : Host) (s : NcpState) (κ : Kept) (holds : (k : ℕ) → Holds a 
   places_of : (p : Host) (off : same_host p b ≡ false) → Placed a b p off κ (turn_of s p)
   places_of p off = placed_first a p s κ holds
 
-  -- where another peer has an own end, no life with this one goes on
+  -- where another peer has an own end, no life with this one continues
   clear_here : (p : Host) → same_host p b ≡ false → (e : Entry) → Among e (pair_with p s.peers).entries → e.mine ≡ true → IsClear a b e.own κ.book.lives
   clear_here p off e there mine = clear_end a b p off κ (turn_of s p) (places_of p off) e there mine
 

@@ -97,7 +97,7 @@ module _ (q : PairState) (refusing : AreRefusing q.entries) where
   hits_takes link text =
       found_cases (find (receives_on link) q.entries) (λ w. Hits (arrives text w) q.entries) tt tt (λ e f o. hits_arrives text e (at_found (receives_on link) e f o) (header_of text))
 
--- ---- where a peer has an own end, no life with another peer goes on
+-- ---- where a peer has an own end, no life with another peer continues
 
 module _ (a b p : Host) (off : same_host p b ≡ false) where
   clear_at : (k : ℕ) (m : Place) (es : List Entry) (l : Bool) (κ : Kept) → IsAway p m → At a k m p (mine_on k es) l κ → (e : Entry) → Among e es → is_mine_on k e ≡ true → IsClear a b k κ.book.lives

@@ -54,7 +54,7 @@ said_onto b stamp [] q listening older base = refl
 said_onto b stamp (c ∷ cs) q listening older base =
     said_onto b stamp cs (with_connections q (parcel.command_gone b stamp c (desk_of q listening))) listening (called (Says stamp c) q listening ∷ older) base
 
--- what is told of an offer
+-- what is reported of an offer
 offered_told : (s : NcpState) (stamp : ℕ) (g : Peer) (x : Parcel) → next_in s.peers ≡ Some (g, x) → (offered s stamp).1 ≡ (parcel_gone g.host stamp g.pair.busy x (desk_of g.pair s.listening)).notices
 unfolding offered
 offered_told s stamp g x n = rw n refl

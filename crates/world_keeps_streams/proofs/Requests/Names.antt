@@ -22,7 +22,7 @@ some_place : (x : book.Life) (o : Option ℕ) → IsSome (named x o) → (p : �
 some_place x None i = absurd (let none : false ≡ true = i in cc)
 some_place x (Some p) i = (p, refl)
 
--- what the same place tells whatever it is told by where there is none
+-- what the same place names whatever it is named by where there is none
 same_place : (o m : Option ℕ) → ((none : ℕ) → place_or none m ≡ place_or none o) → (p : ℕ) × (o ≡ Some p) → m ≡ o
 same_place o m f some = place_there some.0 m (f (suc some.0) ∙ ap (place_or (suc some.0)) some.1) ∙ sym some.1
 

@@ -62,7 +62,7 @@ side_stays h p spoken heard (e ∷ events) =
 
 -- ---- one end
 
--- the connection of an end that is there is told by how many are gone
+-- the connection of an end that is there is named by how many are gone
 now_gone : (c now gone : ℕ) (partner_closed : Bool) → c ≡ now + count partner_closed → c ≡ counted partner_closed gone → now ≡ gone
 now_gone c now gone true e f = omega (arith, e, f)
 now_gone c now gone false e f = omega (arith, e, f)
@@ -83,7 +83,7 @@ now_at said heard kept x g pc b same taken counts =
 
 -- ---- of a program
 
--- so many CLS were heard as its calls count
+-- as many CLS were heard as its calls count
 abbrev pub Counts : Host → Host → List Moment → Type 0
 Counts h p ms = (foreign own : ℕ) → closes_in foreign own (own_calls h p ms) ≡ heard_from (gone_now p (own_calls h p ms)) (pair_with p (program h ms).peers).entries foreign own
 

@@ -1,4 +1,4 @@
--- Requests of two hosts beside the law of pairing: each stands where so many connections of its sockets were closed before it.
+-- Requests of two hosts beside the law of pairing: each is where this many connections of its sockets were closed before it.
 use Rattle.std.proofs.Common.{◌≡◌, inr, ℕ, ◌&&◌, not, Bool, true, false, List, [], ◌∷◌, if◌then◌else◌, refl, ap, sym, subst, ◌∙◌}
 use Rattle.leader1822.specs.Host.{Host}
 use Rattle.leader1822.specs.Mailboxes as mail

@@ -1,4 +1,4 @@
--- What a host that doesn't stay, and says nothing, does by one moment: at most one call, of those that it makes alone.
+-- What a host that doesn't stay, and says nothing, does by one moment: at most one call, of those that it makes by itself.
 use Rattle.std.proofs.Common.{◌≡◌, ℕ, ◌==◌, Bool, true, false, not, ◌||◌, if◌then◌else◌, cond, List, [], ◌∷◌, ◌++◌, Option, Some, None, refl, ap, sym, subst, ◌∙◌}
 use Rattle.leader1822.specs.Host.{Host, same_host}
 use Rattle.leader1822.specs.declared.address.Flow.{Flow}

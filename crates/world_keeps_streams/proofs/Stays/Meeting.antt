@@ -1,4 +1,4 @@
--- Where two hosts meet: what each did alone is the law's beginning of both streams.
+-- Where two hosts meet: what each did by itself is the law's beginning of both streams.
 use Rattle.std.proofs.Common.{◌≡◌, ℕ, ◌==◌, Bool, true, false, List, [], ◌++◌, refl, ap, sym, subst, ◌∙◌}
 use Rattle.leader1822.specs.Host.{Host}
 use Rattle.ncp_control.specs.declared.command.Command.{Command}
@@ -15,7 +15,7 @@ use Rattle.world_keeps_streams.specs.Calls.{own_calls}
 use Rattle.world_keeps_streams.proofs.Steps.Joined.{Joined, commands_in, party, post_in, numbered_by_peer, turned_tells}
 use Rattle.world_keeps_streams.proofs.Stays.Quiet.{IsSolo, Reached, reach, solo_allowed}
 
--- what a host is where it meets its peer: its calls were such as it makes alone, and nothing of it is outstanding
+-- what a host is where it meets its peer: its calls were such as it makes by itself, and nothing of it is outstanding
 pub record Alone (a b : Host) (link : ℕ) (moments : List Moment) : Type 0 where
   pub stays : stay.stays a b (events_of moments) ≡ true
   pub solo : IsSolo b (own_calls a b moments) (pair_with b (program a moments).peers).queue
@@ -46,7 +46,7 @@ module _ (link : ℕ) (off : (link == 0) ≡ false) where
   abbrev nothing : Host → Party
   nothing peer = record { stays = true; gone = gone_now peer []; entries = ends_now peer []; pending = []; post = Free }
 
-  -- what the first did alone, beside a peer that had done nothing
+  -- what the first did by itself, beside a peer that had done nothing
   abbrev First : Host → Host → List Moment → Type 0
   First a b moments = Reached numbered numbered_by_peer numbered_tells turned_tells link steps b (own_calls a b moments) (queue_of a b moments) opening_stream opening_stream (nothing a)
 

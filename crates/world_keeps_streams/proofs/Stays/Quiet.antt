@@ -1,4 +1,4 @@
--- What a host does alone, before its peer has met it: a user asks for ends and closes them, answers come, and an RRP that nobody waits for.
+-- What a host does by itself, before its peer has met it: a user asks for ends and closes them, answers come, and an RRP that nobody waits for.
 use Rattle.std.proofs.Common.{◌≡◌, ℕ, ◌==◌, Bool, true, false, if◌then◌else◌, List, [], ◌∷◌, ◌++◌, refl, ap, sym, subst, ◌∙◌, append-nil}
 use Rattle.std.proofs.lemmas.List.{append_assoc}
 use Rattle.leader1822.specs.Host.{Host}
@@ -33,7 +33,7 @@ abbrev pub AllWordless : List Command → Type 0
 AllWordless [] = Unit {0}
 AllWordless (c ∷ cs) = IsWordless c × AllWordless cs
 
--- commands that say nothing of connections may have been put behind a queue
+-- commands that say nothing of connections may have been put after a queue
 pub record IsMore (before now : List Command) : Type 0 where
   pub more : List Command
   pub wordless : AllWordless more

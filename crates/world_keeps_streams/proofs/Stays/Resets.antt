@@ -23,7 +23,7 @@ out_alone hosts a b l text events r left = by (stays b a events) refl where
       let both : joint a b events ≡ true = rw (phase_ready (pair a b events).phase r.1.0, stays_ready events b a e) refl in
       absurd (contradicts (stays a b events) (joint_stays hosts events r.2 a b both) left)
 
--- ---- events with which a stay goes on, or ends
+-- ---- events with which a stay continues, or ends
 
 stays_parts : (t r k s : Bool) → (t || (r && not k && s)) ≡ true → t ≡ false → ((r && not k) ≡ true) × (s ≡ true)
 stays_parts true r k s e f = absurd (cc)
@@ -31,7 +31,7 @@ stays_parts false true true s e f = absurd (cc)
 stays_parts false true false s e f = (refl, e)
 stays_parts false false k s e f = absurd (cc)
 
--- a stay that goes on was one before, and is kept
+-- a stay that continues was one before, and is kept
 pub stays_on : (a b : Host) (e : Event) (events : List Event) → stays a b (e ∷ events) ≡ true → begins a b e events ≡ false → (keeps a b e events ≡ true) × (stays a b events ≡ true)
 stays_on a b e events s old = stays_parts (begins a b e events) (ready a b (e ∷ events)) (takes_reset a b e) (stays a b events) s old
 

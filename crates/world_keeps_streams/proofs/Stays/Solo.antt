@@ -1,4 +1,4 @@
--- What a host did since it dropped its ends, where it has said nothing and wasn't in a stay, is what a host does alone.
+-- What a host did since it dropped its ends, where it has said nothing and wasn't in a stay, is what a host does by itself.
 use Rattle.std.proofs.Common.{◌≡◌, ℕ, Bool, true, false, not, ◌&&◌, if◌then◌else◌, List, [], ◌∷◌, Option, Some, None, refl, ap, sym, subst, ◌∙◌}
 use Rattle.leader1822.specs.Host.{Host, same_host}
 use Rattle.leader1822.specs.declared.address.Flow.{Flow}

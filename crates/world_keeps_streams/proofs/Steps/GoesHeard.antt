@@ -58,7 +58,7 @@ module _ (number other : ℕ → ℕ → ℕ → ℕ) (tells : IsTelling number)
     box_y = record { whole = j.box_y.whole; left = j.box_y.left };
   }
 
-  -- an RRP more in front is no word
+  -- an RRP more at the beginning is no word
   reply_first : (x y : Stream) (a b : Party) → Joint number other tells others link x y a b → Joint number other tells others link x y a (record b { pending = command.Rrp ∷ b.pending })
   reply_first x y a b j = record {
     inv_x = j.inv_x;

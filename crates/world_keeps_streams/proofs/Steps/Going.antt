@@ -24,7 +24,7 @@ use Rattle.host_keeps_streams.proofs.lemmas.{name_of}
 use Rattle.pair_keeps_streams.proofs.lemmas.{Fetched, Free, IsAsking, IsFirst, IsHeard, IsPaired, IsPairedCall, IsWordless, Joint, Lies, Party, Post, Stepped, Steps, finds_free, queue_by, receives, receives_receiver, receives_sender, sends, sends_receiver, sends_sender, x_after, y_after}
 use Rattle.world_keeps_streams.specs.Calls.{called}
 
--- a host that stays with a peer: what waits to be taken of it, and behind that what waits in its program
+-- a host that stays with a peer: what waits to be taken of it, and after that what waits in its program
 abbrev pub standing : Host → List calls.Moment → PairState → List Command → Post → Party
 standing p own q front post = record { stays = true; gone = gone_now p own; entries = q.entries; pending = front ++ q.queue; post = post }
 

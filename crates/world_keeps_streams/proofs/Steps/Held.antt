@@ -30,7 +30,7 @@ own_if true xs ys e = refl
 own_if false xs ys e = absurd (let no : false ≡ true = e in cc)
 
 module _ (number other : ℕ → ℕ → ℕ → ℕ) (tells : IsTelling number) (others : IsTelling other) (link : ℕ) where
-  -- what waits to be taken stands in front; behind it, while the host stays, what waits in its program
+  -- what waits to be taken comes first; after it, while the host stays, what waits in its program
   pub record Held (h p : Host) (moments : List Moment) (front rest : List Command) (post : Post) (b : Party) (x y : Stream) : Type 0 where
     pub joint : Joint number other tells others link x y (side h p moments (front ++ rest) post) b
     pub queue : stay.stays h p (events_of moments) ≡ true → rest ≡ (pair_with p (program h moments).peers).queue
@@ -109,7 +109,7 @@ module _ (number other : ℕ → ℕ → ℕ → ℕ) (tells : IsTelling number)
     allowed = λ e. no_case (AreAllowed number p link (own_calls h p moments)) (stay.stays h p (events_of moments)) e left;
   }
 
-  -- what a host that doesn't stay leaves behind
+  -- what a host that doesn't stay leaves to be taken
   pub acted_out : (h p : Host) (moments : List Moment) (front rest : List Command) (post : Post) (b : Party) (x y : Stream) → stay.stays h p (events_of moments) ≡ false
       → Joint number other tells others link x y (side h p moments (front ++ rest) post) b → Acted h p moments front post b x y
   acted_out h p moments front rest post b x y left j = record {

@@ -54,7 +54,7 @@ post_in (reset.Taken place m) = Fetched
 
 -- ---- the two hosts
 
--- host `a` beside `b`. Behind what waits to be taken stands `rest`: what waits in its program, while it stays
+-- host `a` beside `b`. After what waits to be taken comes `rest`: what waits in its program, while it stays
 abbrev pub party : Host → Host → ℕ → List Command → List Moment → Party
 party a b link rest moments = record {
   stays = stay.stays a b (events_of moments);

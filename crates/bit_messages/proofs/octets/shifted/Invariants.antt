@@ -2,6 +2,6 @@ use Rattle.std.proofs.Common.{◌≡◌, ◌*◌, ◌++◌, false, length, take,
 use Rattle.bit_messages.specs.Octets.{bits_of}
 use Rattle.bit_messages.proofs.octets.shifted.Given as goal
 
--- so many octets of the bits that are shifted
+-- this many octets of the bits that are shifted
 abbrev pub invariant-loop-i : goal.invariant-loop-i
 invariant-loop-i l = record { bits : bits_of l.part.items ≡ take (8 * l.i) (drop l.by (bits_of l.octets ++ replicate 8 false)); size : length l.part.items ≡ l.i }

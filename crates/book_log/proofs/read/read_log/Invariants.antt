@@ -2,7 +2,7 @@ use Rattle.std.proofs.Common.{◌<◌, ◌≤◌, ◌^◌, ◌+◌, length}
 use Rattle.book_log.proofs.Going.{Reached}
 use Rattle.book_log.proofs.read.read_log.Given as goal
 
--- the lines that were read tell the book, and the others are left
+-- the lines that were read describe the book, and the others are left
 abbrev pub invariant-lines : goal.invariant-lines
 invariant-lines l = Reached l.text l.left l.book l.passed × (l.passed + length l.left ≤ length l.text) × (length l.text < 2 ^ 63)
 

@@ -2,7 +2,7 @@ use Rattle.std.proofs.Common.{◌≡◌, ◌-◌, ◌≤◌, ◌++◌, length, t
 use Rattle.imp_node.specs.Pump.{pumped}
 use Rattle.imp_node.proofs.pump.pump.Given as goal
 
--- what the rest comes to behind what was done is what all comes to
+-- the result of the rest, after what was done, is the result of all
 abbrev pub invariant-packets : goal.invariant-packets
 invariant-packets l = record {
   within : l.at ≤ length l.store.items;

@@ -2,7 +2,7 @@ use Rattle.std.proofs.Common.{◌≡◌, ℕ, List, [], ◌∷◌, zero, suc, le
 use Rattle.packetiser.specs.PacketFields.{PacketFields}
 use Rattle.packetiser.proofs.law.not_gathered.Goals as goal
 
--- what stands in a list of one
+-- what is in a list of one
 alone : (p q : PacketFields) → Contains (p ∷ []) q → p ≡ q
 alone p q (zero, lt, e) = e
 alone p q (suc k, lt, e) = absurd (omega (arith, lt))

@@ -3,7 +3,7 @@ use Rattle.replay.specs.Replay.{Calls}
 use Rattle.replay.proofs.Passing.{Passed}
 use Rattle.replay.proofs.calm.replay_calm.Given as goal
 
--- so many rounds have passed, and no write has failed
+-- this many rounds have passed, and no write has failed
 abbrev pub invariant-loop : goal.invariant-loop
 invariant-loop g l =
     let calls : Calls g.row.C.Denot = record { seen = g.C.Carrier.seen; offers = g.C.Carrier.offers; takes = g.C.Carrier.takes; steps = g.C.Carrier.steps; rounds = g.C.Carrier.rounds } in

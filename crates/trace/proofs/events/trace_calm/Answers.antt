@@ -16,7 +16,7 @@ elements-init g c =
       c.requires,
     )
 
--- an elementary event that holds a message is dropped in another way than any other: each of the two goals stands twice
+-- an elementary event that holds a message is dropped in another way than any other: each of the two goals is there twice
 pub elements-preserved : goal.elements-preserved
 elements-preserved g c =
     let calls : Calls g.row.C.Denot = record { seen = g.C.Carrier.seen; offers = g.C.Carrier.offers; takes = g.C.Carrier.takes; steps = g.C.Carrier.steps; rounds = g.C.Carrier.rounds } in

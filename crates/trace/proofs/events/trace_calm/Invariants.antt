@@ -12,6 +12,6 @@ invariant-elements g l =
     SoFar (TellsElement calls inside l.spot) l.fn.carrier (g.C.Inspect.calm l.fn.carrier l.rounds) (g.C.Inspect.left l.carrier l.place) l.carrier (g.W.Output.contents l.fn.writer) (g.W.Output.contents l.writer)
     × (g.W.Output.failed l.writer ≡ false)
 
--- each has one more behind it
+-- each has one more after it
 abbrev pub decreases-elements : goal.decreases-elements
 decreases-elements g l = length (g.C.Inspect.left l.carrier l.place)

@@ -4,7 +4,7 @@ use Rattle.net_sim.specs.World.{Calls}
 use Rattle.world_replay.proofs.Rounds.{HaveRounds}
 use Rattle.world_replay.proofs.events.replay_calm.Given as goal
 
--- so many rounds have passed, and what they showed is written; no write has failed
+-- this many rounds have passed, and what they showed is written; no write has failed
 abbrev pub invariant-loop : goal.invariant-loop
 invariant-loop g l =
     let calls : Calls g.row.C.Denot = shown (record { seen = g.C.Carrier.seen; offers = g.C.Carrier.offers; takes = g.C.Carrier.takes; steps = g.C.Carrier.steps; rounds = g.C.Carrier.rounds }) in
