@@ -20,3 +20,4 @@ pub mod lemmas
 pub mod Calling
 pub mod Telling
 pub mod Turns
+pub mod Failures

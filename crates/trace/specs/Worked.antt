@@ -3,7 +3,10 @@ use Rattle.std.specs.Prelude.{true, false, List, [], ◌∷◌}
 use Rattle.leader1822.specs.Boxes.{Boxes, offered, opening_boxes}
 use Rattle.leader1822.specs.Host.{Host}
 use Rattle.leader1822.specs.declared.address.Flow.{Flow}
+use Rattle.leader1822.specs.declared.event.NetEvent.TheVariants as net
 use Rattle.leader1822.specs.declared.message.HostMessage.{HostMessage}
+use Rattle.script.specs.declared.event.RawEvent.TheVariants as event
+use Rattle.trace.specs.declared.element.Element.{Element}
 
 abbrev pub first : Host
 first = record { imp = 1; host = 0 }
@@ -35,3 +38,7 @@ one_waits = offered (opening_boxes (first ∷ third ∷ [])) short
 -- mailboxes of which only the hosts that are down matter
 abbrev pub with_down : List Host → Boxes
 with_down down = record (opening_boxes hosts) { down = down }
+
+-- the second host stops
+abbrev pub stop : Element
+stop = record { round = 0; event = event.Net (net.HostDown second) }

@@ -1,20 +1,20 @@
 //! Worked examples of traces. The functions here do nothing: each clause is a row, computed over the definitions.
 
-ghost use Rattle.std.specs.Prelude.{◌≡◌, List, [], ◌∷◌, None, Some, codes, true, false};
+ghost use Rattle.std.specs.Prelude.{◌≡◌, ℕ, List, [], ◌∷◌, None, Some, codes, true, false};
 ghost use Rattle.std.specs.FinMap as map;
 ghost use Rattle.leader1822.specs.declared.carrier.CarrierFault.TheVariants as fault;
 ghost use Rattle.leader1822.specs.declared.crossing.Answer.TheVariants as answer;
 ghost use Rattle.leader1822.specs.declared.crossing.Crossing.TheVariants as crossing;
 ghost use Rattle.leader1822.specs.declared.event.NetEvent.TheVariants as net;
-ghost use Rattle.leader1822.specs.Boxes.{opening_boxes, with_queue};
+ghost use Rattle.leader1822.specs.Boxes.{host_stopped, opening_boxes, with_queue};
 ghost use Rattle.replay.specs.Output.{Crossed, Refused};
 ghost use Rattle.script.specs.declared.event.RawEvent.TheVariants as event;
-ghost use Rattle.trace.specs.Elements.{elements_of};
+ghost use Rattle.trace.specs.Elements.{elements_of, plain};
 ghost use Rattle.trace.specs.Parts.{Down, Waiting, SamePart, is_named, parts_of};
 ghost use Rattle.topology.specs.declared.network.CarrierKind.TheVariants as kind;
 ghost use Rattle.trace.specs.Texts.{answer_object, changed_text, crossing_object, opening_line, part_name, part_text, queues_text, trace_line, whole_text};
-ghost use Rattle.trace.specs.Traces.{asking_from, numbered_from};
-ghost use Rattle.trace.specs.Worked.{empty, first, flow, hosts, one_waits, second, short, third, with_down};
+ghost use Rattle.trace.specs.Traces.{MayTell, asking_from, numbered_from};
+ghost use Rattle.trace.specs.Worked.{empty, first, flow, hosts, one_waits, second, short, stop, third, with_down};
 ghost use Rattle.trace.specs.declared.fate.Fate.TheVariants as fate;
 
 /// The text of each part.
@@ -99,4 +99,17 @@ pub fn worked_calms()
 
     // the message is taken in the first round, when its source has had its turn, and its answer in the second
     ensures message { elements_of one_waits (event.Calm 2) ≡ record { round = 1; event = event.Take third } ∷ record { round = 2; event = event.Take first } ∷ [] }
+{}
+
+/// What is known where a write failed: the carrier had processed the elementary event.
+pub fn worked_failures()
+    // the host that was to stop has stopped
+    ensures processed { MayTell plain (opening_boxes hosts) stop (host_stopped (opening_boxes hosts) second) [] }
+
+    // nothing happened, or another event
+    ensures nothing { MayTell plain (opening_boxes hosts) stop (opening_boxes hosts) [] → ⊥ }
+    ensures another { MayTell plain (opening_boxes hosts) stop (host_stopped (opening_boxes hosts) first) [] → ⊥ }
+
+    // its line is not among those that are known
+    ensures no_line { (line : List ℕ) → MayTell plain (opening_boxes hosts) stop (host_stopped (opening_boxes hosts) second) (line ∷ []) → ⊥ }
 {}
