@@ -1,4 +1,4 @@
--- The lemmas of this crate that others may use: the proofs of flow_law, imp_node and subnet do. All others in proofs/ are its own.
+-- The lemmas of this crate that others may use: the proofs of flow_law, imp_node, subnet and subnet_trace do. All others in proofs/ are its own.
 pub use Rattle.link_table.proofs.AnswerLemmas.{answered_frees, answered_last, given_up_frees, given_up_last, handed_last, handed_outstanding}
 pub use Rattle.link_table.proofs.EntryLemmas.{outstanding_none, outstanding_one, outstanding_to_none, outstanding_to_one}
 pub use Rattle.link_table.proofs.FlowLemmas.{get_answered, get_begun, get_dropped, get_ended, get_given_up, get_handed, get_put, number_begun}

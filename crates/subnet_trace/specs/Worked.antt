@@ -1,16 +1,19 @@
 -- Words for worked examples: a flow, packets of it, long numbers, and parts of calms.
 use Rattle.std.specs.Prelude.{ℕ, ◌^◌, true, false, List, [], ◌∷◌, Option, None, Some, replicate}
+use Rattle.std.specs.FinMap as map
 use Rattle.leader1822.specs.Host.{Host}
 use Rattle.leader1822.specs.declared.address.Flow.{Flow}
 use Rattle.leader1822.specs.declared.event.Direction.{Direction}
 use Rattle.leader1822.specs.declared.event.Direction.TheVariants as way
 use Rattle.leader1822.specs.declared.event.NetEvent.TheVariants as net
 use Rattle.script.specs.declared.event.RawEvent.TheVariants as event
-use Rattle.imp_node.specs.Examples.{ack_frame, from_1, imp, packets_to}
+use Rattle.imp_node.specs.Examples.{ack_frame, first_packet, from_1, imp, packet_frame, packets_to, slots_of, unmarked_packet}
 use Rattle.imp_node.specs.Flows.{answer_packet}
 use Rattle.imp_node.specs.Pump.{pump}
 use Rattle.imp_node.specs.State.{State, down_port, no_host, opening_node}
 use Rattle.leader1822.specs.declared.crossing.Answer.TheVariants as answer
+use Rattle.link_table.specs.Flows.{noted}
+use Rattle.link_table.specs.declared.destination.Fate.TheVariants as kept
 use Rattle.routing.specs.RouteTable.{Table}
 use Rattle.subnet.specs.Examples.{imp_1, imp_2, ours, pair, past_one, sending_ours, serving_ours}
 use Rattle.subnet.specs.Net.{Net}
@@ -123,3 +126,17 @@ full_at_1 = record imp_1 { store = packets_to 2 32 }
 -- a frame with distances
 abbrev pub distances_frame : Frame
 distances_frame = record { acks = replicate 8 false; content = content.Routes from_1 }
+
+-- the frame of the first packet of a longer message of our flow, and of a packet whose body has no mark
+abbrev pub piece_frame : Frame
+piece_frame = packet_frame 0 (first_packet ours 0 (replicate 1008 false))
+
+abbrev pub unmarked_frame : Frame
+unmarked_frame = packet_frame 0 (unmarked_packet ours 0)
+
+-- IMP 2 with the pieces of eight other messages, and with number 0 of our flow noted, whose message waits for its host
+abbrev pub no_slot_at_2 : State
+no_slot_at_2 = record imp_2 { slots = slots_of 8 }
+
+abbrev pub waiting_at_2 : State
+waiting_at_2 = record imp_2 { kept = noted map.empty ours 0 kept.Waits }

@@ -11,7 +11,7 @@ ghost use Rattle.leader1822.specs.declared.event.Direction.TheVariants as way;
 ghost use Rattle.leader1822.specs.declared.event.NetEvent.TheVariants as net;
 ghost use Rattle.link_table.specs.declared.destination.Fate.TheVariants as fate;
 ghost use Rattle.link_table.specs.declared.source.Standing.TheVariants as standing;
-ghost use Rattle.subnet.specs.Examples.{ask_frame, data_frame, imp_1, imp_2, opened_pair, pair, passing_frame, past_one, rfnm_frame, sending_ours, serving_ours};
+ghost use Rattle.subnet.specs.Examples.{ask_frame, data_frame, expecting, imp_1, imp_2, keeping_ours, opened_pair, pair, passing_frame, past_one, rfnm_frame, sending_ours, serving_ours};
 ghost use Rattle.subnet_trace.specs.Elements.{calm_left, calm_of};
 ghost use Rattle.script.specs.declared.event.RawEvent.TheVariants as event;
 ghost use Rattle.subnet_trace.specs.Fates.{fate_of};
@@ -20,7 +20,7 @@ ghost use Rattle.subnet_trace.specs.Told.{IsOneNetwork, SameTexts};
 ghost use Rattle.subnet_trace.specs.declared.place.Stage.TheVariants as stage;
 ghost use Rattle.trace.specs.declared.fate.Fate.TheVariants as fates;
 ghost use Rattle.subnet_trace.specs.Texts.{channel_text, frame_text, heard_text, host_object, imp_text, kept_text, line_text, next_text, packet_text, port_object, slot_text, source_text, told_text, whole_text};
-ghost use Rattle.subnet_trace.specs.Worked.{arrives, distances_frame, end_down_at_2, fate_at_1, fate_at_2, flow, frame_on, full_at_1, full_at_2, gone, heard_on_two, hosts_down_at_2, long, looping, nowhere, other_piece, past_at_1, piece, rfnm, sending_at_2, sends, slot, takes, tells, two_lines, with_dead};
+ghost use Rattle.subnet_trace.specs.Worked.{arrives, distances_frame, end_down_at_2, fate_at_1, fate_at_2, flow, frame_on, full_at_1, full_at_2, gone, heard_on_two, hosts_down_at_2, long, looping, no_slot_at_2, nowhere, other_piece, past_at_1, piece, piece_frame, rfnm, sending_at_2, sends, slot, takes, tells, two_lines, unmarked_frame, waiting_at_2, with_dead};
 
 /// Packets, channels, slots and frames.
 pub fn worked_packets()
@@ -112,7 +112,21 @@ pub fn worked_fates()
     ensures dead { fate_at_2 (Some hosts_down_at_2) (data_frame 0) ≡ Some fates.Dead }
     ensures never { fate_at_2 (Some imp_2) (ask_frame 0) ≡ Some fates.Never }
 
-    // an answer to no outstanding message
+    // a piece of a longer message, with a slot for it and without
+    ensures piece { fate_at_2 (Some imp_2) piece_frame ≡ Some fates.Piece }
+    ensures no_slot { fate_at_2 (Some no_slot_at_2) piece_frame ≡ Some fates.NoRoom }
+
+    // a body without a mark
+    ensures unmarked { fate_at_2 (Some imp_2) unmarked_frame ≡ Some fates.Unmarked }
+
+    // a packet with the number noted last, and a question about it: answered by its fate, but not while its message waits
+    ensures old { fate_at_2 (Some keeping_ours) (data_frame 0) ≡ Some fates.Old }
+    ensures replied { fate_at_2 (Some keeping_ours) (ask_frame 0) ≡ Some fates.Replied }
+    ensures unanswered { fate_at_2 (Some waiting_at_2) (ask_frame 0) ≡ Some fates.Old }
+
+    // an answer to the outstanding message, to another number of its flow, and to no outstanding message
+    ensures answer { fate_at_1 (Some expecting) (rfnm_frame 0) ≡ Some fates.Answer }
+    ensures other_number { fate_at_1 (Some expecting) (rfnm_frame 1) ≡ Some fates.Stale }
     ensures stale { fate_at_1 (Some imp_1) (rfnm_frame 0) ≡ Some fates.Stale }
 
     // no frame, and a frame that is lost
