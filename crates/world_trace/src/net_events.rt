@@ -1,0 +1,99 @@
+//! Printing what happens inside a network as a line of a script.
+
+ghost use Rattle.std.specs.Prelude.{◌≡◌, ◌++◌, OnOk, codes, false};
+ghost use Rattle.std.specs.Fmt.{decimal};
+ghost use Rattle.std.specs.Io.KnownBytes.{Appends};
+ghost use Rattle.replay.specs.Failing.{TellsFailure};
+ghost use Rattle.script.specs.Spelling.{direction_text, net_spelling};
+
+use leader1822::{Direction, ImpNumber, NetEvent};
+use replay::{Output, WriteFailed};
+
+/// Returns the word of a direction.
+fn word_of(direction: Direction) -> &'static str
+    ensures { result.now ≡ direction_text direction }
+{
+    match direction {
+        Direction::Forward => "+",
+        Direction::Back => "-",
+    }
+}
+
+/// Prints a word and an IMP.
+fn print_imp<W: Output>(word: &str, imp: ImpNumber, writer: &mut W) -> Result<(), WriteFailed>
+    requires { W.failed writer.old ≡ false }
+    ensures written { OnOk result (Appends (W.contents writer.old) (W.contents writer.new) (word.now ++ (codes " " ++ decimal imp))) }
+    ensures failed { TellsFailure result (W.failed writer.new) }
+{
+    let imp = imp.number();
+    write!(writer, "{word} {imp}")
+}
+
+/// Prints a word, an IMP and a line.
+fn print_end<W: Output>(
+    word: &str,
+    imp: ImpNumber,
+    line: u32,
+    writer: &mut W,
+) -> Result<(), WriteFailed>
+    requires { W.failed writer.old ≡ false }
+    ensures written { OnOk result (Appends (W.contents writer.old) (W.contents writer.new) (word.now ++ (codes " " ++ (decimal imp ++ (codes " " ++ decimal line))))) }
+    ensures failed { TellsFailure result (W.failed writer.new) }
+{
+    let imp = imp.number();
+    write!(writer, "{word} {imp} {line}")
+}
+
+/// Prints a word, a line, a direction of it, and the place of a frame there.
+fn print_frame<W: Output>(
+    word: &str,
+    line: u32,
+    direction: Direction,
+    frame: u32,
+    writer: &mut W,
+) -> Result<(), WriteFailed>
+    requires { W.failed writer.old ≡ false }
+    ensures written { OnOk result (Appends (W.contents writer.old) (W.contents writer.new) (word.now ++ (codes " " ++ (decimal line ++ (codes " " ++ (direction_text direction ++ (codes " " ++ decimal frame))))))) }
+    ensures failed { TellsFailure result (W.failed writer.new) }
+{
+    let way = word_of(direction);
+    write!(writer, "{word} {line} {way} {frame}")
+}
+
+/// Prints what happens inside a network, as a line of a script.
+pub(crate) fn print_net_event<W: Output>(
+    event: &NetEvent,
+    writer: &mut W,
+) -> Result<(), WriteFailed>
+    requires { W.failed writer.old ≡ false }
+    ensures written { OnOk result (Appends (W.contents writer.old) (W.contents writer.new) (net_spelling event.now)) }
+    ensures failed { TellsFailure result (W.failed writer.new) }
+{
+    match *event {
+        NetEvent::Deliver {
+            line,
+            direction,
+            frame,
+        } => print_frame("deliver", line, direction, frame, writer),
+        NetEvent::Drop {
+            line,
+            direction,
+            frame,
+        } => print_frame("drop", line, direction, frame, writer),
+        NetEvent::Resend(imp) => print_imp("resend", imp, writer),
+        NetEvent::Route(imp) => print_imp("route", imp, writer),
+        NetEvent::EndDown { imp, line } => print_end("enddown", imp, line, writer),
+        NetEvent::EndUp { imp, line } => print_end("endup", imp, line, writer),
+        NetEvent::ImpDown(imp) => print_imp("impdown", imp, writer),
+        NetEvent::ImpUp(imp) => print_imp("impup", imp, writer),
+        NetEvent::HostDown(host) => write!(writer, "hostdown {host}"),
+        NetEvent::HostUp(host) => write!(writer, "hostup {host}"),
+        NetEvent::GiveUp(flow) => write!(writer, "giveup {flow}"),
+        NetEvent::Forget { at, from } => {
+            let (at, from) = (at.number(), from.number());
+            write!(writer, "forget {at} {from}")
+        }
+        NetEvent::Abandon(flow) => write!(writer, "abandon {flow}"),
+        NetEvent::Ask(flow) => write!(writer, "ask {flow}"),
+    }
+}
