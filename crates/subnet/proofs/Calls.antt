@@ -7,6 +7,7 @@ pub mod Carries
 pub mod Carrying
 pub mod Delivering
 pub mod Ending
+pub mod Hearing
 pub mod Highest
 pub mod Joining
 pub mod Living

@@ -3,11 +3,12 @@
 ghost use Rattle.std.specs.Prelude.{◌≡◌, ◌<◌, ℕ, length, true, Some};
 ghost use Rattle.std.specs.List.{list_all};
 ghost use Rattle.leader1822.specs.declared.event.Direction.{Direction};
+ghost use Rattle.imp_node.specs.State.{port_at};
 ghost use Rattle.subnet.specs.Net.{imp_at};
 ghost use Rattle.subnet.specs.Events as events;
 ghost use Rattle.subnet.specs.Inside.Resting.{TakesNone, TakesNoneAt, is_away};
 ghost use Rattle.subnet.specs.Inside.Settled as settled;
-ghost use Rattle.subnet.specs.Inside.Settled.{IsHeardOn, is_silent, stores_nothing};
+ghost use Rattle.subnet.specs.Inside.Settled.{IsFree, IsStill, IsStillOn, is_silent, stores_nothing};
 
 use crate::parts::Parts;
 use crate::wire::Wire;
@@ -15,13 +16,13 @@ use imp_node::Imp;
 use leader1822::{Direction, HostAddr};
 
 impl Parts {
-    /// Returns whether no frame is on a line, no IMP stores a packet, and each IMP's neighbours heard last what it
-    /// would announce. A quiet round then changes nothing.
+    /// Returns whether no frame is on a line, in no IMP a packet waits for a channel, and where both ends of a line are
+    /// up, nothing new goes over it. A quiet round then changes nothing: what it sends again is lost at ends that are down.
     #[tactic(auto, using(crate::proofs::Calls::Settled::round_rests))]
     pub(crate) fn is_settled(&self) -> bool
         ensures { result ≡ true → events.quiet_round self.now ≡ self.now }
     {
-        all_silent(self.lines.all()) && all_store_nothing(&self.imps) && self.all_have_heard()
+        all_silent(self.lines.all()) && all_store_nothing(&self.imps) && self.all_are_still()
     }
 
     /// Returns whether a taking of any host of the network is refused, or gives nothing and changes nothing.
@@ -63,34 +64,34 @@ impl Parts {
         }
     }
 
-    /// Returns whether the IMPs at both ends of each line have heard last what they would hear there.
-    fn all_have_heard(&self) -> bool
-        ensures { result ≡ true → (l : ℕ) (d : Direction) → l < length self.now.lines → IsHeardOn self.now l d }
+    /// Returns whether nothing new goes over any line, either way.
+    fn all_are_still(&self) -> bool
+        ensures { result ≡ true → (l : ℕ) (d : Direction) → l < length self.now.lines → IsStillOn self.now l d }
     {
         let lines = self.lines.len();
         for line in 0..lines {
-            if !self.have_both_heard(line) {
+            if !self.is_still(line) {
                 return false;
             }
         }
         true
     }
 
-    /// Returns whether the IMPs at both ends of a line have heard last what they would hear there.
-    #[tactic(auto, using(crate::proofs::Calls::Settled::both_heard))]
-    fn have_both_heard(&self, line: usize) -> bool
+    /// Returns whether nothing new goes over a line, either way.
+    #[tactic(auto, using(crate::proofs::Calls::Settled::both_still))]
+    fn is_still(&self, line: usize) -> bool
         requires { line < length self.now.lines }
-        ensures { result ≡ true → (d : Direction) → IsHeardOn self.now line d }
+        ensures { result ≡ true → (d : Direction) → IsStillOn self.now line d }
     {
-        self.has_heard(line, Direction::Forward) && self.has_heard(line, Direction::Back)
+        self.is_still_on(line, Direction::Forward) && self.is_still_on(line, Direction::Back)
     }
 
-    /// Returns whether the IMP that the frames of a directed line go to has heard last what the IMP that they come from
-    /// would announce.
-    #[tactic(auto, using(crate::proofs::Calls::Settled::heard_at))]
-    fn has_heard(&self, line: usize, direction: Direction) -> bool
+    /// Returns whether nothing new goes one way over a line: an end is down, or the IMP at the far end has heard last what the
+    /// other would announce, and no packet waits at either end for its acknowledgement.
+    #[tactic(auto, using(crate::proofs::Calls::Settled::still_at))]
+    fn is_still_on(&self, line: usize, direction: Direction) -> bool
         requires { line < length self.now.lines }
-        ensures { result ≡ true → IsHeardOn self.now line direction }
+        ensures { result ≡ true → IsStillOn self.now line direction }
     {
         let back = other_way(direction);
         let Some(from) = self.imp(self.far_end(line, back)) else {
@@ -101,8 +102,38 @@ impl Parts {
         };
         let port = self.far_port(line, direction);
         let from_port = self.far_port(line, back);
-        to.has_heard(port, from, from_port)
+        are_still(from, from_port, to, port)
     }
+}
+
+/// Returns whether an end of a line is down, or nothing new goes from the first to the second.
+#[tactic(auto, using(crate::proofs::Calls::Settled::near_down, crate::proofs::Calls::Settled::far_down))]
+fn are_still(from: &Imp, from_port: u8, to: &Imp, port: u8) -> bool
+    ensures { result ≡ true → IsStill (Some from.now) from_port (Some to.now) port }
+{
+    if !is_up(from, from_port) {
+        return true;
+    }
+    if !is_up(to, port) {
+        return true;
+    }
+    is_free(from, from_port) && is_free(to, port) && to.has_heard(port, from, from_port)
+}
+
+/// Returns whether an IMP's end of a line is up.
+fn is_up(imp: &Imp, port: u8) -> bool
+    ensures { result ≡ (port_at imp.now.ports port).up }
+{
+    let at = port as usize;
+    at < imp.ports().len() && imp.ports()[at].up
+}
+
+/// Returns whether no packet waits at an IMP's end of a line for its acknowledgement.
+fn is_free(imp: &Imp, port: u8) -> bool
+    ensures { result ≡ true → IsFree imp.now port }
+{
+    let at = port as usize;
+    at < imp.ports().len() && imp.ports()[at].line.busy_channels() == 0
 }
 
 /// Returns the other direction of a line.
@@ -129,19 +160,19 @@ fn is_silent(wire: &Wire) -> bool
     wire.live(Direction::Forward) == 0 && wire.live(Direction::Back) == 0
 }
 
-/// Returns whether none of these IMPs stores a packet.
+/// Returns whether in none of these IMPs a packet waits for a channel.
 fn all_store_nothing(imps: &[Option<Imp>]) -> bool
     ensures { result ≡ list_all stores_nothing imps.now }
 {
     imps.iter().all(|imp| stores_nothing(imp))
 }
 
-/// Returns whether an IMP is down, or stores no packet.
+/// Returns whether an IMP is down, or no packet waits in it for a channel.
 fn stores_nothing(imp: &Option<Imp>) -> bool
     ensures { result ≡ stores_nothing imp.now }
 {
     match imp {
-        Some(imp) => !imp.holds_packet(),
+        Some(imp) => imp.store().is_empty(),
         None => true,
     }
 }

@@ -60,7 +60,7 @@ port_next s k i lines within =
     ap (λ (ports : List Port). put_all lines i (resent_from k ports)) (drop_more s.ports k down_port within)
     ∙ put_both (resent_by k (port_at s.ports k)) (resent_from (k + 1) (drop (k + 1) s.ports)) lines i
 
-all_resent : (k : ℕ) (ports : List Port) → resent_from k ports ≡ all_from resent_by k ports
+pub all_resent : (k : ℕ) (ports : List Port) → resent_from k ports ≡ all_from resent_by k ports
 all_resent k [] = refl
 all_resent k (port ∷ ports) = ap (λ (outs : List Outgoing). resent_by k port ++ outs) (all_resent (k + 1) ports)
 

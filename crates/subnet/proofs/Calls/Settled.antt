@@ -1,5 +1,6 @@
--- A quiet round of a settled network changes nothing: the frames that it puts on lines repeat what was heard, and are gone at its end.
-use Rattle.std.specs.Prelude.{if◌then◌else◌, IfSome, not}
+-- A quiet round of a settled network changes nothing: the frames that it puts on lines repeat what was heard, or go to an end that is down, and
+-- are gone at its end.
+use Rattle.std.specs.Prelude.{if◌then◌else◌, IfSome}
 use Rattle.std.specs.List.{AllByRecursion, range_with_len, list_all}
 use Rattle.std.proofs.Common.{◌≡◌, ℕ, ◌+◌, ◌-◌, ◌<◌, ◌≤◌, zero, suc, Bool, true, false, List, [], ◌∷◌, ◌++◌, length, map, take, set, slice_get, nat_lt, ◌==◌, ◌||◌, ◌&&◌, count_by, Option, Some, None, refl, ap, sym, subst, ◌∙◌, arith}
 use Rattle.std.proofs.lemmas.List.{set-get_or, length-map}
@@ -8,20 +9,23 @@ use Rattle.std.proofs.lemmas.Bool.{eqb-true}
 use Rattle.std.proofs.lemmas.Bool.Decides.{nat_tests}
 use Rattle.leader1822.specs.declared.event.Direction.{Direction}
 use Rattle.leader1822.specs.declared.event.Direction.TheVariants as way
-use Rattle.imp_channel.specs.Line.{routes_frame}
+use Rattle.imp_channel.specs.Line.{resent, routes_frame}
 use Rattle.imp_channel.specs.declared.frame.Frame.{Frame}
 use Rattle.routing.specs.RouteTable.{vector_of}
 use Rattle.imp_node.specs.declared.outgoing.Outgoing.{Outgoing}
 use Rattle.imp_node.specs.declared.port.Port.{Port}
 use Rattle.imp_node.specs.State.{State, ImpTurn, port_at}
 use Rattle.imp_node.specs.Arrival.{from_line, ignored}
-use Rattle.imp_node.specs.Lines.{on_port, told_from, route, resend}
-use Rattle.imp_node.specs.Queries.{holds_packet}
-use Rattle.imp_node.proofs.lemmas.{at_set, hears_again, telling_rests, resending_rests}
+use Rattle.imp_channel.specs.Holding.{packets_in}
+use Rattle.imp_node.specs.Lines.{on_port, told_by, told_from, route, resent_by, resent_from, resend}
+use Rattle.imp_node.proofs.lemmas.{at_set, none_resent, pump_with}
 use Rattle.subnet.specs.Net.{Net, Wire, no_wire, imp_at, wire_at, ends_at, port_of, line_places, line_from, followed_by, with_frame, put_on, put_one, put_all, with_turn, frames_on, far_end, without_at, dropping}
 use Rattle.subnet.specs.Events.{at_imp, delivered, deliver, drop_frame, refreshed, all_refreshed, carried, turn_of, all_turns, quiet_round}
-use Rattle.subnet.specs.Inside.Settled.{near_end, IsHeard, IsHeardOn, IsSettled, is_silent, stores_nothing}
+use Rattle.subnet.specs.Inside.Settled.{near_end, IsFree, IsStill, IsStillOn, IsSettled, is_silent, stores_nothing}
+use Rattle.subnet.proofs.Calls.Hearing.{hears_again, lost_there}
+use Rattle.subnet.proofs.Calls.Resending.{all_resent}
 use Rattle.subnet.proofs.Calls.Resting.{rests_at}
+use Rattle.subnet.proofs.Calls.Telling.{all_from, all_told, put_both}
 
 -- ---- lines without their frames
 
@@ -158,16 +162,12 @@ put_still n lines i l f still new = record {
       (put_harmless (λ (d : Direction) (f : Frame). Harmless n l d f) ((wire_at lines l).a == i) (wire_at lines l) f (λ d. still.harmless l d) new d);
 }
 
--- ---- what an IMP announces
+-- ---- frames of a port
 
-heard_by : (s : State) (k q : ℕ) (o : Option State) → (port_at s.ports k).up ≡ true → IfSome o (λ t. holds_packet t ≡ false) → IsHeard (Some s) k o q
-    → Ignores o q (routes_frame (port_at s.ports k).line (vector_of s.routes))
-heard_by s k q None up resting heard = tt
-heard_by s k q (Some t) up resting heard = hears_again t q (port_at s.ports k).line.expected (vector_of s.routes) resting (heard up)
-
-told_harmless : (n : Net) (i k l : ℕ) (s : State) → IsSettled n → imp_at n.imps i ≡ Some s → (port_at s.ports k).up ≡ true → line_from 0 n.lines i k ≡ Some l
-    → Harmless n l (way_from ((wire_at n.lines l).a == i)) (routes_frame (port_at s.ports k).line (vector_of s.routes))
-told_harmless n i k l s settled is up at =
+-- the line at a port, and its far end
+still_line : (n : Net) (i k l : ℕ) (s : State) → IsSettled n → imp_at n.imps i ≡ Some s → line_from 0 n.lines i k ≡ Some l
+    → IsStill (Some s) k (imp_at n.imps (far_end (way_from ((wire_at n.lines l).a == i)) (wire_at n.lines l))) (port_of n.lines (far_end (way_from ((wire_at n.lines l).a == i)) (wire_at n.lines l)) l)
+still_line n i k l s settled is at =
     let line : LineAt 0 n.lines i k l = line_found 0 n.lines i k l at in
     let same : l ≡ line.place = omega (arith, line.is) in
     let w : Wire = wire_at n.lines l in
@@ -175,35 +175,92 @@ told_harmless n i k l s settled is up at =
     let far : ℕ = far_end d w in
     let near : near_end d w ≡ i = near_by (w.a == i) w i refl (ap (λ (p : ℕ). ends_at i (wire_at n.lines p)) same ∙ line.ends) in
     let port : port_of n.lines (near_end d w) l ≡ k = ap (λ (j : ℕ). port_of n.lines j l) near ∙ (ap (port_of n.lines i) same ∙ line.port) in
-    let heard : IsHeardOn n l d = settled.heard l d (omega (arith, line.within, same)) in
-    let told : IsHeard (Some s) k (imp_at n.imps far) (port_of n.lines far l) =
-    subst (λ (o : Option State). IsHeard o k (imp_at n.imps far) (port_of n.lines far l)) (ap (imp_at n.imps) near ∙ is)
-    (subst (λ (p : ℕ). IsHeard (imp_at n.imps (near_end d w)) p (imp_at n.imps far) (port_of n.lines far l)) port heard) in
-    heard_by s k (port_of n.lines far l) (imp_at n.imps far) up (settled.resting far) told
+    let still : IsStillOn n l d = settled.still l d (omega (arith, line.within, same)) in
+    subst (λ (o : Option State). IsStill o k (imp_at n.imps far) (port_of n.lines far l)) (ap (imp_at n.imps) near ∙ is)
+    (subst (λ (p : ℕ). IsStill (imp_at n.imps (near_end d w)) p (imp_at n.imps far) (port_of n.lines far l)) port still)
 
-put_told : (n : Net) (lines : List Wire) (i k : ℕ) (s : State) (o : Option ℕ) → IsSettled n → imp_at n.imps i ≡ Some s → (port_at s.ports k).up ≡ true → line_from 0 lines i k ≡ o → AreStill n lines
-    → AreStill n (put_on lines i (routes_frame (port_at s.ports k).line (vector_of s.routes)) o)
-put_told n lines i k s None settled is up at still = still
-put_told n lines i k s (Some l) settled is up at still =
-    put_still n lines i l (routes_frame (port_at s.ports k).line (vector_of s.routes)) still
-    (subst (λ (a : ℕ). Harmless n l (way_from (a == i)) (routes_frame (port_at s.ports k).line (vector_of s.routes))) (sym (a_alike lines n.lines l still.alike))
-    (told_harmless n i k l s settled is up (sym (line_alike lines n.lines i k still.alike) ∙ at)))
+-- a frame that is harmless on the line at a port is put there
+put_frame : (n : Net) (lines : List Wire) (i k : ℕ) (f : Frame) → ((l : ℕ) → line_from 0 n.lines i k ≡ Some l → Harmless n l (way_from ((wire_at n.lines l).a == i)) f) → AreStill n lines
+    → AreStill n (put_one lines i (on_port k f))
+put_frame n lines i k f harmless still = by (line_from 0 lines i k) refl where
+  by : (o : Option ℕ) → line_from 0 lines i k ≡ o → AreStill n (put_on lines i f o)
+  by None at = still
+  by (Some l) at =
+      put_still n lines i l f still
+      (subst (λ (a : ℕ). Harmless n l (way_from (a == i)) f) (sym (a_alike lines n.lines l still.alike)) (harmless l (sym (line_alike lines n.lines i k still.alike) ∙ at)))
 
-put_port : (n : Net) (lines : List Wire) (i k : ℕ) (s : State) (port : Port) (up : Bool) (rest : List Outgoing) → IsSettled n → imp_at n.imps i ≡ Some s → port ≡ port_at s.ports k → port.up ≡ up → AreStill n lines
-    → ((others : List Wire) → AreStill n others → AreStill n (put_all others i rest))
-    → AreStill n (put_all lines i ((if up then on_port k (routes_frame port.line (vector_of s.routes)) ∷ [] else []) ++ rest))
-put_port n lines i k s port true rest settled is at up still more =
-    more (put_one lines i (on_port k (routes_frame port.line (vector_of s.routes))))
-    (subst (λ (p : Port). AreStill n (put_on lines i (routes_frame p.line (vector_of s.routes)) (line_from 0 lines i k))) (sym at)
-    (put_told n lines i k s (line_from 0 lines i k) settled is (ap (λ (p : Port). p.up) (sym at) ∙ up) refl still))
-put_port n lines i k s port false rest settled is at up still more = more lines still
+put_frames : (n : Net) (frames : List Frame) (lines : List Wire) (i k : ℕ) → ((l : ℕ) (f : Frame) → line_from 0 n.lines i k ≡ Some l → Harmless n l (way_from ((wire_at n.lines l).a == i)) f) → AreStill n lines
+    → AreStill n (put_all lines i (map (on_port k) frames))
+put_frames n [] lines i k harmless still = still
+put_frames n (f ∷ frames) lines i k harmless still =
+    put_frames n frames (put_one lines i (on_port k f)) i k harmless (put_frame n lines i k f (λ l at. harmless l f at) still)
 
-put_all_told : (n : Net) (ports : List Port) (lines : List Wire) (i k : ℕ) (s : State) → IsSettled n → imp_at n.imps i ≡ Some s → ((j : ℕ) → j < length ports → port_at ports j ≡ port_at s.ports (k + j)) → AreStill n lines
-    → AreStill n (put_all lines i (told_from (vector_of s.routes) k ports))
-put_all_told n [] lines i k s settled is at still = still
-put_all_told n (port ∷ ports) lines i k s settled is at still =
-    put_port n lines i k s port port.up (told_from (vector_of s.routes) (k + 1) ports) settled is (at 0 (omega arith) ∙ ap (port_at s.ports) (omega arith)) refl still
-    (λ others ok. put_all_told n ports others i (k + 1) s settled is (λ j within. at (suc j) (omega (arith, within)) ∙ ap (port_at s.ports) (omega arith)) ok)
+-- the frames of all ports, one port after the other
+put_ports : (each : ℕ → Port → List Outgoing) (n : Net) (ports : List Port) (lines : List Wire) (i k : ℕ) (s : State) → ((j : ℕ) → j < length ports → port_at ports j ≡ port_at s.ports (k + j))
+    → ((others : List Wire) (j : ℕ) → AreStill n others → AreStill n (put_all others i (each j (port_at s.ports j)))) → AreStill n lines → AreStill n (put_all lines i (all_from each k ports))
+put_ports each n [] lines i k s at ok still = still
+put_ports each n (port ∷ ports) lines i k s at ok still =
+    let here : port ≡ port_at s.ports k = at 0 (omega arith) ∙ ap (port_at s.ports) (omega arith) in
+    let first : AreStill n (put_all lines i (each k port)) = subst (λ (p : Port). AreStill n (put_all lines i (each k p))) (sym here) (ok lines k still) in
+    subst (λ (ws : List Wire). AreStill n ws) (sym (put_both (each k port) (all_from each (k + 1) ports) lines i))
+    (put_ports each n ports (put_all lines i (each k port)) i (k + 1) s (λ j within. at (suc j) (omega (arith, within)) ∙ ap (port_at s.ports) (omega arith)) ok first)
+
+-- ---- what an IMP announces
+
+heard_by : (s : State) (k q : ℕ) (o : Option State) → (port_at s.ports k).up ≡ true → IfSome o (λ t. length t.store ≡ 0) → IsStill (Some s) k o q
+    → Ignores o q (routes_frame (port_at s.ports k).line (vector_of s.routes))
+heard_by s k q None up waits still = tt
+heard_by s k q (Some t) up waits still = by (port_at t.ports q).up refl where
+  told : Frame
+  told = routes_frame (port_at s.ports k).line (vector_of s.routes)
+
+  by : (b : Bool) → (port_at t.ports q).up ≡ b → from_line t q told ≡ ignored t
+  by true there = hears_again t q (port_at s.ports k).line.expected (vector_of s.routes) there waits (still up there).2 (still up there).0
+  by false down = lost_there t q told down
+
+put_told : (n : Net) (lines : List Wire) (i k : ℕ) (s : State) → IsSettled n → imp_at n.imps i ≡ Some s → AreStill n lines → AreStill n (put_all lines i (told_by (vector_of s.routes) k (port_at s.ports k)))
+put_told n lines i k s settled is still = by (port_at s.ports k).up refl where
+  frame : Frame
+  frame = routes_frame (port_at s.ports k).line (vector_of s.routes)
+
+  told : (l : ℕ) → (port_at s.ports k).up ≡ true → line_from 0 n.lines i k ≡ Some l → Harmless n l (way_from ((wire_at n.lines l).a == i)) frame
+  told l up at =
+      let far : ℕ = far_end (way_from ((wire_at n.lines l).a == i)) (wire_at n.lines l) in
+      heard_by s k (port_of n.lines far l) (imp_at n.imps far) up (settled.waits far) (still_line n i k l s settled is at)
+
+  by : (up : Bool) → (port_at s.ports k).up ≡ up → AreStill n (put_all lines i (if up then on_port k frame ∷ [] else []))
+  by true up = put_frame n lines i k frame (λ l at. told l up at) still
+  by false down = still
+
+-- ---- what an IMP sends again
+
+lost_by : (s : State) (k q : ℕ) (o : Option State) (f : Frame) → (port_at s.ports k).up ≡ true → 0 < length (packets_in (port_at s.ports k).line.sending) → IsStill (Some s) k o q → Ignores o q f
+lost_by s k q None f up busy still = tt
+lost_by s k q (Some t) f up busy still = by (port_at t.ports q).up refl where
+  none : (port_at t.ports q).up ≡ true → IsFree s k
+  none there = (still up there).1
+
+  by : (b : Bool) → (port_at t.ports q).up ≡ b → from_line t q f ≡ ignored t
+  by true there = absurd (omega (arith, busy, none there))
+  by false down = lost_there t q f down
+
+put_resent : (n : Net) (lines : List Wire) (i k : ℕ) (s : State) → IsSettled n → imp_at n.imps i ≡ Some s → AreStill n lines → AreStill n (put_all lines i (resent_by k (port_at s.ports k)))
+put_resent n lines i k s settled is still = by (length (packets_in port.line.sending)) refl where
+  port : Port
+  port = port_at s.ports k
+
+  lost : (l : ℕ) (f : Frame) → port.up ≡ true → 0 < length (packets_in port.line.sending) → line_from 0 n.lines i k ≡ Some l → Harmless n l (way_from ((wire_at n.lines l).a == i)) f
+  lost l f up busy at =
+      let far : ℕ = far_end (way_from ((wire_at n.lines l).a == i)) (wire_at n.lines l) in
+      lost_by s k (port_of n.lines far l) (imp_at n.imps far) f up busy (still_line n i k l s settled is at)
+
+  sent : (up : Bool) → port.up ≡ up → 0 < length (packets_in port.line.sending) → AreStill n (put_all lines i (if up then map (on_port k) (resent port.line) else []))
+  sent true up busy = put_frames n (resent port.line) lines i k (λ l f at. lost l f up busy at) still
+  sent false down busy = still
+
+  by : (m : ℕ) → length (packets_in port.line.sending) ≡ m → AreStill n (put_all lines i (resent_by k port))
+  by zero none = subst (λ (outs : List Outgoing). AreStill n (put_all lines i outs)) (sym (none_resent k port none)) still
+  by (suc m) some = sent port.up refl (omega (arith, some))
 
 -- ---- the first half of the round
 
@@ -212,31 +269,40 @@ record Tells (n m : Net) : Type 0 where
   pub same : m ≡ record n { lines = lines }
   pub still : AreStill n lines
 
-imp_refreshed : (n : Net) (lines : List Wire) (i : ℕ) (o : Option State) → IsSettled n → imp_at n.imps i ≡ o → IfSome o (λ s. holds_packet s ≡ false) → AreStill n lines
-    → Tells n (at_imp o i route (record n { lines = lines }))
-imp_refreshed n lines i None settled is resting still = record { lines = lines; same = refl; still = still }
-imp_refreshed n lines i (Some s) settled is resting still =
-    let told : List Outgoing = told_from (vector_of s.routes) 0 s.ports in
+-- a call that only puts harmless frames on lines
+imp_puts : (turn : State → ImpTurn) (outs : List Outgoing) (n : Net) (lines : List Wire) (i : ℕ) (s : State) → imp_at n.imps i ≡ Some s → turn s ≡ record { state = s; frames = outs } → AreStill n (put_all lines i outs)
+    → Tells n (with_turn i (turn s) (record n { lines = lines }))
+imp_puts turn outs n lines i s is only still =
     let kept : set n.imps i (Some s) ≡ n.imps = ap (set n.imps i) (sym is) ∙ set-get_or n.imps i None in
     record {
-      lines = put_all lines i told;
-      same = ap (λ (turn : ImpTurn). with_turn i turn (record n { lines = lines })) (telling_rests s resting) ∙ ap (λ (imps : List (Option State)). record n { imps = imps; lines = put_all lines i told }) kept;
-      still = put_all_told n s.ports lines i 0 s settled is (λ j within. ap (port_at s.ports) (omega arith)) still;
+      lines = put_all lines i outs;
+      same = ap (λ (t : ImpTurn). with_turn i t (record n { lines = lines })) only ∙ ap (λ (imps : List (Option State)). record n { imps = imps; lines = put_all lines i outs }) kept;
+      still = still;
     }
 
-resent_none : (n m : Net) (i : ℕ) (o : Option State) → imp_at n.imps i ≡ o → IfSome o (λ s. holds_packet s ≡ false) → m.imps ≡ n.imps → at_imp (imp_at m.imps i) i resend m ≡ m
-resent_none n m i None is resting same = ap (λ (o : Option State). at_imp o i resend m) (ap (λ (imps : List (Option State)). imp_at imps i) same ∙ is)
-resent_none n m i (Some s) is resting same = rests_at m i (imp_at m.imps i) s resend refl (ap (λ (imps : List (Option State)). imp_at imps i) same ∙ is) (resending_rests s resting)
+imp_told : (n : Net) (lines : List Wire) (i : ℕ) (o : Option State) → IsSettled n → imp_at n.imps i ≡ o → IfSome o (λ s. length s.store ≡ 0) → AreStill n lines
+    → Tells n (at_imp o i route (record n { lines = lines }))
+imp_told n lines i None settled is waits still = record { lines = lines; same = refl; still = still }
+imp_told n lines i (Some s) settled is waits still =
+    let outs : List Outgoing = told_from (vector_of s.routes) 0 s.ports in
+    let all : AreStill n (put_all lines i (all_from (told_by (vector_of s.routes)) 0 s.ports)) =
+    put_ports (told_by (vector_of s.routes)) n s.ports lines i 0 s (λ j within. ap (port_at s.ports) (omega arith)) (λ others j ok. put_told n others i j s settled is ok) still in
+    imp_puts route outs n lines i s is (pump_with outs s waits) (subst (λ (os : List Outgoing). AreStill n (put_all lines i os)) (sym (all_told (vector_of s.routes) 0 s.ports)) all)
+
+imp_resent : (n : Net) (lines : List Wire) (i : ℕ) (o : Option State) → IsSettled n → imp_at n.imps i ≡ o → IfSome o (λ s. length s.store ≡ 0) → AreStill n lines
+    → Tells n (at_imp o i resend (record n { lines = lines }))
+imp_resent n lines i None settled is waits still = record { lines = lines; same = refl; still = still }
+imp_resent n lines i (Some s) settled is waits still =
+    let outs : List Outgoing = resent_from 0 s.ports in
+    let all : AreStill n (put_all lines i (all_from resent_by 0 s.ports)) =
+    put_ports resent_by n s.ports lines i 0 s (λ j within. ap (port_at s.ports) (omega arith)) (λ others j ok. put_resent n others i j s settled is ok) still in
+    imp_puts resend outs n lines i s is (pump_with outs s waits) (subst (λ (os : List Outgoing). AreStill n (put_all lines i os)) (sym (all_resent 0 s.ports)) all)
 
 refreshed_still : (n : Net) (lines : List Wire) (i : ℕ) → IsSettled n → AreStill n lines → Tells n (refreshed (record n { lines = lines }) i)
 refreshed_still n lines i settled still =
-    let m : Net = at_imp (imp_at n.imps i) i route (record n { lines = lines }) in
-    let told : Tells n m = imp_refreshed n lines i (imp_at n.imps i) settled refl (settled.resting i) still in
-    record {
-      lines = told.lines;
-      same = resent_none n m i (imp_at n.imps i) refl (settled.resting i) (ap (λ (x : Net). x.imps) told.same) ∙ told.same;
-      still = told.still;
-    }
+    let told : Tells n (at_imp (imp_at n.imps i) i route (record n { lines = lines })) = imp_told n lines i (imp_at n.imps i) settled refl (settled.waits i) still in
+    let sent : Tells n (at_imp (imp_at n.imps i) i resend (record n { lines = told.lines })) = imp_resent n told.lines i (imp_at n.imps i) settled refl (settled.waits i) told.still in
+    subst (λ (m : Net). Tells n (at_imp (imp_at m.imps i) i resend m)) (sym told.same) sent
 
 all_still : (numbers : List ℕ) (n : Net) (lines : List Wire) → IsSettled n → AreStill n lines → Tells n (all_refreshed numbers (record n { lines = lines }))
 all_still [] n lines settled still = record { lines = lines; same = refl; still = still }
@@ -435,41 +501,44 @@ silent_on : (d : Direction) (w : Wire) → is_silent w ≡ true → frames_on d 
 silent_on way.Forward w silent = no_length w.forward (and_true (length w.forward == 0) (length w.back == 0) silent).0
 silent_on way.Back w silent = no_length w.back (and_true (length w.forward == 0) (length w.back == 0) silent).1
 
-not_true : (b : Bool) → not b ≡ true → b ≡ false
-not_true true is = absurd cc
-not_true false is = refl
-
-resting_of : (o : Option State) → stores_nothing o ≡ true → IfSome o (λ s. holds_packet s ≡ false)
-resting_of None resting = tt
-resting_of (Some s) resting = not_true (holds_packet s) resting
+waiting_of : (o : Option State) → stores_nothing o ≡ true → IfSome o (λ s. length s.store ≡ 0)
+waiting_of None none = tt
+waiting_of (Some s) none = eqb-true (length s.store) 0 none
 
 silent_at : (lines : List Wire) (l : ℕ) (d : Direction) → list_all is_silent lines ≡ true → frames_on d (wire_at lines l) ≡ []
 silent_at [] l d all = no_frames d
 silent_at (w ∷ ws) zero d all = silent_on d w (and_true (is_silent w) (list_all is_silent ws) all).0
 silent_at (w ∷ ws) (suc l) d all = silent_at ws l d (and_true (is_silent w) (list_all is_silent ws) all).1
 
-resting_at : (imps : List (Option State)) (i : ℕ) → list_all stores_nothing imps ≡ true → IfSome (imp_at imps i) (λ s. holds_packet s ≡ false)
-resting_at [] i all = tt
-resting_at (o ∷ imps) zero all = resting_of o (and_true (stores_nothing o) (list_all stores_nothing imps) all).0
-resting_at (o ∷ imps) (suc i) all = resting_at imps i (and_true (stores_nothing o) (list_all stores_nothing imps) all).1
+waiting_at : (imps : List (Option State)) (i : ℕ) → list_all stores_nothing imps ≡ true → IfSome (imp_at imps i) (λ s. length s.store ≡ 0)
+waiting_at [] i all = tt
+waiting_at (o ∷ imps) zero all = waiting_of o (and_true (stores_nothing o) (list_all stores_nothing imps) all).0
+waiting_at (o ∷ imps) (suc i) all = waiting_at imps i (and_true (stores_nothing o) (list_all stores_nothing imps) all).1
 
-pub round_rests : (n : Net) → list_all is_silent n.lines ≡ true → list_all stores_nothing n.imps ≡ true → ((l : ℕ) (d : Direction) → l < length n.lines → IsHeardOn n l d) → quiet_round n ≡ n
-round_rests n silent resting heard = settled_rests n record { empty = λ l d. silent_at n.lines l d silent; resting = λ i. resting_at n.imps i resting; heard = heard }
+pub round_rests : (n : Net) → list_all is_silent n.lines ≡ true → list_all stores_nothing n.imps ≡ true → ((l : ℕ) (d : Direction) → l < length n.lines → IsStillOn n l d) → quiet_round n ≡ n
+round_rests n silent none still = settled_rests n record { empty = λ l d. silent_at n.lines l d silent; waits = λ i. waiting_at n.imps i none; still = still }
 
-pub heard_at : (n : Net) (l : ℕ) (d : Direction) (s t : Option State) (p q : ℕ) → s ≡ imp_at n.imps (near_end d (wire_at n.lines l)) → t ≡ imp_at n.imps (far_end d (wire_at n.lines l))
-    → p ≡ port_of n.lines (near_end d (wire_at n.lines l)) l → q ≡ port_of n.lines (far_end d (wire_at n.lines l)) l → IsHeard s p t q → IsHeardOn n l d
-heard_at n l d s t p q from to near far heard =
+-- an end that is down
+pub near_down : (s t : State) (p q : ℕ) → (port_at s.ports p).up ≡ false → IsStill (Some s) p (Some t) q
+near_down s t p q down = λ up there. absurd (cc)
+
+pub far_down : (s t : State) (p q : ℕ) → (port_at t.ports q).up ≡ false → IsStill (Some s) p (Some t) q
+far_down s t p q down = λ up there. absurd (cc)
+
+pub still_at : (n : Net) (l : ℕ) (d : Direction) (s t : Option State) (p q : ℕ) → s ≡ imp_at n.imps (near_end d (wire_at n.lines l)) → t ≡ imp_at n.imps (far_end d (wire_at n.lines l))
+    → p ≡ port_of n.lines (near_end d (wire_at n.lines l)) l → q ≡ port_of n.lines (far_end d (wire_at n.lines l)) l → IsStill s p t q → IsStillOn n l d
+still_at n l d s t p q from to near far still =
     let w : Wire = wire_at n.lines l in
-    subst (λ (o : Option State). IsHeard o (port_of n.lines (near_end d w) l) (imp_at n.imps (far_end d w)) (port_of n.lines (far_end d w) l)) from
-    (subst (λ (o : Option State). IsHeard s (port_of n.lines (near_end d w) l) o (port_of n.lines (far_end d w) l)) to
-    (subst (λ (k : ℕ). IsHeard s k t (port_of n.lines (far_end d w) l)) near (subst (λ (k : ℕ). IsHeard s p t k) far heard)))
+    subst (λ (o : Option State). IsStill o (port_of n.lines (near_end d w) l) (imp_at n.imps (far_end d w)) (port_of n.lines (far_end d w) l)) from
+    (subst (λ (o : Option State). IsStill s (port_of n.lines (near_end d w) l) o (port_of n.lines (far_end d w) l)) to
+    (subst (λ (k : ℕ). IsStill s k t (port_of n.lines (far_end d w) l)) near (subst (λ (k : ℕ). IsStill s p t k) far still)))
 
-pub both_heard : (n : Net) (l : ℕ) → IsHeardOn n l way.Forward → IsHeardOn n l way.Back → (d : Direction) → IsHeardOn n l d
-both_heard n l forward back = both_ways (IsHeardOn n l) forward back
+pub both_still : (n : Net) (l : ℕ) → IsStillOn n l way.Forward → IsStillOn n l way.Back → (d : Direction) → IsStillOn n l d
+both_still n l forward back = both_ways (IsStillOn n l) forward back
 
-one_by : (b : Bool) (n : Net) (k i : ℕ) (d : Direction) → (i == k) ≡ b → ((j : ℕ) (e : Direction) → j < k → IsHeardOn n j e) → ((e : Direction) → IsHeardOn n k e) → i < k + 1 → IsHeardOn n i d
-one_by true n k i d is earlier here below = subst (λ (j : ℕ). IsHeardOn n j d) (sym (eqb-true i k is)) (here d)
+one_by : (b : Bool) (n : Net) (k i : ℕ) (d : Direction) → (i == k) ≡ b → ((j : ℕ) (e : Direction) → j < k → IsStillOn n j e) → ((e : Direction) → IsStillOn n k e) → i < k + 1 → IsStillOn n i d
+one_by true n k i d is earlier here below = subst (λ (j : ℕ). IsStillOn n j d) (sym (eqb-true i k is)) (here d)
 one_by false n k i d is earlier here below = earlier i d (grind (arith, nat_tests, is, below))
 
-pub one_more : (n : Net) (k : ℕ) (b : Bool) → b ≡ true → ((j : ℕ) (e : Direction) → j < k → IsHeardOn n j e) → (b ≡ true → (e : Direction) → IsHeardOn n k e) → (i : ℕ) (d : Direction) → i < k + 1 → IsHeardOn n i d
+pub one_more : (n : Net) (k : ℕ) (b : Bool) → b ≡ true → ((j : ℕ) (e : Direction) → j < k → IsStillOn n j e) → (b ≡ true → (e : Direction) → IsStillOn n k e) → (i : ℕ) (d : Direction) → i < k + 1 → IsStillOn n i d
 one_more n k b said earlier here = λ i d below. one_by (i == k) n k i d refl earlier (here said) below

@@ -75,7 +75,7 @@ some_of_all each ports all k are within some =
     let same : length (each k (port_at ports k)) ≡ length (each (0 + k) (port_at ports k)) = ap (λ (i : ℕ). length (each i (port_at ports k))) (omega arith) in
     omega (arith, least, some, same, ap (λ (outs : List Outgoing). length outs) are)
 
-all_told : (distances : List ℕ) (k : ℕ) (ports : List Port) → told_from distances k ports ≡ all_from (told_by distances) k ports
+pub all_told : (distances : List ℕ) (k : ℕ) (ports : List Port) → told_from distances k ports ≡ all_from (told_by distances) k ports
 all_told distances k [] = refl
 all_told distances k (port ∷ ports) = ap (λ (outs : List Outgoing). told_by distances k port ++ outs) (all_told distances (k + 1) ports)
 

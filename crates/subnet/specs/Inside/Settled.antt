@@ -1,10 +1,11 @@
--- A network in which a quiet round changes nothing: no frame is on a line, no IMP stores a packet, and what each IMP would announce to its
--- neighbours they heard last.
-use Rattle.std.specs.Prelude.{◌≡◌, ℕ, ◌<◌, ◌==◌, ◌&&◌, Bool, true, false, not, [], length, Option, Some, None, IfSome, slice_index_or}
+-- A network in which a quiet round changes nothing: no frame is on a line, in no IMP a packet waits for a channel, and where both ends of a line
+-- are up, each IMP heard last what the other would announce, and no packet waits for its acknowledgement. What is sent again then goes to ends
+-- that are down, and is lost.
+use Rattle.std.specs.Prelude.{◌≡◌, ℕ, ◌<◌, ◌==◌, ◌&&◌, Bool, true, [], length, Option, Some, None, IfSome, slice_index_or}
 use Rattle.leader1822.specs.declared.event.Direction.{Direction}
 use Rattle.leader1822.specs.declared.event.Direction.TheVariants as way
 use Rattle.routing.specs.RouteTable.{vector_of}
-use Rattle.imp_node.specs.Queries.{holds_packet}
+use Rattle.imp_channel.specs.Holding.{packets_in}
 use Rattle.imp_node.specs.State.{State, port_at}
 use Rattle.subnet.specs.Net.{Net, Wire, imp_at, wire_at, port_of, frames_on, far_end}
 
@@ -16,26 +17,35 @@ other_way way.Back = way.Forward
 abbrev pub near_end : Direction → Wire → ℕ
 near_end d w = far_end (other_way d) w
 
--- what an IMP would announce at its end of a line, the IMP at the other end heard there last, if both ends are up
-abbrev pub IsHeard : Option State → ℕ → Option State → ℕ → Type 0
-IsHeard None p far q = Unit {0}
-IsHeard (Some s) p None q = Unit {0}
-IsHeard (Some s) p (Some t) q = (port_at s.ports p).up ≡ true → (port_at t.ports q).up ≡ true → slice_index_or t.routes.heard q None ≡ Some (vector_of s.routes)
+-- no packet waits at an IMP's end of a line for its acknowledgement
+abbrev pub IsFree : State → ℕ → Type 0
+IsFree s p = length (packets_in (port_at s.ports p).line.sending) ≡ 0
 
-abbrev pub IsHeardOn : Net → ℕ → Direction → Type 0
-IsHeardOn n l d =
-    IsHeard (imp_at n.imps (near_end d (wire_at n.lines l))) (port_of n.lines (near_end d (wire_at n.lines l)) l) (imp_at n.imps (far_end d (wire_at n.lines l))) (port_of n.lines (far_end d (wire_at n.lines l)) l)
+-- an IMP heard last at its end of a line what the IMP at the other end would announce there
+abbrev pub IsHeard : State → State → ℕ → Type 0
+IsHeard s t q = slice_index_or t.routes.heard q None ≡ Some (vector_of s.routes)
+
+-- nothing new goes from one end of a line to the other, or one of them is down
+abbrev pub IsStill : Option State → ℕ → Option State → ℕ → Type 0
+IsStill None p far q = Unit {0}
+IsStill (Some s) p None q = Unit {0}
+IsStill (Some s) p (Some t) q = (port_at s.ports p).up ≡ true → (port_at t.ports q).up ≡ true → IsHeard s t q × IsFree s p × IsFree t q
+
+-- nothing new goes one way over a line
+abbrev pub IsStillOn : Net → ℕ → Direction → Type 0
+IsStillOn n l d =
+    IsStill (imp_at n.imps (near_end d (wire_at n.lines l))) (port_of n.lines (near_end d (wire_at n.lines l)) l) (imp_at n.imps (far_end d (wire_at n.lines l))) (port_of n.lines (far_end d (wire_at n.lines l)) l)
 
 -- no frame is on a line
 abbrev pub is_silent : Wire → Bool
 is_silent w = length w.forward == 0 && length w.back == 0
 
--- an IMP is down, or stores no packet
+-- an IMP is down, or no packet waits in it for a channel
 abbrev pub stores_nothing : Option State → Bool
 stores_nothing None = true
-stores_nothing (Some s) = not (holds_packet s)
+stores_nothing (Some s) = length s.store == 0
 
 pub record IsSettled (n : Net) : Type 0 where
   pub empty : (l : ℕ) (d : Direction) → frames_on d (wire_at n.lines l) ≡ []
-  pub resting : (i : ℕ) → IfSome (imp_at n.imps i) (λ s. holds_packet s ≡ false)
-  pub heard : (l : ℕ) (d : Direction) → l < length n.lines → IsHeardOn n l d
+  pub waits : (i : ℕ) → IfSome (imp_at n.imps i) (λ s. length s.store ≡ 0)
+  pub still : (l : ℕ) (d : Direction) → l < length n.lines → IsStillOn n l d

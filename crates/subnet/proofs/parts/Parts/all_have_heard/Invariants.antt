@@ -1,8 +1,0 @@
-use Rattle.std.proofs.Common.{ℕ, ◌<◌}
-use Rattle.leader1822.specs.declared.event.Direction.{Direction}
-use Rattle.subnet.specs.Inside.Settled.{IsHeardOn}
-use Rattle.subnet.proofs.parts.Parts.all_have_heard.Given as goal
-
--- the lines so far
-abbrev pub invariant-loop-line : goal.invariant-loop-line
-invariant-loop-line l = (i : ℕ) (d : Direction) → i < l.line → IsHeardOn l.self i d
