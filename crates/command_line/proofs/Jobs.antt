@@ -4,7 +4,9 @@ use Rattle.std.specs.Io.KnownBytes.{Keeps}
 use Rattle.command_line.specs.Input.{IsInputFault, IsSomeInput}
 use Rattle.command_line.specs.Options.{detail_of}
 use Rattle.command_line.specs.Program.{EndsTask, Sides}
+use Rattle.command_line.specs.Reading.{ReadsFirst}
 use Rattle.command_line.specs.Replayed.{StopsInput}
+use Rattle.command_line.proofs.Reading.{reads_none}
 use Rattle.command_line.specs.declared.fault.ScriptFault.{ScriptFault}
 use Rattle.command_line.specs.declared.fault.ScriptFault.TheVariants as script
 use Rattle.command_line.specs.declared.options.Options.{Options}
@@ -21,9 +23,9 @@ if_known : (known : Option (List ℕ)) (P : List ℕ → Type 0) → ((octets : 
 if_known None P all = tt
 if_known (Some octets) P all = all octets
 
-pub no_memory : (options : Option Options) (s : Sides) → Keeps s.before s.after → EndsTask None options s (Err (fault.Script script.OutOfMemory))
-no_memory None s same = inr refl
-no_memory (Some options) s same = (
+pub no_memory : (options : Option Options) (s : Sides) → s.left ≡ s.input → Keeps s.before s.after → EndsTask None options s (Err (fault.Script script.OutOfMemory))
+no_memory None s unread same = inr refl
+no_memory (Some options) s unread same = (
   ends_in_memory,
   s.after,
   inl (refl, keeps_same s.after s.after refl),
@@ -31,6 +33,8 @@ no_memory (Some options) s same = (
     replayed = tt;
     read = λ whole. if_known s.input (λ octets. MatchResult ends_in_memory (λ done. IsSomeInput octets) (IsInputFault octets)) (λ octets. tt);
     options_read = λ e. cc;
+    reads = subst (λ (left : Option (List ℕ)). ReadsFirst s.input left) (sym unread) (reads_none s.input);
+    reads_all = λ read kept. absurd (kept refl);
     ran_in_part = λ e. inl same;
     first_part = λ e. if_known s.input (λ octets. Keeps s.before s.after ⊎ StopsInput (detail_of options.texts) octets s.before s.after) (λ octets. inl same);
   },

@@ -1,5 +1,5 @@
 -- What `--trace` writes is the trace of the input's script.
-use Rattle.std.proofs.Common.{◌≡◌, ◌≢◌, ◌⊎◌, ◌∙◌, inl, inr, ℕ, suc, ◌+◌, Bool, true, false, List, [], ◌∷◌, Option, Some, None, IfSome, Result, Ok, Err, IfErr, MatchResult, OnOk, ap, filter, length, refl, subst, sym}
+use Rattle.std.proofs.Common.{◌≡◌, ◌≢◌, ◌⊎◌, ◌∙◌, inl, inr, ℕ, suc, ◌+◌, Bool, true, false, List, [], ◌∷◌, Option, Some, None, IfSome, Result, Ok, Err, IfErr, OnOk, ap, filter, length, refl, subst, sym}
 use Rattle.std.proofs.lemmas.List.{length-map}
 use Rattle.std.specs.Io.KnownBytes.{Keeps}
 use Rattle.replay.specs.InTurn.{text_of}
@@ -18,9 +18,9 @@ use Rattle.world_trace.specs.Traces.{StopsOne, TracesWorld, WorldTraceEnds}
 use Rattle.world_script.specs.declared.event.WorldEvent.{WorldEvent}
 use Rattle.world_script.specs.WorldSpelling.{IsWorldEvent, world_spelling}
 use Rattle.command_line.specs.Events.{Asked, AsksFor, Raw, World}
-use Rattle.command_line.specs.Input.{IsInput, IsInputFault, IsSomeInput}
+use Rattle.command_line.specs.Input.{IsInput}
 use Rattle.command_line.specs.Steps.{IsReplayFault}
-use Rattle.command_line.specs.Traced.{EndsOn, EndsOver, IsScriptOf, IsScripted, IsTraceFault, TraceStops, Traced, TracedInPart, TracesFrom, TracesInput, TracesOn, TracesOver, WorldEndsFrom, WorldTracesFrom, asked_count}
+use Rattle.command_line.specs.Traced.{EndsOn, EndsOver, IsScriptOf, IsScripted, TraceStops, Traced, TracedInPart, TracesFrom, TracesInput, TracesOn, TracesOver, WorldEndsFrom, WorldTracesFrom, asked_count}
 use Rattle.command_line.proofs.Judged.{stays}
 use Rattle.command_line.specs.declared.fault.ScriptFault.{ScriptFault}
 use Rattle.command_line.specs.declared.fault.ScriptFault.TheVariants as fault
@@ -108,20 +108,6 @@ lines_fit octets script network events input parted =
 
 -- ---- faults
 
--- an input's fault is one of its trace
-pub read_as : (known : Option (List ℕ)) (r : Result (Unit {0}) ScriptFault) → IfSome known (λ k. MatchResult r (λ done. IsSomeInput k) (IsInputFault k)) → IfSome known (λ k. MatchResult r (λ done. IsSomeInput k) (IsTraceFault k))
-read_as known r h = h
-
--- once octets are an input nothing but memory and a write can fail
-after_reading : (octets : List ℕ) (network : TopologyFields) (events : Asked) (r : Result (Unit {0}) ScriptFault) → IsInput octets network events → IfErr r IsReplayFault → MatchResult r (λ done. IsSomeInput octets) (IsTraceFault octets)
-after_reading octets network events (Ok done) read h = (network, events, read)
-after_reading octets network events (Err fault.OutOfMemory) read h = tt
-after_reading octets network events (Err fault.CannotWrite) read h = (network, events, read)
-after_reading octets network events (Err fault.BadTopology) read h = absurd h
-after_reading octets network events (Err fault.CannotRead) read h = absurd h
-after_reading octets network events (Err fault.BadOptions) read h = absurd h
-after_reading octets network events (Err (fault.BadLine number)) read h = absurd h
-
 -- a fault of a replay is one of memory or of a write
 pub only_replayed : (P : Type 0) (r : Result (Unit {0}) ScriptFault) → IfErr r IsReplayFault → IfErr r (λ f. f ≢ fault.CannotWrite → f ≢ fault.OutOfMemory → P)
 only_replayed P (Ok done) h = tt
@@ -131,8 +117,3 @@ only_replayed P (Err fault.BadTopology) h = absurd h
 only_replayed P (Err fault.CannotRead) h = absurd h
 only_replayed P (Err fault.BadOptions) h = absurd h
 only_replayed P (Err (fault.BadLine number)) h = absurd h
-
-pub known_read : (known : Option (List ℕ)) (octets : List ℕ) (network : TopologyFields) (events : Asked) (r : Result (Unit {0}) ScriptFault)
-    → IfSome known (λ k. octets ≡ k) → IsInput octets network events → IfErr r IsReplayFault → IfSome known (λ k. MatchResult r (λ done. IsSomeInput k) (IsTraceFault k))
-known_read None octets network events r same read h = tt
-known_read (Some k) octets network events r same read h = after_reading k network events r (subst (λ o. IsInput o network events) same read) h

@@ -15,3 +15,4 @@ pub mod Reading
 pub mod Replayed
 pub mod Steps
 pub mod Traced
+pub mod Worked

@@ -7,8 +7,9 @@ use Rattle.command_line.specs.Faults.{script_text, status_of}
 use Rattle.command_line.specs.Input.{IsInputFault, IsSomeInput}
 use Rattle.command_line.specs.Logs.{Logged, LogsInput}
 use Rattle.command_line.specs.Options.{detail_of, options_of, task_of}
+use Rattle.command_line.specs.Reading.{ReadsAll, ReadsFirst}
 use Rattle.command_line.specs.Replayed.{Ran, RanInPart, ReplaysInput, StopsInput}
-use Rattle.command_line.specs.Traced.{IsTraceFault, TraceStops, Traced, TracedInPart, TracesInput}
+use Rattle.command_line.specs.Traced.{TraceStops, Traced, TracedInPart, TracesInput}
 use Rattle.command_line.specs.declared.auditing.AuditFault.{AuditFault}
 use Rattle.command_line.specs.declared.auditing.AuditFault.TheVariants as log
 use Rattle.command_line.specs.declared.fault.ScriptFault.{ScriptFault}
@@ -41,9 +42,10 @@ exit_status (Err (fault.Audit f)) = status_at f
 
 -- ---- what it reads and writes
 
--- what a reader and a writer show of it: the octets to read, whether a read failed, and what was written before and after
+-- what a reader and a writer show of it: the octets to read and those that are left, whether a read failed, and what was written before and after
 pub record Sides : Type 0 where
   pub input : Option (List ℕ)
+  pub left : Option (List ℕ)
   pub unread : Bool
   pub before : Option (List ℕ)
   pub after : Option (List ℕ)
@@ -55,11 +57,14 @@ Replayed false options s =
     Ran options.book (detail_of options.texts) s.before s.after
     × IfSome s.input (λ octets. ReplaysInput options.book (detail_of options.texts) octets s.before s.after)
 
--- with these options an input is replayed, or only read; or its first fault is given, and where memory runs out the first part is written
+-- with these options an input is replayed, or only read; or its first fault is given, and where memory runs out the first part is written. Unless a read
+-- fails or memory runs out, all is read, up to an octet more than an input may have; so it is with the log and the trace
 pub record EndsReplay (options : Options) (s : Sides) (r : Result (Unit {0}) ScriptFault) : Type 0 where
   pub replayed : OnOk r (Replayed options.check options s)
   pub read : s.unread ≡ false → IfSome s.input (λ octets. MatchResult r (λ _. IsSomeInput octets) (IsInputFault octets))
   pub options_read : IfErr r (λ f. f ≢ script.BadOptions)
+  pub reads : ReadsFirst s.input s.left
+  pub reads_all : r ≢ Err script.CannotRead → r ≢ Err script.OutOfMemory → ReadsAll s.input s.left
   pub ran_in_part : r ≡ Err script.OutOfMemory → Keeps s.before s.after ⊎ RanInPart (detail_of options.texts) s.before s.after
   pub first_part : r ≡ Err script.OutOfMemory → IfSome s.input (λ octets. Keeps s.before s.after ⊎ StopsInput (detail_of options.texts) octets s.before s.after)
 
@@ -69,13 +74,17 @@ pub record EndsLog (s : Sides) (r : Result (Unit {0}) ScriptFault) : Type 0 wher
   pub logged : OnOk r (IfSome s.input (λ octets. LogsInput octets s.before s.after))
   pub read : s.unread ≡ false → IfSome s.input (λ octets. MatchResult r (λ _. IsSomeInput octets) (IsInputFault octets))
   pub options_read : IfErr r (λ f. f ≢ script.BadOptions)
+  pub reads : ReadsFirst s.input s.left
+  pub reads_all : r ≢ Err script.CannotRead → r ≢ Err script.OutOfMemory → ReadsAll s.input s.left
 
 -- an input is replayed and its trace is written, or the first fault is given, and where memory runs out the first part is written
 pub record EndsTrace (s : Sides) (r : Result (Unit {0}) ScriptFault) : Type 0 where
   pub ran : OnOk r (Traced s.before s.after)
   pub traced : OnOk r (IfSome s.input (λ octets. TracesInput octets s.before s.after))
-  pub read : s.unread ≡ false → IfSome s.input (λ octets. MatchResult r (λ _. IsSomeInput octets) (IsTraceFault octets))
+  pub read : s.unread ≡ false → IfSome s.input (λ octets. MatchResult r (λ _. IsSomeInput octets) (IsInputFault octets))
   pub options_read : IfErr r (λ f. f ≢ script.BadOptions)
+  pub reads : ReadsFirst s.input s.left
+  pub reads_all : r ≢ Err script.CannotRead → r ≢ Err script.OutOfMemory → ReadsAll s.input s.left
   pub ran_in_part : r ≡ Err script.OutOfMemory → Keeps s.before s.after ⊎ TracedInPart s.before s.after
   pub first_part : r ≡ Err script.OutOfMemory → IfSome s.input (λ octets. Keeps s.before s.after ⊎ TraceStops octets s.before s.after)
 

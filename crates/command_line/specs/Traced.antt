@@ -22,8 +22,7 @@ use Rattle.world_trace.specs.Traces as worlds
 use Rattle.world_trace.specs.Traces.{StopsOne, TracesWorld, WorldTraceEnds}
 use Rattle.command_line.specs.Carriers.{hosting, plain_calls, plain_of, subnet_calls, subnet_of}
 use Rattle.command_line.specs.Events.{Asked, Raw, World}
-use Rattle.command_line.specs.Input.{IsInput, IsInputFault}
-use Rattle.command_line.specs.declared.fault.ScriptFault.{ScriptFault}
+use Rattle.command_line.specs.Input.{IsInput}
 
 -- what plain mailboxes show of their inside, and what subnets show
 abbrev pub plain_inside : Inside Boxes
@@ -132,9 +131,3 @@ pub record TracedInPart (before after : Option (List ℕ)) : Type 0 where
   pub lines : List ℕ
   pub events : Asked
   pub stopped : EndsOn network lines events before after
-
--- ---- faults
-
--- when each fault may be given for these octets, where no read failed: every input has a trace
-abbrev pub IsTraceFault : List ℕ → ScriptFault → Type 0
-IsTraceFault octets f = IsInputFault octets f

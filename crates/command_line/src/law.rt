@@ -1,7 +1,8 @@
 //! What the simulator promises, as laws over its definitions. The functions here do nothing: their clauses
 //! are the laws.
 
-ghost use Rattle.std.specs.Prelude.{◌≡◌, ◌++◌, ℕ, Bool, List, [], ◌∷◌, Ok, Option, Some, reverse};
+ghost use Rattle.std.specs.Prelude.{◌≡◌, ◌==◌, ◌++◌, ℕ, Bool, true, false, List, [], ◌∷◌, Ok, Option, Some, reverse};
+ghost use Rattle.host_services.specs.declared.report.Reported.{Reported};
 ghost use Rattle.leader1822.specs.Boxes.{Boxes};
 ghost use Rattle.leader1822.specs.Host.{Host};
 ghost use Rattle.leader1822.specs.Mailboxes.{IsRun};
@@ -14,6 +15,7 @@ ghost use Rattle.net_sim.specs.Notices.{FormedNotices};
 ghost use Rattle.net_sim.specs.Safe.{SafeBook};
 ghost use Rattle.net_sim.specs.declared.auditing.said.Audit.{Audit};
 ghost use Rattle.net_sim.specs.declared.auditing.said.Audit.TheVariants as audit;
+ghost use Rattle.net_sim.specs.declared.life.Amount.{Amount};
 ghost use Rattle.net_sim.specs.declared.life.Life.{Life};
 ghost use Rattle.replay.specs.declared.print.Detail.{Detail};
 ghost use Rattle.world_keeps_connections.specs.Connections.{JoinedBook};
@@ -28,6 +30,7 @@ ghost use Rattle.command_line.specs.Logs.{Logged, LogsInput};
 ghost use Rattle.command_line.specs.Printed.{AreOneBook, PrintsBook, PrintsPart};
 ghost use Rattle.command_line.specs.Replayed.{Ran, RanInPart, ReplaysInput, StopsInput, WorldShowsFrom};
 ghost use Rattle.command_line.specs.Traced.{IsRaw, TraceStops, TracesInput};
+ghost use Rattle.command_line.specs.Worked.{here, life_one, there, told_one, took_one};
 
 /// The input determines the output, with the book and without it, with texts and without them. It asks for one list of events over the carrier of one
 /// topology, and neither plain mailboxes nor a subnet leave their replay a choice, without host programs or with them.
@@ -90,6 +93,32 @@ pub fn worked_lines()
 
     // a life without a notice
     ensures no_notice { (life : Life) (lives : List Life) → AreOneBook [] (life ∷ lives) → ⊥ }
+
+    // data that went out without a notice, as without host programs, beside a report of a service
+    ensures no_services { (m : HostMessage) (r : Reported) → (m.flow.link.0 == 0) ≡ false → AreOneBook (lines.Crossed (crossing.Out m) ∷ lines.Said r ∷ []) [] → ⊥ }
+
+    // such lines are neither printed by a replay nor the first part of one
+    ensures not_printed { (book : Bool) (detail : Detail) (before after : Option (List ℕ)) (m : HostMessage) (p : PrintsBook book detail before after) → p.shown ≡ lines.Crossed (crossing.In m) ∷ [] → ⊥ }
+    ensures not_in_part { (detail : Detail) (before after : Option (List ℕ)) (m : HostMessage) (p : PrintsPart detail before after) → p.shown ≡ lines.Crossed (crossing.In m) ∷ [] → ⊥ }
+{}
+
+/// The lives that crossings and notices make: of an end where one message arrived.
+pub fn worked_made()
+    // whatever its user granted
+    ensures made { (m : HostMessage) → AreLived (took_one m) told_one (life_one ∷ []) }
+    ensures granted { (m : HostMessage) (granted : Amount) → AreLived (took_one m) told_one (record life_one { granted = granted } ∷ []) }
+
+    // other bits, another count, another stamp, bits that were given back, and a life that is over
+    ensures other_bits { (m : HostMessage) → AreLived (took_one m) told_one (record life_one { bits = false ∷ false ∷ [] } ∷ []) → ⊥ }
+    ensures other_count { (m : HostMessage) → AreLived (took_one m) told_one (record life_one { messages = 2 } ∷ []) → ⊥ }
+    ensures other_stamp { (m : HostMessage) → AreLived (took_one m) told_one (record life_one { partner_stamp = 2 } ∷ []) → ⊥ }
+    ensures returned { (m : HostMessage) → AreLived (took_one m) told_one (record life_one { returned = record { messages = 1; bits = 0 } } ∷ []) → ⊥ }
+    ensures over { (m : HostMessage) → AreLived (took_one m) told_one (record life_one { ended = true } ∷ []) → ⊥ }
+
+    // a host that stops ends its lives, and no other does
+    ensures stopped { (m : HostMessage) → AreLived (crossing.Down here ∷ took_one m) told_one (record life_one { ended = true } ∷ []) }
+    ensures other_stopped { (m : HostMessage) → AreLived (crossing.Down there ∷ took_one m) told_one (life_one ∷ []) }
+    ensures still_alive { (m : HostMessage) → AreLived (crossing.Down here ∷ took_one m) told_one (life_one ∷ []) → ⊥ }
 {}
 
 /// What `--log` writes is a log, of whatever network and events. Its book is kept, and what crossed in it is a run of the mailboxes. So whoever reads it

@@ -79,7 +79,7 @@ pub fn run_program<R: Source, W: Output>(
     requires writes { W.failed writer.old ≡ false }
 
     // it does what the words ask for, reads and writes what that does, and ends as that ends
-    ensures ends { EndsProgram (map string_bytes words.now) (record { input = R.remaining reader.old; unread = R.failed reader.new; before = W.contents writer.old; after = W.contents writer.new }) result }
+    ensures ends { EndsProgram (map string_bytes words.now) (record { input = R.remaining reader.old; left = R.remaining reader.new; unread = R.failed reader.new; before = W.contents writer.old; after = W.contents writer.new }) result }
 
     // words that ask for nothing are refused: nothing is read, and nothing is written
     ensures refused { task_of (map string_bytes words.now) ≡ None → options_of (map string_bytes words.now) ≡ None → (reader.new ≡ reader.old) × (writer.new ≡ writer.old) }
@@ -109,7 +109,7 @@ fn replay_words<R: Source, W: Output>(
 ) -> Result<Done, ProgramFault>
     requires reads { R.failed reader.old ≡ false }
     requires writes { W.failed writer.old ≡ false }
-    ensures ends { EndsTask None (options_of (map string_bytes words.now)) (record { input = R.remaining reader.old; unread = R.failed reader.new; before = W.contents writer.old; after = W.contents writer.new }) result }
+    ensures ends { EndsTask None (options_of (map string_bytes words.now)) (record { input = R.remaining reader.old; left = R.remaining reader.new; unread = R.failed reader.new; before = W.contents writer.old; after = W.contents writer.new }) result }
     ensures refused { options_of (map string_bytes words.now) ≡ None → (reader.new ≡ reader.old) × (writer.new ≡ writer.old) }
     ensures closes { Closes result (R.failed reader.new) (W.failed writer.new) (W.flushed writer.new) (writer.new ≡ writer.old) }
 {

@@ -6,8 +6,9 @@ ghost use Rattle.net_sim.specs.Carriers.{shown};
 ghost use Rattle.command_line.specs.Carriers.{hosting};
 ghost use Rattle.command_line.specs.Events.{asked_of};
 ghost use Rattle.command_line.specs.Input.{IsInputFault, IsSomeInput};
+ghost use Rattle.command_line.specs.Reading.{ReadsAll, ReadsFirst};
 ghost use Rattle.command_line.specs.Steps.{IsReplayFault};
-ghost use Rattle.command_line.specs.Traced.{EndsAll, EndsFrom, EndsOn, IsScripted, IsTraceFault, TraceStops, Traced, TracedInPart, TracesAll, TracesFrom, TracesInput, TracesOn, WorldEndsFrom, WorldTracesFrom, asked_count};
+ghost use Rattle.command_line.specs.Traced.{EndsAll, EndsFrom, EndsOn, IsScripted, TraceStops, Traced, TracedInPart, TracesAll, TracesFrom, TracesInput, TracesOn, WorldEndsFrom, WorldTracesFrom, asked_count};
 
 use crate::carriers::subnet_of;
 use crate::fault::ScriptFault;
@@ -47,8 +48,13 @@ pub fn run_trace<R: Source, W: Output>(
     // and of a reader whose octets are known these are the script and the topology that were read
     ensures traced { OnOk result (IfSome (R.remaining reader.old) (λ octets. TracesInput octets (W.contents writer.old) (W.contents writer.new))) }
 
-    // what is read is an input of a network that has traces, or the first fault is given
-    ensures read { R.failed reader.new ≡ false → IfSome (R.remaining reader.old) (λ octets. MatchResult result (λ _. IsSomeInput octets) (IsTraceFault octets)) }
+    // the reader is asked for the first octets only, and for an octet more than an input may have at most; unless a read fails or memory runs out, it is
+    // asked for all of them
+    ensures reads { ReadsFirst (R.remaining reader.old) (R.remaining reader.new) }
+    ensures reads_all { result ≢ Err ScriptFault.CannotRead → result ≢ Err ScriptFault.OutOfMemory → ReadsAll (R.remaining reader.old) (R.remaining reader.new) }
+
+    // what is read is an input, or the first fault is given
+    ensures read { R.failed reader.new ≡ false → IfSome (R.remaining reader.old) (λ octets. MatchResult result (λ _. IsSomeInput octets) (IsInputFault octets)) }
     ensures options { IfErr result (λ f. f ≢ ScriptFault.BadOptions) }
 
     // where a read or a write fails it is reported, and nowhere else

@@ -4,8 +4,8 @@ use Rattle.replay.proofs.lemmas.{on_ok}
 use Rattle.command_line.specs.Events.{asked_of}
 use Rattle.command_line.specs.Input.{IsInput}
 use Rattle.command_line.specs.Traced.{EndsOn, IsScripted, TracesOn}
-use Rattle.command_line.proofs.Faults.{unread, unwritten}
-use Rattle.command_line.proofs.Traced.{known_ends, known_read, known_traced, only_replayed, read_as, traced, traced_in_part}
+use Rattle.command_line.proofs.Faults.{known_read, unread, unwritten}
+use Rattle.command_line.proofs.Traced.{known_ends, known_traced, only_replayed, traced, traced_in_part}
 use Rattle.command_line.proofs.tracing.run_trace.Goals as goal
 
 pub returns-clause-read : goal.returns-clause-read
@@ -41,9 +41,8 @@ returns-clause-first_part g c = λ e.
 pub returns-in_err-octets-clause-read : goal.returns-in_err-octets-clause-read
 returns-in_err-octets-clause-read g c = λ whole.
     let same : c.from_residual.result ≡ Err c.in_err-octets.field-0.0 = search rules in
-    read_as (g.R.Source.remaining c.args.reader.now) c.from_residual.result
-    (unread (g.R.Source.remaining c.args.reader.now) c.from_residual.result c.in_err-octets.field-0.0 (g.R.Source.failed c.read_octets.new.reader) same
-    c.in_err-octets.ensures.fault (λ e. c.in_err-octets.ensures.too_long (ap Err e)) (λ e. c.in_err-octets.ensures.failed.0 (ap Err e)) whole)
+    unread (g.R.Source.remaining c.args.reader.now) c.from_residual.result c.in_err-octets.field-0.0 (g.R.Source.failed c.read_octets.new.reader) same
+    c.in_err-octets.ensures.fault (λ e. c.in_err-octets.ensures.too_long (ap Err e)) (λ e. c.in_err-octets.ensures.failed.0 (ap Err e)) whole
 
 pub returns-in_err-network-clause-cannot_write : goal.returns-in_err-network-clause-cannot_write
 returns-in_err-network-clause-cannot_write g c =
