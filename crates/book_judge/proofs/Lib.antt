@@ -1,0 +1,3 @@
+pub mod SameText
+pub mod Mailboxes
+pub mod lemmas

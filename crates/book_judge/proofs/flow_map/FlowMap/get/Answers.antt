@@ -1,0 +1,7 @@
+use Rattle.std.proofs.Common.{ap, sym, ◌∙◌}
+use Rattle.std.specs.FinMap as map
+use Rattle.leader1822.proofs.lemmas.{get_flow}
+use Rattle.book_judge.proofs.flow_map.FlowMap.get.Goals as goal
+
+pub returns : goal.returns
+returns g c = c.copied.ensures ∙ c.get.ensures.value ∙ sym (get_flow c.self.inside.flows.entries c.args.flow.now) ∙ ap (λ m. map.get m c.args.flow.now) c.self.view_is
