@@ -12,7 +12,7 @@ from dorydate.model.commands import CONTROL_TEXT, RST, alone, control_message, f
 from dorydate.model.crossings import Answered, Crossing, Passed, Turned
 from dorydate.model.imp_state import NUMBERS, Numbers
 from dorydate.model.log import Book, read_log, spelled_log
-from dorydate.model.mailboxes import first_break, never_taken
+from dorydate.model.mailboxes import first_break, hosts_of, never_taken
 from dorydate.model.misread_logs import MISREADINGS as LOGS_MISREAD
 from dorydate.model.misreadings import MISREADINGS
 from dorydate.model.names import Flow, HostName, in_order
@@ -110,6 +110,7 @@ class Judged(unittest.TestCase):
         rows: list[tuple[list[Crossing], int | None]] = [([OUT, TAKEN, RFNM], None), ([OUT, RFNM], 1), ([OUT, none, TAKEN], 2), ([down, OUT], 1)]
         for log, place in rows:
             self.assertEqual(first_break([ONE, OTHER], log), place)
+            self.assertEqual(hosts_of([*log, OUT]), {ONE, OTHER})
         self.assertFalse(never_taken([OUT, none, TAKEN]))
 
     def test_the_promise_of_messages(self) -> None:
@@ -121,13 +122,14 @@ class Judged(unittest.TestCase):
     def test_each_misreading_says_what_it_reads(self) -> None:
         said = [str(it.__doc__) for it in MISREADINGS]
         self.assertEqual(len({*said}), len(MISREADINGS))
-        self.assertEqual(len(LOGS_MISREAD), 25)
+        self.assertEqual(len(LOGS_MISREAD), 33)
 
     def test_logs_are_read_as_they_are_spelled(self) -> None:
         book = Book([OUT, TAKEN, RFNM, Turned("down", OTHER)], [], [])
         self.assertEqual(read_log(spelled_log(book)), book)
         self.assertEqual(says(spelled_log(book)), "kept")
         self.assertEqual(says(b"down 0/1\nno\nend\n"), "bad log line 2")
+        self.assertEqual(says(spelled_log(Book([OUT, RFNM], [], []))), "broken run line 2\nbroken messages line 2")
 
 
 class Lacked(unittest.TestCase):

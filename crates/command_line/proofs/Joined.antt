@@ -1,5 +1,5 @@
 -- What `--log` writes, `--audit` reads and calls kept.
-use Rattle.std.proofs.Common.{◌≡◌, ℕ, Bool, List, [], reverse, Option, Some, None, IfSome, Result, Ok, Err, MatchResult, refl, sym, subst}
+use Rattle.std.proofs.Common.{◌≡◌, ℕ, ◌+◌, Bool, List, [], reverse, Option, Some, None, IfSome, Result, Ok, Err, MatchOption, MatchResult, refl, ap, sym, subst, ◌∙◌}
 use Rattle.std.proofs.lemmas.List.{reverse-reverse}
 use Rattle.book_log.specs.Log.{Book}
 use Rattle.book_log.proofs.lemmas.{book_once}
@@ -17,7 +17,10 @@ use Rattle.replay.specs.Replay.{Calls}
 use Rattle.topology.specs.Topology.{TopologyFields}
 use Rattle.topology.specs.declared.network.CarrierKind.{CarrierKind}
 use Rattle.topology.specs.declared.network.CarrierKind.TheVariants as kind
-use Rattle.command_line.specs.Audits.{AuditsLog, IsAuditFault, IsKeptLog, IsSomeLog, SaysKept, SaysOf}
+use Rattle.book_judge.specs.Runs.{IsSomeRun, StraysAt}
+use Rattle.book_judge.proofs.lemmas.{run_front}
+use Rattle.command_line.specs.Audits.{AuditsLog, IsAuditFault, IsKeptLog, IsSomeLog, SaysKept, SaysOf, kept}
+use Rattle.command_line.specs.declared.verdict.Verdict.{Verdict}
 use Rattle.command_line.specs.Carriers.{plain_calls, plain_of, subnet_calls, subnet_of}
 use Rattle.command_line.specs.Events.{Asked, Raw, World}
 use Rattle.command_line.specs.Logs.{Logged, LogsFrom, LogsOver, raw_book, world_book}
@@ -31,8 +34,8 @@ use Rattle.command_line.proofs.Printed.{none_there, safe_alone, world_run}
 turned : (said : Audit) (log : List Crossing) (lives : List Life) (handed : List (List Bool)) → Says said log lives handed → Says said (reverse (reverse log)) lives handed
 turned said log lives handed = subst (λ (cs : List Crossing). Says said cs lives handed) (sym (reverse-reverse log))
 
-run_twice : (hosts : List Host) (log : List Crossing) → IsRun hosts log → IsRun hosts (reverse (reverse log))
-run_twice hosts log run = subst (IsRun hosts) (sym (reverse-reverse log)) run
+run_twice : (hosts : List Host) (log : List Crossing) → IsRun hosts log → IsSomeRun (reverse (reverse log))
+run_twice hosts log run = (hosts, subst (IsRun hosts) (sym (reverse-reverse log)) run)
 
 kept_alone : (log : List Crossing) → SafeMessages log → Says audit.Kept log [] []
 kept_alone log messages = (record { counts = refl; stamped = λ x there. absurd (none_there x there) }, safe_alone log messages)
@@ -40,17 +43,19 @@ kept_alone log messages = (record { counts = refl; stamped = λ x there. absurd 
 kept_from : {C : Type 0} (calls : Calls C) (opening : C) (events : Asked) (octets : List ℕ) → LogsFrom calls opening events (Some []) (Some octets) → IsKeptLog octets
 kept_from calls opening (Raw events) octets h = record {
   book = raw_book (calls.seen h.last).log;
-  hosts = (calls.seen h.last).hosts;
   log = record { spelled = h.written; valid = h.valid };
-  run = run_twice (calls.seen h.last).hosts (calls.seen h.last).log h.run;
-  says = turned audit.Kept (calls.seen h.last).log [] [] (kept_alone (calls.seen h.last).log h.messages);
+  says = record {
+    run = run_twice (calls.seen h.last).hosts (calls.seen h.last).log h.run;
+    book = turned audit.Kept (calls.seen h.last).log [] [] (kept_alone (calls.seen h.last).log h.messages);
+  };
 }
 kept_from calls opening (World events) octets h = record {
   book = world_book h.last.kept;
-  hosts = (calls.seen h.last.carrier).hosts;
   log = record { spelled = h.written; valid = h.valid };
-  run = run_twice (calls.seen h.last.carrier).hosts h.last.kept.book.crossings (world_run calls.seen h.last h.promise);
-  says = turned audit.Kept h.last.kept.book.crossings h.last.kept.book.lives h.last.kept.handed (kept_promise calls.seen h.last h.promise);
+  says = record {
+    run = run_twice (calls.seen h.last.carrier).hosts h.last.kept.book.crossings (world_run calls.seen h.last h.promise);
+    book = turned audit.Kept h.last.kept.book.crossings h.last.kept.book.lives h.last.kept.handed (kept_promise calls.seen h.last h.promise);
+  };
 }
 
 kept_over : (carrier : CarrierKind) (t : TopologyFields) (events : Asked) (octets : List ℕ) → LogsOver carrier t events (Some []) (Some octets) → IsKeptLog octets
@@ -71,10 +76,19 @@ only_kept (audit.Broken part.Partners) log lives handed k w = absurd (w.2 k.1.pa
 only_kept (audit.Broken part.Streams) log lives handed k w = absurd (w.2 k.1.streams)
 only_kept (audit.Broken part.Grants) log lives handed k w = absurd (w.2 k.1.grants)
 
-said_kept : (octets : List ℕ) (said : Audit) (before after : Option (List ℕ)) → AuditsLog octets said before after → IsKeptLog octets → said ≡ audit.Kept
-said_kept octets said before after a k =
+-- and a run strays nowhere
+never_stray : (crossings : List Crossing) (stray : Option ℕ) → IsSomeRun (reverse crossings) → MatchOption stray (IsSomeRun (reverse crossings)) (λ place. StraysAt crossings place) → stray ≡ None
+never_stray crossings None run strays = refl
+never_stray crossings (Some place) run strays = absurd (strays.1 (run_front crossings (place + 1) run))
+
+said_kept : (octets : List ℕ) (v : Verdict) (before after : Option (List ℕ)) → AuditsLog octets v before after → IsKeptLog octets → v ≡ kept
+said_kept octets v before after a k =
     let same : a.book ≡ k.book = book_once octets a.book k.book a.log k.log in
-    only_kept said (reverse k.book.crossings) k.book.lives k.book.handed k.says (subst (λ (b : Book). SaysOf said b) same a.says)
+    let says : SaysOf v k.book = subst (λ (b : Book). SaysOf v b) same a.says in
+    let run : v.stray ≡ None = never_stray k.book.crossings v.stray k.says.run says.run in
+    let book : v.said ≡ audit.Kept = only_kept v.said (reverse k.book.crossings) k.book.lives k.book.handed k.says.book says.book in
+    let both : Option ℕ → Audit → Verdict = λ o a. record { stray = o; said = a } in
+    ap (λ (o : Option ℕ). both o v.said) run ∙ ap (λ (a : Audit). both None a) book
 
 -- where octets are a log, its lines are not bad
 never_bad : (octets : List ℕ) (f : AuditFault) → IsAuditFault octets f → IsKeptLog octets → SaysKept octets (Err f)
@@ -84,14 +98,14 @@ never_bad octets (fault.BadLog number) h k = absurd (h.none k.book k.log)
 never_bad octets fault.CannotRead h k = absurd h
 
 -- whatever the reader's octets are, as far as they are known
-pub ends_kept : (known : Option (List ℕ)) (said : Audit) (before after : Option (List ℕ)) → IfSome known (λ octets. AuditsLog octets said before after)
+pub ends_kept : (known : Option (List ℕ)) (said : Verdict) (before after : Option (List ℕ)) → IfSome known (λ octets. AuditsLog octets said before after)
     → IfSome known (λ octets. Logged (Some []) (Some octets) → SaysKept octets (Ok said))
 ends_kept None said before after audits = tt
 ends_kept (Some octets) said before after audits = λ logged. said_kept octets said before after audits (logged_kept octets logged)
 
-pub ends_faulty : (known : Option (List ℕ)) (r : Result Audit AuditFault) (f : AuditFault) → r ≡ Err f → IfSome known (λ octets. MatchResult r (λ said. IsSomeLog octets) (IsAuditFault octets))
+pub ends_faulty : (known : Option (List ℕ)) (r : Result Verdict AuditFault) (f : AuditFault) → r ≡ Err f → IfSome known (λ octets. MatchResult r (λ said. IsSomeLog octets) (IsAuditFault octets))
     → IfSome known (λ octets. Logged (Some []) (Some octets) → SaysKept octets r)
 ends_faulty None r f is read = tt
 ends_faulty (Some octets) r f is read = λ logged.
-    (let fault : IsAuditFault octets f = subst (λ (q : Result Audit AuditFault). MatchResult q (λ said. IsSomeLog octets) (IsAuditFault octets)) is read in
-    subst (λ (q : Result Audit AuditFault). SaysKept octets q) (sym is) (never_bad octets f fault (logged_kept octets logged)))
+    (let fault : IsAuditFault octets f = subst (λ (q : Result Verdict AuditFault). MatchResult q (λ said. IsSomeLog octets) (IsAuditFault octets)) is read in
+    subst (λ (q : Result Verdict AuditFault). SaysKept octets q) (sym is) (never_bad octets f fault (logged_kept octets logged)))

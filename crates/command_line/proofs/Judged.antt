@@ -1,5 +1,5 @@
 -- What is written of a log is what its audit says.
-use Rattle.std.proofs.Common.{◌≡◌, ℕ, Bool, true, false, List, ◌++◌, reverse, Option, Some, None, IfSome, codes, Result, Ok, Err, MatchResult, OnOk, refl, sym, ◌∙◌, subst}
+use Rattle.std.proofs.Common.{◌≡◌, ℕ, Bool, true, false, List, ◌++◌, reverse, Option, Some, None, IfSome, codes, Result, Ok, Err, MatchOption, MatchResult, OnOk, refl, sym, ◌∙◌, subst}
 use Rattle.std.specs.Prelude.{◌↔◌}
 use Rattle.std.proofs.lemmas.Bool.{false≢true}
 use Rattle.std.specs.Io.KnownBytes.{Appends, Keeps}
@@ -9,17 +9,19 @@ use Rattle.net_sim.specs.Audit.{Says, part_text}
 use Rattle.net_sim.specs.declared.auditing.said.Audit.{Audit}
 use Rattle.net_sim.specs.declared.life.Life.{Life}
 use Rattle.net_sim.specs.declared.auditing.said.Audit.TheVariants as audit
-use Rattle.command_line.specs.Audits.{Audited, AuditsLog, IsAuditFault, IsBookFault, IsLogReadFault, IsSomeLog, SaysOf, WritesVerdict, lines_of, lines_text}
+use Rattle.book_judge.specs.Runs.{IsSomeRun, StraysAt}
+use Rattle.command_line.specs.Audits.{Audited, AuditsLog, IsAuditFault, IsBookFault, IsLogReadFault, IsSomeLog, SaysOf, WritesSaid, WritesVerdict, kept_text, lines_of, lines_text, run_text}
+use Rattle.command_line.specs.declared.verdict.Verdict.{Verdict}
 use Rattle.command_line.specs.declared.auditing.AuditFault.{AuditFault}
 use Rattle.command_line.specs.declared.auditing.AuditFault.TheVariants as fault
 
-pub audits : (octets : List ℕ) (b : Book) (said : Audit) (before after : Option (List ℕ)) → IsLog octets b → SaysOf said b → WritesVerdict b said before after → AuditsLog octets said before after
+pub audits : (octets : List ℕ) (b : Book) (said : Verdict) (before after : Option (List ℕ)) → IsLog octets b → SaysOf said b → WritesVerdict b said before after → AuditsLog octets said before after
 audits octets b said before after log says written = record { book = b; log = log; says = says; written = written }
 
-pub audited : (octets : List ℕ) (said : Audit) (before after : Option (List ℕ)) → AuditsLog octets said before after → Audited said before after
+pub audited : (octets : List ℕ) (said : Verdict) (before after : Option (List ℕ)) → AuditsLog octets said before after → Audited said before after
 audited octets said before after h = record { octets = octets; audits = h }
 
-pub known_audited : (known : Option (List ℕ)) (octets : List ℕ) (said : Audit) (before after : Option (List ℕ)) → IfSome known (λ k. octets ≡ k) → AuditsLog octets said before after → IfSome known (λ k. AuditsLog k said before after)
+pub known_audited : (known : Option (List ℕ)) (octets : List ℕ) (said : Verdict) (before after : Option (List ℕ)) → IfSome known (λ k. octets ≡ k) → AuditsLog octets said before after → IfSome known (λ k. AuditsLog k said before after)
 known_audited None octets said before after same h = tt
 known_audited (Some k) octets said before after same h = subst (λ (o : List ℕ). AuditsLog o said before after) same h
 
@@ -28,11 +30,14 @@ some_log None octets b same log = tt
 some_log (Some k) octets b same log = subst IsSomeLog same (b, log)
 
 -- what is written is what was read
-pub says_of : (b : Book) (said : Audit) (crossings : List Crossing) (lives : List Life) (handed : List (List Bool)) → crossings ≡ b.crossings → lives ≡ b.lives → handed ≡ b.handed
-    → ((s : Audit) → (said ≡ s) ↔ Says s (reverse crossings) lives handed) → SaysOf said b
-says_of b said crossings lives handed p q r tells =
-    subst (λ (cs : List Crossing). Says said (reverse cs) b.lives b.handed) p
-    (subst (λ (xs : List Life). Says said (reverse crossings) xs b.handed) q (subst (λ (hs : List (List Bool)). Says said (reverse crossings) lives hs) r ((tells said).0 refl)))
+pub says_of : (b : Book) (v : Verdict) (looked crossings : List Crossing) (lives : List Life) (handed : List (List Bool)) → looked ≡ b.crossings → crossings ≡ b.crossings → lives ≡ b.lives → handed ≡ b.handed
+    → MatchOption v.stray (IsSomeRun (reverse looked)) (λ place. StraysAt looked place) → ((s : Audit) → (v.said ≡ s) ↔ Says s (reverse crossings) lives handed) → SaysOf v b
+says_of b v looked crossings lives handed o p q r strays tells = record {
+  run = subst (λ (cs : List Crossing). MatchOption v.stray (IsSomeRun (reverse cs)) (λ place. StraysAt cs place)) o strays;
+  book =
+      subst (λ (cs : List Crossing). Says v.said (reverse cs) b.lives b.handed) p
+      (subst (λ (xs : List Life). Says v.said (reverse crossings) xs b.handed) q (subst (λ (hs : List (List Bool)). Says v.said (reverse crossings) lives hs) r ((tells v.said).0 refl)));
+}
 
 pub whether_ok : {T E Q : Type 0} (r : Result T E) → Q → OnOk r Q
 whether_ok (Ok x) q = q
@@ -45,11 +50,14 @@ stays (Some x) None c text h k = absurd h
 stays (Some x) (Some y) None text h k = absurd k
 stays (Some x) (Some y) (Some z) text h k = k ∙ h
 
-pub verdict_stays : (b : Book) (said : Audit) (before after last : Option (List ℕ)) → WritesVerdict b said before after → Keeps after last → WritesVerdict b said before last
-verdict_stays b audit.Kept before after last h k = stays before after last (codes "kept\n") h k
-verdict_stays b audit.Malformed before after last h k = (h.0, h.1, stays before after last (codes "malformed " ++ (lines_text (lines_of b h.0) ++ codes "\n")) h.2 k)
-verdict_stays b (audit.Broken p) before after last h k =
+said_stays : (b : Book) (stray : Option ℕ) (said : Audit) (before after last : Option (List ℕ)) → WritesSaid b stray said before after → Keeps after last → WritesSaid b stray said before last
+said_stays b stray audit.Kept before after last h k = stays before after last (kept_text stray) h k
+said_stays b stray audit.Malformed before after last h k = (h.0, h.1, stays before after last (codes "malformed " ++ (lines_text (lines_of b h.0) ++ codes "\n")) h.2 k)
+said_stays b stray (audit.Broken p) before after last h k =
     (h.0, h.1, stays before after last ((codes "broken " ++ (part_text p ++ codes " ")) ++ (lines_text (lines_of b h.0) ++ codes "\n")) h.2 k)
+
+pub verdict_stays : (b : Book) (v : Verdict) (before mid after last : Option (List ℕ)) → Appends before mid (run_text v.stray) → WritesSaid b v.stray v.said mid after → Keeps after last → WritesVerdict b v before last
+verdict_stays b v before mid after last run said k = (mid, run, said_stays b v.stray v.said mid after last said k)
 
 -- ---- faults
 
@@ -59,10 +67,10 @@ unread_known k fault.CannotRead failed read told whole = absurd (false≢true (s
 unread_known k (fault.BadLog number) failed read told whole = absurd read
 unread_known k fault.CannotWrite failed read told whole = absurd read
 
-pub unread : (known : Option (List ℕ)) (r : Result Audit AuditFault) (f : AuditFault) (failed : Bool) → r ≡ Err f → IsLogReadFault f
+pub unread : (known : Option (List ℕ)) (r : Result Verdict AuditFault) (f : AuditFault) (failed : Bool) → r ≡ Err f → IsLogReadFault f
     → (f ≡ fault.CannotRead → failed ≡ true) → failed ≡ false → IfSome known (λ k. MatchResult r (λ said. IsSomeLog k) (IsAuditFault k))
 unread None r f failed is read told whole = tt
-unread (Some k) r f failed is read told whole = subst (λ (q : Result Audit AuditFault). MatchResult q (λ said. IsSomeLog k) (IsAuditFault k)) (sym is) (unread_known k f failed read told whole)
+unread (Some k) r f failed is read told whole = subst (λ (q : Result Verdict AuditFault). MatchResult q (λ said. IsSomeLog k) (IsAuditFault k)) (sym is) (unread_known k f failed read told whole)
 
 unlogged_known : (k : List ℕ) (f : AuditFault) → IsBookFault k f → IsAuditFault k f
 unlogged_known k (fault.BadLog number) bad = bad
@@ -70,14 +78,14 @@ unlogged_known k fault.OutOfMemory bad = tt
 unlogged_known k fault.CannotRead bad = absurd bad
 unlogged_known k fault.CannotWrite bad = absurd bad
 
-pub unlogged : (known : Option (List ℕ)) (octets : List ℕ) (r : Result Audit AuditFault) (f : AuditFault) → IfSome known (λ k. octets ≡ k) → r ≡ Err f → IsBookFault octets f
+pub unlogged : (known : Option (List ℕ)) (octets : List ℕ) (r : Result Verdict AuditFault) (f : AuditFault) → IfSome known (λ k. octets ≡ k) → r ≡ Err f → IsBookFault octets f
     → IfSome known (λ k. MatchResult r (λ said. IsSomeLog k) (IsAuditFault k))
 unlogged None octets r f same is bad = tt
 unlogged (Some k) octets r f same is bad =
-    subst (λ (q : Result Audit AuditFault). MatchResult q (λ said. IsSomeLog k) (IsAuditFault k)) (sym is) (unlogged_known k f (subst (λ (o : List ℕ). IsBookFault o f) same bad))
+    subst (λ (q : Result Verdict AuditFault). MatchResult q (λ said. IsSomeLog k) (IsAuditFault k)) (sym is) (unlogged_known k f (subst (λ (o : List ℕ). IsBookFault o f) same bad))
 
 -- a failed write is reported of a log
-pub unwritten : (known : Option (List ℕ)) (octets : List ℕ) (b : Book) (r : Result Audit AuditFault) → IfSome known (λ k. octets ≡ k) → r ≡ Err fault.CannotWrite → IsLog octets b
+pub unwritten : (known : Option (List ℕ)) (octets : List ℕ) (b : Book) (r : Result Verdict AuditFault) → IfSome known (λ k. octets ≡ k) → r ≡ Err fault.CannotWrite → IsLog octets b
     → IfSome known (λ k. MatchResult r (λ said. IsSomeLog k) (IsAuditFault k))
 unwritten None octets b r same is log = tt
-unwritten (Some k) octets b r same is log = subst (λ (q : Result Audit AuditFault). MatchResult q (λ said. IsSomeLog k) (IsAuditFault k)) (sym is) (subst IsSomeLog same (b, log))
+unwritten (Some k) octets b r same is log = subst (λ (q : Result Verdict AuditFault). MatchResult q (λ said. IsSomeLog k) (IsAuditFault k)) (sym is) (subst IsSomeLog same (b, log))

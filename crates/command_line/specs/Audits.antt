@@ -1,10 +1,9 @@
 -- What is written of a log as its audit.
-use Rattle.std.specs.Prelude.{◌≡◌, ℕ, ◌+◌, List, ◌++◌, length, reverse, Option, Result, Ok, Err, codes}
+use Rattle.std.specs.Prelude.{◌≡◌, ℕ, ◌+◌, List, [], ◌++◌, length, reverse, MatchOption, Option, Some, None, Result, Ok, Err, codes}
 use Rattle.std.specs.Fmt.{decimal}
 use Rattle.std.specs.Io.KnownBytes.{Appends}
 use Rattle.book_log.specs.Log.{Book, IsBadLine, IsLog}
-use Rattle.leader1822.specs.Host.{Host}
-use Rattle.leader1822.specs.Mailboxes.{IsRun}
+use Rattle.book_judge.specs.Runs.{IsSomeRun, StraysAt}
 use Rattle.net_sim.specs.Audit.{Says, part_text}
 use Rattle.net_sim.specs.Findings.{Shows}
 use Rattle.net_sim.specs.declared.auditing.findings.Finding.{Finding}
@@ -12,13 +11,19 @@ use Rattle.net_sim.specs.declared.auditing.findings.Finding.TheVariants as findi
 use Rattle.net_sim.specs.declared.auditing.said.Audit.{Audit}
 use Rattle.net_sim.specs.declared.auditing.said.Audit.TheVariants as audit
 use Rattle.command_line.specs.declared.auditing.AuditFault.{AuditFault}
+use Rattle.command_line.specs.declared.verdict.Verdict.{Verdict}
 use Rattle.command_line.specs.declared.verdict.Lines.{Lines}
 use Rattle.command_line.specs.declared.verdict.Lines.TheVariants as lines
 use Rattle.command_line.specs.declared.auditing.AuditFault.TheVariants as fault
 
--- what an audit says of a book
-abbrev pub SaysOf : Audit → Book → Type 0
-SaysOf said b = Says said (reverse b.crossings) b.lives b.handed
+-- what is said of a book: whether what crossed is a run of the mailboxes, or where it stops being one, and what the audit says
+pub record SaysOf (v : Verdict) (b : Book) : Type 0 where
+  pub run : MatchOption v.stray (IsSomeRun (reverse b.crossings)) (λ place. StraysAt b.crossings place)
+  pub book : Says v.said (reverse b.crossings) b.lives b.handed
+
+-- nothing is wrong with it
+abbrev pub kept : Verdict
+kept = record { stray = None; said = audit.Kept }
 
 -- ---- what is written
 
@@ -38,21 +43,35 @@ abbrev pub TellsWhere : Book → Audit → List ℕ → Option (List ℕ) → Op
 TellsWhere b said front before after =
     (found : Finding) × Shows said found (reverse b.crossings) b.lives b.handed × Appends before after (front ++ (lines_text (lines_of b found) ++ codes "\n"))
 
--- one line for each answer of the audit: of a book that is not kept it names the lines where it shows
-abbrev pub WritesVerdict : Book → Audit → Option (List ℕ) → Option (List ℕ) → Type 0
-WritesVerdict b audit.Kept before after = Appends before after (codes "kept\n")
-WritesVerdict b audit.Malformed before after = TellsWhere b audit.Malformed (codes "malformed ") before after
-WritesVerdict b (audit.Broken p) before after = TellsWhere b (audit.Broken p) (codes "broken " ++ (part_text p ++ codes " ")) before after
+-- of crossings that are no run of the mailboxes, the line of the first that finds no box as it needs it
+abbrev pub run_text : Option ℕ → List ℕ
+run_text None = []
+run_text (Some place) = codes "broken run line " ++ (decimal (place + 1) ++ codes "\n")
 
--- octets are a log, and what an audit says of its book is written
-pub record AuditsLog (octets : List ℕ) (said : Audit) (before after : Option (List ℕ)) : Type 0 where
+-- that a book is kept, unless something was said already
+abbrev pub kept_text : Option ℕ → List ℕ
+kept_text None = codes "kept\n"
+kept_text (Some place) = []
+
+-- one line for each answer of the audit: of a book that is not kept it names the lines where it shows
+abbrev pub WritesSaid : Book → Option ℕ → Audit → Option (List ℕ) → Option (List ℕ) → Type 0
+WritesSaid b stray audit.Kept before after = Appends before after (kept_text stray)
+WritesSaid b stray audit.Malformed before after = TellsWhere b audit.Malformed (codes "malformed ") before after
+WritesSaid b stray (audit.Broken p) before after = TellsWhere b (audit.Broken p) (codes "broken " ++ (part_text p ++ codes " ")) before after
+
+-- first what is wrong with the run, then what is with the book
+abbrev pub WritesVerdict : Book → Verdict → Option (List ℕ) → Option (List ℕ) → Type 0
+WritesVerdict b v before after = (mid : Option (List ℕ)) × Appends before mid (run_text v.stray) × WritesSaid b v.stray v.said mid after
+
+-- octets are a log, and what is said of its book is written
+pub record AuditsLog (octets : List ℕ) (said : Verdict) (before after : Option (List ℕ)) : Type 0 where
   pub book : Book
   pub log : IsLog octets book
   pub says : SaysOf said book
   pub written : WritesVerdict book said before after
 
 -- the same of some octets, for any reader
-pub record Audited (said : Audit) (before after : Option (List ℕ)) : Type 0 where
+pub record Audited (said : Verdict) (before after : Option (List ℕ)) : Type 0 where
   pub octets : List ℕ
   pub audits : AuditsLog octets said before after
 
@@ -74,14 +93,12 @@ IsAuditFault octets fault.CannotRead = ⊥
 -- octets are the log of a book that is kept, and what crossed in it is a run of the mailboxes
 pub record IsKeptLog (octets : List ℕ) : Type 0 where
   pub book : Book
-  pub hosts : List Host
   pub log : IsLog octets book
-  pub says : SaysOf audit.Kept book
-  pub run : IsRun hosts (reverse book.crossings)
+  pub says : SaysOf kept book
 
 -- how the audit of such a log ends: it says `kept`. Only memory or a failed write can keep it from saying so
-abbrev pub SaysKept : List ℕ → Result Audit AuditFault → Type 0
-SaysKept octets (Ok said) = said ≡ audit.Kept
+abbrev pub SaysKept : List ℕ → Result Verdict AuditFault → Type 0
+SaysKept octets (Ok said) = said ≡ kept
 SaysKept octets (Err fault.OutOfMemory) = Unit {0}
 SaysKept octets (Err fault.CannotWrite) = Unit {0}
 SaysKept octets (Err (fault.BadLog number)) = ⊥
@@ -104,10 +121,14 @@ audit_text fault.OutOfMemory = codes "arpasim: stopped"
 audit_text fault.CannotWrite = codes "arpasim: stopped"
 
 -- the exit status after an audit
-abbrev pub status_said : Audit → ℕ
-status_said audit.Kept = 0
-status_said audit.Malformed = 4
-status_said (audit.Broken p) = 4
+abbrev pub status_by : Option ℕ → Audit → ℕ
+status_by None audit.Kept = 0
+status_by (Some place) audit.Kept = 4
+status_by stray audit.Malformed = 4
+status_by stray (audit.Broken p) = 4
+
+abbrev pub status_said : Verdict → ℕ
+status_said v = status_by v.stray v.said
 
 -- ---- what the contracts of private functions say
 

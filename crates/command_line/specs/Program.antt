@@ -1,7 +1,7 @@
 -- The whole program: what the words of its command line have it do, and how it ends.
 use Rattle.std.specs.Prelude.{◌≡◌, ◌≢◌, ◌⊎◌, ◌↔◌, ℕ, Bool, true, false, List, Option, Some, None, Result, Ok, Err, IfSome, IfOk, IfErr, MatchResult, OnOk, codes}
 use Rattle.std.specs.Io.KnownBytes.{Appends, Keeps}
-use Rattle.net_sim.specs.declared.auditing.said.Audit.{Audit}
+use Rattle.command_line.specs.declared.verdict.Verdict.{Verdict}
 use Rattle.command_line.specs.Audits.{Audited, AuditsLog, IsAuditFault, IsSomeLog, audit_text, status_at, status_said}
 use Rattle.command_line.specs.Faults.{script_text, status_of}
 use Rattle.command_line.specs.Input.{IsInputFault, IsSomeInput}
@@ -29,7 +29,7 @@ abbrev pub finished_as : Result (Unit {0}) ScriptFault → Result Done ProgramFa
 finished_as (Ok done) = Ok did.Written
 finished_as (Err f) = Err (fault.Script f)
 
-abbrev pub audited_as : Result Audit AuditFault → Result Done ProgramFault
+abbrev pub audited_as : Result Verdict AuditFault → Result Done ProgramFault
 audited_as (Ok said) = Ok (did.Audited said)
 audited_as (Err f) = Err (fault.Audit f)
 
@@ -89,7 +89,7 @@ pub record EndsTrace (s : Sides) (r : Result (Unit {0}) ScriptFault) : Type 0 wh
   pub first_part : r ≡ Err script.OutOfMemory → IfSome s.input (λ octets. Keeps s.before s.after ⊎ TraceStops octets s.before s.after)
 
 -- a log is audited and what the audit says is written, or the first fault is given
-pub record EndsAudit (s : Sides) (r : Result Audit AuditFault) : Type 0 where
+pub record EndsAudit (s : Sides) (r : Result Verdict AuditFault) : Type 0 where
   pub audited : IfOk r (λ said. Audited said s.before s.after)
   pub says : IfOk r (λ said. IfSome s.input (λ octets. AuditsLog octets said s.before s.after))
   pub read : s.unread ≡ false → IfSome s.input (λ octets. MatchResult r (λ _. IsSomeLog octets) (IsAuditFault octets))
@@ -103,7 +103,7 @@ abbrev pub EndsTask : Option Task → Option Options → Sides → Result Done P
 EndsTask (Some task.Log) options s r = (ended : Result (Unit {0}) ScriptFault) × (r ≡ finished_as ended) × EndsLog s ended
 EndsTask (Some task.Trace) options s r =
     (ended : Result (Unit {0}) ScriptFault) × (written : Option (List ℕ)) × HandsOn ended written s.after r × EndsTrace (record s { after = written }) ended
-EndsTask (Some task.Audit) options s r = (ended : Result Audit AuditFault) × (r ≡ audited_as ended) × EndsAudit s ended
+EndsTask (Some task.Audit) options s r = (ended : Result Verdict AuditFault) × (r ≡ audited_as ended) × EndsAudit s ended
 EndsTask None (Some options) s r =
     (ended : Result (Unit {0}) ScriptFault) × (written : Option (List ℕ)) × HandsOn ended written s.after r × EndsReplay options (record s { after = written }) ended
 EndsTask None None s r = (r ≡ Err (fault.Script script.BadOptions)) ⊎ (r ≡ Err (fault.Script script.OutOfMemory))

@@ -6,7 +6,8 @@ ghost use Rattle.command_line.specs.Audits.{Audited, AuditsLog, IsAuditFault, Is
 ghost use Rattle.command_line.specs.Logs.{Logged};
 
 use crate::source::{ReadFailed, Source};
-use crate::verdict::write_said;
+use crate::verdict::{Verdict, write_found};
+use book_judge::stray_at;
 use book_log::{LogFault, LoggedBook, read_log};
 use net_sim::{Audit, audit};
 use replay::{Output, WriteFailed};
@@ -97,19 +98,23 @@ impl From<WriteFailed> for AuditFault {
     }
 }
 
-/// Returns the exit status after an audit that says this: 0 for a safe book, 4 for any other.
-pub fn audit_status(said: Audit) -> u8
-    ensures { result ≡ status_said said }
+/// Returns the exit status after an audit that says this: 0 where the book is kept, 4 for any other.
+pub fn audit_status(found: Verdict) -> u8
+    ensures { result ≡ status_said found }
 {
-    match said {
-        Audit::Kept => 0,
-        Audit::Malformed | Audit::Broken(_) => 4,
+    match (found.stray, found.said) {
+        (None, Audit::Kept) => 0,
+        (Some(_), Audit::Kept) | (_, Audit::Malformed | Audit::Broken(_)) => 4,
     }
 }
 
-/// Reads a log, and writes one line: `kept` where its book is safe, `malformed line N` where line `N` shows that it is no
-/// book, or `broken PART line N` or `broken PART lines M N` with the first part of a safe book that fails, and the lines of the crossing or
-/// of the one or two lives that show it. It answers what the audit says.
+/// Reads a log, and writes `kept` where its book is safe and what crossed is a run of the mailboxes. Else it writes what isn't so:
+///
+/// - `broken run line N`, the line of the first crossing that finds no box as it needs it;
+/// - `malformed line N` where line `N` shows that it is no book, or `broken PART line N` or `broken PART lines M N` with the first part of
+///   a safe book that fails, and the lines of the crossing or of the one or two lives that show it.
+///
+/// It answers what it found.
 ///
 /// Errors, in this order:
 /// - `CannotRead`: a read failed. Nothing more is asked of the reader.
@@ -121,7 +126,7 @@ pub fn run_audit<R: Source, W: Output>(
     alloc: Global,
     reader: &mut R,
     writer: &mut W,
-) -> Result<Audit, AuditFault>
+) -> Result<Verdict, AuditFault>
     // no read and no write has failed yet
     requires reads { R.failed reader.old ≡ false }
     requires writes { W.failed writer.old ≡ false }
@@ -150,9 +155,11 @@ pub fn run_audit<R: Source, W: Output>(
 {
     let octets = read_octets(alloc, reader)?;
     let book = read_book(alloc, &octets)?;
+    let stray = stray_at(alloc, book.crossings())?;
     let said = audit(book.crossings(), book.lives(), book.handed());
-    write_said(&book, said, writer)?;
-    Ok(said)
+    let found = Verdict { stray, said };
+    write_found(&book, found, writer)?;
+    Ok(found)
 }
 
 /// How many octets are asked for at once.

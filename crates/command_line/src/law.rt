@@ -13,8 +13,6 @@ ghost use Rattle.net_sim.specs.Book.{Book};
 ghost use Rattle.net_sim.specs.Formed.{FormedBook};
 ghost use Rattle.net_sim.specs.Notices.{FormedNotices};
 ghost use Rattle.net_sim.specs.Safe.{SafeBook};
-ghost use Rattle.net_sim.specs.declared.auditing.said.Audit.{Audit};
-ghost use Rattle.net_sim.specs.declared.auditing.said.Audit.TheVariants as audit;
 ghost use Rattle.net_sim.specs.declared.life.Amount.{Amount};
 ghost use Rattle.net_sim.specs.declared.life.Life.{Life};
 ghost use Rattle.replay.specs.declared.print.Detail.{Detail};
@@ -22,7 +20,7 @@ ghost use Rattle.world_keeps_connections.specs.Connections.{JoinedBook};
 ghost use Rattle.world_replay.specs.Output as lines;
 ghost use Rattle.world_replay.specs.Output.{Shown, crossings_of, notices_of, reports_of};
 ghost use Rattle.world_script.specs.declared.event.WorldEvent.{WorldEvent};
-ghost use Rattle.command_line.specs.Audits.{IsKeptLog, SaysKept};
+ghost use Rattle.command_line.specs.Audits.{IsKeptLog, SaysKept, kept};
 ghost use Rattle.command_line.specs.Carriers.{hosting, plain_calls};
 ghost use Rattle.command_line.specs.Joins.{PrintTheSame, TellTheSame};
 ghost use Rattle.command_line.specs.Lived.{AreLived};
@@ -31,6 +29,7 @@ ghost use Rattle.command_line.specs.Printed.{AreOneBook, PrintsBook, PrintsPart}
 ghost use Rattle.command_line.specs.Replayed.{Ran, RanInPart, ReplaysInput, StopsInput, WorldShowsFrom};
 ghost use Rattle.command_line.specs.Traced.{IsRaw, TraceStops, TracesInput};
 ghost use Rattle.command_line.specs.Worked.{here, life_one, there, told_one, took_one};
+ghost use Rattle.command_line.specs.declared.verdict.Verdict.{Verdict};
 
 /// The input determines the output, with the book and without it, with texts and without them. It asks for one list of events over the carrier of one
 /// topology, and neither plain mailboxes nor a subnet leave their replay a choice, without host programs or with them.
@@ -129,7 +128,7 @@ pub fn logs_are_kept()
 
 /// Of a log that is kept nothing else is said.
 pub fn worked_verdicts()
-    ensures { (octets : List ℕ) (said : Audit) → SaysKept octets (Ok said) → said ≡ audit.Kept }
+    ensures { (octets : List ℕ) (said : Verdict) → SaysKept octets (Ok said) → said ≡ kept }
 {}
 
 /// Lives that no replay shows.

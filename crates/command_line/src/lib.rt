@@ -37,3 +37,4 @@ pub use replay::{Detail, Output, Printer, WriteFailed};
 pub use simulator::{run, run_script};
 pub use source::{ReadFailed, Reader, Source};
 pub use tracing::run_trace;
+pub use verdict::Verdict;

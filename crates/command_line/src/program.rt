@@ -11,7 +11,7 @@ use crate::options::{Options, OptionsFault, Task};
 use crate::simulator::run_script;
 use crate::source::Source;
 use crate::tracing::run_trace;
-use net_sim::Audit;
+use crate::verdict::Verdict;
 use replay::{Output, WriteFailed};
 use std::alloc::Global;
 use std::fmt;
@@ -23,7 +23,7 @@ pub enum Done {
     /// It wrote what its words ask for.
     Written,
     /// It audited a log, and wrote what the audit says.
-    Audited(Audit),
+    Audited(Verdict),
 }
 
 /// Why the program ended with a fault.
@@ -159,7 +159,7 @@ fn finished(ended: Result<(), ScriptFault>) -> Result<Done, ProgramFault>
 }
 
 /// Returns what the program answers after an audit.
-fn audited(ended: Result<Audit, AuditFault>) -> Result<Done, ProgramFault>
+fn audited(ended: Result<Verdict, AuditFault>) -> Result<Done, ProgramFault>
     ensures { result ≡ audited_as ended }
 {
     match ended {

@@ -1,13 +1,23 @@
-//! The line of what an audit says.
+//! The lines of what an audit says.
 
 ghost use Rattle.std.specs.Prelude.{◌≡◌, OnOk, false, true};
 ghost use Rattle.replay.specs.Failing.{TellsFailure};
-ghost use Rattle.command_line.specs.Audits.{SaysOf, WritesVerdict, lines_of};
+ghost use Rattle.std.specs.Io.KnownBytes.{Appends};
+ghost use Rattle.command_line.specs.Audits.{SaysOf, WritesSaid, WritesVerdict, kept_text, lines_of, run_text};
 
 use book_log::LoggedBook;
 use net_sim::{Audit, Finding, locate};
 use replay::{Output, WriteFailed};
 use std::fmt;
+
+/// What is said of a log.
+#[derive(Clone, Copy, Debug, PartialEq, Eq)]
+pub struct Verdict {
+    /// The place of the first crossing with which what crossed is no run of the mailboxes, counted from 0; `None` where it is one.
+    pub stray: Option<usize>,
+    /// What the audit says of its book.
+    pub said: Audit,
+}
 
 /// One or two lines of a log, counted from 1.
 #[derive(Clone, Copy)]
@@ -50,43 +60,76 @@ fn lines_of(book: &LoggedBook, found: Finding) -> Lines
     }
 }
 
-/// Writes what an audit says of a book, and all that the writer still holds back.
+/// Writes what is said of a book, and all that the writer still holds back.
 ///
 /// Errors: `WriteFailed`.
-pub(crate) fn write_said<W: Output>(
+pub(crate) fn write_found<W: Output>(
     book: &LoggedBook,
-    said: Audit,
+    found: Verdict,
     writer: &mut W,
 ) -> Result<(), WriteFailed>
-    requires says { SaysOf said book.now }
+    requires says { SaysOf found book.now }
     requires whole { W.failed writer.old ≡ false }
-    ensures written { OnOk result (WritesVerdict book.now said (W.contents writer.old) (W.contents writer.new)) }
+    ensures written { OnOk result (WritesVerdict book.now found (W.contents writer.old) (W.contents writer.new)) }
     ensures failed { TellsFailure result (W.failed writer.new) }
     ensures flushed { OnOk result (W.flushed writer.new ≡ true) }
 {
-    write_verdict(book, said, writer)?;
+    write_run(found.stray, writer)?;
+    write_said(book, found, writer)?;
     writer.flush()
 }
 
-/// Writes the line of what an audit says of a book.
+/// Writes the line of a crossing that finds no box as it needs it, if there is one.
 ///
 /// Errors: `WriteFailed`.
-fn write_verdict<W: Output>(
-    book: &LoggedBook,
-    said: Audit,
-    writer: &mut W,
-) -> Result<(), WriteFailed>
-    requires says { SaysOf said book.now }
+fn write_run<W: Output>(stray: Option<usize>, writer: &mut W) -> Result<(), WriteFailed>
     requires whole { W.failed writer.old ≡ false }
-    ensures written { OnOk result (WritesVerdict book.now said (W.contents writer.old) (W.contents writer.new)) }
+    ensures written { OnOk result (Appends (W.contents writer.old) (W.contents writer.new) (run_text stray)) }
     ensures failed { TellsFailure result (W.failed writer.new) }
 {
-    let Some(found) = locate(said, book.crossings(), book.lives(), book.handed()) else {
-        return writer.write_all(b"kept\n");
+    match stray {
+        Some(place) => {
+            let line = place as u128 + 1;
+            writeln!(writer, "broken run line {line}")
+        }
+        None => Ok(()),
+    }
+}
+
+/// Writes that a book is kept, unless something was said already.
+///
+/// Errors: `WriteFailed`.
+fn write_kept<W: Output>(stray: Option<usize>, writer: &mut W) -> Result<(), WriteFailed>
+    requires whole { W.failed writer.old ≡ false }
+    ensures written { OnOk result (Appends (W.contents writer.old) (W.contents writer.new) (kept_text stray)) }
+    ensures failed { TellsFailure result (W.failed writer.new) }
+{
+    match stray {
+        Some(_) => Ok(()),
+        None => writer.write_all(b"kept\n"),
+    }
+}
+
+/// Writes the line of what the audit says of a book.
+///
+/// Errors: `WriteFailed`.
+fn write_said<W: Output>(
+    book: &LoggedBook,
+    found: Verdict,
+    writer: &mut W,
+) -> Result<(), WriteFailed>
+    requires says { SaysOf found book.now }
+    requires whole { W.failed writer.old ≡ false }
+    ensures written { OnOk result (WritesSaid book.now found.stray found.said (W.contents writer.old) (W.contents writer.new)) }
+    ensures failed { TellsFailure result (W.failed writer.new) }
+{
+    let said = found.said;
+    let Some(shown) = locate(said, book.crossings(), book.lives(), book.handed()) else {
+        return write_kept(found.stray, writer);
     };
-    let lines = lines_of(book, found);
+    let lines = lines_of(book, shown);
     match said {
-        Audit::Kept => writer.write_all(b"kept\n"),
+        Audit::Kept => write_kept(found.stray, writer),
         Audit::Malformed => writeln!(writer, "malformed {lines}"),
         Audit::Broken(part) => writeln!(writer, "broken {part} {lines}"),
     }

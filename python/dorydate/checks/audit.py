@@ -88,9 +88,14 @@ def judged(judge: Judge, octets: bytes) -> str | None:
         return None
 
 
+def parts_said(owed: End) -> list[str]:
+    """What is printed about a log, line by line, without the lines' numbers."""
+    return [line.split(" line")[0].strip() for line in owed[1].splitlines()] or ["bad log line"]
+
+
 def said(owed: End) -> str:
-    """What is printed about a log, without the line."""
-    return owed[1].split(" line")[0].strip() or "bad log line"
+    """The same in words."""
+    return " and ".join(parts_said(owed))
 
 
 def octets_around(octets: bytes) -> Iterator[bytes]:
@@ -197,7 +202,7 @@ def check_without() -> list[str]:
         lesson = headline.Lesson(path)
         octets = spelled_log(book_of(lesson.network, lesson.run(lesson.rule, lesson.script)))
         owed = ends_audit(octets)
-        if said(owed) != (f"broken {lesson.breaks}" if lesson.breaks in PARTS else "kept"):
+        if (f"broken {lesson.breaks}" in parts_said(owed)) != (lesson.breaks in PARTS) or lesson.breaks not in PARTS and said(owed) != "kept":
             wrong.append(f"{path}: it breaks {lesson.breaks}, and the audit in Python says {owed[1]}")
         seen[said(owed)] += 1
         wrong.append(compared(path, octets, owed))

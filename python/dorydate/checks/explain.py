@@ -195,7 +195,7 @@ def check_logs() -> None:
         line = lines[number - 1] + b"\n"
         broken = log.replace(b"\n" + line, b"\n" + line.replace(before, after, 1), 1)
         status, output, _ = audited(broken)
-        same((status, output.splitlines()[0], words in output), (0 if verdict == "kept" else 4, verdict, True), output)
+        same((status, output.startswith(f"{verdict}\n"), words in output), (0 if verdict == "kept" else 4, True, True), output)
     print(f"check explain: {len(bad)} bad logs, each with its cause and form; {len(BROKEN_LOGS)} books, each with the lines that disagree")
 
 

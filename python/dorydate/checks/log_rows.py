@@ -24,16 +24,23 @@ VERDICTS = [
     # what isn't promised
     ("484950\n", "4849FF\n", "kept"),
     ("1 100 0 0 open", "2 999 0 0 ended", "kept"),
-    ("answer rfnm 0/2 0/1 5", "answer dead 0/2 0/1 5", "kept"),
     ("1 16 1 100 0 0 open 4849\n", "1 7 1 100 0 0 open 48\n", "kept"),
     ("receive 1 16 1 100 0 0 open 4849", "receive 0 0 1 16 0 0 open -", "kept"),
     (LIST, "handed 8 FF\n", "kept"),
+    # the run of the mailboxes
+    ("answer rfnm 0/2 0/1 5", "answer dead 0/2 0/1 5", "broken run line 9"),
+    ("answer rfnm 0/2 0/1 5", "answer nottaken 0/2 0/1 5", "broken run line 9"),
+    ("answer rfnm 0/2 0/1 5", "answer incomplete 0/2 0/1 5", "kept"),
+    ("answer rfnm 0/2 0/1 5", "out 0/2 0/1 5 0 -", "broken run line 9"),
+    ("answer rfnm 0/2 0/1 5", "down 0/2", "kept"),
+    ("answer rfnm 0/2 0/1 5\n", "down 0/2\nanswer rfnm 0/2 0/1 5\n", "broken run line 10"),
+    ("answer rfnm 0/2 0/1 5\n", "down 0/2\nup 0/2\nanswer rfnm 0/2 0/1 5\n", "broken run line 11"),
     # messages
-    ("answer rfnm 0/2 0/1 5", "in 0/2 0/1 5 56 00080002004849", "broken messages line 9"),
-    ("in 0/2 0/1 5 56 00080002004849", "in 0/2 0/1 5 56 00080002004848", "broken messages line 8"),
-    ("in 0/2 0/1 5 56 00080002004849", "in 0/2 0/1 6 56 00080002004849", "broken messages line 8"),
-    ("in 0/2 0/1 5 56 00080002004849\n", "", "broken messages line 8"),
-    ("answer rfnm 0/2 0/1 5", "answer rfnm 0/2 0/1 4", "broken messages line 9"),
+    ("answer rfnm 0/2 0/1 5", "in 0/2 0/1 5 56 00080002004849", "broken run line 9\nbroken messages line 9"),
+    ("in 0/2 0/1 5 56 00080002004849", "in 0/2 0/1 5 56 00080002004848", "broken run line 8\nbroken messages line 8"),
+    ("in 0/2 0/1 5 56 00080002004849", "in 0/2 0/1 6 56 00080002004849", "broken run line 8\nbroken messages line 8"),
+    ("in 0/2 0/1 5 56 00080002004849\n", "", "broken run line 8\nbroken messages line 8"),
+    ("answer rfnm 0/2 0/1 5", "answer rfnm 0/2 0/1 4", "broken run line 9\nbroken messages line 9"),
     # stamps: one that names no such message, and which life comes first
     ("16 0/2 33 0 4", "16 0/2 33 7 4", "malformed line 10"),
     ("16 0/2 33 0 4", "16 0/2 33 1 4", "malformed line 10"),
@@ -42,7 +49,7 @@ VERDICTS = [
     ("33 0/1 16 3 1", "33 0/1 16 3 7", "malformed line 11"),
     ("33 0/1 16 3 1", "33 0/1 16 18446744073709551615 1", "malformed line 11"),
     ("life 0/2 33 0/1", "life 0/3 33 0/1", "malformed line 11"),
-    ("0/2 0/1 0", "0/2 0/1 1", "malformed line 10"),
+    ("0/2 0/1 0", "0/2 0/1 1", "broken run line 5\nmalformed line 10"),
     # numbers of lives and lists
     ("handed 24 484950\n", "", "malformed line 11"),
     (LISTS, "", "malformed line 10"),
@@ -85,9 +92,10 @@ GREATEST = f"life 3/63 4294967294 3/63 4294967295 {2**64 - 1} {2**64 - 1} receiv
 LINES = {
     "kept": [
         *("out 0/1 0/2 5 0 -", "out 3/63 0/1 255 1 80", "out 0/1 0/1 0 8 FF", f"out 0/1 0/2 5 8063 {'FF' * 1007}FE"),
-        *("answer dead 0/1 0/2 0", "answer incomplete 3/63 0/1 255", "answer nottaken 0/1 0/2 0", "down 0/1", "up 3/63"),
+        "down 0/1",
     ],
-    "broken messages line 1": ["in 0/1 0/2 5 0 -", "answer rfnm 0/1 0/2 5"],
+    "broken run line 1": ["answer dead 0/1 0/2 0", "answer incomplete 3/63 0/1 255", "answer nottaken 0/1 0/2 0", "up 3/63"],
+    "broken run line 1\nbroken messages line 1": ["in 0/1 0/2 5 0 -", "answer rfnm 0/1 0/2 5"],
     "malformed line 1": [LIFE, GREATEST, LIFE.replace("16 1 100", "13 1 100").replace("4849", "4848"), "handed 0 -", "handed 9 FF80"],
 }
 BAD_LINES = [
@@ -125,6 +133,19 @@ OCTETS: list[tuple[bytes, int | str]] = [
     (b"down 0/1\nup 0/1\n", 3),
     (b"down 0/1\0\nend\n", 1),
     (b"down 0/1\n\nend\n", 2),
+    # hosts that go down and come up: a message that went out before is forgotten, and one that waits is taken by a host that is up
+    (b"down 0/1\nup 0/1\nend\n", "kept"),
+    (b"down 0/1\ndown 0/1\nend\n", "broken run line 2"),
+    (b"down 0/1\nout 0/1 0/2 5 0 -\nend\n", "broken run line 2"),
+    (b"out 0/1 0/2 5 0 -\ndown 0/1\nup 0/1\nout 0/1 0/2 5 0 -\nend\n", "kept"),
+    (b"out 0/1 0/2 5 0 -\ndown 0/2\nup 0/2\nout 0/1 0/2 5 0 -\nend\n", "broken run line 4"),
+    (b"out 0/1 0/2 5 0 -\ndown 0/1\nin 0/1 0/2 5 0 -\nend\n", "kept"),
+    (b"out 0/1 0/2 5 0 -\ndown 0/2\nin 0/1 0/2 5 0 -\nend\n", "broken run line 3"),
+    (b"out 0/1 0/2 5 0 -\ndown 0/1\nanswer dead 0/1 0/2 5\nend\n", "broken run line 3"),
+    (b"out 0/1 0/2 5 0 -\nanswer dead 0/1 0/2 5\nout 0/1 0/2 5 0 -\nend\n", "kept"),
+    (b"out 0/1 0/2 5 0 -\nin 0/1 0/2 5 0 -\nout 0/1 0/2 5 0 -\nend\n", "broken run line 3"),
+    # each part that is broken is named: of a run the first crossing
+    (b"answer dead 0/1 0/2 5\nin 0/1 0/2 5 0 -\nend\n", "broken run line 1\nbroken messages line 2"),
     (b"handed 0 -\ndown 0/1\nend\n", 2),
     (f"{LIFE}\ndown 0/1\nend\n".encode(), 2),
     (f"handed 0 -\n{LIFE}\nend\n".encode(), 2),
@@ -138,9 +159,9 @@ def rows_of_page() -> Iterator[tuple[bytes, str]]:
     """The changes of the page's log, as sed makes them, and what the program prints of each."""
     if f"```text\n{SHORT}```" not in PAGE:
         raise ValueError("docs/audit.md has another log than logs/two-octets")
-    for script, said in re.findall(r"^\| `sed '(.*)'` \| `?([^|`]*?)`? \|", PAGE, re.MULTILINE):
+    for script, cell in re.findall(r"^\| `sed '(.*)'` \| ([^|]*?) \|", PAGE, re.MULTILINE):
         changed = subprocess.run(["sed", script], input=SHORT.encode(), capture_output=True, check=True).stdout
-        yield changed, said
+        yield changed, "\n".join(re.findall("`([^`]*)`", cell)) or cell
 
 
 def rows() -> Iterator[tuple[bytes, str]]:

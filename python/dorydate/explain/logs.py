@@ -10,6 +10,7 @@ import difflib
 import re
 from collections.abc import Callable
 
+from dorydate.model import firsts
 from dorydate.model.audit import Log, is_passed, last_out, match, own_request, partner_request
 from dorydate.model.bits import Bits
 from dorydate.model.bits import octets as octets_of
@@ -17,6 +18,7 @@ from dorydate.model.book import Life
 from dorydate.model.crossings import Answered, Passed, Turned
 from dorydate.model.names import Flow, spell_flow, spell_host
 from dorydate.model.log import BadLog, Book, read_log
+from dorydate.model.mailboxes import Holds, Mailboxes, hosts_of
 from dorydate.explain.faults import wrong_with_text, wrong_with_word
 from dorydate.explain.given import shown
 
@@ -38,6 +40,8 @@ WRITTEN = {  # how a form is shown
 WORDS = {"ANSWER": ["rfnm", "dead", "incomplete", "nottaken"], "KIND": ["send", "receive"], "STATE": ["open", "ended"]}
 BITS_OF = {"PLACE": 64, "LENGTH": 64, "AMOUNT": 128}
 PARTS = [("out", "in", "answer", "down", "up"), ("life",), ("handed",), ("end",)]  # a log's lines, in this order
+MOST_LOOKED_AT = 10_000_000  # crossings times lives
+MOST_UNMADE = 3  # lives that are named
 NAMES = ["crossings", "lives", "what was handed over", "the end"]
 
 
@@ -49,9 +53,37 @@ def explained(octets: bytes, verdict: str) -> str:
         book = read_log(octets)
     except BadLog as line:
         return f"The independent reader in Python finds line {line} bad. No cause was found."
-    why = why_so(book, verdict)
+    return "\n".join([*(part for line in verdict.splitlines() for part in explained_line(octets, book, line)), *unmade(book)])
+
+
+def explained_line(octets: bytes, book: Book, verdict: str) -> list[str]:
+    """The lines of the log that one line of a verdict names, and why."""
     shown_lines = [f"  {number}: {short(octets, number)}" for number in map(int, re.findall(r"\d+", verdict))]
-    return "\n".join([*shown_lines, why])
+    return [*shown_lines, why_so(book, verdict)]
+
+
+def unmade(book: Book) -> list[str]:
+    """Which lives aren't made of the messages that crossed, and why: the program doesn't look at that."""
+    if len(book.log) * len(book.lives) > MOST_LOOKED_AT:
+        return ["Whether lives are made of the messages that crossed wasn't looked at: the log is too long for that here."]
+    found = [(number, why) for number, life in enumerate(book.lives, len(book.log) + 1) if (why := why_unmade(book.log, life))]
+    return [f"Line {number} isn't made of the messages that crossed, which the program doesn't judge: {why}" for number, why in found[:MOST_UNMADE]]
+
+
+def why_unmade(log: Log, life: Life) -> str | None:
+    """Why the first messages on a life's link don't make it; None where they do, or where its stamps name no messages."""
+    requests = [log[at] if at < len(log) else None for at in (life.own, life.partner)]
+    if not all(isinstance(it, Passed) and it.flow.link == 0 for it in requests):
+        return None
+    flow = firsts.flow_of(log, life)
+    if flow is None:
+        return f"no RTS of sockets {' and '.join(map(str, sorted((life.socket, life.foreign), key=lambda it: it % 2)))} is in the message at its {'OWN' if life.receives() else 'PARTNER'}."
+    bits = [bits for _, bits in firsts.messages_of(log, life)]
+    way = "came in" if life.receives() else "went out"
+    if len(bits) < life.messages:
+        return f"it counts {counted(life.messages, 'message')}, and after its requests {len(bits)} {way} on {spell_flow(flow)}."
+    first = "".join(bits[: life.messages])
+    return None if first == life.bits else f"{difference(life.bits, first, 'what it says', f'what {way} on {spell_flow(flow)}')}"
 
 
 def short(octets: bytes, number: int) -> str:
@@ -160,6 +192,7 @@ def why_so(book: Book, verdict: str) -> str:
     """Why a book that was read has this verdict."""
     numbers = [int(it) for it in re.findall(r"\d+", verdict)]
     parts: dict[str, Callable[[Book, list[int]], str]] = {
+        "broken run": why_run,
         "malformed": why_malformed,
         "broken messages": why_messages,
         "broken partners": why_partners,
@@ -167,7 +200,7 @@ def why_so(book: Book, verdict: str) -> str:
         "broken grants": why_grants,
     }
     if verdict == "kept":
-        return f"The book is safe: {counted(len(book.log), 'crossing')}, {counted(len(book.lives), 'life', 'lives')}, and all that the headline promises of them holds (docs/headline.md)."
+        return f"The book is safe: {counted(len(book.log), 'crossing')}, {counted(len(book.lives), 'life', 'lives')}, and what crossed is a run of the mailboxes."
     found = next((tell for name, tell in parts.items() if verdict.startswith(name)), None)
     return found(book, numbers) if found and numbers else "No cause was found."
 
@@ -208,6 +241,32 @@ def crossing_at(log: Log, place: int) -> str:
     else:
         what = spell_flow(crossing.flow) if isinstance(crossing, Passed) else spell_host(crossing.host)
     return f"at place {place} (line {place + 1}) is `{crossing.kind} {what}`"
+
+
+def why_run(book: Book, numbers: list[int]) -> str:
+    log, at = book.log, numbers[0] - 1
+    mailboxes = Mailboxes(hosts_of(log))
+    for crossing in log[:at]:
+        mailboxes.crosses(crossing)
+    crossing = log[at]
+    if isinstance(crossing, Turned):
+        return f"Host {spell_host(crossing.host)} is {'up' if mailboxes.is_up[crossing.host] else 'down'} already."
+    host = crossing.flow.destination if crossing.kind == "in" else crossing.flow.source
+    if not mailboxes.is_up[host]:
+        return f"Host {spell_host(host)} is down."
+    return why_boxed(crossing, mailboxes.boxes.get(crossing.flow))
+
+
+def why_boxed(crossing: Passed | Answered, box: tuple[Holds, Bits] | None) -> str:
+    """What a crossing doesn't find in the box of its flow."""
+    flow = spell_flow(crossing.flow)
+    if box is None:
+        return f"No message of the flow {flow} is outstanding."
+    if crossing.kind == "out":
+        return f"The last message of the flow {flow} has no answer yet, and one may be outstanding."
+    if isinstance(crossing, Passed) and box[0] == "waits":
+        return f"Another text waits on the flow {flow}: {difference(crossing.text, box[1], 'what was taken', 'what went out')}"
+    return f"The message of the flow {flow} {'was taken already' if box[0] == 'taken' else 'was not taken'}."
 
 
 def why_messages(book: Book, numbers: list[int]) -> str:

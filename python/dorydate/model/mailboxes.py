@@ -57,9 +57,15 @@ class Mailboxes:
         return fits
 
 
-def first_break(hosts: Iterable[HostName], log: Sequence[Crossing]) -> int | None:
+def hosts_of(log: Iterable[Crossing]) -> set[HostName]:
+    """The hosts that a log names."""
+    named = (({it.host} if isinstance(it, Turned) else {it.flow.source, it.flow.destination}) for it in log)
+    return set().union(*named)
+
+
+def first_break(hosts: Iterable[HostName], log: Sequence[Crossing], kind: type[Mailboxes] = Mailboxes) -> int | None:
     """The place of the first crossing that finds no box as it needs it; None where the log is a run."""
-    mailboxes = Mailboxes(hosts)
+    mailboxes = kind(hosts)
     return next((place for place, crossing in enumerate(log) if not mailboxes.crosses(crossing)), None)
 
 

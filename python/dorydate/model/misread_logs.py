@@ -7,8 +7,9 @@ from typing import TypeVar
 
 from dorydate.model.audit import Lives, Log, partners_are_kept
 from dorydate.model.book import Life
-from dorydate.model.crossings import Crossing
+from dorydate.model.crossings import Answered, Crossing, Turned
 from dorydate.model.log import BadLog, Book, LogReader
+from dorydate.model.mailboxes import Mailboxes
 from dorydate.model.verdict import Judge
 
 ANY = 1_000  # bits of a number of any size here
@@ -190,12 +191,102 @@ class SenderOfGrant(Judge):
         return not life.receives() or super().grant_fails(log, lives, life)
 
 
+# ---- judges of the run of the mailboxes
+
+
+class NoRun(Judge):
+    """The run is not looked at."""
+
+    def of_run(self, log: Log) -> str | None:
+        return None
+
+
+class RunAlone(Judge):
+    """Only the first thing that is wrong is named."""
+
+    def verdict(self, book: Book) -> str:
+        return super().verdict(book).splitlines()[0]
+
+
+class RunBefore(Judge):
+    """A break of the run is put at the line before it."""
+
+    def of_run(self, log: Log) -> str | None:
+        found = super().of_run(log)
+        return found and f"broken run line {int(found.split()[-1]) - 1}"
+
+
+class KeptBoxes(Mailboxes):
+    def turns(self, crossing: Turned) -> bool:
+        boxes = self.boxes
+        fits = super().turns(crossing)
+        self.boxes = boxes
+        return fits
+
+
+class BoxesStay(Judge):
+    """A host that comes up keeps what it handed over."""
+
+    mailboxes = KeptBoxes
+
+
+class ClearedBoxes(Mailboxes):
+    def turns(self, crossing: Turned) -> bool:
+        fits = super().turns(crossing)
+        if crossing.kind == "up":
+            self.boxes = {flow: it for flow, it in self.boxes.items() if flow.destination != crossing.host}
+        return fits
+
+
+class BoxesToItGo(Judge):
+    """What waits for a host that comes up is forgotten too."""
+
+    mailboxes = ClearedBoxes
+
+
+class DownBoxes(Mailboxes):
+    def turns(self, crossing: Turned) -> bool:
+        fits = super().turns(crossing)
+        self.boxes = {flow: it for flow, it in self.boxes.items() if crossing.kind == "up" or flow.source != crossing.host}
+        return fits
+
+
+class BoxesGoAtOnce(Judge):
+    """What a host handed over is forgotten when it goes down."""
+
+    mailboxes = DownBoxes
+
+
+class AlwaysUp(Mailboxes):
+    def turns(self, crossing: Turned) -> bool:
+        fits = super().turns(crossing)
+        self.is_up[crossing.host] = True
+        return fits or crossing.kind == "up"
+
+
+class NobodyIsDown(Judge):
+    """Hosts that are down are not looked at."""
+
+    mailboxes = AlwaysUp
+
+
+class AnyAnswers(Mailboxes):
+    def is_answered(self, crossing: Answered) -> bool:
+        return self.is_up.get(crossing.flow.source, False) and self.boxes.pop(crossing.flow, None) is not None
+
+
+class AnyAnswer(Judge):
+    """Any answer fits a message that is outstanding."""
+
+    mailboxes = AnyAnswers
+
+
 READERS: list[type[LogReader]] = [
     GoesOn, NoLineFeed, NoEnd, EndAtLastLine, AnyOrder, AnyText, AnySocket, AnyStamp, ShortStamp, AnyAmount, ShortAmount, AnyKind,
 ]  # fmt: skip
 JUDGES: list[type[Judge]] = [
     FewerLists, MoreLists, ToldOfItsList, LineOfItsNumber, BreakBefore, LastMalformed, FirstAtOdds, WrongWayRound, FirstOfAll, NoMatch, MatchFirst,
-    SenderOfStream, SenderOfGrant,
+    SenderOfStream, SenderOfGrant, NoRun, RunAlone, RunBefore, BoxesStay, BoxesToItGo, BoxesGoAtOnce, NobodyIsDown, AnyAnswer,
 ]  # fmt: skip
 
 

@@ -13,6 +13,7 @@ from dorydate.model.audit import Lives, Log, audit, is_granted, is_well_formed, 
 from dorydate.model.book import Life
 from dorydate.model.crossings import Crossing
 from dorydate.model.log import BadLog, Book, LogReader
+from dorydate.model.mailboxes import Mailboxes, first_break, hosts_of
 from dorydate.model.runs import End
 
 T = TypeVar("T")
@@ -29,6 +30,7 @@ class Judge:
     """Says of logs what is to be said. `misread_logs` has judges that are wrong in one place each."""
 
     reader = LogReader()
+    mailboxes: type[Mailboxes] = Mailboxes
 
     def says(self, octets: bytes) -> str:
         """What is to be said of a log, with the lines at which it is bad, malformed or broken."""
@@ -38,14 +40,23 @@ class Judge:
             return f"bad log line {line}"
 
     def verdict(self, book: Book) -> str:
-        """What is to be said of a book, with the lines that show it."""
+        """What is to be said of a book, with the lines that show it: first of the run of the mailboxes, then of the promise."""
+        return "\n".join(filter(None, [self.of_run(book.log), self.of_book(book)])) or "kept"
+
+    def of_run(self, log: Log) -> str | None:
+        """What is wrong with what crossed, None where it is a run of the mailboxes between the hosts that it names."""
+        place = first_break(hosts_of(log), log, self.mailboxes)
+        return None if place is None else f"broken run line {place + 1}"
+
+    def of_book(self, book: Book) -> str | None:
+        """What is wrong with a book, None where it keeps the promise."""
         log, lives, handed = book
         if place := self.unmatched(lives, handed):
             return f"malformed line {len(log) + place}"
         lives = [replace(life, handed=bits) for life, bits in zip(lives, handed)]
         part = audit(log, lives)
         if part is None:
-            return "kept"
+            return None
         if part == "malformed":
             return f"malformed line {len(log) + self.first(lives, lambda life: not is_well_formed(log, [life]))}"
         if part == "messages":

@@ -12,7 +12,7 @@ from random import Random
 from dorydate.model.audit import CONTROL
 from dorydate.model.bits import Bits
 from dorydate.model.book import Life
-from dorydate.model.crossings import Answered, Crossing, Passed, Turned
+from dorydate.model.crossings import Answer, Answered, Crossing, Passed, Turned
 from dorydate.model.log import Book
 from dorydate.model.names import Flow, HostName
 
@@ -134,6 +134,30 @@ def answered_early(chance: Random, book: Book) -> None:
 @way("an RFNM is about no message")
 def answered_nothing(chance: Random, book: Book) -> None:
     insert(book, chance.randint(0, len(book.log)), Answered("answer", "rfnm", Flow(STRANGER, HostName(0, 1), chance.randrange(256))))
+
+
+@way("an answer that is about no message")
+def answered_by_chance(chance: Random, book: Book) -> None:
+    flow = Flow(STRANGER, HostName(0, 1), chance.randrange(256))
+    kinds: list[Answer] = ["dead", "incomplete", "nottaken"]
+    insert(book, chance.randint(0, len(book.log)), Answered("answer", chance.choice(kinds), flow))
+
+
+@way("a message goes out while the last one of its flow is outstanding")
+def out_too_soon(chance: Random, book: Book) -> None:
+    place, message = a_message(chance, book, "out")
+    insert(book, place + 1, message)
+
+
+@way("a host that is up comes up")
+def up_twice(chance: Random, book: Book) -> None:
+    insert(book, chance.randint(0, len(book.log)), Turned("up", STRANGER))
+
+
+@way("a host goes down, and its program continues")
+def down_and_goes_on(chance: Random, book: Book) -> None:
+    place, message = a_message(chance, book, chance.choice(["out", "in"]))
+    insert(book, place, Turned("down", message.flow.source if message.kind == "out" else message.flow.destination))
 
 
 @way("Dead or Incomplete becomes an RFNM")
@@ -363,8 +387,7 @@ def order_changed(chance: Random, book: Book) -> None:
 
 def log_goes_on(chance: Random, book: Book) -> None:
     flow = Flow(STRANGER, HostName(0, 1), chance.randrange(256))
-    more: list[Crossing] = [Passed("out", flow, some_bits(chance)), Turned("down", STRANGER), Turned("up", STRANGER)]
-    more += [Answered("answer", "dead", flow), Answered("answer", "incomplete", flow)]
+    more: list[Crossing] = [Passed("out", flow, some_bits(chance)), Turned("down", STRANGER)]
     insert(book, chance.randint(0, len(book.log)), chance.choice(more))
 
 

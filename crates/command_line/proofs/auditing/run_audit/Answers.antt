@@ -1,16 +1,32 @@
 use Rattle.std.proofs.Common.{◌≡◌, ℕ, List, Err, ap, rules, subst}
 use Rattle.book_log.specs.Log.{IsLog}
-use Rattle.command_line.specs.Audits.{IsBookFault}
+use Rattle.command_line.specs.Audits.{IsBookFault, SaysOf}
+use Rattle.command_line.specs.declared.verdict.Verdict.{Verdict}
 use Rattle.command_line.proofs.Joined.{ends_faulty, ends_kept}
 use Rattle.command_line.proofs.Judged.{audited, audits, known_audited, says_of, some_log, unlogged, unread, unwritten}
 use Rattle.command_line.specs.declared.auditing.AuditFault.TheVariants as fault
 use Rattle.command_line.proofs.auditing.run_audit.Goals as goal
 
+-- what is written
 pub returns-clause-audited : goal.returns-clause-audited
-returns-clause-audited g c = audited c.in_ok-octets.octets.items c.audit-said.result (g.W.Output.contents c.args.writer.now) (g.W.Output.contents c.write_said.new.writer) (audits c.in_ok-octets.octets.items c.in_ok-book.book c.audit-said.result (g.W.Output.contents c.args.writer.now) (g.W.Output.contents c.write_said.new.writer) (subst (λ (o : List ℕ). IsLog o c.in_ok-book.book) c.deref.ensures.value c.in_ok-book.ensures) (says_of c.in_ok-book.book c.audit-said.result c.crossings.result.now c.lives.result.now c.handed.result.now c.crossings.ensures c.lives.ensures c.handed.ensures c.audit-said.ensures) c.in_ok-write_said.ensures.written)
+returns-clause-audited g c =
+    let v : Verdict = record { stray = c.in_ok-stray.stray; said = c.audit-said.result } in
+    let says : SaysOf v c.in_ok-book.book =
+    says_of c.in_ok-book.book v c.crossings.result.now c.crossings-2.result.now c.lives.result.now c.handed.result.now c.crossings.ensures c.crossings-2.ensures c.lives.ensures c.handed.ensures c.in_ok-stray.ensures
+    c.audit-said.ensures in
+    let log : IsLog c.in_ok-octets.octets.items c.in_ok-book.book = subst (λ (o : List ℕ). IsLog o c.in_ok-book.book) c.deref.ensures.value c.in_ok-book.ensures in
+    audited c.in_ok-octets.octets.items v (g.W.Output.contents c.args.writer.now) (g.W.Output.contents c.write_found.new.writer)
+    (audits c.in_ok-octets.octets.items c.in_ok-book.book v (g.W.Output.contents c.args.writer.now) (g.W.Output.contents c.write_found.new.writer) log says c.in_ok-write_found.ensures.written)
 
 pub returns-clause-says : goal.returns-clause-says
-returns-clause-says g c = known_audited (g.R.Source.remaining c.args.reader.now) c.in_ok-octets.octets.items c.audit-said.result (g.W.Output.contents c.args.writer.now) (g.W.Output.contents c.write_said.new.writer) c.in_ok-octets.ensures.whole (audits c.in_ok-octets.octets.items c.in_ok-book.book c.audit-said.result (g.W.Output.contents c.args.writer.now) (g.W.Output.contents c.write_said.new.writer) (subst (λ (o : List ℕ). IsLog o c.in_ok-book.book) c.deref.ensures.value c.in_ok-book.ensures) (says_of c.in_ok-book.book c.audit-said.result c.crossings.result.now c.lives.result.now c.handed.result.now c.crossings.ensures c.lives.ensures c.handed.ensures c.audit-said.ensures) c.in_ok-write_said.ensures.written)
+returns-clause-says g c =
+    let v : Verdict = record { stray = c.in_ok-stray.stray; said = c.audit-said.result } in
+    let says : SaysOf v c.in_ok-book.book =
+    says_of c.in_ok-book.book v c.crossings.result.now c.crossings-2.result.now c.lives.result.now c.handed.result.now c.crossings.ensures c.crossings-2.ensures c.lives.ensures c.handed.ensures c.in_ok-stray.ensures
+    c.audit-said.ensures in
+    let log : IsLog c.in_ok-octets.octets.items c.in_ok-book.book = subst (λ (o : List ℕ). IsLog o c.in_ok-book.book) c.deref.ensures.value c.in_ok-book.ensures in
+    known_audited (g.R.Source.remaining c.args.reader.now) c.in_ok-octets.octets.items v (g.W.Output.contents c.args.writer.now) (g.W.Output.contents c.write_found.new.writer) c.in_ok-octets.ensures.whole
+    (audits c.in_ok-octets.octets.items c.in_ok-book.book v (g.W.Output.contents c.args.writer.now) (g.W.Output.contents c.write_found.new.writer) log says c.in_ok-write_found.ensures.written)
 
 pub returns-clause-read : goal.returns-clause-read
 returns-clause-read g c = λ whole. some_log (g.R.Source.remaining c.args.reader.now) c.in_ok-octets.octets.items c.in_ok-book.book c.in_ok-octets.ensures.whole (subst (λ (o : List ℕ). IsLog o c.in_ok-book.book) c.deref.ensures.value c.in_ok-book.ensures)
@@ -25,13 +41,15 @@ returns-in_err-book-clause-read g c = λ whole.
     let same : c.from_residual-in_err-book.result ≡ Err c.in_err-book.field-0.0 = search rules in
     unlogged (g.R.Source.remaining c.args.reader.now) c.in_ok-octets.octets.items c.from_residual-in_err-book.result c.in_err-book.field-0.0 c.in_ok-octets.ensures.whole same (subst (λ (o : List ℕ). IsBookFault o c.in_err-book.field-0.0) c.deref.ensures.value c.in_err-book.ensures)
 
-pub returns-in_err-write_said-clause-read : goal.returns-in_err-write_said-clause-read
-returns-in_err-write_said-clause-read g c = λ whole.
-    let same : c.from_residual-in_err-write_said.result ≡ Err fault.CannotWrite = search rules in
-    unwritten (g.R.Source.remaining c.args.reader.now) c.in_ok-octets.octets.items c.in_ok-book.book c.from_residual-in_err-write_said.result c.in_ok-octets.ensures.whole same (subst (λ (o : List ℕ). IsLog o c.in_ok-book.book) c.deref.ensures.value c.in_ok-book.ensures)
+pub returns-in_err-write_found-clause-read : goal.returns-in_err-write_found-clause-read
+returns-in_err-write_found-clause-read g c = λ whole.
+    let same : c.from_residual-in_err-write_found.result ≡ Err fault.CannotWrite = search rules in
+    unwritten (g.R.Source.remaining c.args.reader.now) c.in_ok-octets.octets.items c.in_ok-book.book c.from_residual-in_err-write_found.result c.in_ok-octets.ensures.whole same (subst (λ (o : List ℕ). IsLog o c.in_ok-book.book) c.deref.ensures.value c.in_ok-book.ensures)
 
 pub returns-clause-kept : goal.returns-clause-kept
-returns-clause-kept g c = λ whole. ends_kept (g.R.Source.remaining c.args.reader.now) c.audit-said.result (g.W.Output.contents c.args.writer.now) (g.W.Output.contents c.write_said.new.writer) (returns-clause-says g c)
+returns-clause-kept g c = λ whole.
+    let v : Verdict = record { stray = c.in_ok-stray.stray; said = c.audit-said.result } in
+    ends_kept (g.R.Source.remaining c.args.reader.now) v (g.W.Output.contents c.args.writer.now) (g.W.Output.contents c.write_found.new.writer) (returns-clause-says g c)
 
 pub returns-in_err-octets-clause-kept : goal.returns-in_err-octets-clause-kept
 returns-in_err-octets-clause-kept g c = λ whole.
@@ -43,7 +61,17 @@ returns-in_err-book-clause-kept g c = λ whole.
     let same : c.from_residual-in_err-book.result ≡ Err c.in_err-book.field-0.0 = search rules in
     ends_faulty (g.R.Source.remaining c.args.reader.now) c.from_residual-in_err-book.result c.in_err-book.field-0.0 same (returns-in_err-book-clause-read g c whole)
 
-pub returns-in_err-write_said-clause-kept : goal.returns-in_err-write_said-clause-kept
-returns-in_err-write_said-clause-kept g c = λ whole.
-    let same : c.from_residual-in_err-write_said.result ≡ Err fault.CannotWrite = search rules in
-    ends_faulty (g.R.Source.remaining c.args.reader.now) c.from_residual-in_err-write_said.result fault.CannotWrite same (returns-in_err-write_said-clause-read g c whole)
+pub returns-in_err-stray-clause-read : goal.returns-in_err-stray-clause-read
+returns-in_err-stray-clause-read g c = λ whole.
+    let same : c.from_residual-in_err-stray.result ≡ Err fault.OutOfMemory = search rules in
+    unlogged (g.R.Source.remaining c.args.reader.now) c.in_ok-octets.octets.items c.from_residual-in_err-stray.result fault.OutOfMemory c.in_ok-octets.ensures.whole same tt
+
+pub returns-in_err-stray-clause-kept : goal.returns-in_err-stray-clause-kept
+returns-in_err-stray-clause-kept g c = λ whole.
+    let same : c.from_residual-in_err-stray.result ≡ Err fault.OutOfMemory = search rules in
+    ends_faulty (g.R.Source.remaining c.args.reader.now) c.from_residual-in_err-stray.result fault.OutOfMemory same (returns-in_err-stray-clause-read g c whole)
+
+pub returns-in_err-write_found-clause-kept : goal.returns-in_err-write_found-clause-kept
+returns-in_err-write_found-clause-kept g c = λ whole.
+    let same : c.from_residual-in_err-write_found.result ≡ Err fault.CannotWrite = search rules in
+    ends_faulty (g.R.Source.remaining c.args.reader.now) c.from_residual-in_err-write_found.result fault.CannotWrite same (returns-in_err-write_found-clause-read g c whole)
