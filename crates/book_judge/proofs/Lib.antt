@@ -1,3 +1,4 @@
 pub mod SameText
 pub mod Mailboxes
+pub mod Worked
 pub mod lemmas

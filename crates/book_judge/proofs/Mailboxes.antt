@@ -114,7 +114,7 @@ run_of_free hosts (crossing.Answer kind f ∷ log) a r = ((up_same hosts f.sourc
 run_of_free hosts (crossing.Down h ∷ log) a r = (up_same hosts h a.0 log ∙ r.0, run_of_free hosts log a.1 r.1)
 run_of_free hosts (crossing.Up h ∷ log) a r = ((a.0, up_same hosts h a.0 log ∙ r.0), run_of_free hosts log a.1 r.1)
 
-pub some_run : (log : List Crossing) → IsFree log → IsSomeRun log
+some_run : (log : List Crossing) → IsFree log → IsSomeRun log
 some_run log r = (hosts_of log, run_of_free (hosts_of log) log (are_hosts log) r)
 
 pub free_run : (log : List Crossing) → IsSomeRun log → IsFree log

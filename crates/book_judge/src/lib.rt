@@ -7,6 +7,7 @@
 #![tactic(auto)]
 
 mod flow_map;
+pub mod law;
 mod mail;
 mod runs;
 mod texts;

@@ -1,0 +1,56 @@
+-- The rows.
+use Rattle.std.proofs.Common.{◌≡◌, ℕ, Bool, true, false, ◌||◌, List, [], ◌∷◌, refl, ap, sym, ◌∙◌}
+use Rattle.leader1822.specs.Host.{Host, is_host, same_host}
+use Rattle.leader1822.specs.Mailboxes.{Empty, Fits, IsRun}
+use Rattle.leader1822.specs.declared.address.Flow.{Flow}
+use Rattle.leader1822.specs.declared.crossing.Answer.{Answer}
+use Rattle.leader1822.specs.declared.crossing.Answer.TheVariants as answer
+use Rattle.leader1822.specs.declared.crossing.Crossing.{Crossing}
+use Rattle.leader1822.specs.declared.crossing.Crossing.TheVariants as crossing
+use Rattle.leader1822.specs.declared.message.HostMessage.{HostMessage}
+use Rattle.leader1822.proofs.lemmas.{same_flow-refl, same_host-refl}
+use Rattle.book_judge.specs.Runs.{IsSomeRun, StraysAt}
+
+is_there : (h : Host) → is_host (h ∷ []) h ≡ true
+is_there h = rw (same_host-refl h) refl
+
+unfitting : (kind : Answer) → Fits kind Empty → ⊥
+unfitting answer.Rfnm f = f
+unfitting answer.Incomplete f = f
+unfitting answer.Dead f = f
+unfitting answer.NotTaken f = f
+
+pub run_out : (m : HostMessage) → IsSomeRun (crossing.Out m ∷ [])
+run_out m = (m.flow.source ∷ [], ((is_there m.flow.source, refl), tt))
+
+pub run_down : (h : Host) → IsSomeRun (crossing.Down h ∷ [])
+run_down h = (h ∷ [], (is_there h, tt))
+
+pub not_up : (h : Host) → IsSomeRun (crossing.Up h ∷ []) → ⊥
+not_up h r = let e : true ≡ false = sym r.1.0.0 ∙ r.1.0.1 in absurd (cc)
+
+pub not_taken : (m : HostMessage) → IsSomeRun (crossing.In m ∷ []) → ⊥
+not_taken m r = r.1.0.1
+
+pub not_answered : (kind : Answer) (f : Flow) → IsSomeRun (crossing.Answer kind f ∷ []) → ⊥
+not_answered kind f r = unfitting kind r.1.0.1
+
+-- a message that is answered once
+answered : (m : HostMessage) → IsSomeRun (crossing.Answer answer.Dead m.flow ∷ crossing.Out m ∷ [])
+answered m = (m.flow.source ∷ [], ((is_there m.flow.source, rw (same_flow-refl m.flow) tt), ((is_there m.flow.source, refl), tt)))
+
+-- and again
+answered_twice : (m : HostMessage) → IsSomeRun (crossing.Answer answer.Dead m.flow ∷ crossing.Answer answer.Dead m.flow ∷ crossing.Out m ∷ []) → ⊥
+answered_twice m r = rw (same_flow-refl m.flow) at r.1.0.1
+
+abbrev log_of : HostMessage → List Crossing
+log_of m = crossing.Out m ∷ crossing.Answer answer.Dead m.flow ∷ crossing.Answer answer.Dead m.flow ∷ crossing.Out m ∷ []
+
+pub strays_here : (m : HostMessage) → StraysAt (log_of m) 2
+strays_here m = (answered m, answered_twice m)
+
+pub strays_earlier : (m : HostMessage) → StraysAt (log_of m) 1 → ⊥
+strays_earlier m s = s.1 (answered m)
+
+pub strays_later : (m : HostMessage) → StraysAt (log_of m) 3 → ⊥
+strays_later m s = answered_twice m s.0

@@ -1,0 +1,29 @@
+//! Logs that are runs between some hosts, and logs that stop being one. The functions here do nothing: each clause is a row.
+
+ghost use Rattle.std.specs.Prelude.{[], ◌∷◌};
+ghost use Rattle.leader1822.specs.Host.{Host};
+ghost use Rattle.leader1822.specs.declared.address.Flow.{Flow};
+ghost use Rattle.leader1822.specs.declared.crossing.Answer.{Answer};
+ghost use Rattle.leader1822.specs.declared.crossing.Answer.TheVariants as answer;
+ghost use Rattle.leader1822.specs.declared.crossing.Crossing.TheVariants as crossing;
+ghost use Rattle.leader1822.specs.declared.message.HostMessage.{HostMessage};
+ghost use Rattle.book_judge.specs.Runs.{IsSomeRun, StraysAt};
+
+/// Logs of one crossing.
+pub fn worked_runs()
+    // whoever hands over a message is a host of the network, and so is whoever goes down
+    ensures out { (m : HostMessage) → IsSomeRun (crossing.Out m ∷ []) }
+    ensures down { (h : Host) → IsSomeRun (crossing.Down h ∷ []) }
+
+    // but a host is up before anything has crossed, and no message is outstanding
+    ensures up { (h : Host) → IsSomeRun (crossing.Up h ∷ []) → ⊥ }
+    ensures taken { (m : HostMessage) → IsSomeRun (crossing.In m ∷ []) → ⊥ }
+    ensures answer { (kind : Answer) (f : Flow) → IsSomeRun (crossing.Answer kind f ∷ []) → ⊥ }
+{}
+
+/// A message that is answered twice, and one that goes out after that: the log, the oldest first, stops being a run at the second answer.
+pub fn worked_strays()
+    ensures here { (m : HostMessage) → StraysAt (crossing.Out m ∷ crossing.Answer answer.Dead m.flow ∷ crossing.Answer answer.Dead m.flow ∷ crossing.Out m ∷ []) 2 }
+    ensures earlier { (m : HostMessage) → StraysAt (crossing.Out m ∷ crossing.Answer answer.Dead m.flow ∷ crossing.Answer answer.Dead m.flow ∷ crossing.Out m ∷ []) 1 → ⊥ }
+    ensures later { (m : HostMessage) → StraysAt (crossing.Out m ∷ crossing.Answer answer.Dead m.flow ∷ crossing.Answer answer.Dead m.flow ∷ crossing.Out m ∷ []) 3 → ⊥ }
+{}
