@@ -97,39 +97,6 @@ pub(crate) fn call_imp(
     call.make_at(&mut imps[at])
 }
 
-/// Takes a frame at a port of the IMP of this number, if it is up.
-///
-/// Errors: `IsDown` where it is down or not there, and then those of the call.
-pub(crate) fn arrive_at_imp(
-    imps: &mut [Option<Imp>],
-    imp: u8,
-    port: u8,
-    frame: Frame,
-) -> Result<Vec<Outgoing>, CarrierFault>
-    requires { AreLive imps.old }
-    ensures call { CallEnds (at_up (imp_at imps.old imp) (call_refusal (call.Arrive port frame))) (grows_at (imp_at imps.old imp) (call_grows (call.Arrive port frame))) (λ frames. (imps.new ≡ imps_by imps.old imp (imp_at imps.old imp) (call_turn (call.Arrive port frame))) × (frames.items ≡ frames_by (imp_at imps.old imp) (call_turn (call.Arrive port frame)))) imps.old imps.new result }
-    ensures live { OnOk result (AreLive imps.new) }
-{
-    let at = imp as usize;
-    if at >= imps.len() {
-        return Err(CarrierFault::IsDown);
-    }
-    arrive_at(&mut imps[at], port, frame)
-}
-
-/// Does the same at the IMP of a place, if one is up there.
-#[tactic(auto, using(crate::proofs::Calls::Ending::ends_of_turned))]
-fn arrive_at(place: &mut Option<Imp>, port: u8, frame: Frame) -> Result<Vec<Outgoing>, CarrierFault>
-    requires { IfSome place.old (λ s. s.spent ≡ false) }
-    ensures call { CallEnds (at_up place.old (call_refusal (call.Arrive port frame))) (grows_at place.old (call_grows (call.Arrive port frame))) (λ frames. (place.new ≡ imp_by place.old (call_turn (call.Arrive port frame))) × (frames.items ≡ frames_by place.old (call_turn (call.Arrive port frame)))) place.old place.new result }
-    ensures live { OnOk result (IfSome place.new (λ s. s.spent ≡ false)) }
-{
-    match place {
-        Some(imp) => imp.from_line(port, frame),
-        None => Err(CarrierFault::IsDown),
-    }
-}
-
 /// Takes a frame at a port of the IMP of this number, if nothing is to be sent for it, or no IMP is up there. It
 /// answers whether it came in; else nothing changes.
 pub(crate) fn takes_at_imp(imps: &mut [Option<Imp>], imp: u8, port: u8, frame: &Frame) -> bool

@@ -8,11 +8,10 @@ ghost use Rattle.subnet.specs.Calls.{grows_at};
 ghost use Rattle.subnet.specs.Flows.{imp_is_up};
 ghost use Rattle.subnet.specs.Events as events;
 ghost use Rattle.subnet.specs.Events.{is_imp, has_end, logging};
-ghost use Rattle.subnet.specs.declared.imp_call.ImpCall.TheVariants as call;
 ghost use Rattle.subnet.specs.Inside.Calling.{call_turn, call_grows, AreLive, Makes, Ignores, SameLog, runs_out, copied_grows};
 ghost use Rattle.subnet.specs.Inside.Taking.{frame_taken};
 
-use crate::imp_call::{ImpCall, arrive_at_imp, call_imp, reuse};
+use crate::imp_call::{ImpCall, call_imp, reuse};
 use crate::lines::{Lines, port_of};
 use imp_channel::Frame;
 use imp_node::{Imp, Outgoing};
@@ -177,23 +176,6 @@ impl Parts {
         ensures keeps { SameLog self.old self.new }
     {
         let frames = call_imp(&mut self.imps, imp, call)?;
-        if self.put(imp, frames).is_err() {
-            return Err(CarrierFault::OutOfMemory);
-        }
-        Ok(())
-    }
-
-    /// Delivers a frame at a port of the IMP of this number, and puts the IMP's frames on lines. It is the call
-    /// `ImpCall::Arrive`, without that value in between.
-    ///
-    /// Errors: `IsDown` where it is down or not there, and then those of the call.
-    pub(crate) fn arrive(&mut self, imp: u8, port: u8, frame: Frame) -> Result<(), CarrierFault>
-        requires { AreLive self.old.imps }
-        ensures call { Makes imp (call.Arrive port frame) self.old self.new result }
-        ensures live { OnOk result (AreLive self.new.imps) }
-        ensures keeps { SameLog self.old self.new }
-    {
-        let frames = arrive_at_imp(&mut self.imps, imp, port, frame)?;
         if self.put(imp, frames).is_err() {
             return Err(CarrierFault::OutOfMemory);
         }

@@ -2,15 +2,13 @@
 
 ghost use Rattle.std.specs.Prelude.{◌≡◌, ◌<◌, length, slice_get, true, false, IfOk, OnOk, OnErr};
 ghost use Rattle.std.specs.List.{range_with_len};
-ghost use Rattle.subnet.specs.Net.{imp_at, wire_at, frames_on};
+ghost use Rattle.subnet.specs.Net.{wire_at, frames_on};
 ghost use Rattle.subnet.specs.Events as events;
-ghost use Rattle.subnet.specs.Calls.{grows_at, round_grows, delivered_grows};
-ghost use Rattle.subnet.specs.Inside.Calling.{AreLive, SameLog, carried_first, call_turn, call_grows};
-ghost use Rattle.subnet.specs.declared.imp_call.ImpCall.TheVariants as call;
+ghost use Rattle.subnet.specs.Calls.{round_grows, delivered_grows};
+ghost use Rattle.subnet.specs.Inside.Calling.{AreLive, SameLog, carried_first};
 
-use crate::imp_call::{answers_at_imp, takes_at_imp};
-use crate::parts::{Parts, runs_out};
-use imp_channel::Frame;
+use crate::imp_call::{ImpCall, answers_at_imp, takes_at_imp};
+use crate::parts::Parts;
 use imp_node::Outgoing;
 use leader1822::Direction;
 use std::alloc::AllocError;
@@ -238,7 +236,7 @@ impl Parts {
     /// until that is dropped.
     ///
     /// Errors: memory runs out, and nothing else.
-    #[tactic(auto, using(crate::proofs::Calls::Taken::taken_lives, crate::proofs::Calls::Taken::taken_keeps))]
+    #[tactic(auto, using(crate::proofs::Calls::Attempting::arrive_ignores, crate::proofs::Calls::Taken::taken_lives, crate::proofs::Calls::Taken::taken_keeps))]
     fn hand_on(&mut self, line: usize, direction: Direction) -> Result<(), AllocError>
         requires live { AreLive self.old.imps }
         requires there { line < length self.old.lines }
@@ -251,26 +249,7 @@ impl Parts {
         let imp = self.far_end(line, direction);
         let port = self.far_port(line, direction);
         let frame = self.take_first(line, direction);
-        self.attempt_arrival(imp, port, frame)
-    }
-
-    /// Delivers a frame at a port of the IMP of this number, if it is up and has that port, and puts the IMP's frames
-    /// on lines.
-    ///
-    /// Errors: memory runs out, and nothing else.
-    #[tactic(auto, using(crate::proofs::Calls::Attempting::arrive_ignores, crate::proofs::Calls::Attempting::attempted, crate::proofs::Calls::Attempting::attempt_lives, crate::proofs::Calls::Attempting::attempt_grows))]
-    fn attempt_arrival(&mut self, imp: u8, port: u8, frame: Frame) -> Result<(), AllocError>
-        requires { AreLive self.old.imps }
-        ensures ok { OnOk result (self.new ≡ events.at_imp (imp_at self.old.imps imp) imp (call_turn (call.Arrive port frame)) self.old) }
-        ensures live { OnOk result (AreLive self.new.imps) }
-        ensures memory { OnErr result (grows_at (imp_at self.old.imps imp) (call_grows (call.Arrive port frame)) ≡ true) }
-        ensures keeps { SameLog self.old self.new }
-    {
-        let outcome = self.arrive(imp, port, frame);
-        if runs_out(&outcome) {
-            return Err(AllocError);
-        }
-        Ok(())
+        self.attempt(imp, ImpCall::Arrive(port, frame))
     }
 
     /// Loses the oldest frame of a directed line, if there is one.
