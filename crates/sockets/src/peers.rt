@@ -37,23 +37,24 @@ const MANY: usize = 32;
 /// The other hosts that this one has to do with, in order of their address octets. A host that isn't here has
 /// a pair in the initial state.
 ///
-/// Beside each is what goes to it next, so that the next message is found without a look at the others, and its connections are
-/// looked through once for each change. And so far as it is known which sockets have an end, one without an end is found without a
+/// Beside each is what goes to it next, and the first place of one that something goes to. So the next message is found without a
+/// look at the others, and a peer's connections are looked through once for each change. And so far as it is known which sockets have an end, one without an end is found without a
 /// look at all ends; that is learnt once many ends were requested in a row. The place of the peer that was changed last is where one is
 /// looked for first.
 #[derive(Drop)]
 pub(crate) struct Peers {
     peers: Vec<Peer>,
     due: Vec<Due>,
+    first: Option<usize>,
     recent: usize,
     owned: Owned,
     in_a_row: usize,
 }
 
 impl Model for Peers {
-    ghost use Rattle.std.specs.Prelude.{List};
+    ghost use Rattle.std.specs.Prelude.{◌≡◌, List, position};
     ghost use Rattle.sockets.specs.Owned.{AreKnown};
-    ghost use Rattle.sockets.specs.Due.{GoNext};
+    ghost use Rattle.sockets.specs.Due.{GoNext, is_due};
     ghost use Rattle.sockets.specs.Peers.{AreInOrder};
     ghost use Rattle.sockets.specs.declared.peer.Peer.{Peer};
 
@@ -61,7 +62,7 @@ impl Model for Peers {
 
     ghost view = { λ p. p.peers.items };
 
-    ghost invariant = { λ p. AreInOrder p.peers.items × GoNext p.due.items p.peers.items × AreKnown p.owned p.peers.items };
+    ghost invariant = { λ p. AreInOrder p.peers.items × GoNext p.due.items p.peers.items × AreKnown p.owned p.peers.items × (p.first ≡ position is_due p.due.items) };
 }
 
 impl Peers {
@@ -72,6 +73,7 @@ impl Peers {
         Peers {
             peers: Vec::new(alloc),
             due: Vec::new(alloc),
+            first: None,
             recent: 0,
             owned: Owned::Unknown,
             in_a_row: 0,
@@ -152,7 +154,7 @@ impl Peers {
         ensures room { IfSome result (λ found. HasRoom found.0.now.pair.entries found.0.now.pair.queue found.1) }
         ensures order { AreInOrder self.now }
     {
-        let at = first_due(&self.due)?;
+        let at = self.first?;
         let peer = &self.peers[at];
         match self.due[at] {
             Due::Nothing => None,
@@ -170,13 +172,15 @@ impl Peers {
     {
         self.owned = Owned::Unknown;
         let opening = Pair::new(alloc);
-        swap(
+        let pair = swap(
             &mut self.peers,
             &mut self.due,
             &mut self.recent,
             host,
             opening,
-        )
+        );
+        self.first = first_due(&self.due);
+        pair
     }
 
     /// Takes an RFNM on a link of a peer in place, if it frees the link and nothing else comes of it; else changes
@@ -195,6 +199,7 @@ impl Peers {
         }
         self.owned = Owned::Unknown;
         free_at(&mut self.peers, &mut self.due, at, host, link);
+        self.first = first_due(&self.due);
         true
     }
 
@@ -212,7 +217,9 @@ impl Peers {
             Ok(at) => {
                 self.recent = at;
                 self.owned = Owned::Unknown;
-                command_at(&mut self.peers, &mut self.due, at, host, command)
+                let done = command_at(&mut self.peers, &mut self.due, at, host, command);
+                self.first = first_due(&self.due);
+                done
             }
             Err(_) => {
                 let mut pair = Pair::new(alloc);
@@ -239,7 +246,9 @@ impl Peers {
         };
         self.recent = at;
         self.owned = Owned::Unknown;
-        request_at(&mut self.peers, &mut self.due, at, host, entry, command)
+        let done = request_at(&mut self.peers, &mut self.due, at, host, entry, command);
+        self.first = first_due(&self.due);
+        done
     }
 
     /// Grants a peer more, and changes its pair in place.
@@ -260,7 +269,9 @@ impl Peers {
                 self.recent = at;
                 self.owned = Owned::Unknown;
                 let (peers, due) = (&mut self.peers, &mut self.due);
-                grant_at(peers, due, at, host, socket, messages, bits, command)
+                let done = grant_at(peers, due, at, host, socket, messages, bits, command);
+                self.first = first_due(&self.due);
+                done
             }
             Err(_) => {
                 let mut pair = Pair::new(alloc);
@@ -291,7 +302,9 @@ impl Peers {
         }
         self.recent = at;
         self.owned = Owned::Unknown;
-        Some(bits_at(&mut self.peers, &mut self.due, at, host, socket, bits))
+        let done = bits_at(&mut self.peers, &mut self.due, at, host, socket, bits);
+        self.first = first_due(&self.due);
+        Some(done)
     }
 
     /// Puts what is known of a peer in. One with a pair in the initial state isn't kept.
@@ -302,9 +315,12 @@ impl Peers {
         self.owned = Owned::Unknown;
         if pair.is_opening() {
             remove(&mut self.peers, &mut self.due, self.recent, host);
+            self.first = first_due(&self.due);
             return Ok(());
         }
-        insert(&mut self.peers, &mut self.due, self.recent, host, pair)
+        let done = insert(&mut self.peers, &mut self.due, self.recent, host, pair);
+        self.first = first_due(&self.due);
+        done
     }
 }
 

@@ -11,5 +11,5 @@ returns-in-Ok c =
     let ps : List Peer = c.self.inside.peers.items in
     let there : c.in-Ok.at < length ps = search rules in
     let found : (d : Peer) → find (λ (p : Peer). same_host c.args.host p.host) ps ≡ Some (slice_index_or ps c.in-Ok.at d) = λ d. search rules in
-    subst (λ (qs : List Peer). OnOk c.command_at.result (c.command_at.new.peers.items ≡ with_pair c.args.host (commanded c.args.command (pair_with c.args.host qs)) qs)) c.self.view_is
-    (commanded_there c.args.host c.args.command c.in-Ok.at ps c.command_at.new.peers.items c.command_at.result there found c.command_at.ensures.queued)
+    subst (λ (qs : List Peer). OnOk c.command_at-done.result (c.command_at-done.new.peers.items ≡ with_pair c.args.host (commanded c.args.command (pair_with c.args.host qs)) qs)) c.self.view_is
+    (commanded_there c.args.host c.args.command c.in-Ok.at ps c.command_at-done.new.peers.items c.command_at-done.result there found c.command_at-done.ensures.queued)

@@ -12,5 +12,5 @@ returns-in-Ok c =
     let ps : List Peer = c.self.inside.peers.items in
     let there : c.in-Ok.at < length ps = search rules in
     let found : (d : Peer) → find (λ (p : Peer). same_host c.args.host p.host) ps ≡ Some (slice_index_or ps c.in-Ok.at d) = λ d. search rules in
-    subst (λ (qs : List Peer). OnOk c.grant_at.result (c.grant_at.new.peers.items ≡ with_pair c.args.host (commanded c.args.command (with_end c.args.socket (granted c.args.messages c.args.bits) (pair_with c.args.host qs))) qs)) c.self.view_is
-    (granted_there c.args.host c.args.socket c.args.messages c.args.bits c.args.command c.in-Ok.at ps c.grant_at.new.peers.items c.grant_at.result there found c.grant_at.ensures.granted)
+    subst (λ (qs : List Peer). OnOk c.grant_at-done.result (c.grant_at-done.new.peers.items ≡ with_pair c.args.host (commanded c.args.command (with_end c.args.socket (granted c.args.messages c.args.bits) (pair_with c.args.host qs))) qs)) c.self.view_is
+    (granted_there c.args.host c.args.socket c.args.messages c.args.bits c.args.command c.in-Ok.at ps c.grant_at-done.new.peers.items c.grant_at-done.result there found c.grant_at-done.ensures.granted)
