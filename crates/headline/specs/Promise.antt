@@ -15,7 +15,7 @@ use Rattle.world_keeps_streams.specs.Rests.{AllRest}
 -- crossed. A message answered by RFNM was taken exactly once and none is taken twice; no two ends hold one opening with different partners; what was taken,
 -- if anything was, is a prefix of what its one partner sent, and what was sent of what was handed over; and what was taken, and what was sent, is granted. A finished initial connection pairs the right four sockets.
 -- And crossings, notices and lives are what the programs of all hosts make of one list of moments, over a carrier whose log is a run of the mailboxes. In these moments data that were taken where they came for a receiving life whose
--- end was open arrived there, all of them; a receiving life whose end its partner had closed, and no user of its host, took all that its partner sent; and so did one whose end was open while nothing waited for it and its partner continued.
+-- end was open arrived there, all of them; a receiving life whose end its partner had closed, and no user of its host, took all that its partner sent, also once it was over; and so did one whose end was open while nothing waited for it and its partner continued.
 -- The crossings determine the bits of all lives: a life's messages are the first on its link after both of its requests, and each message that went out is one of a sending life
 pub record KeepsPromise {C : Type 0} (seen : C → Seen) (w : WorldState C) : Type 0 where
   pub formed : FormedBook w.kept.book.crossings w.kept.book.lives

@@ -17,7 +17,7 @@ use net_sim::{Book, World};
 ///
 /// Data that were taken where they came for a receiving life whose end was open arrived there, all of them (`arrives`). So an RFNM of data means that they
 /// arrived, unless the receiving end was closing or gone. And a receiving life whose end its partner has closed, and no user of its host, took all that its
-/// partner sent (`closes`); and so has one whose end is open, while nothing waits for it and its partner continues (`rests`).
+/// partner sent (`closes`), also once it is over; and so has one whose end is open, while nothing waits for it and its partner continues (`rests`).
 ///
 /// The crossings determine the bits of all lives (`firsts`): a life's messages are the first on its link after both of its requests, and each message
 /// that went out is one of a sending life.

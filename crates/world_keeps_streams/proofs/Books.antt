@@ -8,6 +8,7 @@ pub mod Closes
 pub mod Firsts
 pub mod Given
 pub mod Goes
+pub mod Later
 pub mod Run
 pub mod Source
 pub mod Starts

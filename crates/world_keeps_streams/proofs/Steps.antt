@@ -15,4 +15,5 @@ pub mod Held
 pub mod Joined
 pub mod JoinedAll
 pub mod Joining
+pub mod Overs
 pub mod Streams

@@ -3,7 +3,7 @@ use Rattle.std.specs.Prelude.{◌≡◌, ℕ, false, true, List, ◌++◌, Some}
 use Rattle.std.specs.List.{Contains}
 use Rattle.leader1822.specs.declared.crossing.Crossing.{Crossing}
 use Rattle.host_keeps_streams.specs.Histories.{HasClosed, name_now, numbered}
-use Rattle.net_sim.specs.Safe.{Match, receives}
+use Rattle.net_sim.specs.Safe.{Match, own_request, receives}
 use Rattle.net_sim.specs.Story.{Moment, program}
 use Rattle.net_sim.specs.Timeline.{crossings_of}
 use Rattle.net_sim.specs.Told.{kept_in}
@@ -22,10 +22,20 @@ pub record IsClosedByPartner (moments : List Moment) (receiver : Life) : Type 0 
   pub linked : end.end.link ≡ Some link
   pub unclosed : HasClosed numbered receiver.peer link (name_now numbered receiver.peer (own_calls receiver.host receiver.peer moments) receiver.socket receiver.foreign) (own_calls receiver.host receiver.peer moments) → ⊥
 
+-- at some moment up to now it was so of this life, which may be over since
+pub record WasClosedByPartner (moments : List Moment) (life : Life) : Type 0 where
+  pub there : Contains (kept_in moments).book.lives life
+  pub later : List Moment
+  pub earlier : List Moment
+  pub is : moments ≡ later ++ earlier
+  pub receiver : Life
+  pub then : IsClosedByPartner earlier receiver
+  pub same : own_request life ≡ own_request receiver
+
 -- it took all that the life which it matches sent
 abbrev pub TookAll : List Crossing → List Life → Life → Type 0
 TookAll log lives receiver = (sender : Life) → Contains lives sender → Match log receiver sender → (receiver.bits ≡ sender.bits) × (receiver.messages ≡ sender.messages)
 
 -- so it is at every moment
 abbrev pub AllClose : List Moment → Type 0
-AllClose moments = (later earlier : List Moment) → moments ≡ later ++ earlier → (receiver : Life) → IsClosedByPartner earlier receiver → TookAll (crossings_of earlier) (kept_in earlier).book.lives receiver
+AllClose moments = (later earlier : List Moment) → moments ≡ later ++ earlier → (receiver : Life) → WasClosedByPartner earlier receiver → TookAll (crossings_of earlier) (kept_in earlier).book.lives receiver

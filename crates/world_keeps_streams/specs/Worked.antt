@@ -1,5 +1,5 @@
 -- A receiving life, and how its connection ends: words for worked examples. All moments are read newest first.
-use Rattle.std.specs.Prelude.{List, [], ◌∷◌}
+use Rattle.std.specs.Prelude.{true, List, [], ◌∷◌}
 use Rattle.leader1822.specs.declared.crossing.Answer.TheVariants as answer
 use Rattle.leader1822.specs.declared.crossing.Crossing.TheVariants as crossing
 use Rattle.leader1822.specs.declared.message.HostMessage.{HostMessage}
@@ -19,9 +19,17 @@ took = record receiver { own_stamp = 6; partner_stamp = 10; granted = record { m
 abbrev pub took_eight : Life
 took_eight = record took { bits = eight; messages = 1 }
 
+-- the same, over
+abbrev pub over_eight : Life
+over_eight = record took_eight { ended = true }
+
 -- the sending user closes, and the CLS is taken
 abbrev pub close_sent : HostMessage
 close_sent = control second first (3 ∷ 0 ∷ 0 ∷ 0 ∷ 33 ∷ 0 ∷ 0 ∷ 0 ∷ 16 ∷ [])
+
+-- the CLS that answers it
+abbrev pub close_back : HostMessage
+close_back = control first second (3 ∷ 0 ∷ 0 ∷ 0 ∷ 16 ∷ 0 ∷ 0 ∷ 0 ∷ 33 ∷ [])
 
 abbrev pub closed_by_sender : List Moment → List Moment
 closed_by_sender moments = Crossed (crossing.In close_sent) ∷ Crossed (crossing.Out close_sent) ∷ Asked second (request.Close 33) ∷ Crossed (crossing.Answer answer.Rfnm (on_link second first 2)) ∷ moments

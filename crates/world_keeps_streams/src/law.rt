@@ -23,12 +23,12 @@ ghost use Rattle.net_sim.specs.Told.{kept_in, notices_by};
 ghost use Rattle.net_sim.specs.World.{WorldState};
 ghost use Rattle.net_sim.specs.WorkedMoments.{bits_sent, connected, eight_sent, sent_moments};
 ghost use Rattle.world_keeps_lives.specs.Firsts.{FirstBook};
-ghost use Rattle.world_keeps_streams.specs.Worked.{ended_moments, quit_moments, took, took_eight};
+ghost use Rattle.world_keeps_streams.specs.Worked.{close_back, ended_moments, over_eight, quit_moments, took, took_eight};
 ghost use Rattle.world_keeps_streams.specs.Arrivals.{AllArrive, Arrives, ComesFor};
 ghost use Rattle.world_keeps_streams.specs.Calls.{own_calls, numbered_by_peer};
 ghost use Rattle.world_keeps_streams.specs.Rests.{AllRest, AreAtRest};
 ghost use Rattle.world_keeps_lives.specs.WorkedFormed.{gave};
-ghost use Rattle.world_keeps_streams.specs.Closes.{AllClose, IsClosedByPartner, TookAll};
+ghost use Rattle.world_keeps_streams.specs.Closes.{AllClose, IsClosedByPartner, TookAll, WasClosedByPartner};
 
 use leader1822::Carrier;
 
@@ -64,8 +64,8 @@ pub fn lives()
     // what a receiving life took is a prefix of what its one partner sent: where it took any bit there is one
     ensures source { (hosts : List Host) (moments : List Moment) → HaveAddresses hosts → mail.IsRun hosts (crossings_of moments) → IsTimeline hosts moments → (receiver : Life) → Contains (kept_in moments).book.lives receiver → receives receiver ≡ true → (receiver.bits ≡ [] → ⊥) → Source (crossings_of moments) (kept_in moments).book.lives receiver }
 
-    // a receiving life whose end its partner has closed, and no user of its host, took all that its partner sent
-    ensures closes { (hosts : List Host) (moments : List Moment) → HaveAddresses hosts → mail.IsRun hosts (crossings_of moments) → IsTimeline hosts moments → (receiver : Life) → IsClosedByPartner moments receiver → TookAll (crossings_of moments) (kept_in moments).book.lives receiver }
+    // a receiving life whose end its partner has closed, and no user of its host, took all that its partner sent; it stays so whatever becomes of both lives
+    ensures closes { (hosts : List Host) (moments : List Moment) → HaveAddresses hosts → mail.IsRun hosts (crossings_of moments) → IsTimeline hosts moments → (receiver : Life) → WasClosedByPartner moments receiver → TookAll (crossings_of moments) (kept_in moments).book.lives receiver }
 
     // the messages of each life are the first on its link after both of its requests, and each message that goes out is one of a sending life: so crossings
     // determine the bits of all lives
@@ -111,6 +111,10 @@ pub fn worked_rests()
 /// A connection that its partner closes: after all was taken, and after the receiving user had closed it and eight bits were dropped.
 pub fn worked_closes()
     ensures ended { IsClosedByPartner ended_moments took_eight }
+
+    // it was so once its own CLS has gone out, and once its host has stopped instead
+    ensures over { WasClosedByPartner (Crossed (crossing.Out close_back) ∷ ended_moments) over_eight }
+    ensures stopped { WasClosedByPartner (Crossed (crossing.Down dialogue.first) ∷ ended_moments) over_eight }
     ensures open { IsClosedByPartner sent_moments took_eight → ⊥ }
     ensures quit { IsClosedByPartner quit_moments took → ⊥ }
 {}

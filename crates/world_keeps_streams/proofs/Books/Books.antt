@@ -1,5 +1,5 @@
 -- The clauses of a safe book that are about two hosts: what was taken has a source, and what was sent is granted.
-use Rattle.std.proofs.Common.{◌≡◌, ◌⊎◌, inl, inr, ℕ, ◌+◌, ◌≤◌, Bool, true, List, [], length, Option, Some, None, refl, ap, sym, subst, ◌∙◌, arith}
+use Rattle.std.proofs.Common.{◌≡◌, ◌⊎◌, inl, inr, ℕ, ◌+◌, ◌≤◌, Bool, true, List, [], length, take, drop, Option, Some, None, refl, ap, sym, subst, ◌∙◌, arith}
 use Rattle.std.specs.List.{Contains}
 use Rattle.leader1822.specs.Calls.{Seen}
 use Rattle.leader1822.specs.Host.{Host}
@@ -13,7 +13,7 @@ use Rattle.net_sim.specs.declared.life.Life.{Life}
 use Rattle.net_sim.proofs.lemmas.{Coupled}
 use Rattle.world_keeps_pairing.proofs.lemmas.{book_lives, book_run, safe_partners, served_in}
 use Rattle.world_keeps_lives.proofs.lemmas.{taken}
-use Rattle.world_keeps_streams.proofs.Lives.Lists.{IsOf, contains, is_of, of_drop, of_parts, one_or_two}
+use Rattle.world_keeps_streams.proofs.Lives.Lists.{IsOf, contains, is_of, of_both, of_drop, of_parts, one_or_two}
 use Rattle.world_keeps_streams.proofs.Requests.Sides.{Lawful, coupled_in, lives_in}
 use Rattle.world_keeps_streams.proofs.Books.Whole.{since, Whole}
 use Rattle.world_keeps_streams.proofs.Books.Source.{Granter, Sourced, granted_of, source_of}
@@ -24,7 +24,7 @@ out_name : Name → Option Name → Name
 out_name d None = d
 out_name d (Some n) = n
 
-same_name : (m n : Name) → Some m ≡ Some n → m ≡ n
+pub same_name : (m n : Name) → Some m ≡ Some n → m ≡ n
 unfolding out_name
 same_name m n e = ap (out_name m) e
 
@@ -46,32 +46,30 @@ module _ (hosts : List Host) (Own Heard : Host → Host → List Moment → ℕ 
 
     -- ---- what was sent
 
-    partners : SafePartners (crossings_of ms) (lives_in ms)
+    pub partners : SafePartners (crossings_of ms) (lives_in ms)
     partners = let c : Coupled hosts ms = coupled_in hosts ms l in safe_partners hosts ms c.story c.run l.1 (served_in hosts ms l.2)
+
+    -- a request is of one life
+    pub one_own : (x y : Life) → IsOf x (lives_in ms) → IsOf y (lives_in ms) → own_request x ≡ own_request y → x ≡ y
+    one_own x y i j e = elim (one_or_two x y (lives_in ms) i j) [
+      | inl same ↦ same
+      | inr two ↦ elim two [
+        | inl front ↦ absurd (partners.own_once x y front e)
+        | inr back ↦ absurd (partners.own_once y x back (sym e))
+      ]
+    ]
+
+    -- which is at one place
+    pub one_place : (n : ℕ) (x : Life) → IsOf x (take n (lives_in ms)) → IsOf x (drop n (lives_in ms)) → ⊥
+    one_place n x i j = partners.own_once x x (of_both n x (lives_in ms) i j) refl
 
     -- a sending life matches one receiving life at most
     pub one_receiver : (x y s : Life) → IsOf x (lives_in ms) → IsOf y (lives_in ms) → Match (crossings_of ms) x s → Match (crossings_of ms) y s → x ≡ y
-    one_receiver x y s i j m n =
-        let e : own_request x ≡ own_request y = same_name (own_request x) (own_request y) (sym m.answered ∙ n.answered) in
-        elim (one_or_two x y (lives_in ms) i j) [
-          | inl same ↦ same
-          | inr two ↦ elim two [
-            | inl front ↦ absurd (partners.own_once x y front e)
-            | inr back ↦ absurd (partners.own_once y x back (sym e))
-          ]
-        ]
+    one_receiver x y s i j m n = one_own x y i j (same_name (own_request x) (own_request y) (sym m.answered ∙ n.answered))
 
     -- and a receiving life matches one sending life at most
     pub one_sender : (x s t : Life) → IsOf s (lives_in ms) → IsOf t (lives_in ms) → Match (crossings_of ms) x s → Match (crossings_of ms) x t → s ≡ t
-    one_sender x s t i j m n =
-        let e : own_request s ≡ own_request t = same_name (own_request s) (own_request t) (sym m.asked ∙ n.asked) in
-        elim (one_or_two s t (lives_in ms) i j) [
-          | inl same ↦ same
-          | inr two ↦ elim two [
-            | inl front ↦ absurd (partners.own_once s t front e)
-            | inr back ↦ absurd (partners.own_once t s back (sym e))
-          ]
-        ]
+    one_sender x s t i j m n = one_own s t i j (same_name (own_request s) (own_request t) (sym m.asked ∙ n.asked))
 
     granted_none : (x s : Life) → Contains (lives_in ms) x → receives x ≡ true → (s.messages ≡ 0) × (s.bits ≡ []) → IsGranted x s.messages (length s.bits)
     granted_none x s there q none =

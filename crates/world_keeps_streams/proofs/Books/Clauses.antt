@@ -43,7 +43,7 @@ pub record SettledS (ms : List Moment) (s : Life) : Type 0 where
 
 -- ---- they stay as they are
 
-match_grows : (hosts : List Host) (y : Moment) (ms : List Moment) → Lawful hosts ms → (x s : Life) → IsOf x (lives_in ms) → IsOf s (lives_in ms) → Match (crossings_of ms) x s → Match (crossings_of (y ∷ ms)) x s
+pub match_grows : (hosts : List Host) (y : Moment) (ms : List Moment) → Lawful hosts ms → (x s : Life) → IsOf x (lives_in ms) → IsOf s (lives_in ms) → Match (crossings_of ms) x s → Match (crossings_of (y ∷ ms)) x s
 match_grows hosts (Asked h r) ms l x s i j m = m
 match_grows hosts (Crossed c) ms l x s i j m = record {
   receiving = m.receiving;
@@ -54,7 +54,7 @@ match_grows hosts (Crossed c) ms l x s i j m = record {
   answered = request_grows hosts ms l (c ∷ []) s (contains s (lives_in ms) j) ∙ m.answered;
 }
 
-stays_in : (y : Moment) (ms : List Moment) (x : Life) → IsOf x (lives_in ms) → x.ended ≡ true → IsOf x (lives_in (y ∷ ms))
+pub stays_in : (y : Moment) (ms : List Moment) (x : Life) → IsOf x (lives_in ms) → x.ended ≡ true → IsOf x (lives_in (y ∷ ms))
 stays_in y ms x i over =
     let g : Grown (lives_in ms) (lives_in (y ∷ ms)) = grown y ms in
     subst (λ (l : List Life). IsOf x l) (sym g.is)
@@ -85,15 +85,15 @@ settled_s_on hosts y ms l s i r = record { over = r.over; granted = by r.granted
   })
 
 -- a life among the older ones, by what it was
-record Older (n : ℕ) (ms : List Moment) (y : Moment) (x : Life) : Type 0 where
-  life : Life
-  there : IsOf life (take n (lives_in ms))
-  host : life.host ≡ x.host
-  peer : life.peer ≡ x.peer
-  socket : life.socket ≡ x.socket
-  same : life.ended ≡ true → x ≡ life
+pub record Older (n : ℕ) (ms : List Moment) (y : Moment) (x : Life) : Type 0 where
+  pub life : Life
+  pub there : IsOf life (take n (lives_in ms))
+  pub host : life.host ≡ x.host
+  pub peer : life.peer ≡ x.peer
+  pub socket : life.socket ≡ x.socket
+  pub same : life.ended ≡ true → x ≡ life
 
-older : (n : ℕ) (ms : List Moment) (y : Moment) (x : Life) → n ≤ length (lives_in ms) → IsOf x (take n (lives_in (y ∷ ms))) → Older n ms y x
+pub older : (n : ℕ) (ms : List Moment) (y : Moment) (x : Life) → n ≤ length (lives_in ms) → IsOf x (take n (lives_in (y ∷ ms))) → Older n ms y x
 older n ms y x less i =
     let g : Grown (lives_in ms) (lives_in (y ∷ ms)) = grown y ms in
     let m : (v : Life) × IsOf v (take n (lives_in ms)) × (x ≡ g.change v) =

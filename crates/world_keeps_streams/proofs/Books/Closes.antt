@@ -1,5 +1,4 @@
--- A receiving life took all that its partner sent, where its partner has closed its end, and no user of its host; and where its end is open, and nothing waits
--- on its link.
+-- A receiving life that isn't over beside the law of its link; and one at rest, whose end is open, took all that its partner sent.
 use Rattle.std.proofs.Common.{◌≡◌, ◌⊎◌, inl, inr, ℕ, suc, ◌+◌, ◌≤◌, ◌==◌, Bool, true, false, List, [], ◌∷◌, ◌++◌, length, filter, Some, refl, ap, sym, subst, ◌∙◌, append-nil, arith}
 use Rattle.std.proofs.lemmas.Bool.{eqb-true, ne_eqb}
 use Rattle.std.specs.List.{Contains}
@@ -14,8 +13,7 @@ use Rattle.stream_law.proofs.lemmas.{safe_inv, some_is}
 use Rattle.host_pairs.specs.Entries.{is_mine_on, receives_on}
 use Rattle.host_pairs.proofs.lemmas.{both}
 use Rattle.host_keeps_streams.specs.Ends.{HasReceiver, IsReceiver}
-use Rattle.host_keeps_streams.specs.Histories.{HasClosed, name_now, numbered, receiver_now}
-use Rattle.host_keeps_streams.proofs.lemmas.{closed_first}
+use Rattle.host_keeps_streams.specs.Histories.{name_now, numbered, receiver_now}
 use Rattle.pair_keeps_streams.proofs.lemmas.{Fetched, Free, IsPosted}
 use Rattle.reset_law.specs.Boxes as reset
 use Rattle.reset_law.specs.Boxes.{boxes}
@@ -32,7 +30,6 @@ use Rattle.world_keeps_lives.specs.Lives.{HasOpenEnd}
 use Rattle.world_keeps_lives.proofs.lemmas.{open_parts}
 use Rattle.world_keeps_pairing.proofs.lemmas.{book_run}
 use Rattle.world_keeps_streams.specs.Calls.{own_calls}
-use Rattle.world_keeps_streams.specs.Closes.{AllClose, IsClosedByPartner, TookAll}
 use Rattle.world_keeps_streams.specs.Rests.{AllRest, AreAtRest}
 use Rattle.world_keeps_streams.proofs.Books.All.{all_given}
 use Rattle.world_keeps_streams.proofs.Books.Arrives.{end_at, on_link, one_end, rest_lawful, stays_of, unlike}
@@ -58,32 +55,32 @@ fetched_box Empty p = absurd p
 fetched_box (Waiting c size bits) p = absurd p
 fetched_box Taken p = refl
 
-suc_is : (m n : ℕ) → suc m ≡ suc n → m ≡ n
+pub suc_is : (m n : ℕ) → suc m ≡ suc n → m ≡ n
 suc_is m n e = omega (arith, e)
 
 -- a receiving life that isn't over, on its link
-record AtLink (ms : List Moment) (x : Life) : Type 0 where
-  there : Contains (lives_in ms) x
-  receiving : receives x ≡ true
-  goes : x.ended ≡ false
-  end : HasOpenEnd (program x.host ms) x
-  link : ℕ
-  linked : end.end.link ≡ Some link
+pub record AtLink (ms : List Moment) (x : Life) : Type 0 where
+  pub there : Contains (lives_in ms) x
+  pub receiving : receives x ≡ true
+  pub goes : x.ended ≡ false
+  pub end : HasOpenEnd (program x.host ms) x
+  pub link : ℕ
+  pub linked : end.end.link ≡ Some link
 
 module _ (hosts : List Host) (ms : List Moment) (l : Lawful hosts ms) (x : Life) (f : AtLink ms x) where
   given : Given hosts x.host x.peer (Own x.host x.peer) (Heard x.host x.peer)
   given = all_given hosts x.host x.peer
 
-  w : Whole x.host x.peer (Own x.host x.peer) (Heard x.host x.peer) ms
+  abbrev pub w : Whole x.host x.peer (Own x.host x.peer) (Heard x.host x.peer) ms
   w = whole hosts x.host x.peer (Own x.host x.peer) (Heard x.host x.peer) (all_given hosts x.host x.peer) ms l
 
-  stays : stay.stays x.host x.peer (events_of ms) ≡ true
+  pub stays : stay.stays x.host x.peer (events_of ms) ≡ true
   stays = stays_of hosts ms l x f.there f.goes
 
   here : IsOf x (lives_in ms)
   here = is_of x (lives_in ms) f.there
 
-  late : IsOf x (present_in x.host x.peer ms)
+  pub late : IsOf x (present_in x.host x.peer ms)
   late = elim (of_parts (since x.host x.peer ms) x (lives_in ms) here) [
     | inl early ↦ absurd (unlike x.ended (settled_r hosts x.host x.peer (Own x.host x.peer) (Heard x.host x.peer) given ms l x early refl refl f.receiving).over f.goes)
     | inr there ↦ there
@@ -101,23 +98,23 @@ module _ (hosts : List Host) (ms : List Moment) (l : Lawful hosts ms) (x : Life)
   own = eqb-true f.end.end.own x.socket parts.1
 
   -- the life's own connection on its link, by whatever way it is known
-  is_here : (n g : ℕ) → GoesOn x.host x.peer (Own x.host x.peer) (Heard x.host x.peer) ms w.j n g x → (f.link ≡ suc n) × (numbered x.socket x.foreign g ≡ name_now numbered x.peer (own_calls x.host x.peer ms) x.socket x.foreign)
+  pub is_here : (n g : ℕ) → GoesOn x.host x.peer (Own x.host x.peer) (Heard x.host x.peer) ms w.j n g x → (f.link ≡ suc n) × (numbered x.socket x.foreign g ≡ name_now numbered x.peer (own_calls x.host x.peer ms) x.socket x.foreign)
   is_here n g o =
       (some_is f.link (suc n) (sym f.linked ∙ o.linked f.end.end at_it.0 parts.0 own), ap (λ (k : ℕ). numbered x.socket x.foreign k) o.gone)
 
-  abbrev known : PresentR x.host x.peer (Own x.host x.peer) (Heard x.host x.peer) ms w.j x
+  abbrev pub known : PresentR x.host x.peer (Own x.host x.peer) (Heard x.host x.peer) ms w.j x
   known = w.receiving x late refl refl f.receiving
 
-  abbrev n : ℕ
+  abbrev pub n : ℕ
   n = (w.receiving x late refl refl f.receiving).link
 
-  abbrev c : ℕ
+  abbrev pub c : ℕ
   c = numbered x.socket x.foreign (w.receiving x late refl refl f.receiving).g
 
   going : GoesOn x.host x.peer (Own x.host x.peer) (Heard x.host x.peer) ms w.j n (w.receiving x late refl refl f.receiving).g x
   going = (w.receiving x late refl refl f.receiving).going f.goes
 
-  place : (f.link ≡ suc n) × (c ≡ name_now numbered x.peer (own_calls x.host x.peer ms) x.socket x.foreign)
+  pub place : (f.link ≡ suc n) × (c ≡ name_now numbered x.peer (own_calls x.host x.peer ms) x.socket x.foreign)
   place = is_here n (w.receiving x late refl refl f.receiving).g going
 
   place_is : f.link ≡ suc n
@@ -127,14 +124,14 @@ module _ (hosts : List Host) (ms : List Moment) (l : Lawful hosts ms) (x : Life)
   off = ne_eqb (suc n) 0 (λ e. absurd (cc))
 
   -- the law's receiver of the link has it as the program has its end
-  law : IsReceiver (name_now numbered x.peer (own_calls x.host x.peer ms) f.end.end.own f.end.end.foreign) f.end.end (receiver_now numbered x.peer (suc n) (own_calls x.host x.peer ms))
+  pub law : IsReceiver (name_now numbered x.peer (own_calls x.host x.peer ms) f.end.end.own f.end.end.foreign) f.end.end (receiver_now numbered x.peer (suc n) (own_calls x.host x.peer ms))
   law =
       let has : HasReceiver (name_now numbered x.peer (own_calls x.host x.peer ms)) (suc n) (pair_with x.peer (program x.host ms).peers).entries (receiver_now numbered x.peer (suc n) (own_calls x.host x.peer ms)) =
       has_receiver hosts l.0 (suc n) off x.host x.peer ms l.1 l.2 in
       (one_end (name_now numbered x.peer (own_calls x.host x.peer ms)) f.end.end (filter (receives_on (suc n)) (pair_with x.peer (program x.host ms).peers).entries) (receiver_now numbered x.peer (suc n) (own_calls x.host x.peer ms)) has
       (among_kept (receives_on (suc n)) (pair_with x.peer (program x.host ms).peers).entries f.end.end at_it.0 (on_link (suc n) f.end.end x own f.receiving (f.linked ∙ ap (λ (k : ℕ). Some k) place.0)))).1
 
-  name_is : name_now numbered x.peer (own_calls x.host x.peer ms) f.end.end.own f.end.end.foreign ≡ c
+  pub name_is : name_now numbered x.peer (own_calls x.host x.peer ms) f.end.end.own f.end.end.foreign ≡ c
   name_is =
       ap (λ (k : ℕ). name_now numbered x.peer (own_calls x.host x.peer ms) k f.end.end.foreign) own
       ∙ ap (λ (k : ℕ). name_now numbered x.peer (own_calls x.host x.peer ms) x.socket k) f.end.foreign ∙ sym place.1
@@ -234,40 +231,6 @@ module _ (hosts : List Host) (ms : List Moment) (l : Lawful hosts ms) (x : Life)
             (bits_are ∙ ap all_bits e ∙ sym z.1, messages_are ∙ ap (λ (ts : List (List Bool)). length ts) e ∙ sym z.0)
         by (t ∷ ts) e = some_there (λ empty. absurd (let no : t ∷ ts ≡ [] = sym e ∙ empty in cc))
 
--- ---- a receiving life that its partner has closed
-
-module _ (hosts : List Host) (ms : List Moment) (l : Lawful hosts ms) (x : Life) (f : IsClosedByPartner ms x) where
-  abbrev at_link : AtLink ms x
-  at_link = record { there = f.there; receiving = f.receiving; goes = f.goes; end = f.end; link = f.link; linked = f.linked }
-
-  abbrev link_now : ℕ
-  link_now = n hosts ms l x at_link
-
-  abbrev name_here : ℕ
-  name_here = c hosts ms l x at_link
-
-  over : (receiver_now numbered x.peer (suc link_now) (own_calls x.host x.peer ms)).over name_here ≡ true
-  over = ap (λ (k : ℕ). (receiver_now numbered x.peer (suc link_now) (own_calls x.host x.peer ms)).over k) (sym (name_is hosts ms l x at_link)) ∙ (law hosts ms l x at_link).over ∙ f.closed
-
-  late_cls : (receiver_now numbered x.peer (suc link_now) (own_calls x.host x.peer ms)).first name_here ≡ false
-  late_cls = by ((receiver_now numbered x.peer (suc link_now) (own_calls x.host x.peer ms)).first name_here) refl where
-    none : HasClosed numbered x.peer (suc link_now) name_here (own_calls x.host x.peer ms) → ⊥
-    none h =
-        f.unclosed (subst (λ (k : ℕ). HasClosed numbered x.peer k (name_now numbered x.peer (own_calls x.host x.peer ms) x.socket x.foreign) (own_calls x.host x.peer ms)) (sym (place hosts ms l x at_link).0)
-        (subst (λ (k : ℕ). HasClosed numbered x.peer (suc link_now) k (own_calls x.host x.peer ms)) (place hosts ms l x at_link).1 h))
-
-    by : (v : Bool) → (receiver_now numbered x.peer (suc link_now) (own_calls x.host x.peer ms)).first name_here ≡ v → (receiver_now numbered x.peer (suc link_now) (own_calls x.host x.peer ms)).first name_here ≡ false
-    by true e = absurd (none (closed_first numbered x.peer (suc link_now) name_here (own_calls x.host x.peer ms) e))
-    by false e = e
-
-  all : ((w hosts ms l x at_link).j link_now).x.receiver.taken name_here ≡ ((w hosts ms l x at_link).j link_now).x.sender.sent name_here
-  all =
-      let safe : IsSafe ((w hosts ms l x at_link).j link_now).x name_here = safe_inv ((w hosts ms l x at_link).j link_now).x ((w hosts ms l x at_link).j link_now).joint.inv_x name_here in
-      safe.whole (ap (λ (r : Receiver). r.over name_here) (same hosts ms l x at_link) ∙ over) (ap (λ (r : Receiver). r.first name_here) (same hosts ms l x at_link) ∙ late_cls)
-
-  pub closes : TookAll (crossings_of ms) (lives_in ms) x
-  closes s there m = one_close hosts ms l x at_link all s there m
-
 -- ---- a receiving life at rest
 
 module _ (hosts : List Host) (ms : List Moment) (l : Lawful hosts ms) (x s : Life) (f : AreAtRest ms x s) where
@@ -314,12 +277,6 @@ module _ (hosts : List Host) (ms : List Moment) (l : Lawful hosts ms) (x s : Lif
   rests = one_close hosts ms l x at_rest all_taken s f.sender_there f.matches
 
 -- ---- at all moments, and in worlds
-
-all_close : (hosts : List Host) (ms : List Moment) → Lawful hosts ms → AllClose ms
-all_close hosts ms l later earlier is x f = closes hosts earlier (rest_lawful hosts later earlier (subst (λ (ns : List Moment). Lawful hosts ns) is l)) x f
-
-pub world_closes : {C : Type 0} (seen : C → Seen) (hosts : List Host) (w : WorldState C) → (lawful : IsLawful seen hosts w) → AllClose lawful.whole.moments
-world_closes seen hosts w lawful = all_close hosts lawful.whole.moments (lawful.addresses, book_run seen hosts w lawful, lawful.whole.timeline)
 
 all_rest : (hosts : List Host) (ms : List Moment) → Lawful hosts ms → AllRest ms
 all_rest hosts ms l later earlier is x s f = rests hosts earlier (rest_lawful hosts later earlier (subst (λ (ns : List Moment). Lawful hosts ns) is l)) x s f

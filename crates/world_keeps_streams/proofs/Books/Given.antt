@@ -31,7 +31,7 @@ counts hosts ms l a b = heard_calls numbered numbered_tells 1 hosts l.0 ms l.1 l
 
 -- ---- the streams
 
-off : (n : ℕ) → (suc n == 0) ≡ false
+pub off : (n : ℕ) → (suc n == 0) ≡ false
 off n = ne_eqb (suc n) 0 (λ e. absurd (cc))
 
 pub goes_on : (hosts : List Host) (a b : Host) (y : Moment) (ms : List Moment) → Lawful hosts (y ∷ ms) → stay.begins a b (event_in y) (events_of ms) ≡ false → (n : ℕ) (j : Joined a b (suc n) ms)

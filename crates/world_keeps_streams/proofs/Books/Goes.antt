@@ -9,7 +9,7 @@ use Rattle.net_sim.specs.Book.{life_ended}
 use Rattle.net_sim.specs.Safe.{receives, sends}
 use Rattle.net_sim.specs.Story.{Moment, event_in, events_of}
 use Rattle.net_sim.specs.declared.life.Life.{Life}
-use Rattle.world_keeps_streams.proofs.Steps.Joined.{Joined, Keeps}
+use Rattle.world_keeps_streams.proofs.Steps.Joined.{IsSettled, Joined, Keeps}
 use Rattle.world_keeps_streams.proofs.Carried.Streams.{all_bits}
 use Rattle.world_keeps_streams.proofs.Lives.Lists.{IsOf, Grown, grown, of_drop}
 use Rattle.world_keeps_streams.proofs.Requests.Sides.{lives_in}
@@ -57,6 +57,11 @@ module _ (a b : Host) (Own Heard : List Moment → ℕ → ℕ → ℕ → ℕ �
     own = own_on x.socket x.foreign x.own_stamp p.g p.own;
     over = λ o. refl;
     going = λ goes. absurd (let both : true ≡ false = goes in cc);
+    settled = λ o.
+        (let kept : IsSettled (j p.link).x.receiver (k p.link).x.receiver (numbered x.socket x.foreign p.g) = (keeps p.link).settled off (numbered x.socket x.foreign p.g) in
+        let before : (j p.link).x.receiver.over (numbered x.socket x.foreign p.g) ≡ true = sym kept.over ∙ o in
+        let same : (k p.link).x.receiver.taken (numbered x.socket x.foreign p.g) ≡ (j p.link).x.receiver.taken (numbered x.socket x.foreign p.g) = kept.taken before in
+        ((p.settled before).0 ∙ ap all_bits (sym same), (p.settled before).1 ∙ ap (λ (ts : List (List Bool)). length ts) (sym same)));
   }
 
   abbrev leaving_s : (s : Life) → IsOf s (lives_in ms) → s.host ≡ b → s.peer ≡ a → stay.stays b a (events_of (y ∷ ms)) ≡ false → PresentS a b Own Heard ms j s → PresentS a b Own Heard (y ∷ ms) k (life_ended s)

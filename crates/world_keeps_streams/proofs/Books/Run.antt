@@ -132,9 +132,19 @@ module _ (hosts : List Host) (a b : Host) (Own Heard : List Moment → ℕ → �
     has_sender = λ n c some. absurd (some (ap (λ (x : Stream). x.sender.sent c) (given.starts n).1));
   }
 
+  whole_next : (y : Moment) (ms : List Moment) → Lawful hosts (y ∷ ms) → (v : Bool) → stay.begins a b (event_in y) (events_of ms) ≡ v → Whole a b Own Heard ms → Whole a b Own Heard (y ∷ ms)
+  whole_next y ms l true new w = whole_new y ms l new
+  whole_next y ms l false none w = whole_on y ms l none w
+
   pub whole : (ms : List Moment) → Lawful hosts ms → Whole a b Own Heard ms
   whole [] l = whole_none
-  whole (y ∷ ms) l = by (stay.begins a b (event_in y) (events_of ms)) refl (whole ms (below hosts y ms l)) where
-    by : (v : Bool) → stay.begins a b (event_in y) (events_of ms) ≡ v → Whole a b Own Heard ms → Whole a b Own Heard (y ∷ ms)
-    by true new w = whole_new y ms l new
-    by false none w = whole_on y ms l none w
+  whole (y ∷ ms) l = whole_next y ms l (stay.begins a b (event_in y) (events_of ms)) refl (whole ms (below hosts y ms l))
+
+  -- what is kept of the streams from one moment to the next
+  pub whole_keeps : (y : Moment) (ms : List Moment) (l : Lawful hosts (y ∷ ms)) → stay.begins a b (event_in y) (events_of ms) ≡ false → (n : ℕ)
+      → Keeps (stay.stays a b (events_of (y ∷ ms))) (stay.stays b a (events_of (y ∷ ms))) ((whole ms (below hosts y ms l)).j n).x ((whole (y ∷ ms) l).j n).x
+  unfolding whole whole_next whole_on
+  whole_keeps y ms l none n = by (stay.begins a b (event_in y) (events_of ms)) refl (whole ms (below hosts y ms l)) none where
+    by : (v : Bool) (e : stay.begins a b (event_in y) (events_of ms) ≡ v) (w : Whole a b Own Heard ms) → v ≡ false → Keeps (stay.stays a b (events_of (y ∷ ms))) (stay.stays b a (events_of (y ∷ ms))) (w.j n).x ((whole_next y ms l v e w).j n).x
+    by true e w off = absurd (let no : true ≡ false = off in cc)
+    by false e w off = keeps y ms l e w n

@@ -120,6 +120,8 @@ module _ (a b : Host) (Own Heard : List Moment → ℕ → ℕ → ℕ → ℕ �
     pub own : Own ms x.socket x.foreign x.own_stamp g
     pub over : stay.stays a b (events_of ms) ≡ false → x.ended ≡ true
     pub going : x.ended ≡ false → GoesOn ms j link g x
+    -- where its CLS was heard it has all that was taken, also where its host has left
+    pub settled : (j link).x.receiver.over (numbered x.socket x.foreign g) ≡ true → (x.bits ≡ all_bits ((j link).x.receiver.taken (numbered x.socket x.foreign g))) × (x.messages ≡ length ((j link).x.receiver.taken (numbered x.socket x.foreign g)))
 
   pub record PresentS (ms : List Moment) (j : (n : ℕ) → Joined a b (suc n) ms) (s : Life) : Type 0 where
     pub link : ℕ
@@ -175,6 +177,7 @@ module _ (a b : Host) (Own Heard : List Moment → ℕ → ℕ → ℕ → ℕ �
           own = r.own;
           over = λ off. absurd (let both : true ≡ false = sym stays ∙ off in cc);
           going = λ goes. record { bits = t.bits; messages = t.messages; gone = r.gone goes; linked = r.linked goes };
+          settled = λ o. (t.bits, t.messages);
         }
 
     abbrev pub staying_s : (s : Life) → stay.stays b a (events_of ms) ≡ true → Sends ms s → PresentS ms j s

@@ -106,6 +106,20 @@ two_first x y z xs e j =
     let p : (front : List Life) × (rest : List Life) × (xs ≡ front ++ y ∷ rest) = parted y xs j in
     ([], p.0, p.1, ap (λ (u : Life). u ∷ xs) (sym e) ∙ ap (λ (us : List Life). x ∷ us) p.2)
 
+-- one that is before a place and after it
+pub of_both : (n : ℕ) (x : Life) (xs : List Life) → IsOf x (take n xs) → IsOf x (drop n xs) → AreTwo xs x x
+of_both zero x [] i j = absurd i
+of_both zero x (y ∷ ys) i j = absurd i
+of_both (suc n) x [] i j = absurd i
+of_both (suc n) x (y ∷ ys) (inl e) j = two_first x x y ys e (of_drop n x ys j)
+of_both (suc n) x (y ∷ ys) (inr i) j = let t : AreTwo ys x x = of_both n x ys i j in (y ∷ t.0, t.1, t.2, ap (λ (us : List Life). y ∷ us) t.3)
+
+-- of all lives
+pub of_whole : (x : Life) (xs : List Life) → IsOf x xs → IsOf x (take (length xs) xs)
+of_whole x [] i = absurd i
+of_whole x (y ∷ ys) (inl e) = inl e
+of_whole x (y ∷ ys) (inr i) = inr (of_whole x ys i)
+
 pub one_or_two : (x y : Life) (xs : List Life) → IsOf x xs → IsOf y xs → (x ≡ y) ⊎ (AreTwo xs x y ⊎ AreTwo xs y x)
 one_or_two x y [] i j = absurd i
 one_or_two x y (z ∷ xs) (inl e) (inl f) = inl (e ∙ sym f)

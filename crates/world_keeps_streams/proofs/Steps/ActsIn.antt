@@ -43,7 +43,7 @@ use Rattle.world_keeps_streams.proofs.Steps.Going.{Goes, Here, passes_here, stay
 use Rattle.world_keeps_streams.proofs.Steps.GoesHeard.{blind, deaf, heard_run, reply_heard}
 use Rattle.world_keeps_streams.proofs.Steps.GoesOut.{ready_as}
 use Rattle.world_keeps_streams.proofs.Steps.Held.{Acted, Held, HereIn, act_by, acted_out, left_held, side}
-use Rattle.world_keeps_streams.proofs.Steps.Joined.{commands_in, commands_of_message, legal_in, post_in}
+use Rattle.world_keeps_streams.proofs.Steps.Joined.{IsSettled, commands_in, commands_of_message, legal_in, post_in}
 use Rattle.world_keeps_streams.proofs.Calls.MayCalls.{MayCalls}
 
 -- what a receiver that takes data keeps
@@ -51,21 +51,41 @@ pub record Took (old new : Receiver) : Type 0 where
   pub granted : (c : ℕ) → new.granted c ≡ old.granted c
   pub returned : (c : ℕ) → new.returned c ≡ old.returned c
   pub taken : (c : ℕ) → IsPrefix (old.taken c) (new.taken c)
+  pub settled : (c : ℕ) → IsSettled old new c
 
 same_took : (r : Receiver) → Took r r
-same_took r = record { granted = λ c. refl; returned = λ c. refl; taken = λ c. ([], append-nil (r.taken c)) }
+same_took r = record { granted = λ c. refl; returned = λ c. refl; taken = λ c. ([], append-nil (r.taken c)); settled = λ c. record { over = refl; first = refl; taken = λ o. refl } }
 
 front_if : (v : Bool) (xs ys : List (List Bool)) (bits : List Bool) → (v ≡ true → ys ≡ xs) → IsPrefix xs (if v then ys ++ bits ∷ [] else xs)
 front_if true xs ys bits e = (bits ∷ [], ap (λ (l : List (List Bool)). l ++ bits ∷ []) (sym (e refl)))
 front_if false xs ys bits e = ([], append-nil xs)
 
-took_by : (v : Bool) (c : ℕ) (bits : List Bool) (r : Receiver) → Took r (if v then record r { allocation = counters.spent r.allocation (length bits); taken = for c (r.taken c ++ bits ∷ []) r.taken } else r)
-took_by true c bits r = record { granted = λ k. refl; returned = λ k. refl; taken = λ k. front_if (k == c) (r.taken k) (r.taken c) bits (λ e. ap (λ (l : ℕ). r.taken l) (sym (eqb-true k c e))) }
-took_by false c bits r = same_took r
+-- an end that is open takes for its connection only
+not_over : (u v w x y : Bool) → ((u && not v && not w) && x && y) ≡ true → w ≡ false
+not_over u v false x y e = refl
+not_over false v true x y e = absurd (let no : false ≡ true = e in cc)
+not_over true true true x y e = absurd (let no : false ≡ true = e in cc)
+not_over true false true x y e = absurd (let no : false ≡ true = e in cc)
+
+settled_if : (k c : ℕ) (bits : List Bool) (r : Receiver) → r.over c ≡ false → r.over k ≡ true → for c (r.taken c ++ bits ∷ []) r.taken k ≡ r.taken k
+settled_if k c bits r unheard over = by (k == c) refl where
+  by : (v : Bool) → (k == c) ≡ v → (if v then r.taken c ++ bits ∷ [] else r.taken k) ≡ r.taken k
+  by true e = absurd (let both : true ≡ false = sym over ∙ ap r.over (eqb-true k c e) ∙ unheard in cc)
+  by false e = refl
+
+took_by : (v : Bool) (c : ℕ) (bits : List Bool) (r : Receiver) → (v ≡ true → r.over c ≡ false) → Took r (if v then record r { allocation = counters.spent r.allocation (length bits); taken = for c (r.taken c ++ bits ∷ []) r.taken } else r)
+took_by true c bits r unheard = record {
+  granted = λ k. refl;
+  returned = λ k. refl;
+  taken = λ k. front_if (k == c) (r.taken k) (r.taken c) bits (λ e. ap (λ (l : ℕ). r.taken l) (sym (eqb-true k c e)));
+  settled = λ k. record { over = refl; first = refl; taken = settled_if k c bits r (unheard refl) };
+}
+took_by false c bits r unheard = same_took r
 
 took : (size : ℕ) (bits : List Bool) (r : Receiver) (o : Option ℕ) → Took r (receivers.takes size bits o r)
 took size bits r None = same_took r
-took size bits r (Some c) = took_by (receivers.is_open c r && is_size size (r.size c) && covers r.allocation (length bits)) c bits r
+took size bits r (Some c) =
+    took_by (receivers.is_open c r && is_size size (r.size c) && covers r.allocation (length bits)) c bits r (not_over r.opened r.closed (r.over c) (is_size size (r.size c)) (covers r.allocation (length bits)))
 
 -- ---- what a message is
 
@@ -196,6 +216,7 @@ module _ (number other : ℕ → ℕ → ℕ → ℕ) (tells : IsTelling number)
               granted = λ e c. r.granted c;
               returned = λ e c. r.returned c;
               taken = λ e c. r.taken c;
+              settled = λ e c. r.settled c;
               said = λ e c. refl;
             }
 

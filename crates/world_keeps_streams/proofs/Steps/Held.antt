@@ -14,6 +14,7 @@ use Rattle.pair_keeps_streams.proofs.lemmas.{Joint, Party, Post, Steps}
 use Rattle.world_keeps_pairing.specs.Steps.{keeps}
 use Rattle.world_keeps_streams.specs.Calls.{calls_by, own_calls}
 use Rattle.world_keeps_streams.proofs.Steps.Going.{Goes, Here, standing}
+use Rattle.world_keeps_streams.proofs.Steps.Joined.{IsSettled}
 use Rattle.world_keeps_streams.proofs.Stays.Resets.{stays_on}
 
 abbrev pub side : Host → Host → List Moment → List Command → Post → Party
@@ -49,6 +50,7 @@ module _ (number other : ℕ → ℕ → ℕ → ℕ) (tells : IsTelling number)
     pub granted : stay.stays h p (events_of moments) ≡ false → (c : ℕ) → first.receiver.granted c ≡ x.receiver.granted c
     pub returned : stay.stays h p (events_of moments) ≡ false → (c : ℕ) → first.receiver.returned c ≡ x.receiver.returned c
     pub taken : stay.stays h p (events_of moments) ≡ false → (c : ℕ) → IsPrefix (x.receiver.taken c) (first.receiver.taken c)
+    pub settled : stay.stays h p (events_of moments) ≡ false → (c : ℕ) → IsSettled x.receiver first.receiver c
     pub said : stay.stays h p (events_of moments) ≡ false → (c : ℕ) → second.sender.sent c ≡ y.sender.sent c
 
   abbrev pub HereIn : Host → Host → List Moment → List Command → Post → Party → Stream → Stream → Type 0
@@ -96,6 +98,7 @@ module _ (number other : ℕ → ℕ → ℕ → ℕ) (tells : IsTelling number)
         granted = λ e. no_case ((c : ℕ) → g.first.receiver.granted c ≡ x.receiver.granted c) (stay.stays h p (events_of (m ∷ moments))) s e;
         returned = λ e. no_case ((c : ℕ) → g.first.receiver.returned c ≡ x.receiver.returned c) (stay.stays h p (events_of (m ∷ moments))) s e;
         taken = λ e. no_case ((c : ℕ) → IsPrefix (x.receiver.taken c) (g.first.receiver.taken c)) (stay.stays h p (events_of (m ∷ moments))) s e;
+        settled = λ e. no_case ((c : ℕ) → IsSettled x.receiver g.first.receiver c) (stay.stays h p (events_of (m ∷ moments))) s e;
         said = λ e. no_case ((c : ℕ) → g.second.sender.sent c ≡ y.sender.sent c) (stay.stays h p (events_of (m ∷ moments))) s e;
       }
 
@@ -122,6 +125,7 @@ module _ (number other : ℕ → ℕ → ℕ → ℕ) (tells : IsTelling number)
     granted = λ e c. refl;
     returned = λ e c. refl;
     taken = λ e c. ([], append-nil (x.receiver.taken c));
+    settled = λ e c. record { over = refl; first = refl; taken = λ o. refl };
     said = λ e c. refl;
   }
 

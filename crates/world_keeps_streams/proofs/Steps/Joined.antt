@@ -6,6 +6,7 @@ use Rattle.reset_law.specs.Boxes as reset
 use Rattle.reset_law.specs.Boxes.{boxes}
 use Rattle.reset_law.specs.Events.{Message, Other, Reset, Reply}
 use Rattle.reset_law.specs.Stays as stay
+use Rattle.stream_law.specs.Receivers.{Receiver}
 use Rattle.stream_law.specs.Streams.{Stream}
 use Rattle.stream_law.specs.Within.{IsPrefix}
 use Rattle.host_pairs.specs.Control.{Order, Legal, Wrong, orders_of}
@@ -81,9 +82,16 @@ pub record Joined (a b : Host) (link : ℕ) (moments : List Moment) : Type 0 whe
   pub allowed_a : stay.stays a b (events_of moments) ≡ true → AreAllowed numbered b link (own_calls a b moments)
   pub allowed_b : stay.stays b a (events_of moments) ≡ true → AreAllowed numbered_by_peer a link (own_calls b a moments)
 
+-- a receiver hears nothing more of a connection, and takes nothing more in it where it has heard its CLS
+pub record IsSettled (old new : Receiver) (c : ℕ) : Type 0 where
+  pub over : new.over c ≡ old.over c
+  pub first : new.first c ≡ old.first c
+  pub taken : old.over c ≡ true → new.taken c ≡ old.taken c
+
 -- what is kept of a stream after its receiver has left: it may take what lies there still, but grants and gets back nothing; and after its sender has
 pub record Keeps (receiver_stays sender_stays : Bool) (old new : Stream) : Type 0 where
   pub granted : receiver_stays ≡ false → (c : ℕ) → new.receiver.granted c ≡ old.receiver.granted c
   pub returned : receiver_stays ≡ false → (c : ℕ) → new.receiver.returned c ≡ old.receiver.returned c
   pub taken : receiver_stays ≡ false → (c : ℕ) → IsPrefix (old.receiver.taken c) (new.receiver.taken c)
+  pub settled : receiver_stays ≡ false → (c : ℕ) → IsSettled old.receiver new.receiver c
   pub sent : sender_stays ≡ false → (c : ℕ) → new.sender.sent c ≡ old.sender.sent c

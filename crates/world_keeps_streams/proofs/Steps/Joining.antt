@@ -13,7 +13,7 @@ use Rattle.reset_law.specs.Boxes.{Box, boxes}
 use Rattle.reset_law.specs.Stays as stay
 use Rattle.net_sim.specs.Story.{Moment, events_of}
 use Rattle.world_keeps_streams.proofs.Steps.Held.{Acted, Held, side}
-use Rattle.world_keeps_streams.proofs.Steps.Joined.{Joined, Keeps, commands_in, party, post_in, numbered_by_peer, turned_tells}
+use Rattle.world_keeps_streams.proofs.Steps.Joined.{IsSettled, Joined, Keeps, commands_in, party, post_in, numbered_by_peer, turned_tells}
 
 -- a moment more, and what is kept of the first of the two streams; what is kept of the other is this of the two the other way round
 pub record Goes (a b : Host) (link : ℕ) (x : Moment) (moments : List Moment) (old : Joined a b link moments) : Type 0 where
@@ -73,6 +73,7 @@ module _ (link : ℕ) (mirrors : Mirrors link) (a b : Host) (x : Moment) (moment
           granted = λ e c. ap (λ (r : Receiver). r.granted c) two.receiver ∙ one.granted e c;
           returned = λ e c. ap (λ (r : Receiver). r.returned c) two.receiver ∙ one.returned e c;
           taken = λ e c. subst (λ (r : Receiver). IsPrefix (old.x.receiver.taken c) (r.taken c)) (sym two.receiver) (one.taken e c);
+          settled = λ e c. subst (λ (r : Receiver). IsSettled old.x.receiver r c) (sym two.receiver) (one.settled e c);
           sent = λ e c. two.said e c ∙ ap (λ (u : Sender). u.sent c) one.sender;
         };
       }

@@ -1,6 +1,7 @@
 use Rattle.world_keeps_streams.proofs.Books.All.{sent, source}
 use Rattle.world_keeps_streams.proofs.Books.Arrives.{arrives}
-use Rattle.world_keeps_streams.proofs.Books.Closes.{closes, rests}
+use Rattle.world_keeps_streams.proofs.Books.Closes.{rests}
+use Rattle.world_keeps_streams.proofs.Books.Later.{closes_whole}
 use Rattle.world_keeps_streams.proofs.Books.Firsts.{firsts}
 use Rattle.world_keeps_streams.proofs.law.lives.Goals as goal
 
@@ -14,7 +15,7 @@ pub returns-clause-arrives : goal.returns-clause-arrives
 returns-clause-arrives c hosts moments m addresses run time receiver comes = arrives hosts addresses m moments run time receiver comes
 
 pub returns-clause-closes : goal.returns-clause-closes
-returns-clause-closes c hosts moments addresses run time receiver closed = closes hosts moments (addresses, run, time) receiver closed
+returns-clause-closes c hosts moments addresses run time receiver closed = closes_whole hosts moments (addresses, run, time) receiver closed
 
 pub returns-clause-firsts : goal.returns-clause-firsts
 returns-clause-firsts c hosts moments addresses run time = firsts hosts moments (addresses, run, time)

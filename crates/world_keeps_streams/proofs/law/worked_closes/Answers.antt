@@ -1,6 +1,7 @@
 use Rattle.std.proofs.Common.{◌≡◌, ℕ, Bool, true, false, List, [], ◌∷◌, if◌then◌else◌, Option, None, refl, ap, subst, ◌∙◌, inl, inr, arith}
 use Rattle.bit_messages.specs.Octets.{octets_of}
 use Rattle.leader1822.specs.Host.{Host}
+use Rattle.leader1822.specs.declared.crossing.Crossing.TheVariants as crossing
 use Rattle.ncp_control.specs.Packing.{packed_count}
 use Rattle.ncp_control.specs.Reading.{read_of, command_of}
 use Rattle.stream_law.proofs.lemmas.{some_is}
@@ -18,8 +19,9 @@ use Rattle.sockets.specs.Requests.{refusal, served, served_notices}
 use Rattle.sockets.specs.Sending.{next_out, offered}
 use Rattle.sockets.specs.Worked.{first, second}
 use Rattle.world_keeps_streams.specs.Calls.{own_calls}
-use Rattle.world_keeps_streams.specs.Worked.{ended_moments, quit_moments}
-use Rattle.net_sim.specs.Story.{program}
+use Rattle.world_keeps_streams.specs.Closes.{IsClosedByPartner}
+use Rattle.world_keeps_streams.specs.Worked.{close_back, ended_moments, quit_moments, took_eight}
+use Rattle.net_sim.specs.Story.{Crossed, program}
 use Rattle.world_keeps_streams.proofs.Rows.{none_there}
 use Rattle.world_keeps_streams.proofs.law.worked_closes.Goals as goal
 
@@ -73,9 +75,9 @@ first_link : List Entry → Option ℕ
 first_link [] = None
 first_link (e ∷ es) = e.link
 
-pub returns-clause-ended : goal.returns-clause-ended
+closed_there : IsClosedByPartner ended_moments took_eight
 unfolding octets_of orders_of read_of command_of packed_count accepted refusal served served_notices next_out offered is_other are_others
-returns-clause-ended c = record {
+closed_there = record {
   there = (1, omega arith, refl);
   receiving = refl;
   goes = refl;
@@ -91,6 +93,33 @@ returns-clause-ended c = record {
   link = 2;
   linked = refl;
   unclosed = none_closes second 2 (name_now numbered second (own_calls first second ended_moments) 16 33) (own_calls first second ended_moments) refl;
+}
+
+pub returns-clause-ended : goal.returns-clause-ended
+returns-clause-ended c = closed_there
+
+pub returns-clause-over : goal.returns-clause-over
+unfolding octets_of orders_of read_of command_of packed_count accepted refusal served served_notices next_out offered
+returns-clause-over c = record {
+  there = (1, omega arith, refl);
+  later = Crossed (crossing.Out close_back) ∷ [];
+  earlier = ended_moments;
+  is = refl;
+  receiver = took_eight;
+  then = closed_there;
+  same = refl;
+}
+
+pub returns-clause-stopped : goal.returns-clause-stopped
+unfolding octets_of orders_of read_of command_of packed_count accepted refusal served served_notices next_out offered
+returns-clause-stopped c = record {
+  there = (1, omega arith, refl);
+  later = Crossed (crossing.Down first) ∷ [];
+  earlier = ended_moments;
+  is = refl;
+  receiver = took_eight;
+  then = closed_there;
+  same = refl;
 }
 
 pub returns-clause-open : goal.returns-clause-open

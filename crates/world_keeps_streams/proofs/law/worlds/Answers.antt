@@ -1,6 +1,7 @@
 use Rattle.world_keeps_streams.proofs.Books.All.{world_sent, world_source}
 use Rattle.world_keeps_streams.proofs.Books.Arrives.{world_arrives}
-use Rattle.world_keeps_streams.proofs.Books.Closes.{world_closes, world_rests}
+use Rattle.world_keeps_streams.proofs.Books.Closes.{world_rests}
+use Rattle.world_keeps_streams.proofs.Books.Later.{world_closes}
 use Rattle.world_keeps_streams.proofs.Books.Firsts.{world_firsts}
 use Rattle.world_keeps_streams.proofs.law.worlds.Goals as goal
 

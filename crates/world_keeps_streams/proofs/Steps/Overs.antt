@@ -1,0 +1,302 @@
+-- What the law's receivers have of a CLS of the sender: it names no link, so all of them hear it; and once it was heard nothing is granted more.
+use Rattle.std.proofs.Common.{◌≡◌, ℕ, ◌==◌, ◌&&◌, not, Bool, true, false, if◌then◌else◌, List, [], ◌∷◌, ◌++◌, length, Option, Some, None, is_some, refl, ap, sym, subst, ◌∙◌}
+use Rattle.std.proofs.lemmas.Bool.{eqb-true}
+use Rattle.leader1822.specs.Host.{Host}
+use Rattle.ncp_control.specs.DataHeader.{header_of}
+use Rattle.ncp_control.specs.declared.command.Command.{Command}
+use Rattle.ncp_control.specs.declared.command.Command.TheVariants as command
+use Rattle.ncp_control.specs.declared.data_header.DataHeader.{DataHeader}
+use Rattle.ncp_control.specs.Allocation as counters
+use Rattle.stream_law.specs.Words.{Word, Rts, Str, All, Gvb, Ret, Cls, covers, for, holds, is_size}
+use Rattle.stream_law.specs.Receivers as receivers
+use Rattle.stream_law.specs.Receivers.{Receiver}
+use Rattle.stream_law.specs.Senders.{Sender}
+use Rattle.host_pairs.specs.Desk.{DeskState, desk_of, listener_on}
+use Rattle.host_pairs.specs.Entries.{entry_at, free_link, is_receiving, receives_on}
+use Rattle.host_pairs.specs.Pair.{PairState}
+use Rattle.host_pairs.specs.declared.entry.Closing.{Closing}
+use Rattle.host_pairs.specs.declared.entry.Closing.TheVariants as closing
+use Rattle.host_pairs.specs.declared.entry.Entry.{Entry}
+use Rattle.host_pairs.specs.declared.listener.Listener.{Listener}
+use Rattle.host_keeps_streams.specs.Closings.{MayAllReceive, all_received, received_close, received_gone, received_open}
+use Rattle.host_keeps_streams.specs.Histories as calls
+use Rattle.host_keeps_streams.specs.Histories.{Call, Hears, Takes, Says, Sends, Answered, OpensReceiver, OpensSender, Grants, AsksBack, Gives, Closes, AreAllowed, IsHistory, IsTelling, gone_now, name_now, received_at, receiver_now, sender_now}
+use Rattle.host_keeps_streams.specs.Moves.{answers_str, asked_received, asks_for, closed_received, closes_on, cls_received, data_received, on_link, received_by, received_out, str_received}
+use Rattle.host_keeps_streams.specs.Names.{named}
+use Rattle.host_keeps_streams.proofs.lemmas.{Holds, holds_now, step_received}
+
+-- ---- moves other than the hearing of a CLS
+
+abbrev NoCls : receivers.Move → Type 0
+NoCls (receivers.Hear (Cls c)) = ⊥
+NoCls m = Unit {0}
+
+abbrev NoneCls : List receivers.Move → Type 0
+NoneCls [] = Unit {0}
+NoneCls (m ∷ ms) = NoCls m × NoneCls ms
+
+back_over : (m n : ℕ) (o : Option ℕ) (r : Receiver) → (receivers.takes_back m n o r).over ≡ r.over
+back_over m n None r = refl
+back_over m n (Some k) r = by (receivers.is_open k r && holds r.allocation m n) refl where
+  by : (v : Bool) → (receivers.is_open k r && holds r.allocation m n) ≡ v → (receivers.takes_back m n (Some k) r).over ≡ r.over
+  by true t = rw t refl
+  by false t = rw t refl
+
+taken_over : (z : ℕ) (bits : List Bool) (o : Option ℕ) (r : Receiver) → (receivers.takes z bits o r).over ≡ r.over
+taken_over z bits None r = refl
+taken_over z bits (Some k) r = by (receivers.is_open k r && is_size z (r.size k) && covers r.allocation (length bits)) refl where
+  by : (v : Bool) → (receivers.is_open k r && is_size z (r.size k) && covers r.allocation (length bits)) ≡ v → (receivers.takes z bits (Some k) r).over ≡ r.over
+  by true t = rw t refl
+  by false t = rw t refl
+
+moved_over : (m : receivers.Move) → NoCls m → (r : Receiver) → (receivers.moved m r).over ≡ r.over
+moved_over (receivers.Ask k) n r = refl
+moved_over (receivers.Open k) n r = refl
+moved_over (receivers.Grant k x y) n r = refl
+moved_over (receivers.AskBack k x y) n r = refl
+moved_over (receivers.Close k) n r = refl
+moved_over (receivers.Free k) n r = refl
+moved_over (receivers.Take z bits) n r = taken_over z bits r.end r
+moved_over (receivers.Hear (Rts k)) n r = refl
+moved_over (receivers.Hear (Str k z)) n r = refl
+moved_over (receivers.Hear (All k x y)) n r = refl
+moved_over (receivers.Hear (Gvb k x y)) n r = refl
+moved_over (receivers.Hear (Ret k x y)) n r = back_over x y r.end r
+moved_over (receivers.Hear (Cls k)) n r = absurd n
+
+all_over : (ms : List receivers.Move) → NoneCls ms → (r : Receiver) → (all_received ms r).over ≡ r.over
+all_over [] n r = refl
+all_over (m ∷ ms) n r = all_over ms n.1 (receivers.moved m r) ∙ moved_over m n.0 r
+
+-- ---- the moves of each call
+
+none_if : (v : Bool) (ms : List receivers.Move) → NoneCls ms → NoneCls (if v then ms else [])
+none_if true ms n = n
+none_if false ms n = tt
+
+none_unless : (v : Bool) (ms : List receivers.Move) → NoneCls ms → NoneCls (if v then [] else ms)
+none_unless true ms n = tt
+none_unless false ms n = n
+
+none_open : (v : Bool) (c : ℕ) → NoneCls (received_open v c)
+none_open true c = (tt, tt)
+none_open false c = tt
+
+none_gone : (v : Bool) (c : ℕ) → NoneCls (received_gone v c)
+none_gone true c = (tt, tt)
+none_gone false c = tt
+
+none_close : (x : Closing) (c : ℕ) → NoneCls (received_close x c)
+none_close closing.No c = (tt, tt)
+none_close closing.Due c = (tt, tt)
+none_close closing.Queued c = tt
+none_close closing.Sent c = (tt, tt)
+
+none_answers : (link c : ℕ) (l : Option Listener) (free : Option ℕ) → NoneCls (answers_str link c l free)
+none_answers link c None free = tt
+none_answers link c (Some l) None = tt
+none_answers link c (Some l) (Some other) = none_if (other == link) (receivers.Ask c ∷ []) (tt, tt)
+
+none_str : (link c z : ℕ) (l : Option Listener) (free : Option ℕ) (o : Option Entry) → NoneCls (str_received link c z l free o)
+none_str link c z l free None = (tt, none_answers link c l free)
+none_str link c z l free (Some e) = none_unless (is_some e.partner) (receivers.Hear (Str c z) ∷ received_open (receives_on link e && is_some e.asked) c) (tt, none_open (receives_on link e && is_some e.asked) c)
+
+none_asked : (name : ℕ → ℕ → ℕ) (link : ℕ) (o : Option Entry) → NoneCls (asked_received name link o)
+none_asked name link None = tt
+none_asked name link (Some e) = none_if (receives_on link e) (received_open (is_some e.partner) (named name e)) (none_open (is_some e.partner) (named name e))
+
+none_closed : (name : ℕ → ℕ → ℕ) (link : ℕ) (o : Option Entry) → NoneCls (closed_received name link o)
+none_closed name link None = tt
+none_closed name link (Some e) = none_if (receives_on link e) (received_gone e.partner_closed (named name e)) (none_gone e.partner_closed (named name e))
+
+none_out : (name : ℕ → ℕ → ℕ) (link : ℕ) (c : Command) (es : List Entry) → NoneCls (received_out name link c es)
+none_out name link (command.Rts receive send l) es = none_asked name link (entry_at receive send es)
+none_out name link (command.Str send receive size) es = none_asked name link (entry_at send receive es)
+none_out name link (command.Cls own foreign) es = none_closed name link (entry_at own foreign es)
+none_out name link (command.All l m n) es = tt
+none_out name link (command.Gvb l m n) es = tt
+none_out name link (command.Ret l m n) es = tt
+none_out name link (command.Inr l) es = tt
+none_out name link (command.Ins l) es = tt
+none_out name link (command.Eco octet) es = tt
+none_out name link (command.Erp octet) es = tt
+none_out name link (command.Err code detail) es = tt
+none_out name link command.Nop es = tt
+none_out name link command.Rst es = tt
+none_out name link command.Rrp es = tt
+
+none_data : (link l : ℕ) (text : List Bool) (h : Option DataHeader) → NoneCls (data_received link l text h)
+none_data link l text None = tt
+none_data link l text (Some h) = by (l == link) refl where
+  by : (v : Bool) → (l == link) ≡ v → NoneCls (data_received link l text (Some h))
+  by true t = rw t (tt, tt)
+  by false t = rw t tt
+
+none_asks : (link c : ℕ) (free : Option ℕ) → NoneCls (asks_for link c free)
+none_asks link c None = tt
+none_asks link c (Some other) = none_if (other == link) (receivers.Ask c ∷ []) (tt, tt)
+
+-- ---- a CLS is heard on each link
+
+cls_over : (link c : ℕ) (o : Option Entry) (r : Receiver) → (all_received (cls_received link c o) r).over ≡ (all_received (cls_received 0 c o) r).over
+cls_over link c None r = refl
+cls_over link c (Some e) r = by (is_receiving e && not e.partner_closed) where
+  by : (v : Bool) → (all_received (if v then receivers.Hear (Cls c) ∷ closes_on link c e else []) r).over ≡ (all_received (if v then receivers.Hear (Cls c) ∷ closes_on 0 c e else []) r).over
+  by true =
+      all_over (closes_on link c e) (none_if (receives_on link e) (received_close e.closing c) (none_close e.closing c)) (receivers.hears (Cls c) r)
+      ∙ sym (all_over (closes_on 0 c e) (none_if (receives_on 0 e) (received_close e.closing c) (none_close e.closing c)) (receivers.hears (Cls c) r))
+  by false = refl
+
+-- by two receivers that have heard the same
+cls_same : (c : ℕ) (o : Option Entry) (r t : Receiver) → r.over ≡ t.over → (all_received (cls_received 0 c o) r).over ≡ (all_received (cls_received 0 c o) t).over
+cls_same c None r t e = e
+cls_same c (Some x) r t e = by (is_receiving x && not x.partner_closed) where
+  by : (v : Bool) → (all_received (if v then receivers.Hear (Cls c) ∷ closes_on 0 c x else []) r).over ≡ (all_received (if v then receivers.Hear (Cls c) ∷ closes_on 0 c x else []) t).over
+  by true =
+      all_over (closes_on 0 c x) (none_if (receives_on 0 x) (received_close x.closing c) (none_close x.closing c)) (receivers.hears (Cls c) r)
+      ∙ ap (λ (f : ℕ → Bool). for c true f) e
+      ∙ sym (all_over (closes_on 0 c x) (none_if (receives_on 0 x) (received_close x.closing c) (none_close x.closing c)) (receivers.hears (Cls c) t))
+  by false = e
+
+none_on : (link : ℕ) (e : Entry) (m : receivers.Move) → NoCls m → NoneCls (on_link link e (m ∷ []))
+none_on link e m n = none_if (receives_on link e) (m ∷ []) (n, tt)
+
+both_none : (ms ns : List receivers.Move) → NoneCls ms → NoneCls ns → (r t : Receiver) → r.over ≡ t.over → (all_received ms r).over ≡ (all_received ns t).over
+both_none ms ns m n r t e = all_over ms m r ∙ e ∙ sym (all_over ns n t)
+
+module _ (name : ℕ → ℕ → ℕ) (link other : ℕ) where
+  hear_alike : (said : ℕ) (c : Command) (d : DeskState) (r t : Receiver) → r.over ≡ t.over → (all_received (received_by name link said c d) r).over ≡ (all_received (received_by name other said c d) t).over
+  hear_alike said (command.Str send receive size) d r t e =
+      both_none (str_received link (name receive send) size (listener_on receive d.listening) (free_link d.entries) (entry_at receive send d.entries)) (str_received other (name receive send) size (listener_on receive d.listening) (free_link d.entries) (entry_at receive send d.entries))
+      (none_str link (name receive send) size (listener_on receive d.listening) (free_link d.entries) (entry_at receive send d.entries))
+      (none_str other (name receive send) size (listener_on receive d.listening) (free_link d.entries) (entry_at receive send d.entries)) r t e
+  hear_alike said (command.Cls foreign own) d r t e =
+      cls_over link (name own foreign) (entry_at own foreign d.entries) r ∙ cls_same (name own foreign) (entry_at own foreign d.entries) r t e ∙ sym (cls_over other (name own foreign) (entry_at own foreign d.entries) t)
+  hear_alike said (command.Ret l m n) d r t e =
+      both_none (if l == link then receivers.Hear (Ret said m n) ∷ [] else []) (if l == other then receivers.Hear (Ret said m n) ∷ [] else [])
+      (none_if (l == link) (receivers.Hear (Ret said m n) ∷ []) (tt, tt)) (none_if (l == other) (receivers.Hear (Ret said m n) ∷ []) (tt, tt)) r t e
+  hear_alike said (command.Rts receive send l) d r t e = e
+  hear_alike said (command.All l m n) d r t e = e
+  hear_alike said (command.Gvb l m n) d r t e = e
+  hear_alike said (command.Inr l) d r t e = e
+  hear_alike said (command.Ins l) d r t e = e
+  hear_alike said (command.Eco octet) d r t e = e
+  hear_alike said (command.Erp octet) d r t e = e
+  hear_alike said (command.Err code detail) d r t e = e
+  hear_alike said command.Nop d r t e = e
+  hear_alike said command.Rst d r t e = e
+  hear_alike said command.Rrp d r t e = e
+
+  call_alike : (k : Call) (q : PairState) (listening : List Listener) (r t : Receiver) → r.over ≡ t.over → (all_received (received_at name link k q listening) r).over ≡ (all_received (received_at name other k q listening) t).over
+  call_alike (Hears stamp said c) q listening r t e = hear_alike said c (desk_of q listening) r t e
+  call_alike (Takes l text) q listening r t e =
+      both_none (data_received link l text (header_of text)) (data_received other l text (header_of text)) (none_data link l text (header_of text)) (none_data other l text (header_of text)) r t e
+  call_alike (Says stamp c) q listening r t e = both_none (received_out name link c q.entries) (received_out name other c q.entries) (none_out name link c q.entries) (none_out name other c q.entries) r t e
+  call_alike (OpensReceiver own foreign) q listening r t e =
+      both_none (asks_for link (name own foreign) (free_link q.entries)) (asks_for other (name own foreign) (free_link q.entries)) (none_asks link (name own foreign) (free_link q.entries)) (none_asks other (name own foreign) (free_link q.entries)) r t e
+  call_alike (Grants socket m n x) q listening r t e =
+      both_none (on_link link x (receivers.Grant (named name x) m n ∷ [])) (on_link other x (receivers.Grant (named name x) m n ∷ [])) (none_on link x (receivers.Grant (named name x) m n) tt) (none_on other x (receivers.Grant (named name x) m n) tt) r t e
+  call_alike (AsksBack socket m n x) q listening r t e =
+      both_none (on_link link x (receivers.AskBack (named name x) m n ∷ [])) (on_link other x (receivers.AskBack (named name x) m n ∷ [])) (none_on link x (receivers.AskBack (named name x) m n) tt) (none_on other x (receivers.AskBack (named name x) m n) tt) r t e
+  call_alike (Closes socket x) q listening r t e =
+      both_none (on_link link x (receivers.Close (named name x) ∷ [])) (on_link other x (receivers.Close (named name x) ∷ [])) (none_on link x (receivers.Close (named name x)) tt) (none_on other x (receivers.Close (named name x)) tt) r t e
+  call_alike (Sends stamp x size count) q listening r t e = e
+  call_alike (Answered l) q listening r t e = e
+  call_alike (OpensSender own foreign size) q listening r t e = e
+  call_alike (Gives socket bits x) q listening r t e = e
+
+pub over_alike : (number : ℕ → ℕ → ℕ → ℕ) (peer : Host) (link other : ℕ) (own : List calls.Moment) → (receiver_now number peer link own).over ≡ (receiver_now number peer other own).over
+over_alike number peer link other [] = refl
+over_alike number peer link other (m ∷ own) =
+    call_alike (name_now number peer own) link other m.call m.pair m.listening (receiver_now number peer link own) (receiver_now number peer other own) (over_alike number peer link other own)
+
+-- ---- what is kept of a connection whose CLS was heard
+
+pub record Kept (old new : Receiver) (c : ℕ) : Type 0 where
+  pub over : new.over c ≡ true
+  pub first : new.first c ≡ old.first c
+  pub granted : new.granted c ≡ old.granted c
+
+unlike : (r : Receiver) (c k : ℕ) → (c == k) ≡ true → r.over c ≡ true → r.over k ≡ false → ⊥
+unlike r c k e f g = let no : true ≡ false = sym f ∙ ap r.over (eqb-true c k e) ∙ g in absurd (cc)
+
+for_other : {A : Type 0} (c k : ℕ) (x : A) (f : ℕ → A) → ((c == k) ≡ true → ⊥) → for k x f c ≡ f c
+for_other {A} c k x f off = by (c == k) refl where
+  by : (v : Bool) → (c == k) ≡ v → (if v then x else f c) ≡ f c
+  by true e = absurd (off e)
+  by false e = refl
+
+open_unheard : (u v w : Bool) → (u && not v && not w) ≡ true → w ≡ false
+open_unheard u v false e = refl
+open_unheard false v true e = absurd (let no : false ≡ true = e in cc)
+open_unheard true true true e = absurd (let no : false ≡ true = e in cc)
+open_unheard true false true e = absurd (let no : false ≡ true = e in cc)
+
+module _ (r : Receiver) (c : ℕ) (o : r.over c ≡ true) where
+  itself : Kept r r c
+  itself = record { over = o; first = refl; granted = refl }
+
+  kept_close : (k : ℕ) (v : Bool) → r.over k ≡ v → (if v then r.first else for k true r.first) c ≡ r.first c
+  kept_close k true e = refl
+  kept_close k false e = for_other c k true r.first (λ same. unlike r c k same o e)
+
+  kept_cls : (k : ℕ) → for k true r.over c ≡ true
+  kept_cls k = by (c == k) where
+    by : (v : Bool) → (if v then true else r.over c) ≡ true
+    by true = refl
+    by false = o
+
+  kept_back : (m n : ℕ) (e : Option ℕ) → Kept r (receivers.takes_back m n e r) c
+  kept_back m n None = itself
+  kept_back m n (Some k) = by (receivers.is_open k r && holds r.allocation m n) refl where
+    by : (v : Bool) → (receivers.is_open k r && holds r.allocation m n) ≡ v → Kept r (receivers.takes_back m n (Some k) r) c
+    by true t = rw t (record { over = o; first = refl; granted = refl })
+    by false t = rw t itself
+
+  kept_taken : (z : ℕ) (bits : List Bool) (e : Option ℕ) → Kept r (receivers.takes z bits e r) c
+  kept_taken z bits None = itself
+  kept_taken z bits (Some k) = by (receivers.is_open k r && is_size z (r.size k) && covers r.allocation (length bits)) refl where
+    by : (v : Bool) → (receivers.is_open k r && is_size z (r.size k) && covers r.allocation (length bits)) ≡ v → Kept r (receivers.takes z bits (Some k) r) c
+    by true t = rw t (record { over = o; first = refl; granted = refl })
+    by false t = rw t itself
+
+  kept_move : (m : receivers.Move) → receivers.May m r → Kept r (receivers.moved m r) c
+  kept_move (receivers.Ask k) may = record { over = o; first = refl; granted = refl }
+  kept_move (receivers.Open k) may = record { over = o; first = refl; granted = refl }
+  kept_move (receivers.Grant k m n) may = record {
+    over = o;
+    first = refl;
+    granted = for_other c k (counters.added (r.granted k) m n) r.granted (λ same. unlike r c k same o (open_unheard r.opened r.closed (r.over k) may.1));
+  }
+  kept_move (receivers.AskBack k m n) may = itself
+  kept_move (receivers.Close k) may = record { over = o; first = kept_close k (r.over k) refl; granted = refl }
+  kept_move (receivers.Free k) may = record { over = o; first = refl; granted = refl }
+  kept_move (receivers.Take z bits) may = kept_taken z bits r.end
+  kept_move (receivers.Hear (Rts k)) may = itself
+  kept_move (receivers.Hear (Str k z)) may = record { over = o; first = refl; granted = refl }
+  kept_move (receivers.Hear (All k m n)) may = itself
+  kept_move (receivers.Hear (Gvb k m n)) may = itself
+  kept_move (receivers.Hear (Ret k m n)) may = kept_back m n r.end
+  kept_move (receivers.Hear (Cls k)) may = record { over = kept_cls k; first = refl; granted = refl }
+
+kept_then : (r s t : Receiver) (c : ℕ) → Kept r s c → Kept s t c → Kept r t c
+kept_then r s t c k l = record { over = l.over; first = l.first ∙ k.first; granted = l.granted ∙ k.granted }
+
+kept_moves : (ms : List receivers.Move) (r : Receiver) (c : ℕ) → MayAllReceive ms r → r.over c ≡ true → Kept r (all_received ms r) c
+kept_moves [] r c may o = itself r c o
+kept_moves (m ∷ ms) r c may o =
+    let one : Kept r (receivers.moved m r) c = kept_move r c o m may.0 in
+    kept_then r (receivers.moved m r) (all_received ms (receivers.moved m r)) c one (kept_moves ms (receivers.moved m r) c may.1 one.over)
+
+-- by more calls
+pub kept_calls : (number : ℕ → ℕ → ℕ → ℕ) (tells : IsTelling number) (peer : Host) (link c : ℕ) (more own : List calls.Moment) → IsHistory peer (more ++ own) → AreAllowed number peer link (more ++ own) → (receiver_now number peer link own).over c ≡ true
+    → Kept (receiver_now number peer link own) (receiver_now number peer link (more ++ own)) c
+kept_calls number tells peer link c [] own i a o = itself (receiver_now number peer link own) c o
+kept_calls number tells peer link c (m ∷ more) own i a o =
+    let before : Kept (receiver_now number peer link own) (receiver_now number peer link (more ++ own)) c = kept_calls number tells peer link c more own i.1 a.1 o in
+    let holds : Holds number tells link (gone_now peer (more ++ own)) m.pair.entries (receiver_now number peer link (more ++ own)) (sender_now number peer link (more ++ own)) =
+    subst (λ (es : List Entry). Holds number tells link (gone_now peer (more ++ own)) es (receiver_now number peer link (more ++ own)) (sender_now number peer link (more ++ own))) (sym i.0) (holds_now number tells peer link (more ++ own) i.1 a.1) in
+    let may : MayAllReceive (received_at (name_now number peer (more ++ own)) link m.call m.pair m.listening) (receiver_now number peer link (more ++ own)) =
+    (step_received number tells peer link (gone_now peer (more ++ own)) m.call m.pair m.listening (receiver_now number peer link (more ++ own)) (sender_now number peer link (more ++ own)) a.0 holds).0 in
+    kept_then (receiver_now number peer link own) (receiver_now number peer link (more ++ own)) (receiver_now number peer link (m ∷ (more ++ own))) c before
+    (kept_moves (received_at (name_now number peer (more ++ own)) link m.call m.pair m.listening) (receiver_now number peer link (more ++ own)) c may before.over)
