@@ -215,6 +215,9 @@ impl Parts {
 
     /// Delivers the oldest frame of a directed line in place at the far end, if nothing is to be sent for it. It stays
     /// on its line, and is not taken off it. The call answers whether it arrived; else nothing changes.
+    ///
+    /// Measured: without it, messages over a chain of eight IMPs take some 14 % more instructions, and messages on 40
+    /// connections over four IMPs some 4 %.
     #[tactic(auto, using(crate::proofs::Calls::Taken::taken_quietly, crate::proofs::Calls::Delivering::none_brought))]
     fn takes_first(&mut self, line: usize, direction: Direction) -> bool
         requires live { AreLive self.old.imps }
