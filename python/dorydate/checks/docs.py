@@ -1,4 +1,4 @@
-"""Each link, source, name and number in the documents is there, and what is made of them is as it is made (seconds): ./check docs [--write | --lower]
+"""Each link, source, name and number in the documents is there, and what is made of them is as it is made (seconds): ./check docs [--write | --lower | --rule WORD..]
 
 Checks what the documents name: each link leads to a file, each source that is named by its path exists, and each name
 that the claims about a crate have is in the code.
@@ -12,9 +12,10 @@ stored inputs of cases/; and each other name has to be one of these, or that of 
 
 docs/PROVED.md names each clause after the path of its call, `CRATE::..::CALL`, and docs/measured/crates.md leads to the claims of each crate.
 
-The drawings of docs/pictures and the page of crates have to be as they are made, the numbers in drawings as the sources have them, and
+The drawings of docs/pictures, the page of crates and the page of what must be believed have to be as they are made, the numbers in drawings as the sources have them, and
 no text of a drawing over another one or over a line. Words of the house's dialect are counted against limits that can only fall
-(dorydate.documents). With --write the drawings, this page and those of planted bugs and of rules are made anew, and with --lower the limits are lowered to what is counted.
+(dorydate.documents). With --write these, the index of rules and the page of planted bugs are made anew, and with --lower the limits are lowered to what is counted.
+With --rule the rules in which all of the words occur are printed, each with its definition, its functions, its rows and its planted bugs.
 
 Then it counts what hides borders and what is dead, each against its limit: imports that reach into another crate's proofs/
 beside its module lemmas, names of proofs/ that are declared `pub` and are nowhere else, and folders of proofs/ with too many entries.
@@ -32,7 +33,7 @@ import unittest
 from collections import Counter
 from collections.abc import Iterator
 
-from dorydate.documents import anchors, crates_page, dialect, notebook, paragraphs, planted, rules, tests
+from dorydate.documents import anchors, believed, crates_page, dialect, notebook, paragraphs, planted, rules, tests
 from dorydate.drawings import pictures
 from dorydate.parts import ROOT
 
@@ -239,24 +240,28 @@ def failed_tests() -> list[str]:
 def made() -> list[str]:
     """What isn't as it is made, and what the drawings and the words of the documents have that they shouldn't."""
     print("check docs:", dialect.summary())
-    return [*failed_tests(), *paragraphs.faults(), *anchors.faults(), *pictures.faults(), *crates_page.faults(), *planted.faults(), *rules.faults(), *notebook.faults(), *dialect.faults()]
+    return [*failed_tests(), *paragraphs.faults(), *anchors.faults(), *pictures.faults(), *crates_page.faults(), *planted.faults(), *rules.faults(), *believed.faults(), *notebook.faults(), *dialect.faults()]
 
 
 def write() -> int:
-    """Makes the drawings and the pages of crates, of planted bugs and of rules."""
+    """Makes the drawings and the pages of crates, of planted bugs, of rules and of what must be believed."""
     crates_page.write()
     planted.write()
     rules.write()
+    believed.write()
     notebook.write()
-    print(f"check docs: docs/measured/crates.md, planted.md, rules.md, docs/experiment.ipynb and {pictures.write()} drawings are written")
+    print(f"check docs: docs/measured/crates.md, planted.md, rules.md, promise.md, docs/experiment.ipynb and {pictures.write()} drawings are written")
     return 0
 
 
 def main() -> int:
     parser = argparse.ArgumentParser(prog="check docs", add_help=False)
-    parser.add_argument("--write", action="store_true", help="make the drawings and the pages of crates, planted bugs and rules")
+    parser.add_argument("--write", action="store_true", help="make the drawings and the pages that are made of the sources")
     parser.add_argument("--lower", action="store_true", help="lower the limits of the dialect to what is counted")
+    parser.add_argument("--rule", metavar="WORD", nargs="+", help="print the rules with these words, each with its definition and functions")
     options = parser.parse_args()
+    if options.rule:
+        return 0 if rules.show(options.rule) else 1
     if options.lower:
         dialect.lowered()
     if options.write or options.lower:

@@ -1,4 +1,7 @@
-"""Pages have one paragraph a line: no line is broken by hand. README has at most 900 words."""
+"""Pages have one paragraph a line: no line is broken by hand. README has at most 900 words, and all pages together 60,000.
+
+The pages of docs/measured are made by programs, and aren't counted.
+"""
 
 from __future__ import annotations
 
@@ -9,6 +12,8 @@ import re
 from dorydate.parts import ROOT
 
 MOST_WORDS = 900  # of README, which is read first
+MOST_OF_ALL = 60_000
+PAGES = ("README.md", "CONTRIBUTING.md", "docs/*.md")
 # a line that begins something of its own: a heading, an item, a row, a quotation, a picture, a comment, code
 OWN = re.compile(r"(?:#|[-*] |\d+\. |\||>|!\[|<|```|    |\t)")
 
@@ -30,14 +35,28 @@ def joined(text: str) -> str:
     return "\n".join(lines)
 
 
-def faults() -> list[str]:
-    """The pages with lines that are broken by hand, and README if it is too long."""
-    with open(f"{ROOT}/README.md", encoding="utf-8") as file:
-        words = len(file.read().split())
-    found = [f"README.md: {words} words, of at most {MOST_WORDS}"] if words > MOST_WORDS else []
-    for path in sorted(it for some in ("README.md", "CONTRIBUTING.md", "docs/*.md") for it in glob.glob(f"{ROOT}/{some}")):
+def texts() -> dict[str, str]:
+    """The pages, by their names."""
+    found = {}
+    for path in sorted(it for some in PAGES for it in glob.glob(f"{ROOT}/{some}")):
         with open(path, encoding="utf-8") as file:
-            text = file.read()
+            found[os.path.relpath(path, ROOT)] = file.read()
+    return found
+
+
+def too_long(pages: dict[str, str]) -> list[str]:
+    """README if it is too long, and all pages if they are."""
+    words = {name: len(text.split()) for name, text in pages.items()}
+    found = [f"README.md: {words['README.md']} words, of at most {MOST_WORDS}"] if words["README.md"] > MOST_WORDS else []
+    count = sum(words.values())
+    return found + ([f"all pages: {count:,} words, of at most {MOST_OF_ALL:,}"] if count > MOST_OF_ALL else [])
+
+
+def faults() -> list[str]:
+    """The pages with lines that are broken by hand, and those that are too long."""
+    pages = texts()
+    found = too_long(pages)
+    for name, text in pages.items():
         if count := len(text.split("\n")) - len(joined(text).split("\n")):
-            found.append(f"{os.path.relpath(path, ROOT)}: {count} lines are broken by hand; a paragraph is one line")
+            found.append(f"{name}: {count} lines are broken by hand; a paragraph is one line")
     return found

@@ -1,11 +1,13 @@
-"""docs/measured/rules.md: from each definition that a contract cites to the function, the rows and the planted bugs.
+"""docs/measured/rules.md: from each definition that a contract cites to the function, the rows and the planted bugs, each with its place.
 
 Read from the sources: definitions of specs/ with the comment above them, the clauses `ensures` of functions in src/, the tables of rows in
-CLAIMS.md, and the edits of must-fail/ and wrong-bodies/ by the function that they change.
+CLAIMS.md, and the edits of must-fail/ and wrong-bodies/ by the function that they change. `./check docs --rule WORD..` prints the rules that
+have these words, each with its definition and its functions.
 """
 
 from __future__ import annotations
 
+import functools
 import glob
 import os
 import re
@@ -17,20 +19,69 @@ from dorydate.drawings.repository import layers
 PAGE = f"{ROOT}/docs/measured/rules.md"
 HEAD = """# From a rule to its code
 
-`./check docs --write` makes this page from the sources. It has each definition that the contract of a function cites, with the comment above it, the function, the rows that fail if the definition is read otherwise, and the bugs that are planted in the function. Names in brackets are files of `specs/` and `src/`.
+`./check docs --write` makes this page from the sources. It has each definition that the contract of a function cites, with the comment above it, the function, the rows that fail if the definition is read otherwise, and the bugs that are planted in the function. Each name leads to its line. `./check docs --rule WORD..` prints the rules with these words, with the text of the definition and of its functions.
 """
 DEFINED = re.compile(r"^(?:(?:unfoldable|abbrev) )?pub (?:record |data )?([\w'-]+)\b.*$", re.MULTILINE)
 FUNCTION = re.compile(r"^( *)(?:pub(?:\(\w+\))? )?(?:const )?fn (\w+)", re.MULTILINE)
+SHOWN = 3  # functions and bugs of a rule that are named, the others counted
 
 
 @dataclass(frozen=True)
-class Function:
-    """A function of src/: its name with its type, its file, the names that its contract cites, and the planted bugs in it."""
+class Place:
+    """A line of a file, which is named from the root of the repository; or a whole file."""
+
+    file: str
+    line: int | None = None
+
+    def link(self, name: str) -> str:
+        """Returns the name as a link from the page to this place."""
+        return f"[`{name}`](../../{self.file}{f'#L{self.line}' if self.line else ''})"
+
+
+@dataclass(frozen=True)
+class Text:
+    """A definition or a function: its name, its place, and its own text."""
 
     name: str
+    place: Place
+    text: str
+
+
+@dataclass(frozen=True)
+class Definition(Text):
+    """A definition of specs/, with the comment above it in one line."""
+
+    words: str
+
+
+@dataclass(frozen=True)
+class Bug:
+    """A planted bug: its name and file, the file that it changes, and the first text that it replaces."""
+
+    name: str
+    place: Place
     file: str
+    old: str
+
+
+@dataclass(frozen=True)
+class Function(Text):
+    """A function of src/: its name with its type, the names that its contract cites, and the planted bugs in it."""
+
     cites: frozenset[str]
-    bugs: tuple[str, ...]
+    bugs: tuple[Bug, ...]
+
+
+@dataclass(frozen=True)
+class Rule:
+    """A definition with the functions whose contracts cite it, and the rows that fail if it is read otherwise."""
+
+    definition: Definition
+    functions: list[Function]
+    rows: str
+
+    def bugs(self) -> list[Bug]:
+        return list(dict.fromkeys(bug for it in self.functions for bug in it.bugs))
 
 
 def read(path: str) -> str:
@@ -38,54 +89,89 @@ def read(path: str) -> str:
         return file.read()
 
 
-def definitions(crate: str) -> dict[str, tuple[str, str]]:
-    """The definitions of a crate's specs/, each with its file and the last sentence above it."""
-    found = {}
-    for path in sorted(glob.glob(f"{ROOT}/crates/{crate}/specs/*.antt")):
-        file = os.path.basename(path).removesuffix(".antt")
-        if file in ("Lib", "Examples", "Counterexamples", "Inside") or file.startswith("Worked"):
+def files(crate: str, pattern: str) -> list[str]:
+    """The files of a crate, named from the root of the repository."""
+    return [os.path.relpath(it, ROOT) for it in sorted(glob.glob(f"{ROOT}/crates/{crate}/{pattern}", recursive=True))]
+
+
+def is_words(line: str) -> bool:
+    """Whether a line of a definition's file is a comment that says something."""
+    return line.startswith("-- ") and not line.startswith("-- ----")
+
+
+def definitions_in(file: str, text: str) -> list[Definition]:
+    """The definitions of a file of specs/ that have a comment directly above them, up to the next empty line or comment."""
+    lines, found = text.split("\n"), []
+    for at, line in enumerate(lines):
+        name = DEFINED.match(line)
+        if not name or not at or not is_words(lines[at - 1]):
             continue
-        lines = read(path).split("\n")
-        for at, line in enumerate(lines):
-            if (name := DEFINED.match(line)) and at and lines[at - 1].startswith("-- ") and not lines[at - 1].startswith("-- ----"):
-                top = at - 1
-                while top > 0 and lines[top - 1].startswith("-- ") and not lines[top - 1].startswith("-- ----"):
-                    top -= 1
-                words = " ".join(it.removeprefix("-- ") for it in lines[top:at])
-                found[name[1]] = (file, words.replace("|", "/"))
+        top, end = at - 1, at + 1
+        while top > 0 and is_words(lines[top - 1]):
+            top -= 1
+        while end < len(lines) and lines[end] and not lines[end].startswith("--"):
+            end += 1
+        words = " ".join(it.removeprefix("-- ") for it in lines[top:at]).replace("|", "/")
+        found.append(Definition(name[1], Place(file, at + 1), "\n".join(lines[top:end]), words))
     return found
 
 
-def edits(crate: str) -> list[tuple[str, str, str]]:
-    """The planted bugs of a crate: the name, the file, and the first text that is replaced."""
+def definitions(crate: str) -> dict[str, Definition]:
+    """The definitions of a crate's specs/, by their names."""
+    found: dict[str, Definition] = {}
+    for file in files(crate, "specs/*.antt"):
+        stem = os.path.basename(file).removesuffix(".antt")
+        if stem not in ("Lib", "Examples", "Counterexamples", "Inside") and not stem.startswith("Worked"):
+            found |= {it.name: it for it in definitions_in(file, read(f"{ROOT}/{file}"))}
+    return found
+
+
+def bugs(crate: str) -> list[Bug]:
+    """The planted bugs of a crate."""
     found = []
-    for path in sorted(glob.glob(f"{ROOT}/crates/{crate}/*/*.edit")):
-        text = read(path)
+    for path in files(crate, "*/*.edit"):
+        text = read(f"{ROOT}/{path}")
         file, old = re.search(r"^file: (.*)$", text, re.MULTILINE), re.search(r"^old: (.*)$", text, re.MULTILINE)
         if file and old:
-            found.append((os.path.basename(path).removesuffix(".edit"), file[1].strip(), old[1]))
+            found.append(Bug(os.path.basename(path).removesuffix(".edit"), Place(path), f"crates/{crate}/{file[1].strip()}", old[1]))
+    return found
+
+
+def functions_in(file: str, text: str, planted: list[Bug]) -> list[Function]:
+    """The functions of a file of src/."""
+    found, starts = [], list(FUNCTION.finditer(text))
+    for at, start in enumerate(starts):
+        end = starts[at + 1].start() if at + 1 < len(starts) else len(text)
+        whole = text[start.start() : end]
+        contract = "\n".join(re.findall(r"^ *ensures (?:\w+ )?\{(.*)\}$", whole, re.MULTILINE))
+        owners = re.findall(r"^impl(?:<[^>]*>)? (?:.* for )?(\w+)", text[: start.start()], re.MULTILINE) if start[1] else []
+        name = f"{owners[-1]}::{start[2]}" if owners else start[2]
+        place = Place(file, text.count("\n", 0, start.start()) + 1)
+        own = re.match(rf".*[;}}]$|[\s\S]*?^{start[1]}(?:}}|{{}})$", whole, re.MULTILINE)
+        cited = frozenset(re.findall(r"[\w'-]+", contract))
+        found.append(Function(name, place, own[0] if own else whole, cited, tuple(it for it in planted if it.file == file and it.old in whole)))
     return found
 
 
 def functions(crate: str) -> list[Function]:
-    """The functions of a crate's src/ with contracts."""
-    found, planted = [], edits(crate)
-    for path in sorted(glob.glob(f"{ROOT}/crates/{crate}/src/**/*.rt", recursive=True)):
-        text, file = read(path), os.path.relpath(path, f"{ROOT}/crates/{crate}")
-        starts = list(FUNCTION.finditer(text))
-        for at, start in enumerate(starts):
-            end = starts[at + 1].start() if at + 1 < len(starts) else len(text)
-            whole = text[start.start() : end]
-            contract = "\n".join(re.findall(r"^ *ensures (?:\w+ )?\{(.*)\}$", whole, re.MULTILINE))
-            owners = re.findall(r"^impl(?:<[^>]*>)? (?:.* for )?(\w+)", text[: start.start()], re.MULTILINE) if start[1] else []
-            name = f"{owners[-1]}::{start[2]}" if owners else start[2]
-            bugs = tuple(it for it, where, old in planted if where == file and old in whole)
-            found.append(Function(name, file.removeprefix("src/"), frozenset(re.findall(r"[\w'-]+", contract)), bugs))
+    """The functions of a crate's src/, but for laws and rows."""
+    planted = bugs(crate)
+    named = [it for it in files(crate, "src/**/*.rt") if not it.removeprefix(f"crates/{crate}/src/").startswith(("law", "worked"))]
+    return [it for file in named for it in functions_in(file, read(f"{ROOT}/{file}"), planted)]
+
+
+@functools.cache
+def tests() -> dict[str, Place]:
+    """The functions of the crates of tests, by their names."""
+    found: dict[str, Place] = {}
+    for layer in layers():
+        for crate in (it for it, kind in layer.crates.items() if kind == "tests"):
+            found |= {it.name: it.place for it in functions(crate)}
     return found
 
 
 def rows(crate: str) -> dict[str, str]:
-    """The rows that a crate's claims name for its definitions."""
+    """The rows that a crate's claims name for its definitions, the tests among them as links."""
     path = f"{ROOT}/crates/{crate}/CLAIMS.md"
     found: dict[str, str] = {}
     if os.path.exists(path):
@@ -94,27 +180,37 @@ def rows(crate: str) -> dict[str, str]:
             cell = cell.replace("the same", last, 1) if last and cell.startswith("the same") else cell
             last = row[0] if (row := re.search(r"`\w+`", cell)) else last
             for name in re.findall(r"`([\w'-]+)`", names):
-                found.setdefault(name, cell.strip())
+                found.setdefault(name, re.sub(r"`(\w+)`", lambda it: tests()[it[1]].link(it[1]) if it[1] in tests() else it[0], cell.strip()))
     return found
 
 
-def section(crate: str) -> list[str]:
-    """The rows of a crate's table: its definitions that contracts of its functions cite."""
-    calls, guarded, made = functions(crate), rows(crate), []
-    for name, (file, words) in definitions(crate).items():
-        citing = [it for it in calls if name in it.cites and not it.file.startswith("law") and not it.file.startswith("worked")]
-        if citing:
-            bugs = list(dict.fromkeys(bug for it in citing for bug in it.bugs))
-            shown = ", ".join(f"`{it.name}` ({it.file})" for it in citing[:3]) + (f" and {len(citing) - 3} more" if len(citing) > 3 else "")
-            attacked = ", ".join(f"`{it}`" for it in bugs[:3]) + (f" and {len(bugs) - 3} more" if len(bugs) > 3 else "")
-            made.append(f"| {words} | `{name}` ({file}) | {shown} | {guarded.get(name, '')} | {attacked} |")
-    return made
+def rules(crate: str) -> list[Rule]:
+    """The definitions of a crate that contracts of its functions cite."""
+    calls, guarded = functions(crate), rows(crate)
+    found = [Rule(it, [call for call in calls if name in call.cites], guarded.get(name, "")) for name, it in definitions(crate).items()]
+    return [it for it in found if it.functions]
+
+
+def some(links: list[str]) -> str:
+    """The first of these, and how many more there are."""
+    return ", ".join(links[:SHOWN]) + (f" and {len(links) - SHOWN} more" if len(links) > SHOWN else "")
+
+
+def row_of(rule: Rule) -> str:
+    definition = rule.definition
+    calls = some([it.place.link(it.name) for it in rule.functions])
+    attacked = some([it.place.link(it.name) for it in rule.bugs()])
+    return f"| {definition.words} | {definition.place.link(definition.name)} | {calls} | {rule.rows} | {attacked} |"
+
+
+def crates() -> list[str]:
+    return [it for layer in layers() for it, kind in layer.crates.items() if kind == "code"]
 
 
 def page() -> str:
     parts = [HEAD]
-    for crate in (it for layer in layers() for it, kind in layer.crates.items() if kind == "code"):
-        if made := section(crate):
+    for crate in crates():
+        if made := [row_of(it) for it in rules(crate)]:
             parts.append(f"\n## {crate}\n\n| Rule | Definition | Function | Rows | Planted bugs |\n|---|---|---|---|---|\n" + "\n".join(made) + "\n")
     return "".join(parts)
 
@@ -126,13 +222,36 @@ def write() -> None:
 
 
 def faults() -> list[str]:
-    """The definitions and functions that the page names and the sources no longer have. New ones are added by --write."""
-    if not os.path.exists(PAGE):
-        return ["docs/measured/rules.md: not there (./check docs --write)"]
-    wrong = []
-    for crate, text in re.findall(r"^## (\w+)\n([\s\S]*?)(?=^## |\Z)", read(PAGE), re.MULTILINE):
-        for name, file in re.findall(r"`([\w':-]+)` \((\w+(?:/\w+)*(?:\.rt)?)\)", text):
-            path = f"{ROOT}/crates/{crate}/" + (f"src/{file}" if file.endswith(".rt") else f"specs/{file}.antt")
-            if not os.path.exists(path) or name.split("::")[-1] not in read(path):
-                wrong.append(f"docs/measured/rules.md: {crate} has no `{name}` in {file} (./check docs --write)")
+    """The names that the page has and their files no longer do. New rules are added, and lines set right, by --write."""
+    stored = read(PAGE) if os.path.exists(PAGE) else ""
+    wrong = [] if stored else ["docs/measured/rules.md: not there (./check docs --write)"]
+    for name, file in re.findall(r"\[`([^`]+)`\]\(../../([^)#]+)", stored):
+        if not os.path.exists(f"{ROOT}/{file}") or name.split("::")[-1] not in (file if file.endswith(".edit") else text_of(file)):
+            wrong.append(f"docs/measured/rules.md: {file} has no `{name}` (./check docs --write)")
     return wrong
+
+
+@functools.cache
+def text_of(file: str) -> str:
+    """The text of a file, named from the root of the repository."""
+    return read(f"{ROOT}/{file}")
+
+
+def has_words(crate: str, rule: Rule, words: list[str]) -> bool:
+    """Whether all of these words occur in a rule, as the name of its crate or its functions, or in its definition."""
+    searched = " ".join([crate, rule.definition.text, *(it.name for it in rule.functions)]).lower()
+    return all(it.lower() in searched for it in words)
+
+
+def shown(rule: Rule) -> str:
+    """A rule with the text of its definition and of its functions, its rows and its planted bugs."""
+    texts = [f"{it.place.file}:{it.place.line}\n{it.text}\n" for it in (rule.definition, *rule.functions[:SHOWN])]
+    rows_of = [f"rows: {rule.rows}"] if rule.rows else []
+    return "\n".join([*texts, *rows_of, *(f"planted bug: {it.place.file}" for it in rule.bugs()), ""])
+
+
+def show(words: list[str]) -> int:
+    """Prints the rules in which all of these words occur, and returns how many there are."""
+    found = [it for crate in crates() for it in rules(crate) if has_words(crate, it, words)]
+    print("\n".join(shown(it) for it in found))
+    return len(found)

@@ -8,7 +8,7 @@ import tempfile
 import unittest
 from unittest import mock
 
-from dorydate.documents import anchors, crates_page, dialect, paragraphs
+from dorydate.documents import anchors, believed, crates_page, dialect, paragraphs, rules
 from dorydate.drawings import facts, formats, hosts, network, pictures, repository
 from dorydate.drawings.svg import Drawing
 from dorydate.parts import ROOT
@@ -74,6 +74,10 @@ class Pages(unittest.TestCase):
         self.assertEqual(paragraphs.joined("a\nb\n\n- c\n  d\n- e\n\n| f |\n| g |\n"), "a b\n\n- c d\n- e\n\n| f |\n| g |\n")
         self.assertEqual(paragraphs.joined("```\na\nb\n```\n\n    code\n    more\n"), "```\na\nb\n```\n\n    code\n    more\n")
 
+    def test_pages_that_are_too_long_are_named(self) -> None:
+        self.assertEqual(paragraphs.too_long({"README.md": "word " * 900, "docs/a.md": "word " * 59_100}), [])
+        self.assertEqual(paragraphs.too_long({"README.md": "word " * 901, "docs/a.md": "word " * 59_100}), ["README.md: 901 words, of at most 900", "all pages: 60,001 words, of at most 60,000"])
+
     def test_headings_have_the_anchors_of_the_web(self) -> None:
         with tempfile.NamedTemporaryFile("w", suffix=".md", encoding="utf-8") as file:
             file.write("# What's *new*, here\n## `Code` in [a link](b.md)\n## Twice\n## Twice\n```\n# no heading\n```\n")
@@ -102,6 +106,82 @@ class Pages(unittest.TestCase):
         direct: dict[str, list[str]] = {"low": [], "middle": ["low"], "high": ["low", "middle"]}
         self.assertEqual(crates_page.nearest("high", direct), ["middle"])
         self.assertEqual(crates_page.below("high", direct), {"low", "middle"})
+
+
+SPECS = """-- ---- sizes
+
+-- how many
+-- there are
+abbrev pub count : ℕ
+count = 3
+pub bare : ℕ
+"""
+SOURCE = """impl Store {
+    /// Returns how many there are.
+    pub fn count(&self) -> usize
+        ensures { result ≡ count }
+    {
+        self.len
+    }
+
+    fn other(&self) {}
+}
+"""
+
+
+class Rules(unittest.TestCase):
+    def test_a_definition_has_the_comment_above_it_and_its_line(self) -> None:
+        (found,) = rules.definitions_in("crates/a/specs/A.antt", SPECS)
+        self.assertEqual((found.name, found.place.line, found.words), ("count", 5, "how many there are"))
+        self.assertEqual(found.text, "-- how many\n-- there are\nabbrev pub count : ℕ\ncount = 3\npub bare : ℕ")
+
+    def test_a_function_has_what_its_contract_cites_and_the_bugs_in_it(self) -> None:
+        bugs = [rules.Bug(name, rules.Place(name), "crates/a/src/a.rt", old) for name, old in (("in", "self.len"), ("out", "self.size"))]
+        count, other = rules.functions_in("crates/a/src/a.rt", SOURCE, bugs)
+        self.assertEqual((count.name, count.place.line, [it.name for it in count.bugs]), ("Store::count", 3, ["in"]))
+        self.assertIn("count", count.cites)
+        self.assertTrue(count.text.endswith("self.len\n    }"))
+        self.assertEqual((other.place.line, other.text, other.cites), (9, "    fn other(&self) {}", frozenset()))
+
+    def test_a_rule_leads_to_the_lines_of_its_names(self) -> None:
+        (definition,) = rules.definitions_in("crates/a/specs/A.antt", SPECS)
+        rule = rules.Rule(definition, rules.functions_in("crates/a/src/a.rt", SOURCE, [])[:1], "`row`")
+        self.assertEqual(rules.row_of(rule), "| how many there are | [`count`](../../crates/a/specs/A.antt#L5) | [`Store::count`](../../crates/a/src/a.rt#L3) | `row` |  |")
+        self.assertTrue(rules.has_words("a", rule, ["MANY", "store"]))
+        self.assertFalse(rules.has_words("a", rule, ["many", "few"]))
+
+
+BELIEVED = """use Rattle.b.specs.B.{two}
+use Rattle.b.specs.declared.thing.Thing.TheVariants as thing
+
+-- a number
+abbrev pub one : ℕ
+one = two + field.three
+pub data Kind : Type 0 where
+  First : Kind
+
+pub other : Kind → ℕ
+other thing.Big = one
+"""
+
+
+class Believed(unittest.TestCase):
+    def test_a_file_has_its_definitions_and_imports(self) -> None:
+        module = believed.parsed("crates/a/specs/A.antt", BELIEVED)
+        self.assertEqual({it.name: len(it.lines) for it in module.definitions.values()}, {"one": 2, "Kind": 2, "other": 2})
+        self.assertEqual(module.definitions["one"].comment, ("-- a number",))
+        self.assertEqual((module.constructors, module.imports, module.modules), ({"First": "Kind"}, {"two": ("b", "B")}, {"thing": ("b", "declared.thing.Thing.TheVariants")}))
+
+    def test_names_are_followed_over_files_to_definitions_and_types_of_rust(self) -> None:
+        modules = {("a", "A"): believed.parsed("a", BELIEVED), ("b", "B"): believed.parsed("b", "pub use Rattle.c.specs.C.{two}\n"), ("c", "C"): believed.parsed("c", "pub two : ℕ\ntwo = 2\n")}
+        with mock.patch.object(believed, "module_of", lambda crate, path: modules.get((crate, path), believed.Module())):
+            found, types = believed.closure([("a", "A", "other")])
+        self.assertEqual(set(found), {("a", "A", "other"), ("a", "A", "Kind"), ("a", "A", "one"), ("c", "C", "two")})
+        self.assertEqual((types, believed.count([*found.values()])), ({("b", "declared.thing.Thing")}, 8))
+
+    def test_more_lines_than_may_be_are_named(self) -> None:
+        with mock.patch.object(believed, "MOST_LINES", 10):
+            self.assertIn("lines must be believed of the headline, of at most 10", believed.faults()[-1])
 
 
 class Hook(unittest.TestCase):
