@@ -1,4 +1,5 @@
 mod Ends
+mod Failures
 mod Lines
 mod Lists
 mod Telling

@@ -1,7 +1,7 @@
 //! Worked examples of the texts of a world's trace. The functions here do nothing: each clause is a row, computed over the
 //! definitions.
 
-ghost use Rattle.std.specs.Prelude.{◌≡◌, [], ◌∷◌, None, Some, codes, true, false};
+ghost use Rattle.std.specs.Prelude.{◌≡◌, ℕ, List, [], ◌∷◌, None, Some, codes, true, false};
 ghost use Rattle.host_pairs.specs.Entries.{receiving_end, refused_end};
 ghost use Rattle.host_pairs.specs.Pair.{opening_pair};
 ghost use Rattle.host_pairs.specs.declared.phase.Phase.TheVariants as phase;
@@ -9,12 +9,18 @@ ghost use Rattle.host_services.specs.declared.service.Service.TheVariants as ser
 ghost use Rattle.host_services.specs.Services.{no_services};
 ghost use Rattle.icp.specs.Server.{opening_server};
 ghost use Rattle.ncp_control.specs.declared.command.Command.TheVariants as command;
+ghost use Rattle.net_sim.specs.Carriers.{shown};
+ghost use Rattle.net_sim.specs.World.{WorldState};
 ghost use Rattle.net_sim.specs.declared.event.Event.TheVariants as event;
 ghost use Rattle.sockets.specs.Pairs.{opening_state};
 ghost use Rattle.sockets.specs.Worked.{first, second};
 ghost use Rattle.terminal.specs.Machines.{opening_echo};
+ghost use Rattle.world_script.specs.declared.event.WorldEvent.{WorldEvent};
 ghost use Rattle.world_script.specs.declared.event.WorldEvent.TheVariants as world;
 ghost use Rattle.world_trace.specs.Texts.{command_object, end_object, event_text, lines_text, pair_object, program_text, running_object, service_object};
+ghost use Rattle.world_trace.specs.Traces.{MayTell};
+
+use leader1822::Carrier;
 
 /// Pairs, ends and commands.
 pub fn worked_pairs()
@@ -48,4 +54,11 @@ pub fn worked_lines()
     // a line feed ends a line, and no string is empty after the last one
     ensures lines { lines_text (codes "line 0/1 \"\nend\n") ≡ codes "[\"line 0/1 \\\"\",\"end\"]" }
     ensures nothing { lines_text [] ≡ codes "[]" }
+{}
+
+/// What is known of a world where a write failed: the event or round had happened, and its line is not among those that are known.
+pub fn worked_failures<C: Carrier>()
+    // over no carrier does a calm of no rounds change anything
+    ensures nothing { (old new : WorldState C) (lines : List (List ℕ)) → MayTell (shown (record { seen = C.seen; offers = C.offers; takes = C.takes; steps = C.steps; rounds = C.rounds })) old (world.Calm 0) new lines → new ≡ old }
+    ensures no_line { (old new : WorldState C) (e : WorldEvent) (line : List ℕ) → MayTell (shown (record { seen = C.seen; offers = C.offers; takes = C.takes; steps = C.steps; rounds = C.rounds })) old e new (line ∷ []) → ⊥ }
 {}
