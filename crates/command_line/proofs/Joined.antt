@@ -13,7 +13,7 @@ use Rattle.net_sim.specs.declared.auditing.said.Audit.{Audit}
 use Rattle.net_sim.specs.declared.auditing.said.Audit.TheVariants as audit
 use Rattle.net_sim.specs.declared.auditing.said.Part.TheVariants as part
 use Rattle.net_sim.specs.declared.life.Life.{Life}
-use Rattle.replay.specs.Replay.{Calls}
+use Rattle.leader1822.specs.Calls.{Calls}
 use Rattle.topology.specs.Topology.{TopologyFields}
 use Rattle.topology.specs.declared.network.CarrierKind.{CarrierKind}
 use Rattle.topology.specs.declared.network.CarrierKind.TheVariants as kind
@@ -21,7 +21,9 @@ use Rattle.book_judge.specs.Runs.{IsSomeRun, StraysAt}
 use Rattle.book_judge.proofs.lemmas.{run_front}
 use Rattle.command_line.specs.Audits.{AuditsLog, IsAuditFault, IsKeptLog, IsSomeLog, SaysKept, SaysOf, kept}
 use Rattle.command_line.specs.declared.verdict.Verdict.{Verdict}
-use Rattle.command_line.specs.Carriers.{plain_calls, plain_of, subnet_calls, subnet_of}
+use Rattle.leader1822.specs.Boxes.{plain_calls}
+use Rattle.subnet.specs.Working.{subnet_calls}
+use Rattle.command_line.specs.Carriers.{plain_of, subnet_of}
 use Rattle.command_line.specs.Events.{Asked, Raw, World}
 use Rattle.command_line.specs.Logs.{Logged, LogsFrom, LogsOver, raw_book, world_book}
 use Rattle.command_line.specs.declared.auditing.AuditFault.{AuditFault}

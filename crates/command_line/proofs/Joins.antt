@@ -7,7 +7,7 @@ use Rattle.net_sim.specs.Carriers.{shown}
 use Rattle.net_sim.specs.World.{WorldState, opening_world}
 use Rattle.net_sim.specs.declared.life.Life.{Life}
 use Rattle.replay.specs.Output.{Shown, crossings_of, output}
-use Rattle.replay.specs.Replay.{Calls}
+use Rattle.leader1822.specs.Calls.{Calls}
 use Rattle.replay.specs.Settled.{AreSettled}
 use Rattle.replay.specs.declared.print.Detail.{Detail}
 use Rattle.replay.proofs.lemmas.{OneReplay, replays_once}
@@ -16,7 +16,9 @@ use Rattle.topology.specs.declared.network.CarrierKind.{CarrierKind}
 use Rattle.topology.specs.declared.network.CarrierKind.TheVariants as kind
 use Rattle.world_replay.specs.Output as lines
 use Rattle.world_replay.proofs.lemmas.Replays as worlds
-use Rattle.command_line.specs.Carriers.{hosting, plain_calls, plain_of, subnet_calls, subnet_of}
+use Rattle.leader1822.specs.Boxes.{plain_calls}
+use Rattle.subnet.specs.Working.{subnet_calls}
+use Rattle.command_line.specs.Carriers.{plain_of, subnet_of}
 use Rattle.command_line.specs.Events.{Asked, Raw, World}
 use Rattle.command_line.specs.Joins.{PrintTheSame, TellTheSame}
 use Rattle.command_line.specs.Logs.{LogsFrom, LogsInput, LogsOn, LogsOver, raw_book, world_book}
@@ -34,7 +36,7 @@ log_from {C} calls settled opening (Raw events) before after other h k =
     let one : OneReplay h.last k.last h.shown k.shown = replays_once calls settled opening events h.last k.last h.shown k.shown h.replayed k.replayed in
     h.written ∙ ap (λ (last : C). before ++ log_text (raw_book (calls.seen last).log)) one.carriers ∙ sym k.written
 log_from {C} calls settled opening (World events) before after other h k =
-    let one : (h.last ≡ k.last) × (h.shows ≡ k.shows) = worlds.one_replay (hosting calls) settled (opening_world (shown (hosting calls)) opening) h.last k.last events h.shows k.shows h.replayed k.replayed in
+    let one : (h.last ≡ k.last) × (h.shows ≡ k.shows) = worlds.one_replay calls settled (opening_world (shown calls) opening) h.last k.last events h.shows k.shows h.replayed k.replayed in
     h.written ∙ ap (λ (last : WorldState C). before ++ log_text (world_book last.kept)) one.0 ∙ sym k.written
 
 log_over : (carrier : CarrierKind) (network : TopologyFields) (events : Asked) (before after other : List ℕ) → LogsOver carrier network events (Some before) (Some after) → LogsOver carrier network events (Some before) (Some other) → after ≡ other
@@ -104,7 +106,7 @@ told_from {C} calls settled opening (Raw events) book detail out log h k =
     }
 told_from {C} calls settled opening (World events) book detail out log h k =
     let one : (h.shows.last ≡ k.last) × (h.shown ≡ k.shows) =
-    worlds.one_replay (hosting calls) settled (opening_world (shown (hosting calls)) opening) h.shows.last k.last events h.shown k.shows h.shows.replayed k.replayed in
+    worlds.one_replay calls settled (opening_world (shown calls) opening) h.shows.last k.last events h.shown k.shows h.shows.replayed k.replayed in
     let alive : h.lives ≡ k.last.kept.book.lives = h.shows.left ∙ ap (λ (w : WorldState C). w.kept.book.lives) one.0 in
     record {
       shown = h.shown;

@@ -10,14 +10,14 @@ use Rattle.net_sim.specs.Carriers.{shown}
 use Rattle.net_sim.specs.World.{WorldState, opening_world}
 use Rattle.net_sim.specs.declared.life.Life.{Life}
 use Rattle.replay.specs.Output.{Writes}
-use Rattle.replay.specs.Replay.{Calls, Replays}
+use Rattle.replay.specs.Replay.{Replays}
+use Rattle.leader1822.specs.Calls.{Calls}
 use Rattle.replay.specs.declared.print.Detail.{Detail}
 use Rattle.script.specs.declared.event.RawEvent.{RawEvent}
 use Rattle.topology.specs.Topology.{TopologyFields}
 use Rattle.world_replay.specs.Output as lines
 use Rattle.world_replay.specs.Replay as worlds
 use Rattle.world_script.specs.declared.event.WorldEvent.{WorldEvent}
-use Rattle.command_line.specs.Carriers.{hosting}
 use Rattle.command_line.specs.Events.{Asked}
 use Rattle.command_line.specs.Input.{IsInput}
 use Rattle.command_line.specs.Logs.{Logged, LogsInput, LogsOn, LogsRaw, LogsWorld}
@@ -37,13 +37,13 @@ logs_raw calls opening last events detail log x y before after w safe run is wri
 }
 
 pub logs_world : {C : Type 0} (calls : Calls C) (opening : C) (first last : WorldState C) (events : List WorldEvent) (detail : Detail) (log : List Crossing) (lives : List Life) (handed : List (List Bool)) (x y before after : Option (List ℕ))
-    → first ≡ opening_world (shown (hosting calls)) opening → lines.Writes detail (worlds.Replays (shown (hosting calls)) first events last) x y → KeepsPromise calls.seen last
+    → first ≡ opening_world (shown calls) opening → lines.Writes detail (worlds.Replays (shown calls) first events last) x y → KeepsPromise calls.seen last
     → log ≡ reverse last.kept.book.crossings → lives ≡ last.kept.book.lives → handed ≡ last.kept.handed → Appends before after (log_text (record { crossings = log; lives = lives; handed = handed })) → IsBook (record { crossings = log; lives = lives; handed = handed })
-    → LogsWorld (hosting calls) opening events before after
+    → LogsWorld calls opening events before after
 logs_world {C} calls opening first last events detail log lives handed x y before after begins w promise crossings alive given written valid = record {
   last = last;
   shows = w.shown;
-  replayed = subst (λ (s : WorldState C). worlds.Replays (shown (hosting calls)) s events last w.shown) begins w.is_shown;
+  replayed = subst (λ (s : WorldState C). worlds.Replays (shown calls) s events last w.shown) begins w.is_shown;
   promise = promise;
   written = subst (λ (b : Book). Appends before after (log_text b)) (λ i. record { crossings = crossings i; lives = alive i; handed = given i }) written;
   valid = subst IsBook (λ i. record { crossings = crossings i; lives = alive i; handed = given i }) valid;

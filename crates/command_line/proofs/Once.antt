@@ -5,7 +5,7 @@ use Rattle.net_sim.specs.Carriers.{shown}
 use Rattle.net_sim.specs.World.{WorldState, opening_world}
 use Rattle.net_sim.specs.declared.life.Life.{Life}
 use Rattle.replay.specs.Output.{Shown, output}
-use Rattle.replay.specs.Replay.{Calls}
+use Rattle.leader1822.specs.Calls.{Calls}
 use Rattle.replay.specs.Settled.{AreSettled}
 use Rattle.replay.specs.declared.print.Detail.{Detail}
 use Rattle.topology.specs.Topology.{TopologyFields}
@@ -15,7 +15,9 @@ use Rattle.world_replay.specs.Output as lines
 use Rattle.world_replay.proofs.lemmas.News as lines_of
 use Rattle.world_replay.proofs.lemmas.Replays as worlds
 use Rattle.world_script.specs.declared.event.WorldEvent.{WorldEvent}
-use Rattle.command_line.specs.Carriers.{hosting, plain_calls, plain_of, subnet_calls, subnet_of}
+use Rattle.leader1822.specs.Boxes.{plain_calls}
+use Rattle.subnet.specs.Working.{subnet_calls}
+use Rattle.command_line.specs.Carriers.{plain_of, subnet_of}
 use Rattle.command_line.specs.Events.{Asked, Raw, World}
 use Rattle.command_line.specs.Replayed.{EndsFrom, EndsOn, EndsOver, ReplaysFrom, ReplaysInput, ReplaysOn, ReplaysOver, ShowsFrom, StopsFrom, StopsInput, WorldShowsFrom, WorldStopsFrom, book_text}
 use Rattle.script.specs.declared.event.RawEvent.{RawEvent}
@@ -31,10 +33,10 @@ raw_once calls settled opening events shown more h k =
     let one : OneReplay h.last k.last shown more = replays_once calls settled opening events h.last k.last shown more h.replayed k.replayed in
     one.lines
 
-pub world_once : {C : Type 0} (calls : Calls C) → AreSettled calls → (opening : C) (events : List WorldEvent) (lives others : List Life) (shows more : List lines.Shown) → WorldShowsFrom (hosting calls) opening events lives shows
-    → WorldShowsFrom (hosting calls) opening events others more → (lives ≡ others) × (shows ≡ more)
+pub world_once : {C : Type 0} (calls : Calls C) → AreSettled calls → (opening : C) (events : List WorldEvent) (lives others : List Life) (shows more : List lines.Shown) → WorldShowsFrom calls opening events lives shows
+    → WorldShowsFrom calls opening events others more → (lives ≡ others) × (shows ≡ more)
 world_once {C} calls settled opening events lives others shows more h k =
-    let one : (h.last ≡ k.last) × (shows ≡ more) = worlds.one_replay (hosting calls) settled (opening_world (shown (hosting calls)) opening) h.last k.last events shows more h.replayed k.replayed in
+    let one : (h.last ≡ k.last) × (shows ≡ more) = worlds.one_replay calls settled (opening_world (shown calls) opening) h.last k.last events shows more h.replayed k.replayed in
     (h.left ∙ ap (λ (w : WorldState C). w.kept.book.lives) one.0 ∙ sym k.left, one.1)
 
 from_once : {C : Type 0} (calls : Calls C) → AreSettled calls → (opening : C) (book : Bool) (detail : Detail) (events : Asked) (before after other : List ℕ) → ReplaysFrom calls opening book detail events (Some before) (Some after)
@@ -63,9 +65,9 @@ one_output book detail input before after other h k =
 raw_front : {C : Type 0} (calls : Calls C) → AreSettled calls → (opening : C) (events : List RawEvent) (part whole : List Shown) → StopsFrom calls opening events part → ShowsFrom calls opening events whole → StartsWith whole part
 raw_front calls settled opening events part whole h k = replay.first_part calls settled opening events h.last k.last part whole h.stopped k.replayed
 
-world_front : {C : Type 0} (calls : Calls C) → AreSettled calls → (opening : C) (events : List WorldEvent) (part : List lines.Shown) (lives : List Life) (whole : List lines.Shown) → WorldStopsFrom (hosting calls) opening events part
-    → WorldShowsFrom (hosting calls) opening events lives whole → (rest : List lines.Shown) × (whole ≡ part ++ rest)
-world_front calls settled opening events part lives whole h k = worlds.first_part (hosting calls) settled (opening_world (shown (hosting calls)) opening) h.last k.last events part whole h.stopped k.replayed
+world_front : {C : Type 0} (calls : Calls C) → AreSettled calls → (opening : C) (events : List WorldEvent) (part : List lines.Shown) (lives : List Life) (whole : List lines.Shown) → WorldStopsFrom calls opening events part
+    → WorldShowsFrom calls opening events lives whole → (rest : List lines.Shown) × (whole ≡ part ++ rest)
+world_front calls settled opening events part lives whole h k = worlds.first_part calls settled (opening_world (shown calls) opening) h.last k.last events part whole h.stopped k.replayed
 
 -- a text that begins with another
 begins : (before part whole first rest behind : List ℕ) → part ≡ before ++ first → whole ≡ before ++ ((first ++ rest) ++ behind) → (more : List ℕ) × (whole ≡ part ++ more)

@@ -3,7 +3,7 @@ use Rattle.std.proofs.Common.{◌≡◌, ℕ, List, [], ◌∷◌, ◌++◌, Som
 use Rattle.std.proofs.lemmas.List.{append_assoc, append-nil}
 use Rattle.replay.specs.InTurn.{HappensOnce, InTurn, ShowsFront, text_of}
 use Rattle.replay.specs.Output.{Shown, crossings_of}
-use Rattle.replay.specs.Replay.{Calls}
+use Rattle.leader1822.specs.Calls.{Calls}
 use Rattle.replay.specs.Settled.{AreSettled}
 use Rattle.replay.proofs.lemmas.{OneReplay, ends_front, in_turn_once, replays_once, text_of-append}
 use Rattle.script.proofs.lemmas.{parted_once}
@@ -15,7 +15,9 @@ use Rattle.trace.specs.Elements.{elements_in}
 use Rattle.trace.specs.Texts.{opening_line, trace_line}
 use Rattle.trace.specs.declared.element.Spot.{Spot}
 use Rattle.trace.specs.Traces.{EndsEvent, Inside, StopsElement, TellsElement, TellsEvent, asking_from, numbered_from}
-use Rattle.command_line.specs.Carriers.{plain_calls, plain_of, subnet_calls, subnet_of}
+use Rattle.leader1822.specs.Boxes.{plain_calls}
+use Rattle.subnet.specs.Working.{subnet_calls}
+use Rattle.command_line.specs.Carriers.{plain_of, subnet_of}
 use Rattle.command_line.specs.Events.{Asked, Raw, World}
 use Rattle.command_line.specs.Traced.{EndsFrom, EndsOn, EndsOver, IsRaw, IsScripted, TraceStops, TracesFrom, TracesInput, TracesOn, TracesOver, plain_inside, subnet_inside}
 use Rattle.command_line.proofs.OneInput.{OneInput, input_once}

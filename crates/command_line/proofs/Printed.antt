@@ -5,7 +5,7 @@ use Rattle.std.specs.Io.KnownBytes.{Appends}
 use Rattle.std.specs.List.{Contains}
 use Rattle.headline.specs.Promise.{KeepsPromise}
 use Rattle.leader1822.specs.Boxes.{Boxes}
-use Rattle.leader1822.specs.Calls.{Seen}
+use Rattle.leader1822.specs.Calls.{Calls, Seen}
 use Rattle.leader1822.specs.Host.{Host}
 use Rattle.leader1822.specs.Mailboxes.{IsRun}
 use Rattle.leader1822.specs.Messages.{SafeMessages}
@@ -23,7 +23,6 @@ use Rattle.icp.specs.declared.outcome.Outcome.TheVariants as outcome
 use Rattle.host_services.specs.declared.report.Report.TheVariants as report
 use Rattle.replay.specs.Output.{Shown, crossings_of, output}
 use Rattle.replay.specs.Output as raw
-use Rattle.replay.specs.Replay.{Calls}
 use Rattle.replay.specs.declared.print.Detail.{Detail}
 use Rattle.script.specs.Input.{ended_line}
 use Rattle.topology.specs.Topology.{TopologyFields}
@@ -32,7 +31,9 @@ use Rattle.topology.specs.declared.network.CarrierKind.TheVariants as kind
 use Rattle.world_keeps_connections.specs.Connections.{HasReported, IsConnected, IsEnd, JoinedBook}
 use Rattle.world_replay.specs.Output as lines
 use Rattle.world_script.specs.declared.event.WorldEvent.{WorldEvent}
-use Rattle.command_line.specs.Carriers.{hosting, plain_calls, plain_of, subnet_calls, subnet_of}
+use Rattle.leader1822.specs.Boxes.{plain_calls}
+use Rattle.subnet.specs.Working.{subnet_calls}
+use Rattle.command_line.specs.Carriers.{plain_of, subnet_of}
 use Rattle.command_line.specs.Events.{Asked, Raw, World}
 use Rattle.command_line.specs.Lived.{AreLived, lives_in, ungranted}
 use Rattle.command_line.specs.Printed.{AreOneBook, AreRaw, PrintsBook, PrintsPart, log_of, shown_book}
@@ -216,13 +217,13 @@ printed_in_part detail a b h = part_over h.network.carrier h.network detail h.ev
 
 -- ---- lives that are shown of no world
 
-pub another_book : (opening : Boxes) (life : Life) (lives : List Life) (shows : List lines.Shown) → WorldShowsFrom (hosting plain_calls) opening [] (life ∷ lives) shows → ⊥
+pub another_book : (opening : Boxes) (life : Life) (lives : List Life) (shows : List lines.Shown) → WorldShowsFrom plain_calls opening [] (life ∷ lives) shows → ⊥
 another_book opening life lives shows h =
     let none : life ∷ lives ≡ [] = h.left ∙ ap (λ (w : WorldState Boxes). w.kept.book.lives) h.replayed.0 in
     cc
 
 pub without_the_last : (opening : Boxes) (events : List WorldEvent) (lives : List Life) (last : Life) (shows more : List lines.Shown)
-    → WorldShowsFrom (hosting plain_calls) opening events (lives ++ last ∷ []) shows → WorldShowsFrom (hosting plain_calls) opening events lives more → ⊥
+    → WorldShowsFrom plain_calls opening events (lives ++ last ∷ []) shows → WorldShowsFrom plain_calls opening events lives more → ⊥
 without_the_last opening events lives last shows more h k =
     let one : (lives ++ last ∷ [] ≡ lives) × (shows ≡ more) = world_once plain_calls plain_settled opening events (lives ++ last ∷ []) lives shows more h k in
     omega (arith, ap length one.0, length-append lives (last ∷ []))

@@ -16,7 +16,8 @@ use Rattle.subnet.specs.Calls as subnet
 use Rattle.subnet.specs.Events as events
 use Rattle.subnet.specs.Working.{SubnetRound, SubnetTake}
 use Rattle.subnet.proofs.lemmas.{round_log, take_log}
-use Rattle.command_line.specs.Carriers.{plain_calls, subnet_calls}
+use Rattle.leader1822.specs.Boxes.{plain_calls}
+use Rattle.subnet.specs.Working.{subnet_calls}
 
 -- ---- one call
 

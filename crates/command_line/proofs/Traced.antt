@@ -3,7 +3,7 @@ use Rattle.std.proofs.Common.{◌≡◌, ◌≢◌, ◌⊎◌, ◌∙◌, inl, i
 use Rattle.std.proofs.lemmas.List.{length-map}
 use Rattle.std.specs.Io.KnownBytes.{Keeps}
 use Rattle.replay.specs.InTurn.{text_of}
-use Rattle.replay.specs.Replay.{Calls}
+use Rattle.leader1822.specs.Calls.{Calls}
 use Rattle.script.specs.Script.{AskForAs, asks, lines_of}
 use Rattle.script.specs.Spelling.{IsEvent, spelling}
 use Rattle.script.proofs.lemmas.{parted_once}
@@ -44,14 +44,14 @@ ends_over carrier network lines asked a b is (inr h) = inr (subst (λ (k : Carri
 
 -- ---- of hosts with programs
 
-pub flushed_world : {C : Type 0} (calls : world.Calls C) (whole : C → List ℕ) (t : TopologyFields) (opening : C) (first last : WorldState C) (lines : List ℕ) (events : List WorldEvent) (a b c : Option (List ℕ)) → first ≡ opening_world calls opening
+pub flushed_world : {C : Type 0} (calls : Calls C) (whole : C → List ℕ) (t : TopologyFields) (opening : C) (first last : WorldState C) (lines : List ℕ) (events : List WorldEvent) (a b c : Option (List ℕ)) → first ≡ opening_world calls opening
     → WritesTrace (worlds.AfterOpening whole t first (TracesWorld calls whole first lines events last)) a b → Keeps b c → WorldTracesFrom calls whole t opening lines events a c
 flushed_world {C} calls whole t opening first last lines events a b c is w k =
     let own : WritesTrace (worlds.AfterOpening whole t (opening_world calls opening) (TracesWorld calls whole (opening_world calls opening) lines events last)) a b =
     subst (λ (x : WorldState C). WritesTrace (worlds.AfterOpening whole t x (TracesWorld calls whole x lines events last)) a b) is w in
     record { last = last; traced = record { shown = own.shown; is_shown = own.is_shown; written = stays a b c (text_of (λ line. line) own.shown) own.written k } }
 
-pub world_ends : {C : Type 0} (calls : world.Calls C) (whole : C → List ℕ) (t : TopologyFields) (opening : C) (first last : WorldState C) (lines : List ℕ) (events : List WorldEvent) (a b : Option (List ℕ)) → first ≡ opening_world calls opening
+pub world_ends : {C : Type 0} (calls : Calls C) (whole : C → List ℕ) (t : TopologyFields) (opening : C) (first last : WorldState C) (lines : List ℕ) (events : List WorldEvent) (a b : Option (List ℕ)) → first ≡ opening_world calls opening
     → WritesTrace (worlds.AfterOpening whole t first (WorldTraceEnds calls whole (StopsOne calls) first lines events last)) a b → WorldEndsFrom calls whole t opening lines events a b
 world_ends {C} calls whole t opening first last lines events a b is w = record {
   last = last;

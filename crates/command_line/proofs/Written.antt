@@ -10,7 +10,8 @@ use Rattle.net_sim.specs.Carriers.{shown}
 use Rattle.net_sim.specs.World.{WorldState, opening_world}
 use Rattle.net_sim.specs.declared.life.Life.{Life}
 use Rattle.replay.specs.Output.{Writes, crossings_of, output}
-use Rattle.replay.specs.Replay.{Calls, EndsIn, Replays, StopsIn}
+use Rattle.replay.specs.Replay.{EndsIn, Replays, StopsIn}
+use Rattle.leader1822.specs.Calls.{Calls}
 use Rattle.replay.specs.declared.print.Detail.{Detail}
 use Rattle.replay.proofs.lemmas.{appends_more, on_ok, replays_show, stops_show}
 use Rattle.script.specs.declared.event.RawEvent.{RawEvent}
@@ -20,7 +21,6 @@ use Rattle.world_replay.specs.Output as lines
 use Rattle.world_replay.specs.Replay as worlds
 use Rattle.world_replay.proofs.lemmas.Replays as world
 use Rattle.world_script.specs.declared.event.WorldEvent.{WorldEvent}
-use Rattle.command_line.specs.Carriers.{hosting}
 use Rattle.command_line.specs.Events.{Asked}
 use Rattle.command_line.specs.Input.{IsInput}
 use Rattle.command_line.specs.Logs.{LogsOn, LogsOver}
@@ -65,37 +65,37 @@ writes_part calls opening last events detail a b empty h safe run = record {
 shows_book : {C : Type 0} (last : WorldState C) (shows : List lines.Shown) → world.HaveGains opening_kept last.kept shows → ShowsBook last.kept.book shows
 shows_book last shows h = record { crossed = h.crossed ∙ append-nil (reverse (lines.crossings_of shows)); told = h.told; said = h.said }
 
-pub world_writes_all : {C : Type 0} (calls : Calls C) (carrier : C) (opening last : WorldState C) (events : List WorldEvent) (lives : List Life) (book : Bool) (detail : Detail) (a b c : Option (List ℕ)) → opening ≡ opening_world (shown (hosting calls)) carrier
-    → lines.Writes detail (worlds.Replays (shown (hosting calls)) opening events last) a b → KeepsPromise calls.seen last → lives ≡ last.kept.book.lives → Appends b c (book_text book lives ++ codes "end\n")
-    → WritesWorld book detail (WorldShowsFrom (hosting calls) carrier events) a c
+pub world_writes_all : {C : Type 0} (calls : Calls C) (carrier : C) (opening last : WorldState C) (events : List WorldEvent) (lives : List Life) (book : Bool) (detail : Detail) (a b c : Option (List ℕ)) → opening ≡ opening_world (shown calls) carrier
+    → lines.Writes detail (worlds.Replays (shown calls) opening events last) a b → KeepsPromise calls.seen last → lives ≡ last.kept.book.lives → Appends b c (book_text book lives ++ codes "end\n")
+    → WritesWorld book detail (WorldShowsFrom calls carrier events) a c
 world_writes_all {C} calls carrier opening last events lives book detail a b c is h promise left end =
-    let from : worlds.Replays (shown (hosting calls)) (opening_world (shown (hosting calls)) carrier) events last h.shown =
-    subst (λ (w : WorldState C). worlds.Replays (shown (hosting calls)) w events last h.shown) is h.is_shown in
+    let from : worlds.Replays (shown calls) (opening_world (shown calls) carrier) events last h.shown =
+    subst (λ (w : WorldState C). worlds.Replays (shown calls) w events last h.shown) is h.is_shown in
     record {
       shown = h.shown;
       lives = lives;
       shows = record {
         last = last;
         replayed = from;
-        booked = shows_book last h.shown (world.replays_show (shown (hosting calls)) (opening_world (shown (hosting calls)) carrier) events last h.shown from);
+        booked = shows_book last h.shown (world.replays_show (shown calls) (opening_world (shown calls) carrier) events last h.shown from);
         left = left;
         promise = promise;
       };
       written = appends_more a b c (lines.output detail h.shown) (book_text book lives ++ codes "end\n") h.written end;
     }
 
-pub world_writes_part : {C : Type 0} (calls : Calls C) (carrier : C) (opening last : WorldState C) (events : List WorldEvent) (detail : Detail) (a b : Option (List ℕ)) → opening ≡ opening_world (shown (hosting calls)) carrier
-    → lines.Writes detail (worlds.EndsIn (shown (hosting calls)) (worlds.StopsIn (shown (hosting calls))) opening events last) a b → KeepsPromise calls.seen last
-    → lines.Writes detail (WorldStopsFrom (hosting calls) carrier events) a b
+pub world_writes_part : {C : Type 0} (calls : Calls C) (carrier : C) (opening last : WorldState C) (events : List WorldEvent) (detail : Detail) (a b : Option (List ℕ)) → opening ≡ opening_world (shown calls) carrier
+    → lines.Writes detail (worlds.EndsIn (shown calls) (worlds.StopsIn (shown calls)) opening events last) a b → KeepsPromise calls.seen last
+    → lines.Writes detail (WorldStopsFrom calls carrier events) a b
 world_writes_part {C} calls carrier opening last events detail a b is h promise =
-    let from : worlds.EndsIn (shown (hosting calls)) (worlds.StopsIn (shown (hosting calls))) (opening_world (shown (hosting calls)) carrier) events last h.shown =
-    subst (λ (w : WorldState C). worlds.EndsIn (shown (hosting calls)) (worlds.StopsIn (shown (hosting calls))) w events last h.shown) is h.is_shown in
+    let from : worlds.EndsIn (shown calls) (worlds.StopsIn (shown calls)) (opening_world (shown calls) carrier) events last h.shown =
+    subst (λ (w : WorldState C). worlds.EndsIn (shown calls) (worlds.StopsIn (shown calls)) w events last h.shown) is h.is_shown in
     record {
       shown = h.shown;
       is_shown = record {
         last = last;
         stopped = from;
-        booked = shows_book last h.shown (world.stops_show (shown (hosting calls)) (opening_world (shown (hosting calls)) carrier) events last h.shown from);
+        booked = shows_book last h.shown (world.stops_show (shown calls) (opening_world (shown calls) carrier) events last h.shown from);
         promise = promise;
       };
       written = h.written;

@@ -11,7 +11,8 @@ use Rattle.net_sim.specs.World.{WorldState, opening_world}
 use Rattle.net_sim.specs.World as world
 use Rattle.leader1822.specs.declared.crossing.Crossing.{Crossing}
 use Rattle.replay.specs.Output.{Shown}
-use Rattle.replay.specs.Replay.{Calls, Replays}
+use Rattle.replay.specs.Replay.{Replays}
+use Rattle.leader1822.specs.Calls.{Calls}
 use Rattle.script.specs.declared.event.RawEvent.{RawEvent}
 use Rattle.topology.specs.Topology.{TopologyFields}
 use Rattle.topology.specs.declared.network.CarrierKind.{CarrierKind}
@@ -19,7 +20,9 @@ use Rattle.topology.specs.declared.network.CarrierKind.TheVariants as kind
 use Rattle.world_replay.specs.Output as lines
 use Rattle.world_replay.specs.Replay as worlds
 use Rattle.world_script.specs.declared.event.WorldEvent.{WorldEvent}
-use Rattle.command_line.specs.Carriers.{hosting, plain_calls, plain_of, subnet_calls, subnet_of}
+use Rattle.leader1822.specs.Boxes.{plain_calls}
+use Rattle.subnet.specs.Working.{subnet_calls}
+use Rattle.command_line.specs.Carriers.{plain_of, subnet_of}
 use Rattle.command_line.specs.Events.{Asked, Raw, World}
 use Rattle.command_line.specs.Input.{IsInput}
 
@@ -45,7 +48,7 @@ pub record LogsRaw {C : Type 0} (calls : Calls C) (opening : C) (events : List R
 
 -- events are replayed in a world over such a carrier, whose book keeps its promise, and only the log of this book is written. It says all
 -- values as they are
-pub record LogsWorld {C : Type 0} (calls : world.Calls C) (opening : C) (events : List WorldEvent) (before after : Option (List ℕ)) : Type 0 where
+pub record LogsWorld {C : Type 0} (calls : Calls C) (opening : C) (events : List WorldEvent) (before after : Option (List ℕ)) : Type 0 where
   pub last : WorldState C
   pub shows : List lines.Shown
   pub replayed : worlds.Replays (shown calls) (opening_world (shown calls) opening) events last shows
@@ -55,7 +58,7 @@ pub record LogsWorld {C : Type 0} (calls : world.Calls C) (opening : C) (events 
 
 abbrev pub LogsFrom : {C : Type 0} → Calls C → C → Asked → Option (List ℕ) → Option (List ℕ) → Type 0
 LogsFrom calls opening (Raw events) before after = LogsRaw calls opening events before after
-LogsFrom calls opening (World events) before after = LogsWorld (hosting calls) opening events before after
+LogsFrom calls opening (World events) before after = LogsWorld calls opening events before after
 
 -- over the carrier that a topology names: plain mailboxes between its hosts, or the subnet of its IMPs and lines
 abbrev pub LogsOver : CarrierKind → TopologyFields → Asked → Option (List ℕ) → Option (List ℕ) → Type 0

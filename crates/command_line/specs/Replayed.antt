@@ -10,7 +10,8 @@ use Rattle.net_sim.specs.World.{WorldState, opening_world}
 use Rattle.net_sim.specs.World as world
 use Rattle.net_sim.specs.declared.life.Life.{Life}
 use Rattle.replay.specs.Output.{Shown, Writes, crossings_of, output}
-use Rattle.replay.specs.Replay.{Calls, EndsIn, Replays, StopsIn}
+use Rattle.replay.specs.Replay.{EndsIn, Replays, StopsIn}
+use Rattle.leader1822.specs.Calls.{Calls}
 use Rattle.replay.specs.declared.print.Detail.{Detail}
 use Rattle.script.specs.declared.event.RawEvent.{RawEvent}
 use Rattle.topology.specs.Topology.{TopologyFields}
@@ -20,7 +21,9 @@ use Rattle.world_replay.specs.Output as lines
 use Rattle.world_replay.specs.Output.{lives_output}
 use Rattle.world_replay.specs.Replay as worlds
 use Rattle.world_script.specs.declared.event.WorldEvent.{WorldEvent}
-use Rattle.command_line.specs.Carriers.{hosting, plain_calls, plain_of, subnet_calls, subnet_of}
+use Rattle.leader1822.specs.Boxes.{plain_calls}
+use Rattle.subnet.specs.Working.{subnet_calls}
+use Rattle.command_line.specs.Carriers.{plain_of, subnet_of}
 use Rattle.command_line.specs.Events.{Asked, Raw, World}
 use Rattle.command_line.specs.Input.{IsInput}
 
@@ -59,7 +62,7 @@ pub record ShowsBook (book : Book) (shows : List lines.Shown) : Type 0 where
 
 -- events are replayed in a world over such a carrier, and show these lines. The lines have what is in the book of this world, the lives are those
 -- of its book, and its book keeps its promise
-pub record WorldShowsFrom {C : Type 0} (calls : world.Calls C) (opening : C) (events : List WorldEvent) (lives : List Life) (shows : List lines.Shown) : Type 0 where
+pub record WorldShowsFrom {C : Type 0} (calls : Calls C) (opening : C) (events : List WorldEvent) (lives : List Life) (shows : List lines.Shown) : Type 0 where
   pub last : WorldState C
   pub replayed : worlds.Replays (shown calls) (opening_world (shown calls) opening) events last shows
   pub booked : ShowsBook last.kept.book shows
@@ -67,7 +70,7 @@ pub record WorldShowsFrom {C : Type 0} (calls : world.Calls C) (opening : C) (ev
   pub promise : KeepsPromise calls.seen last
 
 -- memory ran out in one of the events: the lines that were shown by then have what is in the world's book, and its book keeps its promise
-pub record WorldStopsFrom {C : Type 0} (calls : world.Calls C) (opening : C) (events : List WorldEvent) (shows : List lines.Shown) : Type 0 where
+pub record WorldStopsFrom {C : Type 0} (calls : Calls C) (opening : C) (events : List WorldEvent) (shows : List lines.Shown) : Type 0 where
   pub last : WorldState C
   pub stopped : worlds.EndsIn (shown calls) (worlds.StopsIn (shown calls)) (opening_world (shown calls) opening) events last shows
   pub booked : ShowsBook last.kept.book shows
@@ -90,11 +93,11 @@ pub record WritesWorld (book : Bool) (detail : Detail) (AreShown : List Life →
 -- events are replayed over a carrier with such calls, without host programs or with them
 abbrev pub ReplaysFrom : {C : Type 0} → Calls C → C → Bool → Detail → Asked → Option (List ℕ) → Option (List ℕ) → Type 0
 ReplaysFrom calls opening book detail (Raw events) before after = WritesAll detail (ShowsFrom calls opening events) before after
-ReplaysFrom calls opening book detail (World events) before after = WritesWorld book detail (WorldShowsFrom (hosting calls) opening events) before after
+ReplaysFrom calls opening book detail (World events) before after = WritesWorld book detail (WorldShowsFrom calls opening events) before after
 
 abbrev pub EndsFrom : {C : Type 0} → Calls C → C → Detail → Asked → Option (List ℕ) → Option (List ℕ) → Type 0
 EndsFrom calls opening detail (Raw events) before after = Writes detail (StopsFrom calls opening events) before after
-EndsFrom calls opening detail (World events) before after = lines.Writes detail (WorldStopsFrom (hosting calls) opening events) before after
+EndsFrom calls opening detail (World events) before after = lines.Writes detail (WorldStopsFrom calls opening events) before after
 
 -- over the carrier that a topology names: plain mailboxes between its hosts, or the subnet of its IMPs and lines
 abbrev pub ReplaysOver : CarrierKind → TopologyFields → Bool → Detail → Asked → Option (List ℕ) → Option (List ℕ) → Type 0

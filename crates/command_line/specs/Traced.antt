@@ -1,7 +1,7 @@
 -- What is written of a replay as a trace.
 use Rattle.std.specs.Prelude.{◌≡◌, ℕ, List, None, Option, length}
 use Rattle.leader1822.specs.Boxes.{Boxes}
-use Rattle.replay.specs.Replay.{Calls}
+use Rattle.leader1822.specs.Calls.{Calls}
 use Rattle.script.specs.Input.{IsParted}
 use Rattle.script.specs.declared.event.RawEvent.{RawEvent}
 use Rattle.subnet.specs.Calls.{Kept}
@@ -20,7 +20,9 @@ use Rattle.net_sim.specs.World.{WorldState, opening_world}
 use Rattle.world_script.specs.declared.event.WorldEvent.{WorldEvent}
 use Rattle.world_trace.specs.Traces as worlds
 use Rattle.world_trace.specs.Traces.{StopsOne, TracesWorld, WorldTraceEnds}
-use Rattle.command_line.specs.Carriers.{hosting, plain_calls, plain_of, subnet_calls, subnet_of}
+use Rattle.leader1822.specs.Boxes.{plain_calls}
+use Rattle.subnet.specs.Working.{subnet_calls}
+use Rattle.command_line.specs.Carriers.{plain_of, subnet_of}
 use Rattle.command_line.specs.Events.{Asked, Raw, World}
 use Rattle.command_line.specs.Input.{IsInput}
 
@@ -44,23 +46,23 @@ pub record EndsFrom {C : Type 0} (calls : Calls C) (inside : Inside C) (t : Topo
 
 -- events of hosts with programs are replayed over a carrier that shows the object of all its parts, and their trace is written, first
 -- the network and then a line for each event and each round of a calm, and nothing else
-pub record WorldTracesFrom {C : Type 0} (calls : world.Calls C) (whole : C → List ℕ) (t : TopologyFields) (opening : C) (lines : List ℕ) (events : List WorldEvent) (before after : Option (List ℕ)) : Type 0 where
+pub record WorldTracesFrom {C : Type 0} (calls : Calls C) (whole : C → List ℕ) (t : TopologyFields) (opening : C) (lines : List ℕ) (events : List WorldEvent) (before after : Option (List ℕ)) : Type 0 where
   pub last : WorldState C
   pub traced : WritesTrace (worlds.AfterOpening whole t (opening_world calls opening) (TracesWorld calls whole (opening_world calls opening) lines events last)) before after
 
 -- memory ran out in one of them
-pub record WorldEndsFrom {C : Type 0} (calls : world.Calls C) (whole : C → List ℕ) (t : TopologyFields) (opening : C) (lines : List ℕ) (events : List WorldEvent) (before after : Option (List ℕ)) : Type 0 where
+pub record WorldEndsFrom {C : Type 0} (calls : Calls C) (whole : C → List ℕ) (t : TopologyFields) (opening : C) (lines : List ℕ) (events : List WorldEvent) (before after : Option (List ℕ)) : Type 0 where
   pub last : WorldState C
   pub traced : WritesTrace (worlds.AfterOpening whole t (opening_world calls opening) (WorldTraceEnds calls whole (StopsOne calls) (opening_world calls opening) lines events last)) before after
 
 -- events of either kind
 abbrev pub TracesAll : {C : Type 0} → Calls C → Inside C → TopologyFields → C → List ℕ → Asked → Option (List ℕ) → Option (List ℕ) → Type 0
 TracesAll calls inside t opening lines (Raw events) before after = TracesFrom calls inside t opening lines events before after
-TracesAll calls inside t opening lines (World events) before after = WorldTracesFrom (shown (hosting calls)) inside.whole t opening lines events before after
+TracesAll calls inside t opening lines (World events) before after = WorldTracesFrom (shown calls) inside.whole t opening lines events before after
 
 abbrev pub EndsAll : {C : Type 0} → Calls C → Inside C → TopologyFields → C → List ℕ → Asked → Option (List ℕ) → Option (List ℕ) → Type 0
 EndsAll calls inside t opening lines (Raw events) before after = EndsFrom calls inside t opening lines events before after
-EndsAll calls inside t opening lines (World events) before after = WorldEndsFrom (shown (hosting calls)) inside.whole t opening lines events before after
+EndsAll calls inside t opening lines (World events) before after = WorldEndsFrom (shown calls) inside.whole t opening lines events before after
 
 -- ---- of a topology
 

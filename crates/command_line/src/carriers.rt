@@ -5,7 +5,7 @@ ghost use Rattle.std.specs.Io.KnownBytes.{Appends, Keeps};
 ghost use Rattle.replay.specs.Failing.{TellsFailure};
 ghost use Rattle.replay.specs.Output.{Writes};
 ghost use Rattle.world_replay.specs.Output as lines;
-ghost use Rattle.command_line.specs.Carriers.{ends_of, hosting, subnet_of};
+ghost use Rattle.command_line.specs.Carriers.{ends_of, subnet_of};
 ghost use Rattle.command_line.specs.Events.{asked_of};
 ghost use Rattle.command_line.specs.Replayed.{EndsFrom, EndsOn, ReplaysFrom, ReplaysOn, ShowsFrom, StopsFrom, book_text, WorldShowsFrom, WorldStopsFrom, WritesAll, WritesWorld};
 ghost use Rattle.command_line.specs.Steps.{IsReplayFault};
@@ -73,11 +73,11 @@ fn replay_over<C: Carrier, W: Output>(
     detail: Detail,
     writer: &mut W,
 ) -> Result<(), ScriptFault>
-    requires unused { (C.seen carrier).log ≡ [] }
+    requires unused { (C.calls.seen carrier).log ≡ [] }
     requires whole { W.failed writer.old ≡ false }
-    requires running { (C.seen carrier).stopped ≡ false }
-    ensures replayed { OnOk result (ReplaysFrom (record { seen = C.seen; offers = C.offers; takes = C.takes; steps = C.steps; rounds = C.rounds }) carrier book detail (asked_of events) (W.contents writer.old) (W.contents writer.new)) }
-    ensures stopped { result ≡ Err ScriptFault.OutOfMemory → Keeps (W.contents writer.old) (W.contents writer.new) ⊎ EndsFrom (record { seen = C.seen; offers = C.offers; takes = C.takes; steps = C.steps; rounds = C.rounds }) carrier detail (asked_of events) (W.contents writer.old) (W.contents writer.new) }
+    requires running { (C.calls.seen carrier).stopped ≡ false }
+    ensures replayed { OnOk result (ReplaysFrom C.calls carrier book detail (asked_of events) (W.contents writer.old) (W.contents writer.new)) }
+    ensures stopped { result ≡ Err ScriptFault.OutOfMemory → Keeps (W.contents writer.old) (W.contents writer.new) ⊎ EndsFrom C.calls carrier detail (asked_of events) (W.contents writer.old) (W.contents writer.new) }
     ensures fault { IfErr result IsReplayFault }
     ensures failed { (result ≡ Err ScriptFault.CannotWrite) ↔ (W.failed writer.new ≡ true) }
     ensures flushed { OnOk result (W.flushed writer.new ≡ true) }
@@ -97,10 +97,10 @@ fn replay_raw<C: Carrier, W: Output>(
     detail: Detail,
     writer: &mut W,
 ) -> Result<(), ScriptFault>
-    requires unused { (C.seen carrier).log ≡ [] }
+    requires unused { (C.calls.seen carrier).log ≡ [] }
     requires whole { W.failed writer.old ≡ false }
-    ensures replayed { OnOk result (WritesAll detail (ShowsFrom (record { seen = C.seen; offers = C.offers; takes = C.takes; steps = C.steps; rounds = C.rounds }) carrier events.now) (W.contents writer.old) (W.contents writer.new)) }
-    ensures stopped { result ≡ Err ScriptFault.OutOfMemory → Writes detail (StopsFrom (record { seen = C.seen; offers = C.offers; takes = C.takes; steps = C.steps; rounds = C.rounds }) carrier events.now) (W.contents writer.old) (W.contents writer.new) }
+    ensures replayed { OnOk result (WritesAll detail (ShowsFrom C.calls carrier events.now) (W.contents writer.old) (W.contents writer.new)) }
+    ensures stopped { result ≡ Err ScriptFault.OutOfMemory → Writes detail (StopsFrom C.calls carrier events.now) (W.contents writer.old) (W.contents writer.new) }
     ensures fault { IfErr result IsReplayFault }
     ensures failed { (result ≡ Err ScriptFault.CannotWrite) ↔ (W.failed writer.new ≡ true) }
     ensures flushed { OnOk result (W.flushed writer.new ≡ true) }
@@ -123,11 +123,11 @@ fn replay_world<C: Carrier, W: Output>(
     detail: Detail,
     writer: &mut W,
 ) -> Result<(), ScriptFault>
-    requires unused { (C.seen carrier).log ≡ [] }
+    requires unused { (C.calls.seen carrier).log ≡ [] }
     requires whole { W.failed writer.old ≡ false }
-    requires running { (C.seen carrier).stopped ≡ false }
-    ensures replayed { OnOk result (WritesWorld book detail (WorldShowsFrom (hosting (record { seen = C.seen; offers = C.offers; takes = C.takes; steps = C.steps; rounds = C.rounds })) carrier events.items) (W.contents writer.old) (W.contents writer.new)) }
-    ensures stopped { result ≡ Err ScriptFault.OutOfMemory → Keeps (W.contents writer.old) (W.contents writer.new) ⊎ lines.Writes detail (WorldStopsFrom (hosting (record { seen = C.seen; offers = C.offers; takes = C.takes; steps = C.steps; rounds = C.rounds })) carrier events.items) (W.contents writer.old) (W.contents writer.new) }
+    requires running { (C.calls.seen carrier).stopped ≡ false }
+    ensures replayed { OnOk result (WritesWorld book detail (WorldShowsFrom C.calls carrier events.items) (W.contents writer.old) (W.contents writer.new)) }
+    ensures stopped { result ≡ Err ScriptFault.OutOfMemory → Keeps (W.contents writer.old) (W.contents writer.new) ⊎ lines.Writes detail (WorldStopsFrom C.calls carrier events.items) (W.contents writer.old) (W.contents writer.new) }
     ensures fault { IfErr result IsReplayFault }
     ensures failed { (result ≡ Err ScriptFault.CannotWrite) ↔ (W.failed writer.new ≡ true) }
     ensures flushed { OnOk result (W.flushed writer.new ≡ true) }

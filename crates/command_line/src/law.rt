@@ -21,7 +21,7 @@ ghost use Rattle.world_replay.specs.Output as lines;
 ghost use Rattle.world_replay.specs.Output.{Shown, crossings_of, notices_of, reports_of};
 ghost use Rattle.world_script.specs.declared.event.WorldEvent.{WorldEvent};
 ghost use Rattle.command_line.specs.Audits.{IsKeptLog, SaysKept, kept};
-ghost use Rattle.command_line.specs.Carriers.{hosting, plain_calls};
+ghost use Rattle.leader1822.specs.Boxes.{plain_calls};
 ghost use Rattle.command_line.specs.Joins.{PrintTheSame, TellTheSame};
 ghost use Rattle.command_line.specs.Lived.{AreLived};
 ghost use Rattle.command_line.specs.Logs.{Logged, LogsInput};
@@ -134,8 +134,8 @@ pub fn worked_verdicts()
 /// Lives that no replay shows.
 pub fn worked_lives()
     // those of another book: where nothing happened there are none
-    ensures another_book { (opening : Boxes) (life : Life) (lives : List Life) (shows : List Shown) → WorldShowsFrom (hosting plain_calls) opening [] (life ∷ lives) shows → ⊥ }
+    ensures another_book { (opening : Boxes) (life : Life) (lives : List Life) (shows : List Shown) → WorldShowsFrom plain_calls opening [] (life ∷ lives) shows → ⊥ }
 
     // those of the book without the last one
-    ensures without_the_last { (opening : Boxes) (events : List WorldEvent) (lives : List Life) (last : Life) (shows more : List Shown) → WorldShowsFrom (hosting plain_calls) opening events (lives ++ last ∷ []) shows → WorldShowsFrom (hosting plain_calls) opening events lives more → ⊥ }
+    ensures without_the_last { (opening : Boxes) (events : List WorldEvent) (lives : List Life) (last : Life) (shows more : List Shown) → WorldShowsFrom plain_calls opening events (lives ++ last ∷ []) shows → WorldShowsFrom plain_calls opening events lives more → ⊥ }
 {}

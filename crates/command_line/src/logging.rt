@@ -4,7 +4,6 @@ ghost use Rattle.std.specs.Prelude.{◌≡◌, ◌≢◌, ◌↔◌, Err, IfErr,
 ghost use Rattle.std.specs.Io.KnownBytes.{Appends};
 ghost use Rattle.book_log.specs.Log.{IsBook, log_text};
 ghost use Rattle.replay.specs.Failing.{TellsFailure};
-ghost use Rattle.command_line.specs.Carriers.{hosting};
 ghost use Rattle.command_line.specs.Events.{asked_of};
 ghost use Rattle.command_line.specs.Input.{IsInputFault, IsSomeInput};
 ghost use Rattle.command_line.specs.Logs.{Logged, LogsFrom, LogsInput, LogsOn, LogsRaw, LogsWorld};
@@ -139,10 +138,10 @@ fn log_over<C: Carrier, W: Output>(
     events: Events,
     writer: &mut W,
 ) -> Result<(), ScriptFault>
-    requires unused { (C.seen carrier).log ≡ [] }
+    requires unused { (C.calls.seen carrier).log ≡ [] }
     requires whole { W.failed writer.old ≡ false }
-    requires running { (C.seen carrier).stopped ≡ false }
-    ensures logged { OnOk result (LogsFrom (record { seen = C.seen; offers = C.offers; takes = C.takes; steps = C.steps; rounds = C.rounds }) carrier (asked_of events) (W.contents writer.old) (W.contents writer.new)) }
+    requires running { (C.calls.seen carrier).stopped ≡ false }
+    ensures logged { OnOk result (LogsFrom C.calls carrier (asked_of events) (W.contents writer.old) (W.contents writer.new)) }
     ensures untouched { IfErr result (λ f. f ≢ ScriptFault.CannotWrite → writer.new ≡ writer.old) }
     ensures fault { IfErr result IsReplayFault }
     ensures failed { (result ≡ Err ScriptFault.CannotWrite) ↔ (W.failed writer.new ≡ true) }
@@ -162,9 +161,9 @@ fn log_raw<C: Carrier, W: Output>(
     events: &[RawEvent],
     writer: &mut W,
 ) -> Result<(), ScriptFault>
-    requires unused { (C.seen carrier).log ≡ [] }
+    requires unused { (C.calls.seen carrier).log ≡ [] }
     requires whole { W.failed writer.old ≡ false }
-    ensures logged { OnOk result (LogsRaw (record { seen = C.seen; offers = C.offers; takes = C.takes; steps = C.steps; rounds = C.rounds }) carrier events.now (W.contents writer.old) (W.contents writer.new)) }
+    ensures logged { OnOk result (LogsRaw C.calls carrier events.now (W.contents writer.old) (W.contents writer.new)) }
     ensures untouched { IfErr result (λ f. f ≢ ScriptFault.CannotWrite → writer.new ≡ writer.old) }
     ensures fault { IfErr result IsReplayFault }
     ensures failed { (result ≡ Err ScriptFault.CannotWrite) ↔ (W.failed writer.new ≡ true) }
@@ -191,10 +190,10 @@ fn log_world<C: Carrier, W: Output>(
     events: Vec<WorldEvent>,
     writer: &mut W,
 ) -> Result<(), ScriptFault>
-    requires unused { (C.seen carrier).log ≡ [] }
+    requires unused { (C.calls.seen carrier).log ≡ [] }
     requires whole { W.failed writer.old ≡ false }
-    requires running { (C.seen carrier).stopped ≡ false }
-    ensures logged { OnOk result (LogsWorld (hosting (record { seen = C.seen; offers = C.offers; takes = C.takes; steps = C.steps; rounds = C.rounds })) carrier events.items (W.contents writer.old) (W.contents writer.new)) }
+    requires running { (C.calls.seen carrier).stopped ≡ false }
+    ensures logged { OnOk result (LogsWorld C.calls carrier events.items (W.contents writer.old) (W.contents writer.new)) }
     ensures untouched { IfErr result (λ f. f ≢ ScriptFault.CannotWrite → writer.new ≡ writer.old) }
     ensures fault { IfErr result IsReplayFault }
     ensures failed { (result ≡ Err ScriptFault.CannotWrite) ↔ (W.failed writer.new ≡ true) }

@@ -3,7 +3,6 @@
 ghost use Rattle.std.specs.Prelude.{◌≡◌, ◌≢◌, ◌⊎◌, ◌↔◌, ◌≤◌, [], Err, IfErr, IfOk, IfSome, MatchResult, OnOk, false, length, true};
 ghost use Rattle.std.specs.Io.KnownBytes.{Keeps};
 ghost use Rattle.net_sim.specs.Carriers.{shown};
-ghost use Rattle.command_line.specs.Carriers.{hosting};
 ghost use Rattle.command_line.specs.Events.{asked_of};
 ghost use Rattle.command_line.specs.Input.{IsInputFault, IsSomeInput};
 ghost use Rattle.command_line.specs.Reading.{ReadsAll, ReadsFirst};
@@ -159,12 +158,12 @@ fn trace_over<C: Inspect, W: Output>(
     events: Events,
     writer: &mut W,
 ) -> Result<(), ScriptFault>
-    requires unused { (C.seen carrier).log ≡ [] }
-    requires running { (C.seen carrier).stopped ≡ false }
+    requires unused { (C.calls.seen carrier).log ≡ [] }
+    requires running { (C.calls.seen carrier).stopped ≡ false }
     requires events { length lines.now ≡ asked_count (asked_of events) }
     requires whole { W.failed writer.old ≡ false }
-    ensures traced { OnOk result (TracesAll (record { seen = C.seen; offers = C.offers; takes = C.takes; steps = C.steps; rounds = C.rounds }) (record { calm = C.calm; whole = C.whole; parts = C.parts; fate = C.fate }) network.now carrier lines.now (asked_of events) (W.contents writer.old) (W.contents writer.new)) }
-    ensures stopped { result ≡ Err ScriptFault.OutOfMemory → Keeps (W.contents writer.old) (W.contents writer.new) ⊎ EndsAll (record { seen = C.seen; offers = C.offers; takes = C.takes; steps = C.steps; rounds = C.rounds }) (record { calm = C.calm; whole = C.whole; parts = C.parts; fate = C.fate }) network.now carrier lines.now (asked_of events) (W.contents writer.old) (W.contents writer.new) }
+    ensures traced { OnOk result (TracesAll C.calls (record { calm = C.calm; whole = C.whole; parts = C.parts; fate = C.fate }) network.now carrier lines.now (asked_of events) (W.contents writer.old) (W.contents writer.new)) }
+    ensures stopped { result ≡ Err ScriptFault.OutOfMemory → Keeps (W.contents writer.old) (W.contents writer.new) ⊎ EndsAll C.calls (record { calm = C.calm; whole = C.whole; parts = C.parts; fate = C.fate }) network.now carrier lines.now (asked_of events) (W.contents writer.old) (W.contents writer.new) }
     ensures fault { IfErr result IsReplayFault }
     ensures failed { (result ≡ Err ScriptFault.CannotWrite) ↔ (W.failed writer.new ≡ true) }
     ensures flushed { OnOk result (W.flushed writer.new ≡ true) }
@@ -186,12 +185,12 @@ fn trace_hosts<C: Inspect, W: Output>(
     events: Vec<WorldEvent>,
     writer: &mut W,
 ) -> Result<(), ScriptFault>
-    requires unused { (C.seen carrier).log ≡ [] }
-    requires running { (C.seen carrier).stopped ≡ false }
+    requires unused { (C.calls.seen carrier).log ≡ [] }
+    requires running { (C.calls.seen carrier).stopped ≡ false }
     requires events { length lines.now ≡ length events.items }
     requires whole { W.failed writer.old ≡ false }
-    ensures traced { OnOk result (WorldTracesFrom (shown (hosting (record { seen = C.seen; offers = C.offers; takes = C.takes; steps = C.steps; rounds = C.rounds }))) C.whole network.now carrier lines.now events.items (W.contents writer.old) (W.contents writer.new)) }
-    ensures stopped { result ≡ Err ScriptFault.OutOfMemory → Keeps (W.contents writer.old) (W.contents writer.new) ⊎ WorldEndsFrom (shown (hosting (record { seen = C.seen; offers = C.offers; takes = C.takes; steps = C.steps; rounds = C.rounds }))) C.whole network.now carrier lines.now events.items (W.contents writer.old) (W.contents writer.new) }
+    ensures traced { OnOk result (WorldTracesFrom (shown C.calls) C.whole network.now carrier lines.now events.items (W.contents writer.old) (W.contents writer.new)) }
+    ensures stopped { result ≡ Err ScriptFault.OutOfMemory → Keeps (W.contents writer.old) (W.contents writer.new) ⊎ WorldEndsFrom (shown C.calls) C.whole network.now carrier lines.now events.items (W.contents writer.old) (W.contents writer.new) }
     ensures fault { IfErr result IsReplayFault }
     ensures failed { (result ≡ Err ScriptFault.CannotWrite) ↔ (W.failed writer.new ≡ true) }
     ensures flushed { OnOk result (W.flushed writer.new ≡ true) }
@@ -215,8 +214,8 @@ fn trace_from<C: Inspect, W: Output>(
 ) -> Result<(), ScriptFault>
     requires events { length lines.now ≡ length events.now }
     requires whole { W.failed writer.old ≡ false }
-    ensures traced { OnOk result (TracesFrom (record { seen = C.seen; offers = C.offers; takes = C.takes; steps = C.steps; rounds = C.rounds }) (record { calm = C.calm; whole = C.whole; parts = C.parts; fate = C.fate }) network.now carrier lines.now events.now (W.contents writer.old) (W.contents writer.new)) }
-    ensures stopped { result ≡ Err ScriptFault.OutOfMemory → EndsFrom (record { seen = C.seen; offers = C.offers; takes = C.takes; steps = C.steps; rounds = C.rounds }) (record { calm = C.calm; whole = C.whole; parts = C.parts; fate = C.fate }) network.now carrier lines.now events.now (W.contents writer.old) (W.contents writer.new) }
+    ensures traced { OnOk result (TracesFrom C.calls (record { calm = C.calm; whole = C.whole; parts = C.parts; fate = C.fate }) network.now carrier lines.now events.now (W.contents writer.old) (W.contents writer.new)) }
+    ensures stopped { result ≡ Err ScriptFault.OutOfMemory → EndsFrom C.calls (record { calm = C.calm; whole = C.whole; parts = C.parts; fate = C.fate }) network.now carrier lines.now events.now (W.contents writer.old) (W.contents writer.new) }
     ensures fault { IfErr result IsReplayFault }
     ensures failed { (result ≡ Err ScriptFault.CannotWrite) ↔ (W.failed writer.new ≡ true) }
     ensures flushed { OnOk result (W.flushed writer.new ≡ true) }

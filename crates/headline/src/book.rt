@@ -23,7 +23,7 @@ use net_sim::{Book, World};
 /// that went out is one of a sending life.
 pub fn book_of<C: Carrier>(world: &World<C>) -> &Book
     ensures value { result.now ≡ world.now.kept }
-    ensures promise { KeepsPromise C.seen world.now }
+    ensures promise { KeepsPromise C.calls.seen world.now }
 {
     world.book()
 }

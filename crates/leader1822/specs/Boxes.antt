@@ -5,7 +5,7 @@ use Rattle.std.specs.List.{list_any}
 use Rattle.std.specs.FinMap as map
 use Rattle.leader1822.specs.Host.{Host, same_host, is_host, host_cmp}
 use Rattle.leader1822.specs.Mailboxes.{same_flow}
-use Rattle.leader1822.specs.Calls.{Seen}
+use Rattle.leader1822.specs.Calls.{Calls, Seen}
 use Rattle.leader1822.specs.declared.address.Flow.{Flow}
 use Rattle.leader1822.specs.declared.carrier.CarrierFault.{CarrierFault}
 use Rattle.leader1822.specs.declared.carrier.CarrierFault.TheVariants as fault
@@ -309,3 +309,6 @@ BoxesStep old e r new = BoxesDecided (step_refusal old e) (step_grows old e) (λ
 abbrev pub BoxesRound : Boxes → Result (Unit {0}) CarrierFault → Boxes → Type 0
 BoxesRound old (Ok done) new = (old.stopped ≡ false) × (new ≡ old)
 BoxesRound old (Err e) new = (old.stopped ≡ true) × (e ≡ fault.Stopped) × (new ≡ old)
+
+abbrev pub plain_calls : Calls Boxes
+plain_calls = record { seen = seen_of; offers = BoxesOffer; takes = BoxesTake; steps = BoxesStep; rounds = BoxesRound }

@@ -108,3 +108,13 @@ ShowsStep old e (Err f) new = ShowsRefusal old f new
 abbrev pub ShowsRound : Seen → Result (Unit {0}) CarrierFault → Seen → Type 0
 ShowsRound old (Ok done) new = ShowsCrossings old [] new
 ShowsRound old (Err e) new = ShowsRefusal old e new
+
+-- a carrier, whatever it is made of: what it shows, and how each of its calls may go, from the carrier before and what it is
+-- called with to the answer and the carrier after
+pub record Calls (C : Type 0) : Type 1 where
+  pub seen : C → Seen
+  pub offers : C → HostMessage → Result (Unit {0}) CarrierFault → C → Type 0
+  pub takes : C → Host → Result (Option Inbound) CarrierFault → C → Type 0
+  pub steps : C → NetEvent → Result (Unit {0}) CarrierFault → C → Type 0
+  -- a quiet round
+  pub rounds : C → Result (Unit {0}) CarrierFault → C → Type 0

@@ -1,14 +1,9 @@
 //! What a network is to its hosts.
 
-ghost use Rattle.std.specs.Prelude.{◌≡◌, Result, Option, reverse, true, false};
-ghost use Rattle.leader1822.specs.Host.{Host};
+ghost use Rattle.std.specs.Prelude.{◌≡◌, reverse, true, false};
 ghost use Rattle.leader1822.specs.Mailboxes.{IsRun};
-ghost use Rattle.leader1822.specs.Calls.{Seen, InOrder, ShowsOffer, ShowsTake, ShowsStep, ShowsRound};
+ghost use Rattle.leader1822.specs.Calls.{Calls, InOrder, ShowsOffer, ShowsTake, ShowsStep, ShowsRound};
 ghost use Rattle.leader1822.specs.Rest.{Rests};
-ghost use Rattle.leader1822.specs.declared.carrier.CarrierFault.{CarrierFault};
-ghost use Rattle.leader1822.specs.declared.crossing.Inbound.{Inbound};
-ghost use Rattle.leader1822.specs.declared.event.NetEvent.{NetEvent};
-ghost use Rattle.leader1822.specs.declared.message.HostMessage.{HostMessage};
 
 use crate::{Crossing, HostAddr, HostMessage, Inbound, NetEvent};
 use thiserror::Error;
@@ -60,60 +55,49 @@ pub enum CarrierFault {
 /// When each of the other errors comes, and what the carrier keeps beside its log, each carrier says by
 /// its own relations.
 pub trait Carrier: Drop {
-    /// What every carrier shows: its hosts, its log newest first, and whether it has stopped.
-    ghost seen: { Self → Seen };
-
-    /// How an offer may go: the carrier before, the message, the answer, the carrier after.
-    ghost offers: { Self → HostMessage → Result Unit CarrierFault → Self → Type 0 };
-
-    /// How a taking may go.
-    ghost takes: { Self → Host → Result (Option Inbound) CarrierFault → Self → Type 0 };
-
-    /// How an event may go.
-    ghost steps: { Self → NetEvent → Result Unit CarrierFault → Self → Type 0 };
-
-    /// How a quiet round may go.
-    ghost rounds: { Self → Result Unit CarrierFault → Self → Type 0 };
+    /// What the carrier shows (its hosts, its log newest first, and whether it has stopped), and how each of its calls
+    /// may go: the carrier before, what it is called with, the answer, and the carrier after.
+    ghost calls: { Calls Self };
 
     /// Offers a message to the network. Its `Out` is put on the log.
     fn offer_out(&mut self, message: HostMessage) -> Result<(), CarrierFault>
-        ensures relation { offers self.old message result self.new }
-        ensures shown { ShowsOffer (seen self.old) message result (seen self.new) };
+        ensures relation { calls.offers self.old message result self.new }
+        ensures shown { ShowsOffer (calls.seen self.old) message result (calls.seen self.new) };
 
     /// Gives a host what came for it: a message whose destination it is, an answer about a flow whose source it is, or
     /// `None`. The message's `In`, or the `Answer`, is put on the log.
     fn take_in(&mut self, host: HostAddr) -> Result<Option<Inbound>, CarrierFault>
-        ensures relation { takes self.old host result self.new }
-        ensures shown { ShowsTake (seen self.old) host result (seen self.new) };
+        ensures relation { calls.takes self.old host result self.new }
+        ensures shown { ShowsTake (calls.seen self.old) host result (calls.seen self.new) };
 
     /// Lets an event happen inside the network. `HostDown` and `HostUp` put the host's `Down` or `Up` on the log,
     /// `ImpDown` the `Down` of each host of the IMP that was up, in their order, and every other event nothing.
     fn step(&mut self, event: NetEvent) -> Result<(), CarrierFault>
-        ensures relation { steps self.old event result self.new }
-        ensures shown { ShowsStep (seen self.old) event result (seen self.new) };
+        ensures relation { calls.steps self.old event result self.new }
+        ensures shown { ShowsStep (calls.seen self.old) event result (calls.seen self.new) };
 
     /// Lets one round pass, in which what is inside the network may move on. Nothing is put on the log.
     fn quiet_round(&mut self) -> Result<(), CarrierFault>
-        ensures relation { rounds self.old result self.new }
-        ensures shown { ShowsRound (seen self.old) result (seen self.new) };
+        ensures relation { calls.rounds self.old result self.new }
+        ensures shown { ShowsRound (calls.seen self.old) result (calls.seen self.new) };
 
     /// Returns whether it is known that the network rests: a quiet round leaves it as it is, and so does a taking of
     /// any host, which brings nothing. A carrier may answer `false` though it rests, and one that doesn't say otherwise
     /// does. This takes no memory.
     fn rests(&self) -> bool
-        ensures running { result ≡ true → (seen self.now).stopped ≡ false }
-        ensures unchanged { result ≡ true → Rests rounds takes self.now }
+        ensures running { result ≡ true → (calls.seen self.now).stopped ≡ false }
+        ensures unchanged { result ≡ true → Rests calls.rounds calls.takes self.now }
     {
         false
     }
 
     /// Returns all crossings so far, oldest first. They are a run of the mailboxes.
     fn log(&self) -> &[Crossing]
-        ensures value { result.now ≡ reverse (seen self.now).log }
-        ensures run { IsRun (seen self.now).hosts (seen self.now).log };
+        ensures value { result.now ≡ reverse (calls.seen self.now).log }
+        ensures run { IsRun (calls.seen self.now).hosts (calls.seen self.now).log };
 
     /// Returns all hosts of the network, in order of IMP and host.
     fn hosts(&self) -> &[HostAddr]
-        ensures value { result.now ≡ (seen self.now).hosts }
-        ensures ordered { InOrder (seen self.now).hosts };
+        ensures value { result.now ≡ (calls.seen self.now).hosts }
+        ensures ordered { InOrder (calls.seen self.now).hosts };
 }

@@ -3,7 +3,7 @@
 ghost use Rattle.std.specs.Prelude.{◌≡◌, true, length, option_copied, slice_get};
 ghost use Rattle.leader1822.specs.Host.{InOrder};
 ghost use Rattle.leader1822.specs.Boxes as boxes;
-ghost use Rattle.leader1822.specs.Boxes.{BoxesDecided, BoxesOffer, BoxesTake, BoxesStep, BoxesRound, opening_boxes, seen_of};
+ghost use Rattle.leader1822.specs.Boxes.{BoxesDecided, opening_boxes};
 
 use crate::contents::Contents;
 use crate::{
@@ -123,15 +123,7 @@ impl PlainBoxes {
 }
 
 impl Carrier for PlainBoxes {
-    ghost seen = { seen_of };
-
-    ghost offers = { BoxesOffer };
-
-    ghost takes = { BoxesTake };
-
-    ghost steps = { BoxesStep };
-
-    ghost rounds = { BoxesRound };
+    ghost calls = { boxes.plain_calls };
 
     /// Queues the message for its destination, or Dead for the source at once if that host is down or doesn't exist.
     ///

@@ -1,6 +1,6 @@
 -- Small books and small worlds: words for worked examples.
 use Rattle.std.specs.Prelude.{ℕ, Bool, true, false, List, [], ◌∷◌, replicate}
-use Rattle.leader1822.specs.Calls.{Seen, ShowsOffer, ShowsTake, ShowsStep, ShowsRound}
+use Rattle.leader1822.specs.Calls.{Calls, Seen, ShowsOffer, ShowsTake, ShowsStep, ShowsRound}
 use Rattle.leader1822.specs.Host.{Host}
 use Rattle.leader1822.specs.declared.crossing.Answer.TheVariants as answer
 use Rattle.leader1822.specs.declared.crossing.Crossing.{Crossing}
@@ -11,7 +11,7 @@ use Rattle.host_pairs.specs.declared.notice.Notice.TheVariants as notice
 use Rattle.sockets.specs.declared.request.Request.TheVariants as request
 use Rattle.sockets.specs.Worked.{first, second, third, on_link}
 use Rattle.net_sim.specs.Book.{Life, Kept, Told, opening_kept, all_crossed, book_told, asked}
-use Rattle.net_sim.specs.World.{Calls, WorldState, opening_world, changed, served_at}
+use Rattle.net_sim.specs.World.{WorldState, opening_world, changed, served_at}
 
 -- ---- books
 

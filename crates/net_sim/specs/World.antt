@@ -1,7 +1,7 @@
 -- Hosts with their programs over a carrier, whatever it is made of, and each event of them.
 use Rattle.std.specs.Prelude.{◌≡◌, ◌⊎◌, ℕ, ◌||◌, Bool, true, false, if◌then◌else◌, zero, suc, List, [], ◌∷◌, map, filter, length, find, nat_lt, Option, Some, None, Result, Ok, Err, is_some}
 use Rattle.std.specs.Bool.{MatchBool}
-use Rattle.leader1822.specs.Calls.{Seen, crossing_of, step_crossings, is_memory, is_halt}
+use Rattle.leader1822.specs.Calls.{Calls, Seen, crossing_of, step_crossings, is_memory, is_halt}
 use Rattle.leader1822.specs.Host.{Host, same_host}
 use Rattle.leader1822.specs.declared.carrier.CarrierFault.{CarrierFault}
 use Rattle.leader1822.specs.declared.carrier.CarrierFault.TheVariants as fault
@@ -29,14 +29,6 @@ use Rattle.host_pairs.specs.declared.notice.Notice.{Notice}
 use Rattle.sockets.specs.declared.request.Request.{Request}
 use Rattle.sockets.specs.declared.request.Request.TheVariants as request
 use Rattle.net_sim.specs.Book.{Kept, opening_kept, crossed, all_crossed, all_told, asked, all_asked, all_reported}
-
--- what a carrier shows, and how each of its calls may go
-pub record Calls (C : Type 0) : Type 1 where
-  pub seen : C → Seen
-  pub offers : C → HostMessage → Result (Unit {0}) CarrierFault → C → Type 0
-  pub takes : C → Host → Result (Option Inbound) CarrierFault → C → Type 0
-  pub steps : C → NetEvent → Result (Unit {0}) CarrierFault → C → Type 0
-  pub rounds : C → Result (Unit {0}) CarrierFault → C → Type 0
 
 -- ---- the hosts
 

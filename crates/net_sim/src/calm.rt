@@ -68,7 +68,7 @@ impl<C: Carrier> World<C> {
     ///
     /// Errors: memory runs out, which ends the calm, and `Stopped` after that.
     pub fn calm(&mut self, rounds: u32) -> Result<(), WorldFault>
-        ensures { CalmGives (shown (record { seen = C.seen; offers = C.offers; takes = C.takes; steps = C.steps; rounds = C.rounds })) rounds self.old result self.new }
+        ensures { CalmGives (shown C.calls) rounds self.old result self.new }
     {
         if self.is_stopped() {
             return Err(WorldFault::Carrier(CarrierFault::Stopped));
@@ -89,7 +89,7 @@ impl<C: Carrier> World<C> {
     /// Returns whether more rounds of a calm are known to change nothing: the network is known to rest, and no host
     /// that is up has anything to say.
     pub fn rests(&self) -> bool
-        ensures { result ≡ true → (times : ℕ) → CalmGives (shown (record { seen = C.seen; offers = C.offers; takes = C.takes; steps = C.steps; rounds = C.rounds })) times self.now (Ok tt) self.now }
+        ensures { result ≡ true → (times : ℕ) → CalmGives (shown C.calls) times self.now (Ok tt) self.now }
     {
         self.has_calmed(self.book().crossings().len())
     }
@@ -98,7 +98,7 @@ impl<C: Carrier> World<C> {
     /// the network is known to rest, and no host that is up has anything to say.
     fn has_calmed(&self, before: usize) -> bool
         ensures running { result ≡ true → self.now.stopped ≡ false }
-        ensures carrier { result ≡ true → CarrierRests (shown (record { seen = C.seen; offers = C.offers; takes = C.takes; steps = C.steps; rounds = C.rounds })) self.now.carrier }
+        ensures carrier { result ≡ true → CarrierRests (shown C.calls) self.now.carrier }
         ensures silent { result ≡ true → (at : ℕ) → at < length self.now.seats → IsSilentAt self.now.seats at }
     {
         if self.book().crossings().len() > before {
@@ -112,7 +112,7 @@ impl<C: Carrier> World<C> {
 
     /// Passes one quiet round of the network, after which each host that is up has its turn.
     fn pass_round(&mut self) -> Result<(), WorldFault>
-        ensures { Round (shown (record { seen = C.seen; offers = C.offers; takes = C.takes; steps = C.steps; rounds = C.rounds })) self.old result self.new }
+        ensures { Round (shown C.calls) self.old result self.new }
     {
         let passed = self.step(Event::Quiet);
         if stops(&passed) {
@@ -132,7 +132,7 @@ impl<C: Carrier> World<C> {
 
     /// Lets a host take what came for it, and then say what it has to say. Its seat is likely here.
     fn take_turn(&mut self, at: usize, host: HostAddr) -> Result<(), WorldFault>
-        ensures { CalmTurn (shown (record { seen = C.seen; offers = C.offers; takes = C.takes; steps = C.steps; rounds = C.rounds })) host self.old result self.new }
+        ensures { CalmTurn (shown C.calls) host self.old result self.new }
     {
         let answer = self.take_all(at, host);
         if stops(&answer) {
@@ -143,7 +143,7 @@ impl<C: Carrier> World<C> {
 
     /// Lets a host take until nothing crosses by it, or 16 times. Its seat is likely here.
     fn take_all(&mut self, at: usize, host: HostAddr) -> Result<(), WorldFault>
-        ensures { Repeats (shown (record { seen = C.seen; offers = C.offers; takes = C.takes; steps = C.steps; rounds = C.rounds })) (Take host) 16 self.old result self.new }
+        ensures { Repeats (shown C.calls) (Take host) 16 self.old result self.new }
     {
         for _ in 0..TAKINGS {
             let before = self.book().crossings().len();
@@ -160,7 +160,7 @@ impl<C: Carrier> World<C> {
 
     /// Lets a host offer until nothing crosses by it, or 32 times. Its seat is likely here.
     fn offer_all(&mut self, at: usize, host: HostAddr) -> Result<(), WorldFault>
-        ensures { Repeats (shown (record { seen = C.seen; offers = C.offers; takes = C.takes; steps = C.steps; rounds = C.rounds })) (Offer host) 32 self.old result self.new }
+        ensures { Repeats (shown C.calls) (Offer host) 32 self.old result self.new }
     {
         for _ in 0..OFFERS {
             let before = self.book().crossings().len();

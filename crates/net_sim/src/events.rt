@@ -28,7 +28,7 @@ pub(crate) fn happen<C: Carrier>(
     book: &mut Book,
     event: NetEvent,
 ) -> Result<(), WorldFault>
-    ensures { EventGives (shown (record { seen = C.seen; offers = C.offers; takes = C.takes; steps = C.steps; rounds = C.rounds })) (running carrier.old seats.old services.old book.old) (Net event) result (world_ended carrier.new seats.new services.new book.new result) }
+    ensures { EventGives (shown C.calls) (running carrier.old seats.old services.old book.old) (Net event) result (world_ended carrier.new seats.new services.new book.new result) }
 {
     let before = carrier.log().len();
     if let Err(fault) = carrier.step(event) {
@@ -48,7 +48,7 @@ pub(crate) fn pass<C: Carrier>(
     services: &mut [ServiceSeat],
     book: &mut Book,
 ) -> Result<(), WorldFault>
-    ensures { EventGives (shown (record { seen = C.seen; offers = C.offers; takes = C.takes; steps = C.steps; rounds = C.rounds })) (running carrier.old seats.old services.old book.old) Quiet result (world_ended carrier.new seats.new services.new book.new result) }
+    ensures { EventGives (shown C.calls) (running carrier.old seats.old services.old book.old) Quiet result (world_ended carrier.new seats.new services.new book.new result) }
 {
     if let Err(fault) = carrier.quiet_round() {
         return Err(WorldFault::Carrier(fault));
@@ -69,7 +69,7 @@ pub(crate) fn offer<C: Carrier>(
     requires once { IsOnce (hosts_of seats.old) }
     requires live { AreLive seats.old }
     requires order { hosts_served services.old ≡ hosts_of seats.old }
-    ensures { EventGives (shown (record { seen = C.seen; offers = C.offers; takes = C.takes; steps = C.steps; rounds = C.rounds })) (running carrier.old seats.old services.old book.old) (Offer host) result (world_ended carrier.new seats.new services.new book.new result) }
+    ensures { EventGives (shown C.calls) (running carrier.old seats.old services.old book.old) (Offer host) result (world_ended carrier.new seats.new services.new book.new result) }
 {
     let at = up_near(seats, likely, host)?;
     let Some(message) = next_out(seats, at)? else {
@@ -95,7 +95,7 @@ pub(crate) fn take<C: Carrier>(
     requires once { IsOnce (hosts_of seats.old) }
     requires live { AreLive seats.old }
     requires order { hosts_served services.old ≡ hosts_of seats.old }
-    ensures { EventGives (shown (record { seen = C.seen; offers = C.offers; takes = C.takes; steps = C.steps; rounds = C.rounds })) (running carrier.old seats.old services.old book.old) (Take host) result (world_ended carrier.new seats.new services.new book.new result) }
+    ensures { EventGives (shown C.calls) (running carrier.old seats.old services.old book.old) (Take host) result (world_ended carrier.new seats.new services.new book.new result) }
 {
     let at = up_near(seats, likely, host)?;
     let before = carrier.log().len();
@@ -127,7 +127,7 @@ pub(crate) fn ask<C: Carrier>(
     requires once { IsOnce (hosts_of seats.old) }
     requires live { AreLive seats.old }
     requires order { hosts_served services.old ≡ hosts_of seats.old }
-    ensures { EventGives (shown (record { seen = C.seen; offers = C.offers; takes = C.takes; steps = C.steps; rounds = C.rounds })) (running carrier.old seats.old services.old book.old) (Ask host request.now) result (world_ended carrier.new seats.new services.new book.new result) }
+    ensures { EventGives (shown C.calls) (running carrier.old seats.old services.old book.old) (Ask host request.now) result (world_ended carrier.new seats.new services.new book.new result) }
 {
     // for the proof only: the carrier is asked nothing else here, and `log` says what it shows, which stays the same
     let _ = carrier.log();
@@ -149,7 +149,7 @@ pub(crate) fn begin_server<C: Carrier>(
     requires once { IsOnce (hosts_of seats.old) }
     requires live { AreLive seats.old }
     requires order { hosts_served services.old ≡ hosts_of seats.old }
-    ensures { EventGives (shown (record { seen = C.seen; offers = C.offers; takes = C.takes; steps = C.steps; rounds = C.rounds })) (running carrier.old seats.old services.old book.old) (Server host listen base) result (world_ended carrier.new seats.new services.new book.new result) }
+    ensures { EventGives (shown C.calls) (running carrier.old seats.old services.old book.old) (Server host listen base) result (world_ended carrier.new seats.new services.new book.new result) }
 {
     // for the proof only, as in `ask`
     let _ = carrier.log();
@@ -172,7 +172,7 @@ pub(crate) fn begin_user<C: Carrier>(
     requires once { IsOnce (hosts_of seats.old) }
     requires live { AreLive seats.old }
     requires order { hosts_served services.old ≡ hosts_of seats.old }
-    ensures { EventGives (shown (record { seen = C.seen; offers = C.offers; takes = C.takes; steps = C.steps; rounds = C.rounds })) (running carrier.old seats.old services.old book.old) (User host peer listen own) result (world_ended carrier.new seats.new services.new book.new result) }
+    ensures { EventGives (shown C.calls) (running carrier.old seats.old services.old book.old) (User host peer listen own) result (world_ended carrier.new seats.new services.new book.new result) }
 {
     // for the proof only, as in `ask`
     let _ = carrier.log();
@@ -193,7 +193,7 @@ pub(crate) fn type_line<C: Carrier>(
     requires once { IsOnce (hosts_of seats.old) }
     requires live { AreLive seats.old }
     requires order { hosts_served services.old ≡ hosts_of seats.old }
-    ensures { EventGives (shown (record { seen = C.seen; offers = C.offers; takes = C.takes; steps = C.steps; rounds = C.rounds })) (running carrier.old seats.old services.old book.old) (Typed host line.now) result (world_ended carrier.new seats.new services.new book.new result) }
+    ensures { EventGives (shown C.calls) (running carrier.old seats.old services.old book.old) (Typed host line.now) result (world_ended carrier.new seats.new services.new book.new result) }
 {
     // for the proof only, as in `ask`
     let _ = carrier.log();
@@ -213,7 +213,7 @@ pub(crate) fn follow<C: Carrier>(
     requires once { IsOnce (hosts_of seats.old) }
     requires live { AreLive seats.old }
     requires order { hosts_served services.old ≡ hosts_of seats.old }
-    ensures { EventGives (shown (record { seen = C.seen; offers = C.offers; takes = C.takes; steps = C.steps; rounds = C.rounds })) (running carrier.old seats.old services.old book.old) event.now result (world_ended carrier.new seats.new services.new book.new result) }
+    ensures { EventGives (shown C.calls) (running carrier.old seats.old services.old book.old) event.now result (world_ended carrier.new seats.new services.new book.new result) }
 {
     match event {
         Event::Net(event) => happen(alloc, carrier, seats, services, book, *event),

@@ -74,19 +74,19 @@ pub fn stories()
 /// out, after every list of events.
 pub fn books<C: Carrier>()
     // over a carrier whose log is empty
-    ensures opening { (c : C) → (C.seen c).log ≡ [] → IsBooked C.seen (opening_world (shown (record { seen = C.seen; offers = C.offers; takes = C.takes; steps = C.steps; rounds = C.rounds })) c) }
+    ensures opening { (c : C) → (C.calls.seen c).log ≡ [] → IsBooked C.calls.seen (opening_world (shown C.calls) c) }
 
     // an event that is refused, or in which memory runs out, leaves the book and what was handed over as they were
-    ensures refused { (old new : WorldState C) (e : Event) (r : Result (Unit {0}) WorldFault) (f : WorldFault) → r ≡ Err f → StepGives (shown (record { seen = C.seen; offers = C.offers; takes = C.takes; steps = C.steps; rounds = C.rounds })) old e r new → new.kept ≡ old.kept }
+    ensures refused { (old new : WorldState C) (e : Event) (r : Result (Unit {0}) WorldFault) (f : WorldFault) → r ≡ Err f → StepGives (shown C.calls) old e r new → new.kept ≡ old.kept }
 
     // one event, a list of events, and this many quiet rounds with all that the hosts take and say between them
-    ensures step { (old new : WorldState C) (e : Event) (r : Result (Unit {0}) WorldFault) → IsBooked C.seen old → StepGives (shown (record { seen = C.seen; offers = C.offers; takes = C.takes; steps = C.steps; rounds = C.rounds })) old e r new → IsBooked C.seen new }
-    ensures run { (old new : WorldState C) (events : List Event) (r : Result (Unit {0}) WorldFault) → IsBooked C.seen old → RunGives (shown (record { seen = C.seen; offers = C.offers; takes = C.takes; steps = C.steps; rounds = C.rounds })) old events r new → IsBooked C.seen new }
-    ensures calm { (old new : WorldState C) (times : ℕ) (r : Result (Unit {0}) WorldFault) → IsBooked C.seen old → CalmGives (shown (record { seen = C.seen; offers = C.offers; takes = C.takes; steps = C.steps; rounds = C.rounds })) times old r new → IsBooked C.seen new }
+    ensures step { (old new : WorldState C) (e : Event) (r : Result (Unit {0}) WorldFault) → IsBooked C.calls.seen old → StepGives (shown C.calls) old e r new → IsBooked C.calls.seen new }
+    ensures run { (old new : WorldState C) (events : List Event) (r : Result (Unit {0}) WorldFault) → IsBooked C.calls.seen old → RunGives (shown C.calls) old events r new → IsBooked C.calls.seen new }
+    ensures calm { (old new : WorldState C) (times : ℕ) (r : Result (Unit {0}) WorldFault) → IsBooked C.calls.seen old → CalmGives (shown C.calls) times old r new → IsBooked C.calls.seen new }
 
     // and where the carrier's log is a run of the mailboxes, a message answered by RFNM was taken exactly once, and none is taken
     // twice: the message clause of the safe book
-    ensures messages { (w : WorldState C) → IsBooked C.seen w → IsRun (C.seen w.carrier).hosts (C.seen w.carrier).log → SafeMessages w.kept.book.crossings }
+    ensures messages { (w : WorldState C) → IsBooked C.calls.seen w → IsRun (C.calls.seen w.carrier).hosts (C.calls.seen w.carrier).log → SafeMessages w.kept.book.crossings }
 {}
 
 /// Each call of a host's program keeps its peers in order of their address octets, each host once.
@@ -114,27 +114,27 @@ pub fn mailboxes()
 /// comes of them.
 pub fn worlds<C: Carrier>()
     // over a carrier whose log is empty
-    ensures opening { (c : C) → (C.seen c).log ≡ [] → IsWhole C.seen (C.seen c).hosts (opening_world (shown (record { seen = C.seen; offers = C.offers; takes = C.takes; steps = C.steps; rounds = C.rounds })) c) }
+    ensures opening { (c : C) → (C.calls.seen c).log ≡ [] → IsWhole C.calls.seen (C.calls.seen c).hosts (opening_world (shown C.calls) c) }
 
     // after one event, a list of events, and this many quiet rounds with all that the hosts take and say between them, where users
     // name hosts by addresses, and sockets by numbers of their types
-    ensures step { (hosts : List Host) (old new : WorldState C) (e : Event) (r : Result (Unit {0}) WorldFault) → IsNamed e → IsWhole C.seen hosts old → StepGives (shown (record { seen = C.seen; offers = C.offers; takes = C.takes; steps = C.steps; rounds = C.rounds })) old e r new → IsWhole C.seen hosts new }
-    ensures run { (hosts : List Host) (old new : WorldState C) (events : List Event) (r : Result (Unit {0}) WorldFault) → Each IsNamed events → IsWhole C.seen hosts old → RunGives (shown (record { seen = C.seen; offers = C.offers; takes = C.takes; steps = C.steps; rounds = C.rounds })) old events r new → IsWhole C.seen hosts new }
-    ensures calm { (hosts : List Host) (old new : WorldState C) (times : ℕ) (r : Result (Unit {0}) WorldFault) → IsWhole C.seen hosts old → CalmGives (shown (record { seen = C.seen; offers = C.offers; takes = C.takes; steps = C.steps; rounds = C.rounds })) times old r new → IsWhole C.seen hosts new }
+    ensures step { (hosts : List Host) (old new : WorldState C) (e : Event) (r : Result (Unit {0}) WorldFault) → IsNamed e → IsWhole C.calls.seen hosts old → StepGives (shown C.calls) old e r new → IsWhole C.calls.seen hosts new }
+    ensures run { (hosts : List Host) (old new : WorldState C) (events : List Event) (r : Result (Unit {0}) WorldFault) → Each IsNamed events → IsWhole C.calls.seen hosts old → RunGives (shown C.calls) old events r new → IsWhole C.calls.seen hosts new }
+    ensures calm { (hosts : List Host) (old new : WorldState C) (times : ℕ) (r : Result (Unit {0}) WorldFault) → IsWhole C.calls.seen hosts old → CalmGives (shown C.calls) times old r new → IsWhole C.calls.seen hosts new }
 {}
 
 /// What becomes of resets in a world, by the contacts and crossings in its book only. The carrier's log is a run of the
 /// mailboxes, as every carrier promises of it.
 pub fn clean_resets<C: Carrier>()
     // a host that is through a reset with a peer takes of it only what went out after its last clean point
-    ensures clean { (hosts : List Host) (w : WorldState C) → IsLawful C.seen hosts w → (newer older : List Crossing) (m : HostMessage) → w.kept.book.crossings ≡ newer ++ crossing.In m ∷ older → IsText m → is_through m.flow.destination m.flow.source w.kept.book.contacts older ≡ true → IsFresh m w.kept.book.contacts older }
+    ensures clean { (hosts : List Host) (w : WorldState C) → IsLawful C.calls.seen hosts w → (newer older : List Crossing) (m : HostMessage) → w.kept.book.crossings ≡ newer ++ crossing.In m ∷ older → IsText m → is_through m.flow.destination m.flow.source w.kept.book.contacts older ≡ true → IsFresh m w.kept.book.contacts older }
 
     // link by link, what a host heard of its peer in its last stay is a prefix of what the peer said in its own
-    ensures stays { (hosts : List Host) (w : WorldState C) → IsLawful C.seen hosts w → (a b : Host) (link : ℕ) → IsPrefix (heard_in_stay a b link (events_in w.kept.book.contacts w.kept.book.crossings)) (said_in_stay a b link (events_in w.kept.book.contacts w.kept.book.crossings)) }
+    ensures stays { (hosts : List Host) (w : WorldState C) → IsLawful C.calls.seen hosts w → (a b : Host) (link : ℕ) → IsPrefix (heard_in_stay a b link (events_in w.kept.book.contacts w.kept.book.crossings)) (said_in_stay a b link (events_in w.kept.book.contacts w.kept.book.crossings)) }
 
     // for the book is a run of the law of resets, and each program in a seat is, for each peer, where that law has it
-    ensures run { (hosts : List Host) (w : WorldState C) → IsLawful C.seen hosts w → runs.IsRun hosts (events_in w.kept.book.contacts w.kept.book.crossings) }
-    ensures agrees { (hosts : List Host) (w : WorldState C) → IsLawful C.seen hosts w → w.stopped ≡ false → (a b : Host) (s : NcpState) → seat_of a w.seats ≡ Some (record { host = a; program = Some s }) → Agrees (pair_with b s.peers) (pairs.pair a b (events_in w.kept.book.contacts w.kept.book.crossings)) }
+    ensures run { (hosts : List Host) (w : WorldState C) → IsLawful C.calls.seen hosts w → runs.IsRun hosts (events_in w.kept.book.contacts w.kept.book.crossings) }
+    ensures agrees { (hosts : List Host) (w : WorldState C) → IsLawful C.calls.seen hosts w → w.stopped ≡ false → (a b : Host) (s : NcpState) → seat_of a w.seats ≡ Some (record { host = a; program = Some s }) → Agrees (pair_with b s.peers) (pairs.pair a b (events_in w.kept.book.contacts w.kept.book.crossings)) }
 {}
 
 /// Both halves of a clean reset, over any list of moments: of whatever a host takes of a peer, except for RST and RRP, either it went out
@@ -143,17 +143,17 @@ pub fn clean_takings<C: Carrier>()
     ensures stories { (hosts : List Host) (newer older : List Moment) (m : HostMessage) → HaveAddresses hosts → IsRun hosts (crossings_of (newer ++ Crossed (crossing.In m) ∷ older)) → IsTimeline hosts (newer ++ Crossed (crossing.In m) ∷ older) → IsText m → IsFresh m (contacts_of older) (crossings_of older) ⊎ IsUnheard (program m.flow.destination older) (accepted (program m.flow.destination older) (inbound.Message m) (places older)) }
 
     // so of the moments that the book of a world describes
-    ensures worlds { (hosts : List Host) (w : WorldState C) → (lawful : IsLawful C.seen hosts w) → (newer older : List Moment) (m : HostMessage) → lawful.whole.moments ≡ newer ++ Crossed (crossing.In m) ∷ older → IsText m → IsFresh m (contacts_of older) (crossings_of older) ⊎ IsUnheard (program m.flow.destination older) (accepted (program m.flow.destination older) (inbound.Message m) (places older)) }
+    ensures worlds { (hosts : List Host) (w : WorldState C) → (lawful : IsLawful C.calls.seen hosts w) → (newer older : List Moment) (m : HostMessage) → lawful.whole.moments ≡ newer ++ Crossed (crossing.In m) ∷ older → IsText m → IsFresh m (contacts_of older) (crossings_of older) ⊎ IsUnheard (program m.flow.destination older) (accepted (program m.flow.destination older) (inbound.Message m) (places older)) }
 {}
 
 /// The worlds of which that is said: those that began over a carrier whose log is empty, between hosts with addresses, however
 /// they continued.
 pub fn lawful_worlds<C: Carrier>()
-    ensures opening { (c : C) → (C.seen c).log ≡ [] → HaveAddresses (C.seen c).hosts → IsLawful C.seen (C.seen c).hosts (opening_world (shown (record { seen = C.seen; offers = C.offers; takes = C.takes; steps = C.steps; rounds = C.rounds })) c) }
+    ensures opening { (c : C) → (C.calls.seen c).log ≡ [] → HaveAddresses (C.calls.seen c).hosts → IsLawful C.calls.seen (C.calls.seen c).hosts (opening_world (shown C.calls) c) }
 
     // by one event, a list of events and this many quiet rounds, where users name hosts by addresses and the carrier's log is still a
     // run of the mailboxes
-    ensures step { (hosts : List Host) (old new : WorldState C) (e : Event) (r : Result (Unit {0}) WorldFault) → IsLawful C.seen hosts old → IsNamed e → StepGives (shown (record { seen = C.seen; offers = C.offers; takes = C.takes; steps = C.steps; rounds = C.rounds })) old e r new → IsRun hosts (C.seen new.carrier).log → IsLawful C.seen hosts new }
-    ensures run { (hosts : List Host) (old new : WorldState C) (events : List Event) (r : Result (Unit {0}) WorldFault) → IsLawful C.seen hosts old → Each IsNamed events → RunGives (shown (record { seen = C.seen; offers = C.offers; takes = C.takes; steps = C.steps; rounds = C.rounds })) old events r new → IsRun hosts (C.seen new.carrier).log → IsLawful C.seen hosts new }
-    ensures calm { (hosts : List Host) (old new : WorldState C) (times : ℕ) (r : Result (Unit {0}) WorldFault) → IsLawful C.seen hosts old → CalmGives (shown (record { seen = C.seen; offers = C.offers; takes = C.takes; steps = C.steps; rounds = C.rounds })) times old r new → IsRun hosts (C.seen new.carrier).log → IsLawful C.seen hosts new }
+    ensures step { (hosts : List Host) (old new : WorldState C) (e : Event) (r : Result (Unit {0}) WorldFault) → IsLawful C.calls.seen hosts old → IsNamed e → StepGives (shown C.calls) old e r new → IsRun hosts (C.calls.seen new.carrier).log → IsLawful C.calls.seen hosts new }
+    ensures run { (hosts : List Host) (old new : WorldState C) (events : List Event) (r : Result (Unit {0}) WorldFault) → IsLawful C.calls.seen hosts old → Each IsNamed events → RunGives (shown C.calls) old events r new → IsRun hosts (C.calls.seen new.carrier).log → IsLawful C.calls.seen hosts new }
+    ensures calm { (hosts : List Host) (old new : WorldState C) (times : ℕ) (r : Result (Unit {0}) WorldFault) → IsLawful C.calls.seen hosts old → CalmGives (shown C.calls) times old r new → IsRun hosts (C.calls.seen new.carrier).log → IsLawful C.calls.seen hosts new }
 {}

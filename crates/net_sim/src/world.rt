@@ -45,7 +45,7 @@ impl<C: Carrier> Model for World<C> {
 
     ghost view = { λ w. record { carrier = w.carrier; seats = w.seats.items; services = w.services.items; kept = w.book; stopped = w.stopped } };
 
-    ghost invariant = { λ w. IsHeld C.seen (record { carrier = w.carrier; seats = w.seats.items; services = w.services.items; kept = w.book; stopped = w.stopped }) };
+    ghost invariant = { λ w. IsHeld C.calls.seen (record { carrier = w.carrier; seats = w.seats.items; services = w.services.items; kept = w.book; stopped = w.stopped }) };
 }
 
 impl<C: Carrier> World<C> {
@@ -54,9 +54,9 @@ impl<C: Carrier> World<C> {
     ///
     /// It fails only where no memory is left for the seats of the hosts.
     pub fn new(alloc: Global, carrier: C) -> Result<World<C>, AllocError>
-        requires unused { (C.seen carrier).log ≡ [] }
-        requires running { (C.seen carrier).stopped ≡ false }
-        ensures { IfOk result (λ w. w ≡ opening_world (shown (record { seen = C.seen; offers = C.offers; takes = C.takes; steps = C.steps; rounds = C.rounds })) carrier) }
+        requires unused { (C.calls.seen carrier).log ≡ [] }
+        requires running { (C.calls.seen carrier).stopped ≡ false }
+        ensures { IfOk result (λ w. w ≡ opening_world (shown C.calls) carrier) }
     {
         let seats = opening_seats(alloc, carrier.hosts())?;
         let services = opening_services(alloc, carrier.hosts())?;
@@ -76,7 +76,7 @@ impl<C: Carrier> World<C> {
     /// by `law::books` a message that was answered by RFNM was taken exactly once, and none was taken twice.
     pub fn book(&self) -> &Book
         ensures value { result.now ≡ self.now.kept }
-        ensures lawful { IsLawful C.seen (C.seen self.now.carrier).hosts self.now }
+        ensures lawful { IsLawful C.calls.seen (C.calls.seen self.now.carrier).hosts self.now }
     {
         &self.book
     }
@@ -122,7 +122,7 @@ impl<C: Carrier> World<C> {
     /// Returns whether it is known that the carrier rests. A world that has stopped doesn't ask.
     pub(crate) fn carrier_rests(&self) -> bool
         ensures running { result ≡ true → self.now.stopped ≡ false }
-        ensures carrier { result ≡ true → CarrierRests (shown (record { seen = C.seen; offers = C.offers; takes = C.takes; steps = C.steps; rounds = C.rounds })) self.now.carrier }
+        ensures carrier { result ≡ true → CarrierRests (shown C.calls) self.now.carrier }
     {
         if self.stopped {
             return false;
@@ -139,14 +139,14 @@ impl<C: Carrier> World<C> {
     /// event by which something crosses, at a request or a line that isn't refused, and where a server or a user
     /// begins.
     pub fn step(&mut self, event: Event) -> Result<(), WorldFault>
-        ensures { StepGives (shown (record { seen = C.seen; offers = C.offers; takes = C.takes; steps = C.steps; rounds = C.rounds })) self.old event result self.new }
+        ensures { StepGives (shown C.calls) self.old event result self.new }
     {
         self.follow(&event)
     }
 
     /// Lets one event happen after the other. It continues after a refusal, and ends when memory runs out.
     pub fn run(&mut self, events: &[Event]) -> Result<(), WorldFault>
-        ensures { RunGives (shown (record { seen = C.seen; offers = C.offers; takes = C.takes; steps = C.steps; rounds = C.rounds })) self.old events.now result self.new }
+        ensures { RunGives (shown C.calls) self.old events.now result self.new }
     {
         if self.stopped {
             return Err(WorldFault::Carrier(CarrierFault::Stopped));
@@ -162,7 +162,7 @@ impl<C: Carrier> World<C> {
 
     /// Lets one event happen, or refuses it.
     fn follow(&mut self, event: &Event) -> Result<(), WorldFault>
-        ensures { StepGives (shown (record { seen = C.seen; offers = C.offers; takes = C.takes; steps = C.steps; rounds = C.rounds })) self.old event.now result self.new }
+        ensures { StepGives (shown C.calls) self.old event.now result self.new }
     {
         if self.stopped {
             return Err(WorldFault::Carrier(CarrierFault::Stopped));
@@ -184,7 +184,7 @@ impl<C: Carrier> World<C> {
 
     /// Lets a host take what came for it, as [`World::step`] does. Its seat is looked for at a likely place first.
     pub(crate) fn take_near(&mut self, likely: usize, host: HostAddr) -> Result<(), WorldFault>
-        ensures { StepGives (shown (record { seen = C.seen; offers = C.offers; takes = C.takes; steps = C.steps; rounds = C.rounds })) self.old (Take host) result self.new }
+        ensures { StepGives (shown C.calls) self.old (Take host) result self.new }
     {
         if self.stopped {
             return Err(WorldFault::Carrier(CarrierFault::Stopped));
@@ -207,7 +207,7 @@ impl<C: Carrier> World<C> {
     /// Offers a host's next message to the network, as [`World::step`] does. Its seat is looked for at a likely place
     /// first.
     pub(crate) fn offer_near(&mut self, likely: usize, host: HostAddr) -> Result<(), WorldFault>
-        ensures { StepGives (shown (record { seen = C.seen; offers = C.offers; takes = C.takes; steps = C.steps; rounds = C.rounds })) self.old (Offer host) result self.new }
+        ensures { StepGives (shown C.calls) self.old (Offer host) result self.new }
     {
         if self.stopped {
             return Err(WorldFault::Carrier(CarrierFault::Stopped));

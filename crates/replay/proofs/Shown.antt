@@ -5,7 +5,7 @@ use Rattle.std.proofs.lemmas.Bool.{false≢true}
 use Rattle.std.proofs.lemmas.Grind.{flat_map-append}
 use Rattle.std.specs.Io.KnownBytes.{Appends}
 use Rattle.leader1822.specs.Host.{Host}
-use Rattle.leader1822.specs.Calls.{Seen, halted, is_memory, crossing_of, step_crossings, ShowsRefusal, ShowsCrossings, ShowsOffer, ShowsRound, ShowsStep, ShowsTake}
+use Rattle.leader1822.specs.Calls.{Calls, Seen, halted, is_memory, crossing_of, step_crossings, ShowsRefusal, ShowsCrossings, ShowsOffer, ShowsRound, ShowsStep, ShowsTake}
 use Rattle.leader1822.specs.declared.carrier.CarrierFault.{CarrierFault}
 use Rattle.leader1822.specs.declared.crossing.Crossing.{Crossing}
 use Rattle.leader1822.specs.declared.crossing.Crossing.TheVariants as crossing
@@ -15,7 +15,7 @@ use Rattle.leader1822.specs.declared.message.HostMessage.{HostMessage}
 use Rattle.script.specs.Input.{ended_line}
 use Rattle.replay.specs.Output.{Shown, Writes, Crossed, Refused, crossing_line, shown_text, output, crossings_of, shown_crossings, shown_refusal}
 use Rattle.replay.specs.Steps.{EventEnds, Grew, PrintEnds}
-use Rattle.replay.specs.Replay.{BeginsWith, Calls, EventGives, GoesOn, Halts, Happens, outcome_of}
+use Rattle.replay.specs.Replay.{BeginsWith, EventGives, GoesOn, Halts, Happens, outcome_of}
 use Rattle.replay.specs.declared.events.ReplayFault.{ReplayFault}
 use Rattle.replay.specs.declared.events.ReplayFault.TheVariants as fault
 use Rattle.replay.specs.declared.print.Detail.{Detail}

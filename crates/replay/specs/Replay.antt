@@ -1,7 +1,7 @@
 -- A script's events over a carrier, whatever it is made of.
 use Rattle.std.specs.Prelude.{◌≡◌, ℕ, zero, suc, true, false, ◌||◌, if◌then◌else◌, ◌⊎◌, ◌≤◌, List, [], ◌∷◌, ◌++◌, Option, Some, None, Result, Ok, Err, reverse}
 use Rattle.leader1822.specs.Host.{Host}
-use Rattle.leader1822.specs.Calls.{Seen, is_halt, is_memory}
+use Rattle.leader1822.specs.Calls.{Calls, is_halt, is_memory}
 use Rattle.leader1822.specs.declared.CarrierFault.{CarrierFault}
 use Rattle.leader1822.specs.declared.Inbound.{Inbound}
 use Rattle.leader1822.specs.declared.NetEvent.{NetEvent}
@@ -11,14 +11,6 @@ use Rattle.replay.specs.InTurn.{EndsInTurn, InTurn}
 use Rattle.replay.specs.Output.{Shown, shown_crossings, shown_refusal}
 use Rattle.script.specs.declared.event.RawEvent.{RawEvent}
 use Rattle.script.specs.declared.event.RawEvent.TheVariants as event
-
--- what a carrier shows, and how each of its calls may go
-pub record Calls (C : Type 0) : Type 1 where
-  pub seen : C → Seen
-  pub offers : C → HostMessage → Result (Unit {0}) CarrierFault → C → Type 0
-  pub takes : C → Host → Result (Option Inbound) CarrierFault → C → Type 0
-  pub steps : C → NetEvent → Result (Unit {0}) CarrierFault → C → Type 0
-  pub rounds : C → Result (Unit {0}) CarrierFault → C → Type 0
 
 -- a taking's refusal, where it was refused
 abbrev pub outcome_of : Result (Option Inbound) CarrierFault → Result (Unit {0}) CarrierFault

@@ -6,7 +6,8 @@ use Rattle.leader1822.specs.declared.Inbound.{Inbound}
 use Rattle.leader1822.specs.declared.NetEvent.{NetEvent}
 use Rattle.leader1822.specs.declared.HostMessage.{HostMessage}
 use Rattle.leader1822.specs.declared.crossing.Crossing.{Crossing}
-use Rattle.replay.specs.Replay.{Calls, GoesOn, outcome_of}
+use Rattle.replay.specs.Replay.{GoesOn, outcome_of}
+use Rattle.leader1822.specs.Calls.{Calls}
 
 -- two answers are one, and so are the carriers that they leave
 pub record SameEnd {T C : Type 0} (r q : Result T CarrierFault) (new other : C) : Type 0 where

@@ -25,7 +25,7 @@ pub(crate) fn replay_calm<C: Carrier, W: Output>(
     writer: &mut W,
 ) -> Result<(), ReplayFault>
     requires { W.failed writer.old ≡ false }
-    ensures ends { EventEnds (record { seen = C.seen; offers = C.offers; takes = C.takes; steps = C.steps; rounds = C.rounds }) detail carrier.old (script_event.Calm rounds) result carrier.new (W.contents writer.old) (W.contents writer.new) }
+    ensures ends { EventEnds C.calls detail carrier.old (script_event.Calm rounds) result carrier.new (W.contents writer.old) (W.contents writer.new) }
     ensures failed { TellsCannotWrite result (W.failed writer.new) }
 {
     for _ in 0..rounds {
@@ -43,8 +43,8 @@ pub(crate) fn replay_calm<C: Carrier, W: Output>(
 ///
 /// Errors: `OutOfMemory` and `Stopped`, which end the round.
 fn pass_round<C: Carrier>(carrier: &mut C) -> Result<(), CarrierFault>
-    ensures round { Round (record { seen = C.seen; offers = C.offers; takes = C.takes; steps = C.steps; rounds = C.rounds }) carrier.old result carrier.new }
-    ensures grew { Grew (C.seen carrier.old) (C.seen carrier.new) }
+    ensures round { Round C.calls carrier.old result carrier.new }
+    ensures grew { Grew (C.calls.seen carrier.old) (C.calls.seen carrier.new) }
     ensures told { IfErr result (λ f. Halts (Err f)) }
 {
     calmly(carrier.quiet_round())?;
@@ -60,8 +60,8 @@ fn pass_round<C: Carrier>(carrier: &mut C) -> Result<(), CarrierFault>
 ///
 /// Errors: `OutOfMemory` and `Stopped`.
 fn take_all<C: Carrier>(carrier: &mut C, host: HostAddr) -> Result<(), CarrierFault>
-    ensures takings { Takings (record { seen = C.seen; offers = C.offers; takes = C.takes; steps = C.steps; rounds = C.rounds }) host 16 carrier.old result carrier.new }
-    ensures grew { Grew (C.seen carrier.old) (C.seen carrier.new) }
+    ensures takings { Takings C.calls host 16 carrier.old result carrier.new }
+    ensures grew { Grew (C.calls.seen carrier.old) (C.calls.seen carrier.new) }
     ensures told { IfErr result (λ f. Halts (Err f)) }
 {
     for _ in 0..TAKINGS {

@@ -74,22 +74,22 @@ pub fn replay_events<C: Carrier, W: Output>(
     requires { W.failed writer.old ≡ false }
 
     // each RFNM belongs to one message, which was taken exactly once; and what crossed is a run of the mailboxes
-    ensures messages { SafeMessages (C.seen carrier.new).log }
-    ensures run { IsRun (C.seen carrier.new).hosts (C.seen carrier.new).log }
+    ensures messages { SafeMessages (C.calls.seen carrier.new).log }
+    ensures run { IsRun (C.calls.seen carrier.new).hosts (C.calls.seen carrier.new).log }
 
     // each event in turn went as the carrier says that its calls may go, and what it showed was printed: what
     // crossed, and then its refusal
-    ensures replayed { OnOk result (Writes detail (Replays (record { seen = C.seen; offers = C.offers; takes = C.takes; steps = C.steps; rounds = C.rounds }) carrier.old events.now carrier.new) (W.contents writer.old) (W.contents writer.new)) }
+    ensures replayed { OnOk result (Writes detail (Replays C.calls carrier.old events.now carrier.new) (W.contents writer.old) (W.contents writer.new)) }
 
     // memory ran out at one event: what the events before it showed was printed, and nothing of that event, except for
     // what crossed in a calm before memory ran out
-    ensures memory { result ≡ Err ReplayFault.OutOfMemory → Writes detail (EndsIn (record { seen = C.seen; offers = C.offers; takes = C.takes; steps = C.steps; rounds = C.rounds }) StopsIn carrier.old events.now carrier.new) (W.contents writer.old) (W.contents writer.new) }
+    ensures memory { result ≡ Err ReplayFault.OutOfMemory → Writes detail (EndsIn C.calls StopsIn carrier.old events.now carrier.new) (W.contents writer.old) (W.contents writer.new) }
 
     // `CannotWrite` is answered where a write failed, and nowhere else
     ensures failed { TellsCannotWrite result (W.failed writer.new) }
 
     // a write failed: the carrier had already processed that event, or the rounds of a calm of which it wrote
-    ensures cannot_write { result ≡ Err ReplayFault.CannotWrite → (shown : List Shown) × EndsIn (record { seen = C.seen; offers = C.offers; takes = C.takes; steps = C.steps; rounds = C.rounds }) MayDo carrier.old events.now carrier.new shown }
+    ensures cannot_write { result ≡ Err ReplayFault.CannotWrite → (shown : List Shown) × EndsIn C.calls MayDo carrier.old events.now carrier.new shown }
 {
     let outcome = replay_in_turn(carrier, events, detail, writer);
     // for the proof only: the log is a run of the mailboxes, and of each run the promise about messages is proved
@@ -106,9 +106,9 @@ fn replay_in_turn<C: Carrier, W: Output>(
 ) -> Result<(), ReplayFault>
     requires { W.failed writer.old ≡ false }
     ensures failed { TellsCannotWrite result (W.failed writer.new) }
-    ensures replayed { OnOk result (Writes detail (Replays (record { seen = C.seen; offers = C.offers; takes = C.takes; steps = C.steps; rounds = C.rounds }) carrier.old events.now carrier.new) (W.contents writer.old) (W.contents writer.new)) }
-    ensures memory { result ≡ Err ReplayFault.OutOfMemory → Writes detail (EndsIn (record { seen = C.seen; offers = C.offers; takes = C.takes; steps = C.steps; rounds = C.rounds }) StopsIn carrier.old events.now carrier.new) (W.contents writer.old) (W.contents writer.new) }
-    ensures cannot_write { result ≡ Err ReplayFault.CannotWrite → (shown : List Shown) × EndsIn (record { seen = C.seen; offers = C.offers; takes = C.takes; steps = C.steps; rounds = C.rounds }) MayDo carrier.old events.now carrier.new shown }
+    ensures replayed { OnOk result (Writes detail (Replays C.calls carrier.old events.now carrier.new) (W.contents writer.old) (W.contents writer.new)) }
+    ensures memory { result ≡ Err ReplayFault.OutOfMemory → Writes detail (EndsIn C.calls StopsIn carrier.old events.now carrier.new) (W.contents writer.old) (W.contents writer.new) }
+    ensures cannot_write { result ≡ Err ReplayFault.CannotWrite → (shown : List Shown) × EndsIn C.calls MayDo carrier.old events.now carrier.new shown }
 {
     let mut line = Line::new();
     for event in events {
@@ -126,7 +126,7 @@ fn replay_event<C: Carrier, W: Output>(
     writer: &mut W,
 ) -> Result<(), ReplayFault>
     requires { W.failed writer.old ≡ false }
-    ensures ends { EventEnds (record { seen = C.seen; offers = C.offers; takes = C.takes; steps = C.steps; rounds = C.rounds }) detail carrier.old event.now result carrier.new (W.contents writer.old) (W.contents writer.new) }
+    ensures ends { EventEnds C.calls detail carrier.old event.now result carrier.new (W.contents writer.old) (W.contents writer.new) }
     ensures failed { TellsCannotWrite result (W.failed writer.new) }
 {
     match event {
@@ -146,7 +146,7 @@ fn replay_offer<C: Carrier, W: Output>(
     writer: &mut W,
 ) -> Result<(), ReplayFault>
     requires { W.failed writer.old ≡ false }
-    ensures ends { EventEnds (record { seen = C.seen; offers = C.offers; takes = C.takes; steps = C.steps; rounds = C.rounds }) detail carrier.old (script_event.Out message) result carrier.new (W.contents writer.old) (W.contents writer.new) }
+    ensures ends { EventEnds C.calls detail carrier.old (script_event.Out message) result carrier.new (W.contents writer.old) (W.contents writer.new) }
     ensures failed { TellsCannotWrite result (W.failed writer.new) }
 {
     let booked = carrier.log().len();
@@ -163,7 +163,7 @@ fn replay_taking<C: Carrier, W: Output>(
     writer: &mut W,
 ) -> Result<(), ReplayFault>
     requires { W.failed writer.old ≡ false }
-    ensures ends { EventEnds (record { seen = C.seen; offers = C.offers; takes = C.takes; steps = C.steps; rounds = C.rounds }) detail carrier.old (script_event.Take host) result carrier.new (W.contents writer.old) (W.contents writer.new) }
+    ensures ends { EventEnds C.calls detail carrier.old (script_event.Take host) result carrier.new (W.contents writer.old) (W.contents writer.new) }
     ensures failed { TellsCannotWrite result (W.failed writer.new) }
 {
     let booked = carrier.log().len();
@@ -190,7 +190,7 @@ fn replay_step<C: Carrier, W: Output>(
     writer: &mut W,
 ) -> Result<(), ReplayFault>
     requires { W.failed writer.old ≡ false }
-    ensures ends { EventEnds (record { seen = C.seen; offers = C.offers; takes = C.takes; steps = C.steps; rounds = C.rounds }) detail carrier.old (script_event.Net event) result carrier.new (W.contents writer.old) (W.contents writer.new) }
+    ensures ends { EventEnds C.calls detail carrier.old (script_event.Net event) result carrier.new (W.contents writer.old) (W.contents writer.new) }
     ensures failed { TellsCannotWrite result (W.failed writer.new) }
 {
     let booked = carrier.log().len();

@@ -17,8 +17,8 @@ use leader1822::Carrier;
 /// A carrier whose calls leave no choice leaves none to a replay: events have one outcome and show one list of
 /// lines. What is shown where memory runs out is a prefix of that list.
 pub fn one_replay<C: Carrier>()
-    ensures same { AreSettled (record { seen = C.seen; offers = C.offers; takes = C.takes; steps = C.steps; rounds = C.rounds }) → (old new other : C) (events : List RawEvent) (shown more : List Shown) → Replays (record { seen = C.seen; offers = C.offers; takes = C.takes; steps = C.steps; rounds = C.rounds }) old events new shown → Replays (record { seen = C.seen; offers = C.offers; takes = C.takes; steps = C.steps; rounds = C.rounds }) old events other more → (new ≡ other) × (shown ≡ more) }
-    ensures first_part { AreSettled (record { seen = C.seen; offers = C.offers; takes = C.takes; steps = C.steps; rounds = C.rounds }) → (old new other : C) (events : List RawEvent) (part whole : List Shown) → EndsIn (record { seen = C.seen; offers = C.offers; takes = C.takes; steps = C.steps; rounds = C.rounds }) StopsIn old events new part → Replays (record { seen = C.seen; offers = C.offers; takes = C.takes; steps = C.steps; rounds = C.rounds }) old events other whole → (rest : List Shown) × (whole ≡ part ++ rest) }
+    ensures same { AreSettled C.calls → (old new other : C) (events : List RawEvent) (shown more : List Shown) → Replays C.calls old events new shown → Replays C.calls old events other more → (new ≡ other) × (shown ≡ more) }
+    ensures first_part { AreSettled C.calls → (old new other : C) (events : List RawEvent) (part whole : List Shown) → EndsIn C.calls StopsIn old events new part → Replays C.calls old events other whole → (rest : List Shown) × (whole ≡ part ++ rest) }
 {}
 
 /// What is printed of a message that goes out, with its text, is the line of a script that asks for this message.

@@ -1,6 +1,6 @@
 -- A subnet as a carrier: what holds of it, and how its calls may go.
 use Rattle.std.specs.Prelude.{◌≡◌, true, false, Option, None, Result}
-use Rattle.leader1822.specs.Calls.{Seen, InOrder}
+use Rattle.leader1822.specs.Calls.{Calls, Seen, InOrder}
 use Rattle.leader1822.specs.Host.{Host}
 use Rattle.leader1822.specs.Mailboxes.{IsRun}
 use Rattle.leader1822.specs.declared.carrier.CarrierFault.{CarrierFault}
@@ -43,3 +43,6 @@ SubnetStep old e result new = Decided (refusal_of old (λ n. step_refusal n e)) 
 
 abbrev pub SubnetRound : Kept → Result (Unit {0}) CarrierFault → Kept → Type 0
 SubnetRound old result new = Decided (refusal_of old (λ n. None)) (round_grows old.net) (λ done. new ≡ running (quiet_round old.net)) old new result
+
+abbrev pub subnet_calls : Calls Kept
+subnet_calls = record { seen = seen_of; offers = SubnetOffer; takes = SubnetTake; steps = SubnetStep; rounds = SubnetRound }

@@ -10,7 +10,7 @@ ghost use Rattle.subnet.specs.Alive.{is_alive};
 ghost use Rattle.subnet.specs.Calls.{running, round_grows};
 ghost use Rattle.subnet.specs.Events as events;
 ghost use Rattle.subnet.specs.Opening as start;
-ghost use Rattle.subnet.specs.Working.{IsWorking, seen_of, SubnetOffer, SubnetTake, SubnetStep, SubnetRound};
+ghost use Rattle.subnet.specs.Working.{IsWorking, subnet_calls, SubnetOffer, SubnetTake, SubnetStep, SubnetRound};
 
 use crate::parts::{Parts, runs_out};
 use crate::wire::Ends;
@@ -203,15 +203,7 @@ impl Subnet {
 }
 
 impl Carrier for Subnet {
-    ghost seen = { seen_of };
-
-    ghost offers = { SubnetOffer };
-
-    ghost takes = { SubnetTake };
-
-    ghost steps = { SubnetStep };
-
-    ghost rounds = { SubnetRound };
+    ghost calls = { subnet_calls };
 
     /// Cuts the message into packets, which go out to the IMP of its destination; without a route there, queues Dead
     /// for the source at once.

@@ -31,7 +31,7 @@ use Rattle.subnet.specs.Events.{all_refreshed, all_turns, at_imp, carried, cross
 use Rattle.subnet.specs.Flows.{imp_is_up}
 use Rattle.subnet.specs.Net.{Net, Wire, far_end, frames_on, imp_at, no_wire, port_of, wire_at}
 use Rattle.subnet_trace.specs.Elements.{all_refreshing, all_turning, calling, can_resend, carrying, delivering, dropping, elements_of, from_subnet, is_heard, is_working, live_frames, numbers_from, refreshing, round_from_line, round_of, round_of_hosts, sending, telling, turning}
-use Rattle.subnet_trace.specs.Parts.{of_subnet}
+use Rattle.subnet.specs.Working.{subnet_calls}
 use Rattle.subnet_trace.specs.Told.{IsPlaced}
 use Rattle.subnet_trace.proofs.Rest.{is_there, network, not_some, placed, some_is}
 use Rattle.subnet_trace.proofs.Settled.{IsSettled, quiet_settled, take_settled}
@@ -49,16 +49,16 @@ record Held (hosts : List Host) (lines : ℕ) (n : Net) : Type 0 where
 
 -- a subnet in a calm, and in one whose quiet round is over
 abbrev traced : List Host → ℕ → Traced Kept Net
-traced hosts lines = record { calls = of_subnet; view = λ k. k.net; Holds = λ k. Held hosts lines k.net; giving = from_subnet }
+traced hosts lines = record { calls = subnet_calls; view = λ k. k.net; Holds = λ k. Held hosts lines k.net; giving = from_subnet }
 
 abbrev quieted : List Host → ℕ → Traced Kept Net
-quieted hosts lines = record { calls = of_subnet; view = λ k. k.net; Holds = λ k. Held hosts lines k.net × IsSettled k.net; giving = from_subnet }
+quieted hosts lines = record { calls = subnet_calls; view = λ k. k.net; Holds = λ k. Held hosts lines k.net × IsSettled k.net; giving = from_subnet }
 
 goes_on : (hosts : List Host) (lines : ℕ) (old : Kept) (c : Course Net) (r : Result (Unit {0}) CarrierFault) (new : Kept) → Goes (quieted hosts lines) old c r new → Goes (traced hosts lines) old c r new
 goes_on hosts lines old c r new g = record { ok = g.ok; left = g.left; holds = g.holds.0; run = g.run }
 
 -- an event that is one call leaves it so
-held_after : (hosts : List Host) (lines : ℕ) (old new : Kept) (e : RawEvent) (shown : List Shown) → IsOneCall e → Happens of_subnet old e new shown → Held hosts lines old.net → Held hosts lines new.net
+held_after : (hosts : List Host) (lines : ℕ) (old new : Kept) (e : RawEvent) (shown : List Shown) → IsOneCall e → Happens subnet_calls old e new shown → Held hosts lines old.net → Held hosts lines new.net
 held_after hosts lines old new e shown one k h =
     let same = network old new e shown one k in
     record {
@@ -88,7 +88,7 @@ does_nothing hosts lines n m same = subst (λ (m : Net). Does hosts lines n (no_
 -- a call that nothing refuses, and in which nothing crosses
 does_call : (hosts : List Host) (lines : ℕ) (round : ℕ) (n : Net) (e : NetEvent) → step_refusal n e ≡ None → (stepped n e).log ≡ n.log → Does hosts lines n (calling round e n) (stepped n e)
 does_call hosts lines round n e free log = λ h.
-    let once : Happens of_subnet (running n) (event.Net e) (running (stepped n e)) [] = record {
+    let once : Happens subnet_calls (running n) (event.Net e) (running (stepped n e)) [] = record {
       outcome = Ok tt;
       gives = (free, refl);
       goes_on = tt;
@@ -100,7 +100,7 @@ does_call hosts lines round n e free log = λ h.
       ok = refl;
       left = refl;
       holds = held_after hosts lines (running n) (running (stepped n e)) (event.Net e) [] tt once h;
-      run = run_one of_subnet (running n) (running (stepped n e)) (event.Net e) [] once log;
+      run = run_one subnet_calls (running n) (running (stepped n e)) (event.Net e) [] once log;
     }
 
 -- a call of an IMP crosses nothing
@@ -291,13 +291,13 @@ takes_so hosts lines old h answer new held t goes = by answer t goes where
   no_gift true = refl
   no_gift false = refl
 
-  by : (a : Result (Option Inbound) CarrierFault) → of_subnet.takes old h a new → GoesOn (calmly (outcome_of a)) → TakesSo (quieted hosts lines) old h a new
+  by : (a : Result (Option Inbound) CarrierFault) → subnet_calls.takes old h a new → GoesOn (calmly (outcome_of a)) → TakesSo (quieted hosts lines) old h a new
   by (Ok (Some i)) t goes =
       let run : (old.stopped ≡ false) × (take_refusal old.net h ≡ None) = accepts old.stopped (take_refusal old.net h) t.0 in
       let log : new.net.log ≡ crossing_of i ∷ old.net.log =
       ap (λ (k : Kept). k.net.log) t.1.1 ∙ ap (λ o. crossings_of o ++ (at_imp (imp_at old.net.imps h.imp) h.imp (λ s. to_host s h.host) old.net).log) (sym t.1.0)
       ∙ ap (λ (log : List Crossing). crossing_of i ∷ log) (at_log old.net h.imp (imp_at old.net.imps h.imp) (λ s. to_host s h.host)) in
-      let once : Happens of_subnet old (event.Take h) new (Crossed (crossing_of i) ∷ []) = record {
+      let once : Happens subnet_calls old (event.Take h) new (Crossed (crossing_of i) ∷ []) = record {
         outcome = Ok tt;
         gives = (Ok (Some i), t, refl);
         goes_on = tt;
@@ -313,7 +313,7 @@ takes_so hosts lines old h answer new held t goes = by answer t goes where
             held_after hosts lines old new (event.Take h) (Crossed (crossing_of i) ∷ []) tt once held.0,
             subst (λ (k : Kept). IsSettled k.net) (sym t.1.1) (take_settled old.net h held.1),
           );
-          run = run_one of_subnet old new (event.Take h) (crossing_of i ∷ []) once log;
+          run = run_one subnet_calls old new (event.Take h) (crossing_of i ∷ []) once log;
         },
       )
   by (Ok None) t goes =
@@ -329,7 +329,7 @@ takes_so hosts lines old h answer new held t goes = by answer t goes where
 
 -- ---- rounds
 
-goes_quiet : (hosts : List Host) (lines round : ℕ) (old : Kept) (q : Result (Unit {0}) CarrierFault) (mid : Kept) → Held hosts lines old.net → Quiet of_subnet old q mid → GoesOn q
+goes_quiet : (hosts : List Host) (lines round : ℕ) (old : Kept) (q : Result (Unit {0}) CarrierFault) (mid : Kept) → Held hosts lines old.net → Quiet subnet_calls old q mid → GoesOn q
     → Goes (traced hosts lines) old (then_course (all_refreshing round (numbers_from 0 (length old.net.imps)) old.net) (lines_part round)) q mid
 goes_quiet hosts lines round old q mid held (Ok done, rounds, is) goes =
     let run : (old.stopped ≡ false) × (None ≡ None) = accepts old.stopped None rounds.0 in
@@ -351,7 +351,7 @@ goes_round hosts lines round old r new held (q, mid, first, more) goes =
     let course : Course Net = then_course imps (lines_part round) in
     let quiet : Goes (traced hosts lines) (running old.net) course (Ok tt) (running (quiet_round old.net)) = does_quiet hosts lines round old.net held in
     subst (λ (c : Course Net). Goes (traced hosts lines) old c r new) (then_twice imps (lines_part round) (round_of_hosts round))
-    (goes_chain (traced hosts lines) (Quiet of_subnet) (AllTake of_subnet old.net.hosts) course (round_of_hosts round) old new r
+    (goes_chain (traced hosts lines) (Quiet subnet_calls) (AllTake subnet_calls old.net.hosts) course (round_of_hosts round) old new r
     (λ q mid k g. goes_quiet hosts lines round old q mid held k g)
     (λ q mid m k g.
     let settled : IsSettled mid.net = subst IsSettled (quiet.left ∙ sym m.left) (quiet_settled old.net) in
@@ -365,11 +365,11 @@ goes_round hosts lines round old r new held (q, mid, first, more) goes =
 held_by : (n : Net) → IsPlaced n → Held n.hosts (length n.lines) n
 held_by n placed = record { placed = placed; same_hosts = refl; as_many = refl }
 
-pub elementary : (old new : Kept) (e : RawEvent) (shown : List Shown) → IsPlaced old.net → Happens of_subnet old e new shown → Replays of_subnet old (events_of (elements_of old.net e)) new shown
+pub elementary : (old new : Kept) (e : RawEvent) (shown : List Shown) → IsPlaced old.net → Happens subnet_calls old e new shown → Replays subnet_calls old (events_of (elements_of old.net e)) new shown
 elementary old new e shown placed k =
     elementary_of (traced old.net.hosts (length old.net.lines)) round_of (goes_round old.net.hosts (length old.net.lines)) old new e shown (held_by old.net placed) k
 
-pub placed_after : (old new : Kept) (e : RawEvent) (shown : List Shown) → IsPlaced old.net → Happens of_subnet old e new shown → IsPlaced new.net
+pub placed_after : (old new : Kept) (e : RawEvent) (shown : List Shown) → IsPlaced old.net → Happens subnet_calls old e new shown → IsPlaced new.net
 placed_after old new (event.Out m) shown is k = placed old new (event.Out m) shown is tt k
 placed_after old new (event.Take h) shown is k = placed old new (event.Take h) shown is tt k
 placed_after old new (event.Net e) shown is k = placed old new (event.Net e) shown is tt k
@@ -378,7 +378,7 @@ placed_after old new (event.Calm rounds) shown is k =
     calm_holds (traced old.net.hosts (length old.net.lines)) round_of (goes_round old.net.hosts (length old.net.lines)) old new rounds shown (held_by old.net is) k in
     held.placed
 
-pub placed_later : (events : List RawEvent) (old new : Kept) (shown : List Shown) → IsPlaced old.net → Replays of_subnet old events new shown → IsPlaced new.net
+pub placed_later : (events : List RawEvent) (old new : Kept) (shown : List Shown) → IsPlaced old.net → Replays subnet_calls old events new shown → IsPlaced new.net
 placed_later [] old new shown is k = subst (λ (b : Kept). IsPlaced b.net) (sym k.0) is
 placed_later (e ∷ events) old new shown is (mid, first, rest, one, more, whole) = placed_later events mid new rest (placed_after old mid e first is one) more
 

@@ -27,7 +27,7 @@ use Rattle.trace.specs.Traces.{GoesOnWith}
 use Rattle.trace.specs.declared.element.Element.{Element}
 use Rattle.trace.proofs.lemmas.{idle_rounds, or_first}
 use Rattle.subnet_trace.specs.Elements.{calm_left, is_working, round_left, round_of}
-use Rattle.subnet_trace.specs.Parts.{of_subnet}
+use Rattle.subnet.specs.Working.{subnet_calls}
 use Rattle.subnet_trace.specs.Steps.{IsNext, MayCall, MayCome, after}
 use Rattle.subnet_trace.specs.declared.place.Place.{Place}
 use Rattle.subnet_trace.specs.declared.place.Stage.{Stage}
@@ -105,7 +105,7 @@ took old new h (Err f) may goes k =
     absurd (not_some (sym (given_takes old.net h may) ∙ refusal_is old.stopped (take_refusal old.net h) f w.0 (or_first (is_halt f) (is_memory f) goes)))
 
 -- so where it happens and the subnet continues, the subnet is as is said
-came : (old new : Kept) (e : RawEvent) (shown : List Shown) → MayCome old.net e → Happens of_subnet old e new shown → new.net ≡ after old.net e
+came : (old new : Kept) (e : RawEvent) (shown : List Shown) → MayCome old.net e → Happens subnet_calls old e new shown → new.net ≡ after old.net e
 came old new (event.Net e) shown may k = called old new e k.outcome may k.goes_on k.gives
 came old new (event.Take h) shown may k = took old new h k.gives.0 may (subst GoesOn k.gives.2 k.goes_on) k.gives.1
 came old new (event.Out m) shown may k = absurd may
@@ -126,7 +126,7 @@ left k p = calm_left k.net p
 abbrev pub step_from : Place → RawEvent × Stage → Element × Place
 step_from p next = (record { round = p.round; event = next.0 }, record p { stage = next.1 })
 
-pub goes_on_with : (k : Kept) (p : Place) (next : RawEvent × Stage) → IsNext k.net (λ round. round_left round p.stage k.net) (Some next) → GoesOnWith of_subnet left k p (Some (step_from p next))
+pub goes_on_with : (k : Kept) (p : Place) (next : RawEvent × Stage) → IsNext k.net (λ round. round_left round p.stage k.net) (Some next) → GoesOnWith subnet_calls left k p (Some (step_from p next))
 goes_on_with k p next h = (
   later,
   once k.net next.0 h.0,
@@ -160,7 +160,7 @@ pub calm_idle : (k : Kept) (p : Place) → p.round < p.rounds → IsNext k.net (
 calm_idle k p lt over none = round_over k.net p lt (over p.round) ∙ idle_calm k.net p none
 
 pub in_next_round : (k : Kept) (p : Place) (next : RawEvent × Stage) → p.round < p.rounds → IsNext k.net (λ round. round_left round p.stage k.net) None → IsNext k.net (λ round. round_of round k.net) (Some next)
-    → GoesOnWith of_subnet left k p (Some (step_from (next_round p) next))
+    → GoesOnWith subnet_calls left k p (Some (step_from (next_round p) next))
 in_next_round k p next lt over h =
-    let goes : GoesOnWith of_subnet left k (next_round p) (Some (step_from (next_round p) next)) = goes_on_with k (next_round p) next h in
+    let goes : GoesOnWith subnet_calls left k (next_round p) (Some (step_from (next_round p) next)) = goes_on_with k (next_round p) next h in
     (goes.0, goes.1, round_over k.net p lt (over p.round) ∙ goes.2, goes.3)

@@ -25,7 +25,7 @@ use Rattle.subnet.specs.Sound.{IsSound}
 use Rattle.subnet.specs.Working.{IsWorking, SubnetOffer, SubnetRound, SubnetStep, SubnetTake}
 use Rattle.subnet.specs.declared.Ends.{Ends}
 use Rattle.subnet.proofs.lemmas.{offer_working, opening_working, round_working, step_working, take_working}
-use Rattle.subnet_trace.specs.Parts.{of_subnet}
+use Rattle.subnet.specs.Working.{subnet_calls}
 use Rattle.subnet_trace.specs.Told.{IsOneNetwork, IsReached, IsTold, SameTexts}
 use Rattle.trace.proofs.lemmas.{flow_named}
 use Rattle.subnet_trace.proofs.Known.{IsKnown, offer_known, opening_known, round_known, step_known, take_known, told}
@@ -105,36 +105,36 @@ onward_holds Next keeps (Err f) old mid new r before h goes = same_holds mid new
 chain_holds : {o : Net} (First Next : Part Kept) → PartHolds o First → PartHolds o Next → PartHolds o (Chain First Next)
 chain_holds First Next one more old new r (first, mid, h, k) goes holds = onward_holds Next more first old mid new r (λ went. one old mid first h went holds) k goes
 
-takings_hold : {o : Net} (h : Host) (times : ℕ) → PartHolds o (Takings of_subnet h times)
+takings_hold : {o : Net} (h : Host) (times : ℕ) → PartHolds o (Takings subnet_calls h times)
 takings_hold h zero old new r k goes holds = same_holds old new k.1 holds
 takings_hold h (suc times) old new r (Ok (Some given), mid, k, more) goes holds = takings_hold h times mid new r more goes (take_holds old mid h (Ok (Some given)) k tt holds)
 takings_hold h (suc times) old new r (Ok None, mid, k, done) goes holds = same_holds mid new done.1 (take_holds old mid h (Ok None) k tt holds)
 takings_hold h (suc times) old new r (Err f, mid, k, done) goes holds =
     same_holds mid new done.1 (take_holds old mid h (Err f) k (calmly_goes (Err f) (subst GoesOn done.0 goes)) holds)
 
-all_take_hold : {o : Net} (hosts : List Host) → PartHolds o (AllTake of_subnet hosts)
+all_take_hold : {o : Net} (hosts : List Host) → PartHolds o (AllTake subnet_calls hosts)
 all_take_hold [] old new r k goes holds = same_holds old new k.1 holds
-all_take_hold (h ∷ hosts) old new r k goes holds = chain_holds (Takings of_subnet h 16) (AllTake of_subnet hosts) (takings_hold h 16) (all_take_hold hosts) old new r k goes holds
+all_take_hold (h ∷ hosts) old new r k goes holds = chain_holds (Takings subnet_calls h 16) (AllTake subnet_calls hosts) (takings_hold h 16) (all_take_hold hosts) old new r k goes holds
 
-quiet_holds : {o : Net} → PartHolds o (Quiet of_subnet)
+quiet_holds : {o : Net} → PartHolds o (Quiet subnet_calls)
 quiet_holds old new r (answer, k, is) goes holds = round_holds old new answer k (calmly_goes answer (subst GoesOn is goes)) holds
 
-rounds_hold : {o : Net} (times : ℕ) → PartHolds o (Rounds of_subnet times)
+rounds_hold : {o : Net} (times : ℕ) → PartHolds o (Rounds subnet_calls times)
 rounds_hold zero old new r k goes holds = same_holds old new k.1 holds
 rounds_hold (suc times) old new r k goes holds =
-    chain_holds (Round of_subnet) (Rounds of_subnet times)
-    (λ from to q h went before. chain_holds (Quiet of_subnet) (AllTake of_subnet from.net.hosts) quiet_holds (all_take_hold from.net.hosts) from to q h went before)
+    chain_holds (Round subnet_calls) (Rounds subnet_calls times)
+    (λ from to q h went before. chain_holds (Quiet subnet_calls) (AllTake subnet_calls from.net.hosts) quiet_holds (all_take_hold from.net.hosts) from to q h went before)
     (rounds_hold times) old new r k goes holds
 
 -- ---- a replay
 
-event_holds : {o : Net} (old new : Kept) (e : RawEvent) (shown : List Shown) → IsEvent e → Happens of_subnet old e new shown → Holds o old → Holds o new
+event_holds : {o : Net} (old new : Kept) (e : RawEvent) (shown : List Shown) → IsEvent e → Happens subnet_calls old e new shown → Holds o old → Holds o new
 event_holds old new (event.Out m) shown valid k holds = offer_holds old new m k.outcome valid k.gives k.goes_on holds
 event_holds old new (event.Take h) shown valid k holds = take_holds old new h k.gives.0 k.gives.1 (subst GoesOn k.gives.2 k.goes_on) holds
 event_holds old new (event.Net e) shown valid k holds = step_holds old new e k.outcome valid k.gives k.goes_on holds
 event_holds old new (event.Calm rounds) shown valid k holds = rounds_hold rounds old new k.outcome k.gives k.goes_on holds
 
-replay_holds : {o : Net} (events : List RawEvent) (old new : Kept) (shown : List Shown) → All IsEvent events → Replays of_subnet old events new shown → Holds o old → Holds o new
+replay_holds : {o : Net} (events : List RawEvent) (old new : Kept) (shown : List Shown) → All IsEvent events → Replays subnet_calls old events new shown → Holds o old → Holds o new
 replay_holds {o} [] old new shown valid h holds = subst (Holds o) (sym h.0) holds
 replay_holds (e ∷ events) old new shown valid (mid, first, rest, h, hs, whole) holds =
     replay_holds events mid new rest (All-tail IsEvent e events valid) hs (event_holds old mid e first (All-head IsEvent e events valid) h holds)

@@ -32,7 +32,8 @@ use Rattle.subnet.specs.Events.{accepted, at_imp, at_up, deliver, delivered, dro
 use Rattle.subnet.specs.declared.Ends.{Ends}
 use Rattle.subnet.specs.Net.{Net, Wire, dropping, ends_at, far_end, followed_by, frames_on, imp_at, line_from, no_wire, put_all, put_on, put_one, wire_at, with_frame, with_turn}
 use Rattle.subnet.specs.Opening.{opened_from, opened_imp, opening_subnet}
-use Rattle.subnet_trace.specs.Parts.{Part, Imp, Line, SamePart, imp_alone, imp_and_lines, is_named, is_part, line_alone, lines_at, of_subnet, parts_of}
+use Rattle.subnet.specs.Working.{subnet_calls}
+use Rattle.subnet_trace.specs.Parts.{Part, Imp, Line, SamePart, imp_alone, imp_and_lines, is_named, is_part, line_alone, lines_at, parts_of}
 use Rattle.subnet_trace.specs.Told.{IsOneNetwork, IsPlaced, ends_of}
 
 -- ---- frames that an IMP puts on lines
@@ -249,7 +250,7 @@ happened : (old new : Kept) (e : NetEvent) (r : Result (Unit {0}) CarrierFault) 
 happened old new e (Ok done) w = inr (runs old.stopped (step_refusal old.net e) w.0, w.1)
 happened old new e (Err f) w = inl w
 
-left_of : (old new : Kept) (e : RawEvent) (shown : List Shown) → IsOneCall e → Happens of_subnet old e new shown → Left old new e
+left_of : (old new : Kept) (e : RawEvent) (shown : List Shown) → IsOneCall e → Happens subnet_calls old e new shown → Left old new e
 left_of old new (event.Out m) shown one k = offered old new m _ k.outcome (went _ _ _ old new k.outcome k.gives (goes_after k.outcome k.goes_on))
 left_of old new (event.Take h) shown one k =
     let r : Result (Option Inbound) CarrierFault = k.gives.0 in
@@ -273,7 +274,7 @@ rest_left old new (event.Net e) p placed (inl same) there none = same_all p old.
 rest_left old new (event.Net e) p placed (inr left) there none = as_left p old.net (stepped old.net e) new.net (step_rest old.net e p placed left.0 there none) (ap (λ (k : Kept). k.net) left.1)
 rest_left old new (event.Calm rounds) p placed left there none = absurd left
 
-pub rest : (old new : Kept) (e : RawEvent) (shown : List Shown) (p : Part) → IsPlaced old.net → IsOneCall e → Happens of_subnet old e new shown → is_part old.net p ≡ true → is_named p (parts_of old.net e) ≡ false → SamePart p old.net new.net
+pub rest : (old new : Kept) (e : RawEvent) (shown : List Shown) (p : Part) → IsPlaced old.net → IsOneCall e → Happens subnet_calls old e new shown → is_part old.net p ≡ true → is_named p (parts_of old.net e) ≡ false → SamePart p old.net new.net
 rest old new e shown p placed one k there none = rest_left old new e p placed (left_of old new e shown one k) there none
 
 -- ---- the network stays
@@ -369,13 +370,13 @@ kept_left old new (event.Net e) (inl same) = unchanged old.net new.net (ap (λ (
 kept_left old new (event.Net e) (inr left) = into old.net (stepped old.net e) new.net (step_keeps old.net e left.0) (ap (λ (k : Kept). k.net) left.1)
 kept_left old new (event.Calm rounds) left = absurd left
 
-keeps : (old new : Kept) (e : RawEvent) (shown : List Shown) → IsOneCall e → Happens of_subnet old e new shown → Keeps old.net new.net
+keeps : (old new : Kept) (e : RawEvent) (shown : List Shown) → IsOneCall e → Happens subnet_calls old e new shown → Keeps old.net new.net
 keeps old new e shown one k = kept_left old new e (left_of old new e shown one k)
 
-pub network : (old new : Kept) (e : RawEvent) (shown : List Shown) → IsOneCall e → Happens of_subnet old e new shown → IsOneNetwork old.net new.net
+pub network : (old new : Kept) (e : RawEvent) (shown : List Shown) → IsOneCall e → Happens subnet_calls old e new shown → IsOneNetwork old.net new.net
 network old new e shown one k = (keeps old new e shown one k).network
 
-pub placed : (old new : Kept) (e : RawEvent) (shown : List Shown) → IsPlaced old.net → IsOneCall e → Happens of_subnet old e new shown → IsPlaced new.net
+pub placed : (old new : Kept) (e : RawEvent) (shown : List Shown) → IsPlaced old.net → IsOneCall e → Happens subnet_calls old e new shown → IsPlaced new.net
 placed old new e shown is one k = (keeps old new e shown one k).placed is
 
 -- and at the opening

@@ -4,13 +4,12 @@ use Rattle.std.specs.Fmt.{decimal}
 use Rattle.std.specs.List.{range_with_len}
 use Rattle.leader1822.specs.declared.event.Direction.{Direction}
 use Rattle.leader1822.specs.declared.event.NetEvent.TheVariants as net
-use Rattle.replay.specs.Replay.{Calls}
+use Rattle.leader1822.specs.Calls.{Calls}
 use Rattle.script.specs.declared.event.RawEvent.{RawEvent}
 use Rattle.script.specs.declared.event.RawEvent.TheVariants as event
 use Rattle.subnet.specs.Calls.{Kept}
 use Rattle.subnet.specs.Events.{is_imp}
 use Rattle.subnet.specs.Net.{Net, ends_at, far_end, imp_at, wire_at}
-use Rattle.subnet.specs.Working.{SubnetOffer, SubnetRound, SubnetStep, SubnetTake, seen_of}
 use Rattle.subnet_trace.specs.Texts.{imp_text, line_text}
 use Rattle.trace.specs.Texts.{member, object}
 
@@ -97,7 +96,3 @@ is_named p (q ∷ parts) = same_part p q || is_named p parts
 abbrev pub SamePart : Part → Net → Net → Type 0
 SamePart (Imp i) old new = imp_at new.imps i ≡ imp_at old.imps i
 SamePart (Line l) old new = wire_at new.lines l ≡ wire_at old.lines l
-
--- the calls of a subnet
-abbrev pub of_subnet : Calls Kept
-of_subnet = record { seen = seen_of; offers = SubnetOffer; takes = SubnetTake; steps = SubnetStep; rounds = SubnetRound }

@@ -29,7 +29,8 @@ use Rattle.subnet.specs.Events.{site_at}
 use Rattle.subnet.specs.Net.{Net, Wire, imp_at}
 use Rattle.subnet.specs.Opening.{hosts_from, opening_subnet}
 use Rattle.subnet.specs.declared.Ends.{Ends}
-use Rattle.subnet_trace.specs.Parts.{Part, is_part, of_subnet, part_text}
+use Rattle.subnet.specs.Working.{subnet_calls}
+use Rattle.subnet_trace.specs.Parts.{Part, is_part, part_text}
 
 -- ---- values
 
@@ -152,4 +153,4 @@ pub record IsReached (sites : List (Option ℕ)) (ends : List Ends) (k : Kept) :
   pub shown : List Shown
   pub few : length sites ≤ most_imps + 1
   pub valid : All IsEvent events
-  pub replayed : Replays of_subnet (running (opening_subnet (hosts_from 0 sites) sites ends)) events k shown
+  pub replayed : Replays subnet_calls (running (opening_subnet (hosts_from 0 sites) sites ends)) events k shown

@@ -8,7 +8,7 @@ ghost use Rattle.subnet.specs.Alive.{says};
 ghost use Rattle.subnet.specs.Net.{imp_at};
 ghost use Rattle.subnet_trace.specs.Elements as elements;
 ghost use Rattle.subnet_trace.specs.Elements.{calm_left, from_subnet, imp_left, is_working, live_frames, round_from_line, round_left};
-ghost use Rattle.subnet_trace.specs.Parts.{of_subnet};
+ghost use Rattle.subnet.specs.Working.{subnet_calls};
 ghost use Rattle.subnet_trace.specs.Steps as steps;
 ghost use Rattle.subnet_trace.specs.Steps.{IsNext};
 ghost use Rattle.subnet_trace.specs.declared.place.Stage.TheVariants as stages;
@@ -29,7 +29,7 @@ const TAKINGS: u8 = 16;
 /// Where nothing comes from the beginning of a round to its end the calm is over: nothing changes, so nothing comes in
 /// any later round either.
 pub(crate) fn next_in_calm(subnet: &Subnet, place: Place) -> Option<(Element, Place)>
-    ensures { GoesOnWith of_subnet (λ k p. calm_left k.net p) subnet.now place result }
+    ensures { GoesOnWith subnet_calls (λ k p. calm_left k.net p) subnet.now place result }
 {
     if let Some((event, stage)) = next_in_round(subnet, place.stage) {
         return Some(in_round(place, event, stage));

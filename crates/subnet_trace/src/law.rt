@@ -11,7 +11,8 @@ ghost use Rattle.subnet.specs.Net.{Net};
 ghost use Rattle.subnet.specs.Opening.{hosts_from, opening_subnet};
 ghost use Rattle.subnet.specs.declared.Ends.{Ends};
 ghost use Rattle.subnet_trace.specs.Elements.{beginning, calm_left, calm_of, elements_of};
-ghost use Rattle.subnet_trace.specs.Parts.{Part, SamePart, is_named, is_part, of_subnet, parts_of};
+ghost use Rattle.subnet.specs.Working.{subnet_calls};
+ghost use Rattle.subnet_trace.specs.Parts.{Part, SamePart, is_named, is_part, parts_of};
 ghost use Rattle.subnet_trace.specs.Told.{IsOneNetwork, IsPlaced, IsReached, IsTold, SameTexts};
 ghost use Rattle.trace.specs.Elements.{events_of};
 
@@ -19,14 +20,14 @@ ghost use Rattle.trace.specs.Elements.{events_of};
 /// event leaves and prints what it prints. So a calm is a list of calls of the subnet.
 pub fn elementary()
     // of subnets that have no IMP where their network has none
-    ensures course { (old new : Kept) (e : RawEvent) (shown : List Shown) → IsPlaced old.net → Happens of_subnet old e new shown → Replays of_subnet old (events_of (elements_of old.net e)) new shown }
+    ensures course { (old new : Kept) (e : RawEvent) (shown : List Shown) → IsPlaced old.net → Happens subnet_calls old e new shown → Replays subnet_calls old (events_of (elements_of old.net e)) new shown }
 
     // each is one call of the subnet, and none a calm
     ensures one_call { (n : Net) (e : RawEvent) → All IsOneCall (events_of (elements_of n e)) }
 
     // all events keep it so, calms too, and so each subnet that a replay comes to is one
-    ensures placed { (old new : Kept) (e : RawEvent) (shown : List Shown) → IsPlaced old.net → Happens of_subnet old e new shown → IsPlaced new.net }
-    ensures reached { (hosts : List Host) (sites : List (Option ℕ)) (ends : List Ends) (events : List RawEvent) (k : Kept) (shown : List Shown) → Replays of_subnet (running (opening_subnet hosts sites ends)) events k shown → IsPlaced k.net }
+    ensures placed { (old new : Kept) (e : RawEvent) (shown : List Shown) → IsPlaced old.net → Happens subnet_calls old e new shown → IsPlaced new.net }
+    ensures reached { (hosts : List Host) (sites : List (Option ℕ)) (ends : List Ends) (events : List RawEvent) (k : Kept) (shown : List Shown) → Replays subnet_calls (running (opening_subnet hosts sites ends)) events k shown → IsPlaced k.net }
 
     // what is left of a calm where it begins is all of it
     ensures beginning { (n : Net) (rounds : ℕ) → calm_left n (beginning rounds) ≡ calm_of n rounds }
@@ -34,13 +35,13 @@ pub fn elementary()
 
 /// What an elementary event's parts do not name is as before.
 pub fn rest()
-    ensures parts { (old new : Kept) (e : RawEvent) (shown : List Shown) (p : Part) → IsPlaced old.net → IsOneCall e → Happens of_subnet old e new shown → is_part old.net p ≡ true → is_named p (parts_of old.net e) ≡ false → SamePart p old.net new.net }
+    ensures parts { (old new : Kept) (e : RawEvent) (shown : List Shown) (p : Part) → IsPlaced old.net → IsOneCall e → Happens subnet_calls old e new shown → is_part old.net p ≡ true → is_named p (parts_of old.net e) ≡ false → SamePart p old.net new.net }
 
     // the hosts of the network, its IMPs and the ends of its lines never change
-    ensures network { (old new : Kept) (e : RawEvent) (shown : List Shown) → IsOneCall e → Happens of_subnet old e new shown → IsOneNetwork old.net new.net }
+    ensures network { (old new : Kept) (e : RawEvent) (shown : List Shown) → IsOneCall e → Happens subnet_calls old e new shown → IsOneNetwork old.net new.net }
 
     // where the network has no IMP there never is one
-    ensures placed { (old new : Kept) (e : RawEvent) (shown : List Shown) → IsPlaced old.net → IsOneCall e → Happens of_subnet old e new shown → IsPlaced new.net }
+    ensures placed { (old new : Kept) (e : RawEvent) (shown : List Shown) → IsPlaced old.net → IsOneCall e → Happens subnet_calls old e new shown → IsPlaced new.net }
     ensures opening { (hosts : List Host) (sites : List (Option ℕ)) (ends : List Ends) → IsPlaced (opening_subnet hosts sites ends) }
 {}
 

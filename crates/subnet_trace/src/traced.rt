@@ -1,7 +1,7 @@
 //! A subnet as a carrier whose inside can be traced.
 
 ghost use Rattle.std.specs.Prelude.{◌≡◌};
-ghost use Rattle.subnet.specs.Working.{SubnetOffer, SubnetRound, SubnetStep, SubnetTake, seen_of};
+ghost use Rattle.subnet.specs.Working.{subnet_calls};
 ghost use Rattle.subnet_trace.specs.Elements.{calm_left, calm_of};
 ghost use Rattle.subnet_trace.specs.Fates as fates;
 ghost use Rattle.subnet_trace.specs.Parts.{all_parts, parts_of, parts_text};
@@ -49,15 +49,7 @@ impl TracedSubnet {
 
 /// Each call is that of the subnet.
 impl Carrier for TracedSubnet {
-    ghost seen = { seen_of };
-
-    ghost offers = { SubnetOffer };
-
-    ghost takes = { SubnetTake };
-
-    ghost steps = { SubnetStep };
-
-    ghost rounds = { SubnetRound };
+    ghost calls = { subnet_calls };
 
     fn offer_out(&mut self, message: HostMessage) -> Result<(), CarrierFault> {
         self.subnet.offer_out(message)

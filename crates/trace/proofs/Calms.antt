@@ -14,14 +14,15 @@ use Rattle.replay.specs.Output.{Shown, Crossed}
 use Rattle.replay.specs.Replay.{AllTake, GoesOn, Happens, IsOneCall, Quiet, Replays, calmly, outcome_of}
 use Rattle.script.specs.declared.event.RawEvent.{RawEvent}
 use Rattle.script.specs.declared.event.RawEvent.TheVariants as event
-use Rattle.trace.specs.Elements.{all_takings, elements_of, events_of, from_boxes, no_course, plain, round_of, rounds_from, taking}
+use Rattle.leader1822.specs.Boxes.{plain_calls}
+use Rattle.trace.specs.Elements.{all_takings, elements_of, events_of, from_boxes, no_course, round_of, rounds_from, taking}
 use Rattle.trace.proofs.Courses.{AllEvents, all_takings_events, rounds_events}
 use Rattle.trace.proofs.Each.{Went, goes_after_take, went}
 use Rattle.trace.proofs.Going.{AllRoundsGo, AllTakeSo, Goes, TakesSo, Traced, elementary_of, goes_all, goes_calmly, goes_chain, goes_none, or_first, run_one}
 
 -- nothing has to hold of mailboxes for this
 abbrev traced : Traced Boxes Boxes
-traced = record { calls = plain; view = λ b. b; Holds = λ b. Unit {0}; giving = from_boxes }
+traced = record { calls = plain_calls; view = λ b. b; Holds = λ b. Unit {0}; giving = from_boxes }
 
 -- ---- one taking
 
@@ -50,7 +51,7 @@ taken_log b h (inbound.Answer kind f) = refl
 goes_taking : (round : ℕ) (h : Host) (old new : Boxes) (i : Inbound) → host_refusal old h ≡ None → Some i ≡ next_for old h → new ≡ inbound_taken old h (next_for old h) → Goes traced old (taking from_boxes round h old) (Ok tt) new
 goes_taking round h old new i free is left =
     let log : new.log ≡ crossing_of i ∷ old.log = ap (λ (b : Boxes). b.log) left ∙ ap (λ o. (inbound_taken old h o).log) (sym is) ∙ taken_log old h i in
-    let once : Happens plain old (event.Take h) new (Crossed (crossing_of i) ∷ []) = record {
+    let once : Happens plain_calls old (event.Take h) new (Crossed (crossing_of i) ∷ []) = record {
       outcome = Ok tt;
       gives = (Ok (next_for old h), (free, (refl, left)), refl);
       goes_on = tt;
@@ -58,7 +59,7 @@ goes_taking round h old new i free is left =
       grown = log;
       lines = refl;
     } in
-    record { ok = refl; left = left; holds = tt; run = run_one plain old new (event.Take h) (crossing_of i ∷ []) once log }
+    record { ok = refl; left = left; holds = tt; run = run_one plain_calls old new (event.Take h) (crossing_of i ∷ []) once log }
 
 mutual_none : (a b : Bool) → b ≡ false → (a && b) ≡ false
 mutual_none true b e = e
@@ -66,10 +67,10 @@ mutual_none false b e = refl
 
 takes_so : AllTakeSo traced
 takes_so old h answer new holds t goes = by answer t goes where
-  took : (a : Result (Option Inbound) CarrierFault) → plain.takes old h a new → GoesOn (outcome_of a) → Went (host_refusal old h) (λ o. (o ≡ next_for old h) × (new ≡ inbound_taken old h o)) old a new
+  took : (a : Result (Option Inbound) CarrierFault) → plain_calls.takes old h a new → GoesOn (outcome_of a) → Went (host_refusal old h) (λ o. (o ≡ next_for old h) × (new ≡ inbound_taken old h o)) old a new
   took a t g = went (host_refusal old h) (take_grows old h) (λ o. (o ≡ next_for old h) × (new ≡ inbound_taken old h o)) old a new t (goes_after_take a g)
 
-  by : (a : Result (Option Inbound) CarrierFault) → plain.takes old h a new → GoesOn (calmly (outcome_of a)) → TakesSo traced old h a new
+  by : (a : Result (Option Inbound) CarrierFault) → plain_calls.takes old h a new → GoesOn (calmly (outcome_of a)) → TakesSo traced old h a new
   by (Ok (Some i)) t goes =
       let w = took (Ok (Some i)) t tt in
       (rw (free_is old h w.0).1 (ap is_some (sym w.1.0)), λ round. goes_taking round h old new i w.0 w.1.0 (w.1.1 ∙ ap (λ o. inbound_taken old h o) w.1.0))
@@ -83,7 +84,7 @@ takes_so old h answer new holds t goes = by answer t goes where
 
 -- ---- rounds
 
-goes_quiet : (old : Boxes) (q : Result (Unit {0}) CarrierFault) (mid : Boxes) → Quiet plain old q mid → GoesOn q → Goes traced old (no_course old) q mid
+goes_quiet : (old : Boxes) (q : Result (Unit {0}) CarrierFault) (mid : Boxes) → Quiet plain_calls old q mid → GoesOn q → Goes traced old (no_course old) q mid
 goes_quiet old q mid (Ok done, rounds, is) goes = goes_none traced old q mid tt is rounds.1
 goes_quiet old q mid (Err f, rounds, is) goes =
     let calm : (is_halt f || is_memory f) ≡ false = goes_calmly f (subst GoesOn is goes) in
@@ -91,10 +92,10 @@ goes_quiet old q mid (Err f, rounds, is) goes =
 
 goes_round : AllRoundsGo traced round_of
 goes_round round old r new holds (q, mid, first, more) goes =
-    goes_chain traced (Quiet plain) (AllTake plain old.hosts) (no_course old) (all_takings from_boxes round old.hosts) old new r
+    goes_chain traced (Quiet plain_calls) (AllTake plain_calls old.hosts) (no_course old) (all_takings from_boxes round old.hosts) old new r
     (λ q mid k g. goes_quiet old q mid k g) (λ q mid m k g. goes_all traced takes_so round old.hosts mid r new tt k g) q mid first more goes
 
-pub elementary : (old new : Boxes) (e : RawEvent) (shown : List Shown) → Happens plain old e new shown → Replays plain old (events_of (elements_of old e)) new shown
+pub elementary : (old new : Boxes) (e : RawEvent) (shown : List Shown) → Happens plain_calls old e new shown → Replays plain_calls old (events_of (elements_of old e)) new shown
 elementary old new e shown k = elementary_of traced round_of goes_round old new e shown tt k
 
 -- ---- all of a calm's elementary events are takings

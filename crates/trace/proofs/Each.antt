@@ -12,7 +12,7 @@ use Rattle.replay.specs.Output.{Shown}
 use Rattle.replay.specs.Replay.{GoesOn, Happens, IsOneCall, outcome_of}
 use Rattle.script.specs.declared.event.RawEvent.{RawEvent}
 use Rattle.script.specs.declared.event.RawEvent.TheVariants as event
-use Rattle.trace.specs.Elements.{plain}
+use Rattle.leader1822.specs.Boxes.{plain_calls}
 
 -- it succeeded, or was refused and changed nothing
 abbrev pub Went : {T : Type 0} → Option CarrierFault → (T → Type 0) → Boxes → Result T CarrierFault → Boxes → Type 0
@@ -65,7 +65,7 @@ step_left : (old new : Boxes) (e : NetEvent) (r : Result (Unit {0}) CarrierFault
 step_left old new e (Ok done) w = inr w
 step_left old new e (Err f) w = inl w.1
 
-pub left_of : (old new : Boxes) (e : RawEvent) (shown : List Shown) → IsOneCall e → Happens plain old e new shown → Left old new e
+pub left_of : (old new : Boxes) (e : RawEvent) (shown : List Shown) → IsOneCall e → Happens plain_calls old e new shown → Left old new e
 left_of old new (event.Out m) shown one k = offer_left old new m k.outcome (went (offer_refusal old m.flow) true (λ done. new ≡ offered old m) old k.outcome new k.gives (goes_after k.outcome k.goes_on))
 left_of old new (event.Take h) shown one k =
     let r : Result (Option Inbound) CarrierFault = k.gives.0 in

@@ -1,14 +1,13 @@
 -- What an event did that was processed, whatever was answered.
 use Rattle.std.proofs.Common.{◌≡◌, ℕ, Bool, false, true, List, [], ◌∷◌, None, Result, Ok, Err, ap, refl, subst, sym, ◌==◌}
 use Rattle.std.proofs.lemmas.Bool.{false≢true}
-use Rattle.leader1822.specs.Boxes.{Boxes, BoxesDecided, BoxesStep, host_stopped, opening_boxes}
+use Rattle.leader1822.specs.Boxes.{Boxes, BoxesDecided, BoxesStep, host_stopped, opening_boxes, plain_calls}
 use Rattle.leader1822.specs.declared.CarrierFault.{CarrierFault}
 use Rattle.leader1822.specs.declared.CarrierFault.TheVariants as fault
 use Rattle.leader1822.specs.declared.event.NetEvent.TheVariants as net
 use Rattle.leader1822.specs.Host.{Host}
 use Rattle.replay.specs.Replay.{EventGives}
 use Rattle.script.specs.declared.event.RawEvent.{RawEvent}
-use Rattle.trace.specs.Elements.{plain}
 use Rattle.trace.specs.Traces.{MayTell}
 use Rattle.trace.specs.Worked.{first, hosts, second, stop}
 
@@ -32,25 +31,25 @@ is_first [] = false
 is_first (h ∷ others) = h.host == 0
 
 -- so the second host has stopped
-has_stopped : (new : Boxes) (lines : List (List ℕ)) → new.stopped ≡ false → MayTell plain (opening_boxes hosts) stop new lines → new ≡ host_stopped (opening_boxes hosts) second
+has_stopped : (new : Boxes) (lines : List (List ℕ)) → new.stopped ≡ false → MayTell plain_calls (opening_boxes hosts) stop new lines → new ≡ host_stopped (opening_boxes hosts) second
 has_stopped new lines running (m, none) =
-    let gave : BoxesStep (opening_boxes hosts) (net.HostDown second) m.outcome new = subst (λ (e : RawEvent). EventGives plain (opening_boxes hosts) e m.outcome new) m.begins m.gives in
+    let gave : BoxesStep (opening_boxes hosts) (net.HostDown second) m.outcome new = subst (λ (e : RawEvent). EventGives plain_calls (opening_boxes hosts) e m.outcome new) m.begins m.gives in
     (done true (λ finished. new ≡ host_stopped (opening_boxes hosts) second) (opening_boxes hosts) m.outcome new running gave).1
 
-pub row_processed : MayTell plain (opening_boxes hosts) stop (host_stopped (opening_boxes hosts) second) []
+pub row_processed : MayTell plain_calls (opening_boxes hosts) stop (host_stopped (opening_boxes hosts) second) []
 row_processed = (record { processed = stop.event; begins = refl; outcome = Ok tt; gives = (refl, refl); unknown = refl }, refl)
 
-pub row_nothing : MayTell plain (opening_boxes hosts) stop (opening_boxes hosts) [] → ⊥
+pub row_nothing : MayTell plain_calls (opening_boxes hosts) stop (opening_boxes hosts) [] → ⊥
 row_nothing h =
     let same : opening_boxes hosts ≡ host_stopped (opening_boxes hosts) second = has_stopped (opening_boxes hosts) [] refl h in
     let none : [] ≡ second ∷ [] = ap (λ (b : Boxes). b.down) same in
     absurd (cc)
 
-pub row_another : MayTell plain (opening_boxes hosts) stop (host_stopped (opening_boxes hosts) first) [] → ⊥
+pub row_another : MayTell plain_calls (opening_boxes hosts) stop (host_stopped (opening_boxes hosts) first) [] → ⊥
 row_another h =
     let same : host_stopped (opening_boxes hosts) first ≡ host_stopped (opening_boxes hosts) second = has_stopped (host_stopped (opening_boxes hosts) first) [] refl h in
     let other : true ≡ false = ap (λ (b : Boxes). is_first b.down) same in
     false≢true (sym other)
 
-pub row_no_line : (line : List ℕ) → MayTell plain (opening_boxes hosts) stop (host_stopped (opening_boxes hosts) second) (line ∷ []) → ⊥
+pub row_no_line : (line : List ℕ) → MayTell plain_calls (opening_boxes hosts) stop (host_stopped (opening_boxes hosts) second) (line ∷ []) → ⊥
 row_no_line line h = let none : line ∷ [] ≡ [] = h.1 in absurd (cc)

@@ -20,7 +20,8 @@ use Rattle.script.specs.declared.event.RawEvent.TheVariants as event
 use Rattle.trace.specs.Kept.{AreQueues, IsTold, IsValidAnswer}
 use Rattle.replay.specs.Output.{Shown}
 use Rattle.replay.specs.Replay.{Happens, Replays}
-use Rattle.trace.specs.Elements.{elements_of, events_of, plain}
+use Rattle.leader1822.specs.Boxes.{plain_calls}
+use Rattle.trace.specs.Elements.{elements_of, events_of}
 use Rattle.trace.proofs.Calms.{IsTaking, elementary, rounds_are}
 use Rattle.trace.proofs.Each.{Left, left_of}
 use Rattle.trace.proofs.Queues.{no_queues, queues_more, queues_rest, queues_with, split_and}
@@ -149,7 +150,7 @@ opening_told hosts = record { running = refl; down = All-nil IsHost; messages = 
 
 -- ---- events of a script
 
-takings_kept : (events : List RawEvent) (old new : Boxes) (shown : List Shown) → All IsTaking events → Replays plain old events new shown → IsTold old → IsTold new
+takings_kept : (events : List RawEvent) (old new : Boxes) (shown : List Shown) → All IsTaking events → Replays plain_calls old events new shown → IsTold old → IsTold new
 takings_kept [] old new shown all h told = subst IsTold (sym h.0) told
 takings_kept (event.Take g ∷ events) old new shown all (mid, first, rest, h, hs, whole) told =
     takings_kept events mid new rest (All-tail IsTaking (event.Take g) events all) hs (call_kept old mid (event.Take g) told tt (left_of old mid (event.Take g) first tt h))
@@ -157,17 +158,17 @@ takings_kept (event.Out m ∷ events) old new shown all h told = absurd (All-hea
 takings_kept (event.Net e ∷ events) old new shown all h told = absurd (All-head IsTaking (event.Net e) events all)
 takings_kept (event.Calm rounds ∷ events) old new shown all h told = absurd (All-head IsTaking (event.Calm rounds) events all)
 
-kept : (old new : Boxes) (e : RawEvent) (shown : List Shown) → IsEvent e → IsTold old → Happens plain old e new shown → IsTold new
+kept : (old new : Boxes) (e : RawEvent) (shown : List Shown) → IsEvent e → IsTold old → Happens plain_calls old e new shown → IsTold new
 kept old new (event.Out m) shown valid told k = call_kept old new (event.Out m) told valid (left_of old new (event.Out m) shown tt k)
 kept old new (event.Take h) shown valid told k = call_kept old new (event.Take h) told tt (left_of old new (event.Take h) shown tt k)
 kept old new (event.Net e) shown valid told k = call_kept old new (event.Net e) told valid (left_of old new (event.Net e) shown tt k)
 kept old new (event.Calm rounds) shown valid told k =
     takings_kept (events_of (elements_of old (event.Calm rounds))) old new shown (rounds_are 1 rounds old) (elementary old new (event.Calm rounds) shown k) told
 
-all_kept : (events : List RawEvent) (old new : Boxes) (shown : List Shown) → All IsEvent events → Replays plain old events new shown → IsTold old → IsTold new
+all_kept : (events : List RawEvent) (old new : Boxes) (shown : List Shown) → All IsEvent events → Replays plain_calls old events new shown → IsTold old → IsTold new
 all_kept [] old new shown valid h told = subst IsTold (sym h.0) told
 all_kept (e ∷ events) old new shown valid (mid, first, rest, h, hs, whole) told =
     all_kept events mid new rest (All-tail IsEvent e events valid) hs (kept old mid e first (All-head IsEvent e events valid) told h)
 
-pub reached : (hosts : List Host) (events : List RawEvent) (new : Boxes) (shown : List Shown) → All IsEvent events → Replays plain (opening_boxes hosts) events new shown → IsTold new
+pub reached : (hosts : List Host) (events : List RawEvent) (new : Boxes) (shown : List Shown) → All IsEvent events → Replays plain_calls (opening_boxes hosts) events new shown → IsTold new
 reached hosts events new shown valid h = all_kept events (opening_boxes hosts) new shown valid h (opening_told hosts)

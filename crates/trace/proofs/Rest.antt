@@ -16,7 +16,7 @@ use Rattle.replay.specs.Output.{Shown, crossings_of}
 use Rattle.replay.specs.Replay.{Happens, IsOneCall}
 use Rattle.script.specs.declared.event.RawEvent.{RawEvent}
 use Rattle.script.specs.declared.event.RawEvent.TheVariants as event
-use Rattle.trace.specs.Elements.{plain}
+use Rattle.leader1822.specs.Boxes.{plain_calls}
 use Rattle.trace.specs.Parts.{Part, Down, Waiting, IsPart, SamePart, is_named, is_source, moves_host, parts_of, reaches}
 use Rattle.replay.proofs.lemmas.{happens_shows}
 use Rattle.trace.proofs.Each.{Left, left_of}
@@ -106,7 +106,7 @@ stepped_same old (net.Forget at from) crossings h none = (refl, refl)
 stepped_same old (net.Abandon f) crossings h none = (refl, refl)
 stepped_same old (net.Ask f) crossings h none = (refl, refl)
 
-queues_left : (old new : Boxes) (e : RawEvent) (shown : List Shown) (h : Host) → Left old new e → Happens plain old e new shown → reaches e (crossings_of shown) h ≡ false → Same old h new
+queues_left : (old new : Boxes) (e : RawEvent) (shown : List Shown) (h : Host) → Left old new e → Happens plain_calls old e new shown → reaches e (crossings_of shown) h ≡ false → Same old h new
 queues_left old new (event.Out m) shown h (inl same) k none = all_same old new h same
 queues_left old new (event.Out m) shown h (inr left) k none =
     let apart = or_false (same_host h m.flow.destination) (same_host h m.flow.source) none in
@@ -114,7 +114,7 @@ queues_left old new (event.Out m) shown h (inr left) k none =
 queues_left old new (event.Take g) shown h (inl same) k none = all_same old new h same
 queues_left old new (event.Take g) shown h (inr left) k none =
     let apart = or_false (same_host h g) (is_source h (crossings_of shown)) none in
-    taken_same old new g h (next_for old g) (crossings_of shown) left.1 (happens_shows plain old new (event.Take g) shown k) apart.0 apart.1
+    taken_same old new g h (next_for old g) (crossings_of shown) left.1 (happens_shows plain_calls old new (event.Take g) shown k) apart.0 apart.1
 queues_left old new (event.Net e) shown h (inl same) k none = all_same old new h same
 queues_left old new (event.Net e) shown h (inr left) k none = as_left old (stepped old e) new h (stepped_same old e (crossings_of shown) h none) left.1
 queues_left old new (event.Calm rounds) shown h left k none = absurd left
@@ -192,10 +192,10 @@ down_left old new (event.Net e) (inl same) none = ap (λ b. b.down) same
 down_left old new (event.Net e) (inr left) none = ap (λ b. b.down) left.1 ∙ stepped_down old e none
 down_left old new (event.Calm rounds) left none = absurd left
 
-pub frame : (old new : Boxes) (e : RawEvent) (shown : List Shown) → IsOneCall e → Happens plain old e new shown → Frame old new
+pub frame : (old new : Boxes) (e : RawEvent) (shown : List Shown) → IsOneCall e → Happens plain_calls old e new shown → Frame old new
 frame old new e shown one k = frame_of old new e (left_of old new e shown one k)
 
-pub rest_same : (old new : Boxes) (e : RawEvent) (shown : List Shown) (p : Part) → IsOneCall e → Happens plain old e new shown → IsPart old.hosts p → is_named p (parts_of old.hosts e (crossings_of shown)) ≡ false → SamePart p old new
+pub rest_same : (old new : Boxes) (e : RawEvent) (shown : List Shown) (p : Part) → IsOneCall e → Happens plain_calls old e new shown → IsPart old.hosts p → is_named p (parts_of old.hosts e (crossings_of shown)) ≡ false → SamePart p old new
 rest_same old new e shown Down one k there none =
     down_left old new e (left_of old new e shown one k) (down_named (moves_host e) (map (λ h. Waiting h) (filter (reaches e (crossings_of shown)) old.hosts)) none)
 rest_same old new e shown (Waiting h) one k there none =

@@ -12,7 +12,8 @@ use Rattle.replay.specs.Replay.{GoesOn, Happens, outcome_of}
 use Rattle.script.specs.declared.event.RawEvent.TheVariants as event
 use Rattle.trace.specs.declared.element.Element.{Element}
 use Rattle.trace.specs.declared.turn.Turn.{Turn}
-use Rattle.trace.specs.Elements.{Course, calm_left, from_boxes, is_given, no_course, plain, rest_of_calm, round_left, round_of, rounds_from, takings_from, then_course}
+use Rattle.leader1822.specs.Boxes.{plain_calls}
+use Rattle.trace.specs.Elements.{Course, calm_left, from_boxes, is_given, no_course, rest_of_calm, round_left, round_of, rounds_from, takings_from, then_course}
 use Rattle.trace.specs.Steps.{IsNext}
 use Rattle.trace.specs.Traces.{GoesOnWith}
 use Rattle.trace.proofs.Calms.{refused_is}
@@ -24,10 +25,10 @@ use Rattle.trace.proofs.Rest.{taken_frame}
 -- ---- a calm continues
 
 -- a taking that continues gives what waits
-taken : (b new : Boxes) (h : Host) (shown : List Shown) → is_given b h ≡ true → Happens plain b (event.Take h) new shown → new ≡ inbound_taken b h (next_for b h)
+taken : (b new : Boxes) (h : Host) (shown : List Shown) → is_given b h ≡ true → Happens plain_calls b (event.Take h) new shown → new ≡ inbound_taken b h (next_for b h)
 taken b new h shown given k = by k.gives.0 k.gives.1 (subst GoesOn k.gives.2 k.goes_on)
   where
-    by : (a : Result (Option Inbound) CarrierFault) → plain.takes b h a new → GoesOn (outcome_of a) → new ≡ inbound_taken b h (next_for b h)
+    by : (a : Result (Option Inbound) CarrierFault) → plain_calls.takes b h a new → GoesOn (outcome_of a) → new ≡ inbound_taken b h (next_for b h)
     by (Ok o) t goes =
         let w : Went (host_refusal b h) (λ o. (o ≡ next_for b h) × (new ≡ inbound_taken b h o)) b (Ok o) new = went (host_refusal b h) (take_grows b h) (λ o. (o ≡ next_for b h) × (new ≡ inbound_taken b h o)) b (Ok o) new t tt in
         w.1.1 ∙ ap (λ o. inbound_taken b h o) w.1.0
@@ -38,12 +39,12 @@ taken b new h shown given k = by k.gives.0 k.gives.1 (subst GoesOn k.gives.2 k.g
         absurd (cc)
 
 -- with a taking and what is left after it
-pub goes_on_with : (b : Boxes) (t : Turn) (next : Element × Turn) → IsNext b t (Some next) → GoesOnWith plain calm_left b t (Some next)
+pub goes_on_with : (b : Boxes) (t : Turn) (next : Element × Turn) → IsNext b t (Some next) → GoesOnWith plain_calls calm_left b t (Some next)
 goes_on_with b t next (h, is, given, same_round, same_rounds, left) = (
   later,
   subst (λ (x : Element). Once x) (sym is) tt,
   ap (λ (c : Course Boxes). rest_of_calm round_of t.round t.rounds c) left ∙ ap (λ (x : Element). x ∷ later) (sym is),
-  λ new shown k. after new (taken b new h shown given (subst (λ (x : Element). Happens plain b x.event new shown) is k)),
+  λ new shown k. after new (taken b new h shown given (subst (λ (x : Element). Happens plain_calls b x.event new shown) is k)),
 )
   where
     Once : Element → Type 0
@@ -82,10 +83,10 @@ idle_calm b round rounds none =
 
 -- where a round is over, the calm continues as the next one does
 pub in_next_round : (b : Boxes) (t : Turn) (next : Option (Element × Turn)) → t.round < t.rounds → round_left b t ≡ no_course b → IsNext b (record { round = t.round + 1; rounds = t.rounds; host = 0; times = 16 }) next
-    → GoesOnWith plain calm_left b t next
+    → GoesOnWith plain_calls calm_left b t next
 in_next_round b t None lt over h = next_round b t lt over ∙ idle_calm b (t.round + 1) t.rounds h
 in_next_round b t (Some next) lt over h =
-    let goes : GoesOnWith plain calm_left b (record { round = t.round + 1; rounds = t.rounds; host = 0; times = 16 }) (Some next) = goes_on_with b (record { round = t.round + 1; rounds = t.rounds; host = 0; times = 16 }) next h in
+    let goes : GoesOnWith plain_calls calm_left b (record { round = t.round + 1; rounds = t.rounds; host = 0; times = 16 }) (Some next) = goes_on_with b (record { round = t.round + 1; rounds = t.rounds; host = 0; times = 16 }) next h in
     (goes.0, goes.1, next_round b t lt over ∙ goes.2, goes.3)
 
 -- ---- the next taking

@@ -1,8 +1,8 @@
 -- Elementary events: an event of a script, or within a calm each of its parts. First what all networks share, and then plain mailboxes.
 use Rattle.std.specs.Prelude.{ℕ, zero, suc, ◌-◌, Bool, ◌&&◌, drop, if◌then◌else◌, is_some, List, [], ◌∷◌, ◌++◌, map}
-use Rattle.leader1822.specs.Boxes.{Boxes, BoxesOffer, BoxesRound, BoxesStep, BoxesTake, inbound_taken, is_running, next_for, seen_of}
+use Rattle.leader1822.specs.Boxes.{Boxes, inbound_taken, is_running, next_for}
 use Rattle.leader1822.specs.Host.{Host}
-use Rattle.replay.specs.Replay.{Calls}
+use Rattle.leader1822.specs.Calls.{Calls}
 use Rattle.script.specs.declared.event.RawEvent.{RawEvent}
 use Rattle.script.specs.declared.event.RawEvent.TheVariants as event
 use Rattle.trace.specs.declared.element.Element.{Element}
@@ -77,10 +77,6 @@ abbrev pub events_of : List Element → List RawEvent
 events_of elements = map (λ x. x.event) elements
 
 -- ---- plain mailboxes
-
--- their calls
-abbrev pub plain : Calls Boxes
-plain = record { seen = seen_of; offers = BoxesOffer; takes = BoxesTake; steps = BoxesStep; rounds = BoxesRound }
 
 -- a taking gives something where the host is up and something waits for it
 abbrev pub is_given : Boxes → Host → Bool

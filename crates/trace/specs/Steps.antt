@@ -3,7 +3,8 @@ use Rattle.std.specs.Prelude.{◌≡◌, ℕ, true, List, drop, Option, Some, No
 use Rattle.leader1822.specs.Boxes.{Boxes}
 use Rattle.leader1822.specs.declared.carrier.CarrierFault.{CarrierFault}
 use Rattle.replay.specs.InTurn.{Happening}
-use Rattle.replay.specs.Replay.{Calls, EventGives}
+use Rattle.replay.specs.Replay.{EventGives}
+use Rattle.leader1822.specs.Calls.{Calls}
 use Rattle.replay.specs.Steps.{Grew}
 use Rattle.replay.specs.declared.events.ReplayFault.{ReplayFault}
 use Rattle.replay.specs.declared.events.ReplayFault.TheVariants as fault

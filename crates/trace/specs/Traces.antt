@@ -3,7 +3,8 @@ use Rattle.std.specs.Prelude.{◌≡◌, ℕ, suc, ◌+◌, ◌-◌, List, [], �
 use Rattle.leader1822.specs.declared.crossing.Crossing.{Crossing}
 use Rattle.replay.specs.InTurn.{EndsInTurn, Happening, InTurn, WritesLines}
 use Rattle.replay.specs.Output.{Shown, crossings_of}
-use Rattle.replay.specs.Replay.{Calls, Happens, IsOneCall, MayDo, StopsIn}
+use Rattle.replay.specs.Replay.{Happens, IsOneCall, MayDo, StopsIn}
+use Rattle.leader1822.specs.Calls.{Calls}
 use Rattle.script.specs.declared.event.RawEvent.{RawEvent}
 use Rattle.script.specs.Script.{asks, lines_of}
 use Rattle.topology.specs.Topology.{TopologyFields}

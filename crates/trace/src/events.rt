@@ -40,16 +40,16 @@ pub fn trace_events<C: Inspect, W: Output>(
     requires whole { W.failed writer.old ≡ false }
 
     // first the network, and then each elementary event in turn went as the carrier says that its calls may go, and its line was written
-    ensures traced { OnOk result (WritesTrace (AfterOpening (record { calm = C.calm; whole = C.whole; parts = C.parts; fate = C.fate }) network.now carrier.old (Traces (record { seen = C.seen; offers = C.offers; takes = C.takes; steps = C.steps; rounds = C.rounds }) (record { calm = C.calm; whole = C.whole; parts = C.parts; fate = C.fate }) carrier.old lines.now events.now carrier.new)) (W.contents writer.old) (W.contents writer.new)) }
+    ensures traced { OnOk result (WritesTrace (AfterOpening (record { calm = C.calm; whole = C.whole; parts = C.parts; fate = C.fate }) network.now carrier.old (Traces C.calls (record { calm = C.calm; whole = C.whole; parts = C.parts; fate = C.fate }) carrier.old lines.now events.now carrier.new)) (W.contents writer.old) (W.contents writer.new)) }
 
     // memory ran out at one of them: the first line and those before it were written, and nothing else
-    ensures memory { result ≡ Err ReplayFault.OutOfMemory → WritesTrace (AfterOpening (record { calm = C.calm; whole = C.whole; parts = C.parts; fate = C.fate }) network.now carrier.old (TraceEnds (record { seen = C.seen; offers = C.offers; takes = C.takes; steps = C.steps; rounds = C.rounds }) (record { calm = C.calm; whole = C.whole; parts = C.parts; fate = C.fate }) (StopsElement (record { seen = C.seen; offers = C.offers; takes = C.takes; steps = C.steps; rounds = C.rounds })) carrier.old lines.now events.now carrier.new)) (W.contents writer.old) (W.contents writer.new) }
+    ensures memory { result ≡ Err ReplayFault.OutOfMemory → WritesTrace (AfterOpening (record { calm = C.calm; whole = C.whole; parts = C.parts; fate = C.fate }) network.now carrier.old (TraceEnds C.calls (record { calm = C.calm; whole = C.whole; parts = C.parts; fate = C.fate }) (StopsElement C.calls) carrier.old lines.now events.now carrier.new)) (W.contents writer.old) (W.contents writer.new) }
 
     // `CannotWrite` is answered where a write failed, and nowhere else
     ensures failed { TellsCannotWrite result (W.failed writer.new) }
 
     // a write failed: the carrier had already processed that elementary event, or none
-    ensures cannot_write { result ≡ Err ReplayFault.CannotWrite → (carrier.new ≡ carrier.old) ⊎ ((others : List (List ℕ)) × TraceEnds (record { seen = C.seen; offers = C.offers; takes = C.takes; steps = C.steps; rounds = C.rounds }) (record { calm = C.calm; whole = C.whole; parts = C.parts; fate = C.fate }) (MayTell (record { seen = C.seen; offers = C.offers; takes = C.takes; steps = C.steps; rounds = C.rounds })) carrier.old lines.now events.now carrier.new others) }
+    ensures cannot_write { result ≡ Err ReplayFault.CannotWrite → (carrier.new ≡ carrier.old) ⊎ ((others : List (List ℕ)) × TraceEnds C.calls (record { calm = C.calm; whole = C.whole; parts = C.parts; fate = C.fate }) (MayTell C.calls) carrier.old lines.now events.now carrier.new others) }
 {
     print_opening(network, carrier, writer)?;
     trace_all(carrier, lines, events, writer)
@@ -64,10 +64,10 @@ fn trace_all<C: Inspect, W: Output>(
 ) -> Result<(), ReplayFault>
     requires events { length lines.now ≡ length events.now }
     requires whole { W.failed writer.old ≡ false }
-    ensures traced { OnOk result (WritesTrace (Traces (record { seen = C.seen; offers = C.offers; takes = C.takes; steps = C.steps; rounds = C.rounds }) (record { calm = C.calm; whole = C.whole; parts = C.parts; fate = C.fate }) carrier.old lines.now events.now carrier.new) (W.contents writer.old) (W.contents writer.new)) }
-    ensures memory { result ≡ Err ReplayFault.OutOfMemory → WritesTrace (TraceEnds (record { seen = C.seen; offers = C.offers; takes = C.takes; steps = C.steps; rounds = C.rounds }) (record { calm = C.calm; whole = C.whole; parts = C.parts; fate = C.fate }) (StopsElement (record { seen = C.seen; offers = C.offers; takes = C.takes; steps = C.steps; rounds = C.rounds })) carrier.old lines.now events.now carrier.new) (W.contents writer.old) (W.contents writer.new) }
+    ensures traced { OnOk result (WritesTrace (Traces C.calls (record { calm = C.calm; whole = C.whole; parts = C.parts; fate = C.fate }) carrier.old lines.now events.now carrier.new) (W.contents writer.old) (W.contents writer.new)) }
+    ensures memory { result ≡ Err ReplayFault.OutOfMemory → WritesTrace (TraceEnds C.calls (record { calm = C.calm; whole = C.whole; parts = C.parts; fate = C.fate }) (StopsElement C.calls) carrier.old lines.now events.now carrier.new) (W.contents writer.old) (W.contents writer.new) }
     ensures failed { TellsCannotWrite result (W.failed writer.new) }
-    ensures cannot_write { result ≡ Err ReplayFault.CannotWrite → (others : List (List ℕ)) × TraceEnds (record { seen = C.seen; offers = C.offers; takes = C.takes; steps = C.steps; rounds = C.rounds }) (record { calm = C.calm; whole = C.whole; parts = C.parts; fate = C.fate }) (MayTell (record { seen = C.seen; offers = C.offers; takes = C.takes; steps = C.steps; rounds = C.rounds })) carrier.old lines.now events.now carrier.new others }
+    ensures cannot_write { result ≡ Err ReplayFault.CannotWrite → (others : List (List ℕ)) × TraceEnds C.calls (record { calm = C.calm; whole = C.whole; parts = C.parts; fate = C.fate }) (MayTell C.calls) carrier.old lines.now events.now carrier.new others }
 {
     for place in 0..events.len() {
         let spot = Spot {
@@ -87,7 +87,7 @@ fn trace_event<C: Inspect, W: Output>(
     writer: &mut W,
 ) -> Result<(), ReplayFault>
     requires { W.failed writer.old ≡ false }
-    ensures ends { EventEnds (record { seen = C.seen; offers = C.offers; takes = C.takes; steps = C.steps; rounds = C.rounds }) (record { calm = C.calm; whole = C.whole; parts = C.parts; fate = C.fate }) carrier.old (spot, event.now) result carrier.new (W.contents writer.old) (W.contents writer.new) }
+    ensures ends { EventEnds C.calls (record { calm = C.calm; whole = C.whole; parts = C.parts; fate = C.fate }) carrier.old (spot, event.now) result carrier.new (W.contents writer.old) (W.contents writer.new) }
     ensures failed { TellsCannotWrite result (W.failed writer.new) }
 {
     match event {
@@ -106,7 +106,7 @@ fn trace_calm<C: Inspect, W: Output>(
     writer: &mut W,
 ) -> Result<(), ReplayFault>
     requires { W.failed writer.old ≡ false }
-    ensures ends { EventEnds (record { seen = C.seen; offers = C.offers; takes = C.takes; steps = C.steps; rounds = C.rounds }) (record { calm = C.calm; whole = C.whole; parts = C.parts; fate = C.fate }) carrier.old (spot, script_event.Calm rounds) result carrier.new (W.contents writer.old) (W.contents writer.new) }
+    ensures ends { EventEnds C.calls (record { calm = C.calm; whole = C.whole; parts = C.parts; fate = C.fate }) carrier.old (spot, script_event.Calm rounds) result carrier.new (W.contents writer.old) (W.contents writer.new) }
     ensures failed { TellsCannotWrite result (W.failed writer.new) }
 {
     let mut place = carrier.begin_calm(rounds);
@@ -127,7 +127,7 @@ fn trace_element<C: Inspect, W: Output>(
 ) -> Result<(), ReplayFault>
     requires one_call { IsOneCall event.now }
     requires whole { W.failed writer.old ≡ false }
-    ensures ends { ElementEnds (record { seen = C.seen; offers = C.offers; takes = C.takes; steps = C.steps; rounds = C.rounds }) (record { calm = C.calm; whole = C.whole; parts = C.parts; fate = C.fate }) spot carrier.old (record { round = round; event = event.now }) result carrier.new (W.contents writer.old) (W.contents writer.new) }
+    ensures ends { ElementEnds C.calls (record { calm = C.calm; whole = C.whole; parts = C.parts; fate = C.fate }) spot carrier.old (record { round = round; event = event.now }) result carrier.new (W.contents writer.old) (W.contents writer.new) }
     ensures failed { TellsCannotWrite result (W.failed writer.new) }
 {
     let booked = carrier.log().len();
@@ -161,7 +161,7 @@ fn call<C: Carrier>(
     event: &RawEvent,
 ) -> Result<Result<(), CarrierFault>, AllocError>
     requires { IsOneCall event.now }
-    ensures called { IfOk result (λ outcome. Called (record { seen = C.seen; offers = C.offers; takes = C.takes; steps = C.steps; rounds = C.rounds }) carrier.old event.now outcome carrier.new) }
+    ensures called { IfOk result (λ outcome. Called C.calls carrier.old event.now outcome carrier.new) }
     ensures memory { IfErr result (λ e. IsCopied event.now × (carrier.new ≡ carrier.old)) }
 {
     match event {

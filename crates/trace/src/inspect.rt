@@ -42,7 +42,7 @@ pub trait Inspect: Carrier {
 
     /// Returns the next elementary event of a calm, and the place after it; `None` where the calm is over.
     fn next_in_calm(&self, place: Self::Place) -> Option<(Element, Self::Place)>
-        ensures { GoesOnWith (record { seen = Self.seen; offers = Self.offers; takes = Self.takes; steps = Self.steps; rounds = Self.rounds }) left self.now place result };
+        ensures { GoesOnWith Self.calls left self.now place result };
 
     /// Returns what becomes of the frame that an event is going to deliver; `None` where it delivers none.
     fn fate(&self, event: &RawEvent) -> Option<Fate>

@@ -8,7 +8,8 @@ ghost use Rattle.replay.specs.Output.{Shown, crossings_of};
 ghost use Rattle.replay.specs.Replay.{Happens, IsOneCall, Replays};
 ghost use Rattle.script.specs.Spelling.{IsEvent};
 ghost use Rattle.script.specs.declared.event.RawEvent.{RawEvent};
-ghost use Rattle.trace.specs.Elements.{elements_of, events_of, plain};
+ghost use Rattle.leader1822.specs.Boxes.{plain_calls};
+ghost use Rattle.trace.specs.Elements.{elements_of, events_of};
 ghost use Rattle.trace.specs.Kept.{IsTold};
 ghost use Rattle.trace.specs.Parts.{Part, IsPart, SamePart, is_named, parts_of};
 ghost use Rattle.topology.specs.Topology.{IsTopology, TopologyFields};
@@ -17,7 +18,7 @@ ghost use Rattle.trace.specs.Texts.{opening_line, part_text};
 /// An event of a script is its elementary events one after another: each of them only, as a line of a script,
 /// leaves what the event leaves and prints what it prints. So a calm is a list of takings.
 pub fn elementary()
-    ensures course { (old new : Boxes) (e : RawEvent) (shown : List Shown) → Happens plain old e new shown → Replays plain old (events_of (elements_of old e)) new shown }
+    ensures course { (old new : Boxes) (e : RawEvent) (shown : List Shown) → Happens plain_calls old e new shown → Replays plain_calls old (events_of (elements_of old e)) new shown }
 
     // each is one call of the mailboxes, and none a calm
     ensures one_call { (old : Boxes) (e : RawEvent) → All IsOneCall (events_of (elements_of old e)) }
@@ -25,8 +26,8 @@ pub fn elementary()
 
 /// What an elementary event's parts do not name is as before.
 pub fn rest()
-    ensures parts { (old new : Boxes) (e : RawEvent) (shown : List Shown) (p : Part) → IsOneCall e → Happens plain old e new shown → IsPart old.hosts p → is_named p (parts_of old.hosts e (crossings_of shown)) ≡ false → SamePart p old new }
-    ensures hosts { (old new : Boxes) (e : RawEvent) (shown : List Shown) → IsOneCall e → Happens plain old e new shown → new.hosts ≡ old.hosts }
+    ensures parts { (old new : Boxes) (e : RawEvent) (shown : List Shown) (p : Part) → IsOneCall e → Happens plain_calls old e new shown → IsPart old.hosts p → is_named p (parts_of old.hosts e (crossings_of shown)) ≡ false → SamePart p old new }
+    ensures hosts { (old new : Boxes) (e : RawEvent) (shown : List Shown) → IsOneCall e → Happens plain_calls old e new shown → new.hosts ≡ old.hosts }
 {}
 
 /// The texts of all parts determine the whole state, but for the log, in every state that a replay comes to.
@@ -34,7 +35,7 @@ pub fn whole()
     ensures texts { (one other : Boxes) → IsTold one → IsTold other → one.hosts ≡ other.hosts → ((p : Part) → IsPart one.hosts p → part_text one p ≡ part_text other p) → other ≡ record one { log = other.log } }
 
     // the events are those that a script may ask for
-    ensures reached { (hosts : List Host) (events : List RawEvent) (new : Boxes) (shown : List Shown) → All IsEvent events → Replays plain (opening_boxes hosts) events new shown → IsTold new }
+    ensures reached { (hosts : List Host) (events : List RawEvent) (new : Boxes) (shown : List Shown) → All IsEvent events → Replays plain_calls (opening_boxes hosts) events new shown → IsTold new }
 {}
 
 /// The first line of a trace describes the network: which carrier it has, its IMPs with their hosts, and its lines in their order.

@@ -6,10 +6,10 @@ ghost use Rattle.leader1822.specs.declared.carrier.CarrierFault.TheVariants as f
 ghost use Rattle.leader1822.specs.declared.crossing.Answer.TheVariants as answer;
 ghost use Rattle.leader1822.specs.declared.crossing.Crossing.TheVariants as crossing;
 ghost use Rattle.leader1822.specs.declared.event.NetEvent.TheVariants as net;
-ghost use Rattle.leader1822.specs.Boxes.{host_stopped, opening_boxes, with_queue};
+ghost use Rattle.leader1822.specs.Boxes.{host_stopped, opening_boxes, plain_calls, with_queue};
 ghost use Rattle.replay.specs.Output.{Crossed, Refused};
 ghost use Rattle.script.specs.declared.event.RawEvent.TheVariants as event;
-ghost use Rattle.trace.specs.Elements.{elements_of, plain};
+ghost use Rattle.trace.specs.Elements.{elements_of};
 ghost use Rattle.trace.specs.Parts.{Down, Waiting, SamePart, is_named, parts_of};
 ghost use Rattle.topology.specs.declared.network.CarrierKind.TheVariants as kind;
 ghost use Rattle.trace.specs.Texts.{answer_object, changed_text, crossing_object, opening_line, part_name, part_text, queues_text, trace_line, whole_text};
@@ -104,12 +104,12 @@ pub fn worked_calms()
 /// What is known where a write failed: the carrier had processed the elementary event.
 pub fn worked_failures()
     // the host that was to stop has stopped
-    ensures processed { MayTell plain (opening_boxes hosts) stop (host_stopped (opening_boxes hosts) second) [] }
+    ensures processed { MayTell plain_calls (opening_boxes hosts) stop (host_stopped (opening_boxes hosts) second) [] }
 
     // nothing happened, or another event
-    ensures nothing { MayTell plain (opening_boxes hosts) stop (opening_boxes hosts) [] → ⊥ }
-    ensures another { MayTell plain (opening_boxes hosts) stop (host_stopped (opening_boxes hosts) first) [] → ⊥ }
+    ensures nothing { MayTell plain_calls (opening_boxes hosts) stop (opening_boxes hosts) [] → ⊥ }
+    ensures another { MayTell plain_calls (opening_boxes hosts) stop (host_stopped (opening_boxes hosts) first) [] → ⊥ }
 
     // its line is not among those that are known
-    ensures no_line { (line : List ℕ) → MayTell plain (opening_boxes hosts) stop (host_stopped (opening_boxes hosts) second) (line ∷ []) → ⊥ }
+    ensures no_line { (line : List ℕ) → MayTell plain_calls (opening_boxes hosts) stop (host_stopped (opening_boxes hosts) second) (line ∷ []) → ⊥ }
 {}

@@ -23,14 +23,14 @@ use leader1822::Carrier;
 /// sockets of the right parity, and its host was notified of the openings that make it done.
 pub fn initial_connections<C: Carrier>()
     // the server's base is even, and so is the socket with which the user asked: no others can be done
-    ensures even { (hosts : List Host) (w : WorldState C) → IsLawful C.seen hosts w → (server user : Host) (s u : ℕ) (server_receives server_sends user_receives user_sends : Life) → IsConnected w.kept.book server user s u server_receives server_sends user_receives user_sends → (is_receive_socket s ≡ true) × (is_receive_socket u ≡ true) }
+    ensures even { (hosts : List Host) (w : WorldState C) → IsLawful C.calls.seen hosts w → (server user : Host) (s u : ℕ) (server_receives server_sends user_receives user_sends : Life) → IsConnected w.kept.book server user s u server_receives server_sends user_receives user_sends → (is_receive_socket s ≡ true) × (is_receive_socket u ≡ true) }
 
     // so each receiving end and the sending end with which it opened match
-    ensures to_user { (hosts : List Host) (w : WorldState C) → IsLawful C.seen hosts w → (server user : Host) (s u : ℕ) (server_receives server_sends user_receives user_sends : Life) → IsConnected w.kept.book server user s u server_receives server_sends user_receives user_sends → Match w.kept.book.crossings user_receives server_sends }
-    ensures to_server { (hosts : List Host) (w : WorldState C) → IsLawful C.seen hosts w → (server user : Host) (s u : ℕ) (server_receives server_sends user_receives user_sends : Life) → IsConnected w.kept.book server user s u server_receives server_sends user_receives user_sends → Match w.kept.book.crossings server_receives user_sends }
+    ensures to_user { (hosts : List Host) (w : WorldState C) → IsLawful C.calls.seen hosts w → (server user : Host) (s u : ℕ) (server_receives server_sends user_receives user_sends : Life) → IsConnected w.kept.book server user s u server_receives server_sends user_receives user_sends → Match w.kept.book.crossings user_receives server_sends }
+    ensures to_server { (hosts : List Host) (w : WorldState C) → IsLawful C.calls.seen hosts w → (server user : Host) (s u : ℕ) (server_receives server_sends user_receives user_sends : Life) → IsConnected w.kept.book server user s u server_receives server_sends user_receives user_sends → Match w.kept.book.crossings server_receives user_sends }
 
     // in one word
-    ensures joined { (hosts : List Host) (w : WorldState C) → IsLawful C.seen hosts w → JoinedBook w.kept.book }
+    ensures joined { (hosts : List Host) (w : WorldState C) → IsLawful C.calls.seen hosts w → JoinedBook w.kept.book }
 {}
 
 /// Ends of an initial connection.

@@ -51,7 +51,7 @@ pub fn lives()
 /// The lives in the book of a world that continue, over any carrier.
 pub fn books<C: Carrier>()
     // where one that receives and one that sends continue at the two ends of the same sockets, they match
-    ensures matches { (hosts : List Host) (w : WorldState C) → IsLawful C.seen hosts w → (receiver sender : book.Life) → Contains w.kept.book.lives receiver → Contains w.kept.book.lives sender → receiver.ended ≡ false → sender.ended ≡ false → AreOpposite receiver sender → receives receiver ≡ true → sends sender ≡ true → Match w.kept.book.crossings receiver sender }
+    ensures matches { (hosts : List Host) (w : WorldState C) → IsLawful C.calls.seen hosts w → (receiver sender : book.Life) → Contains w.kept.book.lives receiver → Contains w.kept.book.lives sender → receiver.ended ≡ false → sender.ended ≡ false → AreOpposite receiver sender → receives receiver ≡ true → sends sender ≡ true → Match w.kept.book.crossings receiver sender }
 {}
 
 /// What users know in a small world: the first host's socket 16 is connected with the second's 33, by an RTS that goes out at place 6 and an STR

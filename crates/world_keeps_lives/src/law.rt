@@ -63,12 +63,12 @@ pub fn programs()
 /// only, the bound of grants, the end of each life that isn't over, in the program that comes of the world's moments, the messages that a
 /// life is made of, and those that notices report.
 pub fn worlds<C: Carrier>()
-    ensures live { (hosts : List Host) (w : WorldState C) → (lawful : IsLawful C.seen hosts w) → (x : Life) → Contains w.kept.book.lives x → x.ended ≡ false → HasOpenEnd (program x.host lawful.whole.moments) x }
-    ensures taken { (hosts : List Host) (w : WorldState C) → IsLawful C.seen hosts w → (receiver : Life) → Contains w.kept.book.lives receiver → receives receiver ≡ true → IsGranted receiver receiver.messages (length receiver.bits) }
-    ensures bounded { (hosts : List Host) (w : WorldState C) → IsLawful C.seen hosts w → (receiver : Life) → Contains w.kept.book.lives receiver → receives receiver ≡ true → IsBounded receiver }
-    ensures handed { (hosts : List Host) (w : WorldState C) → IsLawful C.seen hosts w → AreHanded w.kept.book.lives w.kept.handed }
-    ensures formed { (hosts : List Host) (w : WorldState C) → IsLawful C.seen hosts w → FormedBook w.kept.book.crossings w.kept.book.lives }
-    ensures told { (hosts : List Host) (w : WorldState C) → IsLawful C.seen hosts w → FormedNotices w.kept.book.crossings w.kept.book.notices }
+    ensures live { (hosts : List Host) (w : WorldState C) → (lawful : IsLawful C.calls.seen hosts w) → (x : Life) → Contains w.kept.book.lives x → x.ended ≡ false → HasOpenEnd (program x.host lawful.whole.moments) x }
+    ensures taken { (hosts : List Host) (w : WorldState C) → IsLawful C.calls.seen hosts w → (receiver : Life) → Contains w.kept.book.lives receiver → receives receiver ≡ true → IsGranted receiver receiver.messages (length receiver.bits) }
+    ensures bounded { (hosts : List Host) (w : WorldState C) → IsLawful C.calls.seen hosts w → (receiver : Life) → Contains w.kept.book.lives receiver → receives receiver ≡ true → IsBounded receiver }
+    ensures handed { (hosts : List Host) (w : WorldState C) → IsLawful C.calls.seen hosts w → AreHanded w.kept.book.lives w.kept.handed }
+    ensures formed { (hosts : List Host) (w : WorldState C) → IsLawful C.calls.seen hosts w → FormedBook w.kept.book.crossings w.kept.book.lives }
+    ensures told { (hosts : List Host) (w : WorldState C) → IsLawful C.calls.seen hosts w → FormedNotices w.kept.book.crossings w.kept.book.notices }
 {}
 
 /// Ends.

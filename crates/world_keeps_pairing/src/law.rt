@@ -97,14 +97,14 @@ pub fn lives()
 /// The lives in the book of a world, over any carrier.
 pub fn books<C: Carrier>()
     // each took a request of its partner's, which had gone out
-    ensures named { (hosts : List Host) (w : WorldState C) → IsLawful C.seen hosts w → (x : Life) → Contains w.kept.book.lives x → IsSome (partner_request w.kept.book.crossings x) }
+    ensures named { (hosts : List Host) (w : WorldState C) → IsLawful C.calls.seen hosts w → (x : Life) → Contains w.kept.book.lives x → IsSome (partner_request w.kept.book.crossings x) }
 
     // no request opens two ends of one sort, and partners are partners both ways
-    ensures partners { (hosts : List Host) (w : WorldState C) → IsLawful C.seen hosts w → book.SafePartners w.kept.book.crossings w.kept.book.lives }
+    ensures partners { (hosts : List Host) (w : WorldState C) → IsLawful C.calls.seen hosts w → book.SafePartners w.kept.book.crossings w.kept.book.lives }
 
     // a life that receives matches the life whose own request it took, and no other
-    ensures matches { (hosts : List Host) (w : WorldState C) → IsLawful C.seen hosts w → (receiver sender : Life) → Contains w.kept.book.lives receiver → Contains w.kept.book.lives sender → receives receiver ≡ true → partner_request w.kept.book.crossings receiver ≡ Some (own_request sender) → Match w.kept.book.crossings receiver sender }
-    ensures one { (hosts : List Host) (w : WorldState C) → IsLawful C.seen hosts w → (receiver x y : Life) → AreTwo w.kept.book.lives x y → Match w.kept.book.crossings receiver x → Match w.kept.book.crossings receiver y → ⊥ }
+    ensures matches { (hosts : List Host) (w : WorldState C) → IsLawful C.calls.seen hosts w → (receiver sender : Life) → Contains w.kept.book.lives receiver → Contains w.kept.book.lives sender → receives receiver ≡ true → partner_request w.kept.book.crossings receiver ≡ Some (own_request sender) → Match w.kept.book.crossings receiver sender }
+    ensures one { (hosts : List Host) (w : WorldState C) → IsLawful C.calls.seen hosts w → (receiver x y : Life) → AreTwo w.kept.book.lives x y → Match w.kept.book.crossings receiver x → Match w.kept.book.crossings receiver y → ⊥ }
 {}
 
 /// Lives of a book, as the law describes them.

@@ -83,12 +83,12 @@ pub fn lives()
 
 /// The same of the book of every world, whatever its carrier is made of.
 pub fn worlds<C: Carrier>()
-    ensures source { (hosts : List Host) (w : WorldState C) → IsLawful C.seen hosts w → (receiver : Life) → Contains w.kept.book.lives receiver → receives receiver ≡ true → (receiver.bits ≡ [] → ⊥) → Source w.kept.book.crossings w.kept.book.lives receiver }
-    ensures closes { (hosts : List Host) (w : WorldState C) → (lawful : IsLawful C.seen hosts w) → AllClose lawful.whole.moments }
-    ensures firsts { (hosts : List Host) (w : WorldState C) → IsLawful C.seen hosts w → FirstBook w.kept.book.crossings w.kept.book.lives }
-    ensures arrives { (hosts : List Host) (w : WorldState C) → (lawful : IsLawful C.seen hosts w) → AllArrive lawful.whole.moments }
-    ensures rests { (hosts : List Host) (w : WorldState C) → (lawful : IsLawful C.seen hosts w) → AllRest lawful.whole.moments }
-    ensures sent { (hosts : List Host) (w : WorldState C) → IsLawful C.seen hosts w → (receiver sender : Life) → Contains w.kept.book.lives receiver → Contains w.kept.book.lives sender → Match w.kept.book.crossings receiver sender → IsGranted receiver sender.messages (length sender.bits) }
+    ensures source { (hosts : List Host) (w : WorldState C) → IsLawful C.calls.seen hosts w → (receiver : Life) → Contains w.kept.book.lives receiver → receives receiver ≡ true → (receiver.bits ≡ [] → ⊥) → Source w.kept.book.crossings w.kept.book.lives receiver }
+    ensures closes { (hosts : List Host) (w : WorldState C) → (lawful : IsLawful C.calls.seen hosts w) → AllClose lawful.whole.moments }
+    ensures firsts { (hosts : List Host) (w : WorldState C) → IsLawful C.calls.seen hosts w → FirstBook w.kept.book.crossings w.kept.book.lives }
+    ensures arrives { (hosts : List Host) (w : WorldState C) → (lawful : IsLawful C.calls.seen hosts w) → AllArrive lawful.whole.moments }
+    ensures rests { (hosts : List Host) (w : WorldState C) → (lawful : IsLawful C.calls.seen hosts w) → AllRest lawful.whole.moments }
+    ensures sent { (hosts : List Host) (w : WorldState C) → IsLawful C.calls.seen hosts w → (receiver sender : Life) → Contains w.kept.book.lives receiver → Contains w.kept.book.lives sender → Match w.kept.book.crossings receiver sender → IsGranted receiver sender.messages (length sender.bits) }
 {}
 
 /// Data that are taken: eight bits, for an end that is open, and for one that its user has closed.

@@ -3,7 +3,7 @@ use Rattle.std.proofs.Common.{◌≡◌, inl, inr, ℕ, ◌+◌, ◌≤◌, Bool
 use Rattle.std.proofs.lemmas.List.{append-nil, append_assoc, length-append, reverse-append}
 use Rattle.std.proofs.lemmas.Bool.{false≢true}
 use Rattle.std.specs.Bool.{MatchBool}
-use Rattle.leader1822.specs.Calls.{crossing_of, step_crossings}
+use Rattle.leader1822.specs.Calls.{Calls, crossing_of, step_crossings}
 use Rattle.leader1822.specs.Host.{Host}
 use Rattle.leader1822.specs.declared.carrier.CarrierFault.{CarrierFault}
 use Rattle.leader1822.specs.declared.carrier.CarrierFault.TheVariants as fault
@@ -28,7 +28,7 @@ use Rattle.net_sim.specs.declared.event.WorldFault.TheVariants.{Carrier, Program
 use Rattle.net_sim.specs.declared.event.Event.{Event}
 use Rattle.net_sim.specs.declared.event.Event.TheVariants.{Net, Quiet, Offer, Take, Ask, Server, User, Typed}
 use Rattle.net_sim.specs.declared.seat.Seat.{Seat}
-use Rattle.net_sim.specs.World.{Calls, WorldState, seat_of, services_of, noticed, turn_of, done_by, with_carrier, world_moved, changed, served_at, with_server, with_user, TypeGives, DoesOrHalts, Refuses, Does, Halts, Passes, OfferEnds, OfferGives, TakeEnds, TakeGives, NetEnds, QuietEnds, AskGives, AtProgram, AtSeat, EventGives, StepGives, stops}
+use Rattle.net_sim.specs.World.{WorldState, seat_of, services_of, noticed, turn_of, done_by, with_carrier, world_moved, changed, served_at, with_server, with_user, TypeGives, DoesOrHalts, Refuses, Does, Halts, Passes, OfferEnds, OfferGives, TakeEnds, TakeGives, NetEnds, QuietEnds, AskGives, AtProgram, AtSeat, EventGives, StepGives, stops}
 use Rattle.sockets.specs.declared.request.Request.TheVariants as request
 use Rattle.host_services.specs.TypedLines.{line_bits}
 use Rattle.net_sim.proofs.lemmas.{step_stands}

@@ -5,7 +5,8 @@ use Rattle.std.specs.Io.KnownBytes.{Appends}
 use Rattle.net_sim.specs.Book.{Kept}
 use Rattle.net_sim.specs.Carriers.{shown}
 use Rattle.net_sim.specs.World as world
-use Rattle.net_sim.specs.World.{CalmGives, Calls, WorldState, stops}
+use Rattle.net_sim.specs.World.{CalmGives, WorldState, stops}
+use Rattle.leader1822.specs.Calls.{Calls}
 use Rattle.net_sim.specs.declared.event.WorldFault.{WorldFault}
 use Rattle.replay.specs.InTurn.{HappensOnce, ShowsFront}
 use Rattle.replay.proofs.lemmas.{appends_more, ends_front, grown_more, in_turn_once}
@@ -15,7 +16,6 @@ use Rattle.world_script.specs.declared.event.WorldEvent.TheVariants as event
 use Rattle.world_replay.specs.Gains.{Gains, news}
 use Rattle.world_replay.specs.Output.{Shown, crossings_of, notices_of, output, reports_of, shown_in_turn, shown_refusal, told_in_turn}
 use Rattle.world_replay.specs.Replay.{EndsIn, EventGives, Happens, Replays, StopsIn}
-use Rattle.world_replay.specs.Settled.{carried}
 use Rattle.net_sim.proofs.lemmas.{calm_keeps}
 use Rattle.replay.specs.declared.events.ReplayFault.{ReplayFault}
 use Rattle.replay.specs.declared.events.ReplayFault.TheVariants as fault
@@ -27,7 +27,7 @@ use Rattle.world_replay.proofs.Steady.{Steady, steady_calm, step_once}
 
 -- ---- one event
 
-event_once : {C : Type 0} (calls : Calls C) → AreSettled (carried calls) → (e : WorldEvent) (old : WorldState C) (r q : Result (Unit {0}) WorldFault) (new other : WorldState C) → EventGives calls old e r new → stops r ≡ false → EventGives calls old e q other → stops q ≡ false
+event_once : {C : Type 0} (calls : Calls C) → AreSettled calls → (e : WorldEvent) (old : WorldState C) (r q : Result (Unit {0}) WorldFault) (new other : WorldState C) → EventGives calls old e r new → stops r ≡ false → EventGives calls old e q other → stops q ≡ false
     → (r ≡ q) × (new ≡ other)
 event_once calls settled (event.Happen e) old r q new other h hg k kg = step_once calls settled e old r q new other h hg k kg
 event_once calls settled (event.Calm rounds) old r q new other h hg k kg = (steady_calm calls settled rounds old).once r q new other h hg k kg
@@ -59,7 +59,7 @@ gains_once old new other g k same =
 
 -- ---- no choice
 
-pub happens_once : {C : Type 0} (calls : Calls C) → AreSettled (carried calls) → HappensOnce (Happens calls)
+pub happens_once : {C : Type 0} (calls : Calls C) → AreSettled calls → HappensOnce (Happens calls)
 happens_once {C} calls settled old e new other shown more h k =
     let one : (h.outcome ≡ k.outcome) × (new ≡ other) = event_once calls settled e old h.outcome k.outcome new other h.gives h.goes_on k.gives k.goes_on in
     let same : SameGains h.gains k.gains = gains_once old.kept new.kept other.kept h.gains k.gains (ap (λ (w : WorldState C). w.kept) one.1) in (
@@ -92,7 +92,7 @@ gained_more old mid new g k =
     (told_begin (length mid.book.crossings) (length new.book.crossings) (length mid.book.notices) (length new.book.notices) k.gains.notices k.gains.reports (noticed mid new k.gains) k.between k.about)
 
 -- where memory ran out, what is shown is the first part of what is shown where it doesn't
-stops_front : {C : Type 0} (calls : Calls C) → AreSettled (carried calls) → ShowsFront (StopsIn calls) (Happens calls)
+stops_front : {C : Type 0} (calls : Calls C) → AreSettled calls → ShowsFront (StopsIn calls) (Happens calls)
 stops_front {C} calls settled old (event.Happen e) new other part whole h k =
     let stood : SameGains h.gains (gains_none old.kept) = gains_once old.kept new.kept old.kept h.gains (gains_none old.kept) (step_kept calls e old h.outcome new h.gives h.stops) in
     (whole, ap (λ xs. xs ++ whole) (sym (h.lines ∙ same_news old.kept new.kept old.kept h.gains (gains_none old.kept) stood)))
@@ -223,10 +223,10 @@ event_ends contents calls detail old e outcome new (Err fault.CannotWrite) cross
 
 -- ---- a carrier that shows what every carrier shows is settled where it is settled without that
 
-same_growth : {C : Type 0} (own : world.Calls C) (old new : C) → Grows (carried own) old new → Grows (carried (shown own)) old new
+same_growth : {C : Type 0} (own : Calls C) (old new : C) → Grows own old new → Grows (shown own) old new
 same_growth own old new g = record { crossings = g.crossings; grown = g.grown }
 
-shown_settled : {C : Type 0} (own : world.Calls C) → AreSettled (carried own) → AreSettled (carried (shown own))
+shown_settled : {C : Type 0} (own : Calls C) → AreSettled own → AreSettled (shown own)
 shown_settled own s = record {
   offers_once = λ old m r q new other h hg k kg. s.offers_once old m r q new other h.0 hg k.0 kg;
   takes_once = λ old g r q new other h hg k kg. s.takes_once old g r q new other h.0 hg k.0 kg;
@@ -237,11 +237,11 @@ shown_settled own s = record {
   quiet_round = λ old r new h. s.quiet_round old r new h.0;
 }
 
-pub one_replay : {C : Type 0} (own : world.Calls C) → AreSettled (carried own) → (old new other : WorldState C) (events : List WorldEvent) (lines more : List Shown)
+pub one_replay : {C : Type 0} (own : Calls C) → AreSettled own → (old new other : WorldState C) (events : List WorldEvent) (lines more : List Shown)
     → Replays (shown own) old events new lines → Replays (shown own) old events other more → (new ≡ other) × (lines ≡ more)
 one_replay own s old new other events lines more h k = in_turn_once (Happens (shown own)) (happens_once (shown own) (shown_settled own s)) old events new other lines more h k
 
-pub first_part : {C : Type 0} (own : world.Calls C) → AreSettled (carried own) → (old new other : WorldState C) (events : List WorldEvent) (part whole : List Shown)
+pub first_part : {C : Type 0} (own : Calls C) → AreSettled own → (old new other : WorldState C) (events : List WorldEvent) (part whole : List Shown)
     → EndsIn (shown own) (StopsIn (shown own)) old events new part → Replays (shown own) old events other whole → (rest : List Shown) × (whole ≡ part ++ rest)
 first_part own s old new other events part whole h k =
     ends_front (Happens (shown own)) (StopsIn (shown own)) (happens_once (shown own) (shown_settled own s)) (stops_front (shown own) (shown_settled own s)) old events new other part whole h k

@@ -2,7 +2,7 @@
 use Rattle.std.proofs.Common.{◌≡◌, ◌||◌, inl, inr, ℕ, zero, suc, Bool, true, false, List, [], ◌∷◌, length, nat_lt, Option, Some, None, Result, Ok, Err, refl, sym, ap, subst, ◌∙◌}
 use Rattle.std.proofs.lemmas.Bool.{false≢true}
 use Rattle.std.specs.Bool.{MatchBool}
-use Rattle.leader1822.specs.Calls.{crossing_of, step_crossings, is_memory, is_halt}
+use Rattle.leader1822.specs.Calls.{Calls, crossing_of, step_crossings, is_memory, is_halt}
 use Rattle.leader1822.specs.Host.{Host}
 use Rattle.leader1822.specs.declared.carrier.CarrierFault.{CarrierFault}
 use Rattle.leader1822.specs.declared.carrier.CarrierFault.TheVariants as fault
@@ -11,7 +11,7 @@ use Rattle.leader1822.specs.declared.crossing.Inbound.{Inbound}
 use Rattle.leader1822.specs.declared.event.NetEvent.{NetEvent}
 use Rattle.leader1822.specs.declared.message.HostMessage.{HostMessage}
 use Rattle.net_sim.specs.Book.{Kept}
-use Rattle.net_sim.specs.World.{Calls, WorldState, seat_of, services_of, up_in, with_carrier, world_moved, changed, with_server, with_user, TypeGives, DoesOrHalts, stops, wants_memory, Refuses, Does, Halts, Passes, OfferEnds, OfferGives, TakeEnds, TakeGives, NetEnds, QuietEnds, AskGives, AtProgram, AtSeat, EventGives, StepGives, Repeats, TurnsOf, Calms, CalmGives}
+use Rattle.net_sim.specs.World.{WorldState, seat_of, services_of, up_in, with_carrier, world_moved, changed, with_server, with_user, TypeGives, DoesOrHalts, stops, wants_memory, Refuses, Does, Halts, Passes, OfferEnds, OfferGives, TakeEnds, TakeGives, NetEnds, QuietEnds, AskGives, AtProgram, AtSeat, EventGives, StepGives, Repeats, TurnsOf, Calms, CalmGives}
 use Rattle.net_sim.specs.declared.event.Event.{Event}
 use Rattle.net_sim.specs.declared.event.Event.TheVariants.{Net, Quiet, Offer, Take, Ask, Server, User, Typed}
 use Rattle.net_sim.specs.declared.event.WorldFault.{WorldFault}
@@ -27,7 +27,6 @@ use Rattle.sockets.specs.declared.fault.NcpFault.{NcpFault}
 use Rattle.sockets.specs.declared.request.Request.{Request}
 use Rattle.sockets.specs.declared.request.Request.TheVariants as request
 use Rattle.host_services.specs.TypedLines.{line_bits}
-use Rattle.world_replay.specs.Settled.{carried}
 use Rattle.world_replay.proofs.Grown.{Grew, begins, grew_more, grew_same, step_grows, step_kept}
 
 -- ---- what goes one way
@@ -152,7 +151,7 @@ halts_stop c old r new h goes = no_stop r (ap stops h.answer ∙ memory_stops h.
 
 -- ---- one event
 
-module _ {C : Type 0} (calls : Calls C) (settled : AreSettled (carried calls)) where
+module _ {C : Type 0} (calls : Calls C) (settled : AreSettled calls) where
   -- an offer
   abbrev offered_to : Host → NcpState → HostMessage → WorldState C → Unit {0} → C → WorldState C
   offered_to h s m old done c = world_moved c h (crossing.Out m) (offered s (length old.kept.book.crossings)) old

@@ -43,17 +43,17 @@ pub fn replay_events<C: Carrier, W: Output>(
     ensures messages { SafeMessages world.new.kept.book.crossings }
 
     // each event in turn went as the world says that its calls may go, and what it showed was printed
-    ensures replayed { OnOk result (Writes detail (Replays (shown (record { seen = C.seen; offers = C.offers; takes = C.takes; steps = C.steps; rounds = C.rounds })) world.old events.items world.new) (W.contents writer.old) (W.contents writer.new)) }
+    ensures replayed { OnOk result (Writes detail (Replays (shown C.calls) world.old events.items world.new) (W.contents writer.old) (W.contents writer.new)) }
 
     // memory ran out at one event: what the events before it showed was printed, and nothing of that event, save what a calm
     // showed before memory ran out
-    ensures memory { result ≡ Err ReplayFault.OutOfMemory → Writes detail (EndsIn (shown (record { seen = C.seen; offers = C.offers; takes = C.takes; steps = C.steps; rounds = C.rounds })) (StopsIn (shown (record { seen = C.seen; offers = C.offers; takes = C.takes; steps = C.steps; rounds = C.rounds }))) world.old events.items world.new) (W.contents writer.old) (W.contents writer.new) }
+    ensures memory { result ≡ Err ReplayFault.OutOfMemory → Writes detail (EndsIn (shown C.calls) (StopsIn (shown C.calls)) world.old events.items world.new) (W.contents writer.old) (W.contents writer.new) }
 
     // `CannotWrite` is answered where a write failed, and nowhere else
     ensures failed { TellsCannotWrite result (W.failed writer.new) }
 
     // a write failed: the event had already happened, or the rounds of a calm up to that one
-    ensures cannot_write { result ≡ Err ReplayFault.CannotWrite → (lines : List Shown) × EndsIn (shown (record { seen = C.seen; offers = C.offers; takes = C.takes; steps = C.steps; rounds = C.rounds })) (MayDo (shown (record { seen = C.seen; offers = C.offers; takes = C.takes; steps = C.steps; rounds = C.rounds }))) world.old events.items world.new lines }
+    ensures cannot_write { result ≡ Err ReplayFault.CannotWrite → (lines : List Shown) × EndsIn (shown C.calls) (MayDo (shown C.calls)) world.old events.items world.new lines }
 {
     let outcome = replay_in_turn(world, events, detail, writer);
     // for the proof only: by `World::book` the world is lawful, from which the promise about messages follows
@@ -70,9 +70,9 @@ fn replay_in_turn<C: Carrier, W: Output>(
 ) -> Result<(), ReplayFault>
     requires { W.failed writer.old ≡ false }
     ensures failed { TellsCannotWrite result (W.failed writer.new) }
-    ensures replayed { OnOk result (Writes detail (Replays (shown (record { seen = C.seen; offers = C.offers; takes = C.takes; steps = C.steps; rounds = C.rounds })) world.old events.items world.new) (W.contents writer.old) (W.contents writer.new)) }
-    ensures memory { result ≡ Err ReplayFault.OutOfMemory → Writes detail (EndsIn (shown (record { seen = C.seen; offers = C.offers; takes = C.takes; steps = C.steps; rounds = C.rounds })) (StopsIn (shown (record { seen = C.seen; offers = C.offers; takes = C.takes; steps = C.steps; rounds = C.rounds }))) world.old events.items world.new) (W.contents writer.old) (W.contents writer.new) }
-    ensures cannot_write { result ≡ Err ReplayFault.CannotWrite → (lines : List Shown) × EndsIn (shown (record { seen = C.seen; offers = C.offers; takes = C.takes; steps = C.steps; rounds = C.rounds })) (MayDo (shown (record { seen = C.seen; offers = C.offers; takes = C.takes; steps = C.steps; rounds = C.rounds }))) world.old events.items world.new lines }
+    ensures replayed { OnOk result (Writes detail (Replays (shown C.calls) world.old events.items world.new) (W.contents writer.old) (W.contents writer.new)) }
+    ensures memory { result ≡ Err ReplayFault.OutOfMemory → Writes detail (EndsIn (shown C.calls) (StopsIn (shown C.calls)) world.old events.items world.new) (W.contents writer.old) (W.contents writer.new) }
+    ensures cannot_write { result ≡ Err ReplayFault.CannotWrite → (lines : List Shown) × EndsIn (shown C.calls) (MayDo (shown C.calls)) world.old events.items world.new lines }
 {
     let mut line = Line::new();
     for event in events {
@@ -90,7 +90,7 @@ fn replay_event<C: Carrier, W: Output>(
     writer: &mut W,
 ) -> Result<(), ReplayFault>
     requires { W.failed writer.old ≡ false }
-    ensures ends { EventEnds (shown (record { seen = C.seen; offers = C.offers; takes = C.takes; steps = C.steps; rounds = C.rounds })) detail world.old event result world.new (W.contents writer.old) (W.contents writer.new) }
+    ensures ends { EventEnds (shown C.calls) detail world.old event result world.new (W.contents writer.old) (W.contents writer.new) }
     ensures failed { TellsCannotWrite result (W.failed writer.new) }
 {
     match event {
@@ -109,7 +109,7 @@ fn replay_calm<C: Carrier, W: Output>(
     writer: &mut W,
 ) -> Result<(), ReplayFault>
     requires { W.failed writer.old ≡ false }
-    ensures ends { EventEnds (shown (record { seen = C.seen; offers = C.offers; takes = C.takes; steps = C.steps; rounds = C.rounds })) detail world.old (world_event.Calm rounds) result world.new (W.contents writer.old) (W.contents writer.new) }
+    ensures ends { EventEnds (shown C.calls) detail world.old (world_event.Calm rounds) result world.new (W.contents writer.old) (W.contents writer.new) }
     ensures failed { TellsCannotWrite result (W.failed writer.new) }
 {
     if rounds == 0 {
@@ -128,7 +128,7 @@ fn replay_calm<C: Carrier, W: Output>(
 /// Returns whether more rounds of a calm are known to change nothing: nothing has crossed since the book had this many
 /// crossings, and the world rests.
 fn has_calmed<C: Carrier>(world: &World<C>, before: usize) -> bool
-    ensures { result ≡ true → (times : ℕ) → CalmGives (shown (record { seen = C.seen; offers = C.offers; takes = C.takes; steps = C.steps; rounds = C.rounds })) times world.now (Ok tt) world.now }
+    ensures { result ≡ true → (times : ℕ) → CalmGives (shown C.calls) times world.now (Ok tt) world.now }
 {
     world.book().crossings().len() == before && world.rests()
 }
@@ -142,7 +142,7 @@ fn replay_one<C: Carrier, W: Output>(
     writer: &mut W,
 ) -> Result<(), ReplayFault>
     requires { W.failed writer.old ≡ false }
-    ensures ends { OneEnds (shown (record { seen = C.seen; offers = C.offers; takes = C.takes; steps = C.steps; rounds = C.rounds })) detail world.old event result world.new (W.contents writer.old) (W.contents writer.new) }
+    ensures ends { OneEnds (shown C.calls) detail world.old event result world.new (W.contents writer.old) (W.contents writer.new) }
     ensures failed { TellsCannotWrite result (W.failed writer.new) }
 {
     let crossed = world.book().crossings().len();
@@ -155,7 +155,7 @@ fn replay_one<C: Carrier, W: Output>(
 
 /// Lets one event happen.
 fn happen<C: Carrier>(world: &mut World<C>, event: WorldEvent) -> Result<(), WorldFault>
-    ensures { EventGives (shown (record { seen = C.seen; offers = C.offers; takes = C.takes; steps = C.steps; rounds = C.rounds })) world.old event result world.new }
+    ensures { EventGives (shown C.calls) world.old event result world.new }
 {
     match event {
         WorldEvent::Happen(event) => world.step(event),

@@ -46,16 +46,16 @@ pub fn trace_world<C: Inspect, W: Output>(
     requires whole { W.failed writer.old ≡ false }
 
     // first the network with the state, and then each event and each round happened as in a replay, and its line was written
-    ensures traced { OnOk result (WritesTrace (AfterOpening C.whole network.now world.old (TracesWorld (shown (record { seen = C.seen; offers = C.offers; takes = C.takes; steps = C.steps; rounds = C.rounds })) C.whole world.old lines.now events.items world.new)) (W.contents writer.old) (W.contents writer.new)) }
+    ensures traced { OnOk result (WritesTrace (AfterOpening C.whole network.now world.old (TracesWorld (shown C.calls) C.whole world.old lines.now events.items world.new)) (W.contents writer.old) (W.contents writer.new)) }
 
     // memory ran out at one of them: the first line and those before it were written, and nothing else
-    ensures memory { result ≡ Err ReplayFault.OutOfMemory → WritesTrace (AfterOpening C.whole network.now world.old (WorldTraceEnds (shown (record { seen = C.seen; offers = C.offers; takes = C.takes; steps = C.steps; rounds = C.rounds })) C.whole (StopsOne (shown (record { seen = C.seen; offers = C.offers; takes = C.takes; steps = C.steps; rounds = C.rounds }))) world.old lines.now events.items world.new)) (W.contents writer.old) (W.contents writer.new) }
+    ensures memory { result ≡ Err ReplayFault.OutOfMemory → WritesTrace (AfterOpening C.whole network.now world.old (WorldTraceEnds (shown C.calls) C.whole (StopsOne (shown C.calls)) world.old lines.now events.items world.new)) (W.contents writer.old) (W.contents writer.new) }
 
     // `CannotWrite` is answered where a write failed, and nowhere else
     ensures failed { TellsCannotWrite result (W.failed writer.new) }
 
     // a write failed: the event or round had already happened, or none had
-    ensures cannot_write { result ≡ Err ReplayFault.CannotWrite → (world.new ≡ world.old) ⊎ ((others : List (List ℕ)) × WorldTraceEnds (shown (record { seen = C.seen; offers = C.offers; takes = C.takes; steps = C.steps; rounds = C.rounds })) C.whole (MayTell (shown (record { seen = C.seen; offers = C.offers; takes = C.takes; steps = C.steps; rounds = C.rounds }))) world.old lines.now events.items world.new others) }
+    ensures cannot_write { result ≡ Err ReplayFault.CannotWrite → (world.new ≡ world.old) ⊎ ((others : List (List ℕ)) × WorldTraceEnds (shown C.calls) C.whole (MayTell (shown C.calls)) world.old lines.now events.items world.new others) }
 {
     print_opening(network, world, writer)?;
     trace_all(alloc, world, lines, events, writer)
@@ -71,10 +71,10 @@ fn trace_all<C: Inspect, W: Output>(
 ) -> Result<(), ReplayFault>
     requires events { length lines.now ≡ length events.items }
     requires whole { W.failed writer.old ≡ false }
-    ensures traced { OnOk result (WritesTrace (TracesWorld (shown (record { seen = C.seen; offers = C.offers; takes = C.takes; steps = C.steps; rounds = C.rounds })) C.whole world.old lines.now events.items world.new) (W.contents writer.old) (W.contents writer.new)) }
-    ensures memory { result ≡ Err ReplayFault.OutOfMemory → WritesTrace (WorldTraceEnds (shown (record { seen = C.seen; offers = C.offers; takes = C.takes; steps = C.steps; rounds = C.rounds })) C.whole (StopsOne (shown (record { seen = C.seen; offers = C.offers; takes = C.takes; steps = C.steps; rounds = C.rounds }))) world.old lines.now events.items world.new) (W.contents writer.old) (W.contents writer.new) }
+    ensures traced { OnOk result (WritesTrace (TracesWorld (shown C.calls) C.whole world.old lines.now events.items world.new) (W.contents writer.old) (W.contents writer.new)) }
+    ensures memory { result ≡ Err ReplayFault.OutOfMemory → WritesTrace (WorldTraceEnds (shown C.calls) C.whole (StopsOne (shown C.calls)) world.old lines.now events.items world.new) (W.contents writer.old) (W.contents writer.new) }
     ensures failed { TellsCannotWrite result (W.failed writer.new) }
-    ensures cannot_write { result ≡ Err ReplayFault.CannotWrite → (others : List (List ℕ)) × WorldTraceEnds (shown (record { seen = C.seen; offers = C.offers; takes = C.takes; steps = C.steps; rounds = C.rounds })) C.whole (MayTell (shown (record { seen = C.seen; offers = C.offers; takes = C.takes; steps = C.steps; rounds = C.rounds }))) world.old lines.now events.items world.new others }
+    ensures cannot_write { result ≡ Err ReplayFault.CannotWrite → (others : List (List ℕ)) × WorldTraceEnds (shown C.calls) C.whole (MayTell (shown C.calls)) world.old lines.now events.items world.new others }
 {
     let mut passed: usize = 0;
     for event in events {
@@ -97,7 +97,7 @@ fn trace_event<C: Inspect, W: Output>(
     writer: &mut W,
 ) -> Result<(), ReplayFault>
     requires { W.failed writer.old ≡ false }
-    ensures ends { EventEnds (shown (record { seen = C.seen; offers = C.offers; takes = C.takes; steps = C.steps; rounds = C.rounds })) C.whole spot world.old event result world.new (W.contents writer.old) (W.contents writer.new) }
+    ensures ends { EventEnds (shown C.calls) C.whole spot world.old event result world.new (W.contents writer.old) (W.contents writer.new) }
     ensures failed { TellsCannotWrite result (W.failed writer.new) }
 {
     match event {
@@ -117,7 +117,7 @@ fn trace_calm<C: Inspect, W: Output>(
     writer: &mut W,
 ) -> Result<(), ReplayFault>
     requires { W.failed writer.old ≡ false }
-    ensures ends { EventEnds (shown (record { seen = C.seen; offers = C.offers; takes = C.takes; steps = C.steps; rounds = C.rounds })) C.whole spot world.old (world_event.Calm rounds) result world.new (W.contents writer.old) (W.contents writer.new) }
+    ensures ends { EventEnds (shown C.calls) C.whole spot world.old (world_event.Calm rounds) result world.new (W.contents writer.old) (W.contents writer.new) }
     ensures failed { TellsCannotWrite result (W.failed writer.new) }
 {
     for passed in 0..rounds {
@@ -133,7 +133,7 @@ fn trace_calm<C: Inspect, W: Output>(
 /// Returns whether more rounds of a calm are known to change nothing: nothing has crossed since the book had this many
 /// crossings, and the world rests.
 fn has_calmed<C: Carrier>(world: &World<C>, before: usize) -> bool
-    ensures { result ≡ true → (times : ℕ) → CalmGives (shown (record { seen = C.seen; offers = C.offers; takes = C.takes; steps = C.steps; rounds = C.rounds })) times world.now (Ok tt) world.now }
+    ensures { result ≡ true → (times : ℕ) → CalmGives (shown C.calls) times world.now (Ok tt) world.now }
 {
     world.book().crossings().len() == before && world.rests()
 }
@@ -148,7 +148,7 @@ fn trace_one<C: Inspect, W: Output>(
     writer: &mut W,
 ) -> Result<(), ReplayFault>
     requires { W.failed writer.old ≡ false }
-    ensures ends { OneEnds (shown (record { seen = C.seen; offers = C.offers; takes = C.takes; steps = C.steps; rounds = C.rounds })) C.whole spot round world.old event result world.new (W.contents writer.old) (W.contents writer.new) }
+    ensures ends { OneEnds (shown C.calls) C.whole spot round world.old event result world.new (W.contents writer.old) (W.contents writer.new) }
     ensures failed { TellsCannotWrite result (W.failed writer.new) }
 {
     let text = spelled(alloc, &event)?;
@@ -175,8 +175,8 @@ fn happen<C: Carrier>(
     world: &mut World<C>,
     event: WorldEvent,
 ) -> Result<Vec<u8>, AllocError>
-    ensures shown { IfOk result (λ text. Shows (shown (record { seen = C.seen; offers = C.offers; takes = C.takes; steps = C.steps; rounds = C.rounds })) world.old event world.new text.items) }
-    ensures memory { IfErr result (λ _. StopsOne (shown (record { seen = C.seen; offers = C.offers; takes = C.takes; steps = C.steps; rounds = C.rounds })) world.old event world.new []) }
+    ensures shown { IfOk result (λ text. Shows (shown C.calls) world.old event world.new text.items) }
+    ensures memory { IfErr result (λ _. StopsOne (shown C.calls) world.old event world.new []) }
 {
     let events = vec![in alloc; event]?;
     let mut printer = Printer::new(Vec::new(alloc));

@@ -4,7 +4,8 @@ use Rattle.std.specs.Bool.{MatchBool}
 use Rattle.leader1822.specs.Host.{Host}
 use Rattle.leader1822.specs.declared.carrier.CarrierFault.TheVariants as fault
 use Rattle.net_sim.specs.Whole.{Each}
-use Rattle.net_sim.specs.World.{Calls, WorldState, WorldFault, Carrier, Event, Quiet, Offer, Take, Refuses, Does, StepGives, stops, Runs, RunGives, Repeats, TurnsOf, up_in, Calms, CalmGives}
+use Rattle.net_sim.specs.World.{WorldState, WorldFault, Carrier, Event, Quiet, Offer, Take, Refuses, Does, StepGives, stops, Runs, RunGives, Repeats, TurnsOf, up_in, Calms, CalmGives}
+use Rattle.leader1822.specs.Calls.{Calls}
 
 -- `Named` is what is asked of each event; rounds, takings and offers always have it
 module _ {C : Type 0} (calls : Calls C) (P : WorldState C → Type 0) (Named : Event → Type 0) (quiet : Named Quiet) (take : (h : Host) → Named (Take h)) (offer : (h : Host) → Named (Offer h))

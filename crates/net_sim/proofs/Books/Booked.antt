@@ -3,7 +3,7 @@ use Rattle.std.proofs.Common.{◌≡◌, inl, inr, ℕ, Bool, true, false, if◌
 use Rattle.std.specs.Bool.{MatchBool}
 use Rattle.std.specs.Prelude.{reverse}
 use Rattle.std.proofs.lemmas.Grind.{reverse_onto}
-use Rattle.leader1822.specs.Calls.{Seen, ShowsOffer, ShowsTake, ShowsStep, ShowsRound, ShowsRefusal, ShowsCrossings, halted, is_memory, crossing_of, step_crossings, up_at}
+use Rattle.leader1822.specs.Calls.{Calls, Seen, ShowsOffer, ShowsTake, ShowsStep, ShowsRound, ShowsRefusal, ShowsCrossings, halted, is_memory, crossing_of, step_crossings, up_at}
 use Rattle.leader1822.specs.Host.{Host}
 use Rattle.leader1822.specs.Mailboxes.{IsRun}
 use Rattle.leader1822.specs.Messages.{SafeMessages}
@@ -32,7 +32,7 @@ use Rattle.net_sim.specs.Book.{Kept, crossed, all_crossed, book_told, all_told, 
 use Rattle.net_sim.specs.Carriers.{shown, AreOfOneEvent, AreStops, IsBooked}
 use Rattle.net_sim.specs.Whole.{Each}
 use Rattle.net_sim.proofs.Books.Always.{run_keeps, calm_keeps}
-use Rattle.net_sim.specs.World.{Calls, WorldState, WorldFault, Carrier, Program, Event, Net, Quiet, Offer, Take, Ask, Server, User, Typed, Seat, opening_world, seat_of, services_of, noticed, tended, turn_of, with_server, with_user, with_carrier, world_moved, changed, served_at, DoesOrHalts, TypeGives, Refuses, Does, Halts, Passes, OfferEnds, OfferGives, TakeEnds, TakeGives, NetEnds, QuietEnds, AskGives, AtProgram, AtSeat, EventGives, StepGives, RunGives, CalmGives}
+use Rattle.net_sim.specs.World.{WorldState, WorldFault, Carrier, Program, Event, Net, Quiet, Offer, Take, Ask, Server, User, Typed, Seat, opening_world, seat_of, services_of, noticed, tended, turn_of, with_server, with_user, with_carrier, world_moved, changed, served_at, DoesOrHalts, TypeGives, Refuses, Does, Halts, Passes, OfferEnds, OfferGives, TakeEnds, TakeGives, NetEnds, QuietEnds, AskGives, AtProgram, AtSeat, EventGives, StepGives, RunGives, CalmGives}
 
 -- ---- the crossings of what is kept
 

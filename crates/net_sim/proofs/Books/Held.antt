@@ -3,7 +3,7 @@ use Rattle.std.proofs.Common.{◌≡◌, ℕ, Bool, true, false, ◌||◌, if◌
 use Rattle.std.specs.Bool.{MatchBool}
 use Rattle.std.proofs.lemmas.List.Elements.{All-nil, All-cons, All-head, All-tail}
 use Rattle.leader1822.proofs.lemmas.{host_before_never, host_before_trans}
-use Rattle.leader1822.specs.Calls.{Seen, InOrder}
+use Rattle.leader1822.specs.Calls.{Calls, Seen, InOrder}
 use Rattle.leader1822.specs.Host.{Host, IsAddress, host_before, is_host, same_host}
 use Rattle.leader1822.specs.Mailboxes.{IsRun, is_up}
 use Rattle.leader1822.specs.declared.crossing.Crossing.TheVariants as crossing
@@ -34,7 +34,7 @@ use Rattle.net_sim.specs.Inside.Parts.{AreLive, IsOnce, world_ended, hosts_of, h
 use Rattle.net_sim.specs.Story.{Moment, Crossed, Asked, program_after, places, program}
 use Rattle.net_sim.specs.Timeline.{crossings_of}
 use Rattle.net_sim.specs.Whole.{IsNamed, IsWhole, seat_in}
-use Rattle.net_sim.specs.World.{Calls, WorldState, WorldFault, Carrier, Event, Seat, ServiceSeat, EventGives, Refuses, StepGives, opening_world}
+use Rattle.net_sim.specs.World.{WorldState, WorldFault, Carrier, Event, Seat, ServiceSeat, EventGives, Refuses, StepGives, opening_world}
 use Rattle.net_sim.proofs.Resets.Clean.{opening_lawful, step_lawful}
 use Rattle.net_sim.proofs.Books.Whole.{step_whole}
 

@@ -2,7 +2,7 @@
 use Rattle.std.proofs.Common.{◌≡◌, ◌⊎◌, inl, inr, ℕ, Bool, true, false, if◌then◌else◌, find, List, [], ◌∷◌, ◌++◌, length, Option, Some, None, All, Result, Ok, Err, refl, sym, subst, ◌∙◌}
 use Rattle.std.specs.Bool.{MatchBool}
 use Rattle.std.proofs.lemmas.List.Elements.{All-append, All-cons, All-head, All-nil, All-tail}
-use Rattle.leader1822.specs.Calls.{Seen, crossing_of, step_crossings, is_memory}
+use Rattle.leader1822.specs.Calls.{Calls, Seen, crossing_of, step_crossings, is_memory}
 use Rattle.leader1822.specs.Host.{Host, same_host}
 use Rattle.leader1822.specs.declared.carrier.CarrierFault.{CarrierFault}
 use Rattle.leader1822.specs.declared.carrier.CarrierFault.TheVariants as fault
@@ -27,7 +27,7 @@ use Rattle.host_services.specs.TypedLines.{line_bits}
 use Rattle.net_sim.specs.Book.{Kept, Reported, Told, all_asked, all_crossed, all_told, asked, book_told, crossed}
 use Rattle.net_sim.specs.Reports.{AreReported, AreRunning, IsBacked, IsRunning, told_to}
 use Rattle.net_sim.specs.Whole.{Each}
-use Rattle.net_sim.specs.World.{Calls, WorldState, WorldFault, Carrier, Program, Event, Net, Quiet, Offer, Take, Ask, Server, User, Typed, Seat, ServiceSeat, all_emptied, changed, noticed, opening_services, opening_world, seat_of, served_at, serviced, services_in, services_of, tended, turn_of, with_carrier, with_server, with_services, with_user, world_heard, world_moved, AskGives, AtProgram, AtSeat, CalmGives, Does, DoesOrHalts, EventGives, Halts, NetEnds, OfferEnds, OfferGives, Passes, QuietEnds, Refuses, RunGives, StepGives, TakeEnds, TakeGives, TypeGives}
+use Rattle.net_sim.specs.World.{WorldState, WorldFault, Carrier, Program, Event, Net, Quiet, Offer, Take, Ask, Server, User, Typed, Seat, ServiceSeat, all_emptied, changed, noticed, opening_services, opening_world, seat_of, served_at, serviced, services_in, services_of, tended, turn_of, with_carrier, with_server, with_services, with_user, world_heard, world_moved, AskGives, AtProgram, AtSeat, CalmGives, Does, DoesOrHalts, EventGives, Halts, NetEnds, OfferEnds, OfferGives, Passes, QuietEnds, Refuses, RunGives, StepGives, TakeEnds, TakeGives, TypeGives}
 use Rattle.net_sim.proofs.Books.Always.{calm_keeps, run_keeps}
 use Rattle.net_sim.proofs.Books.Machines.{AreLeft, backed_more, server_left, told_away, told_left, user_left}
 use Rattle.net_sim.proofs.Hosts.Seats.{same_host-sym}

@@ -2,7 +2,7 @@
 use Rattle.std.proofs.Common.{◌≡◌, ◌⊎◌, inl, inr, ℕ, Bool, true, false, ◌||◌, if◌then◌else◌, List, [], ◌∷◌, ◌++◌, map, length, All, Option, Some, None, Result, Ok, Err, refl, ap, sym, subst, ◌∙◌}
 use Rattle.std.specs.Bool.{MatchBool}
 use Rattle.std.specs.List.{fold}
-use Rattle.leader1822.specs.Calls.{Seen, ShowsOffer, ShowsTake, ShowsStep, ShowsRound, ShowsRefusal, ShowsCrossings, halted, is_memory, step_crossings}
+use Rattle.leader1822.specs.Calls.{Calls, Seen, ShowsOffer, ShowsTake, ShowsStep, ShowsRound, ShowsRefusal, ShowsCrossings, halted, is_memory, step_crossings}
 use Rattle.leader1822.specs.Host.{Host, IsAddress, same_host, is_host}
 use Rattle.leader1822.proofs.lemmas.{same_host-refl}
 use Rattle.leader1822.specs.Mailboxes as mail
@@ -35,7 +35,7 @@ use Rattle.net_sim.specs.Story.{Moment, Crossed, Asked, program, places}
 use Rattle.net_sim.specs.Timeline.{Happens, IsAddressed, IsAsked, IsTimeline, contacts_of, crossings_of}
 use Rattle.net_sim.specs.Told.{host_in, kept_in, notices_by, without_reports}
 use Rattle.net_sim.specs.Whole.{AreServed, Each, IsNamed, IsWhole, seat_in}
-use Rattle.net_sim.specs.World.{Calls, WorldState, WorldFault, Carrier, Program, Event, Net, Quiet, Offer, Take, Ask, Server, User, Typed, Seat, opening_world, seat_of, seated, all_turned, services_of, noticed, world_heard, tended, turn_of, with_server, with_user, DoesOrHalts, TypeGives, with_program, with_carrier, world_moved, changed, Refuses, Does, Halts, Passes, OfferEnds, OfferGives, TakeEnds, TakeGives, NetEnds, QuietEnds, AskGives, AtProgram, AtSeat, EventGives, StepGives, RunGives, CalmGives, opening_seats}
+use Rattle.net_sim.specs.World.{WorldState, WorldFault, Carrier, Program, Event, Net, Quiet, Offer, Take, Ask, Server, User, Typed, Seat, opening_world, seat_of, seated, all_turned, services_of, noticed, world_heard, tended, turn_of, with_server, with_user, DoesOrHalts, TypeGives, with_program, with_carrier, world_moved, changed, Refuses, Does, Halts, Passes, OfferEnds, OfferGives, TakeEnds, TakeGives, NetEnds, QuietEnds, AskGives, AtProgram, AtSeat, EventGives, StepGives, RunGives, CalmGives, opening_seats}
 use Rattle.net_sim.proofs.Books.Always.{run_keeps, calm_keeps}
 use Rattle.net_sim.proofs.Hosts.Asks.{after_each, asks_contacts, asks_crossings, asks_each, asks_of, asks_timeline, emptied_served, named_of, opening_served, same_each, still_served}
 use Rattle.net_sim.proofs.Books.Booked.{asked_crossings, told_crossings, crossed_crossings}

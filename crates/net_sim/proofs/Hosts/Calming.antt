@@ -3,7 +3,7 @@ use Rattle.std.proofs.Common.{inl, inr, ◌≡◌, ℕ, ◌+◌, ◌-◌, ◌<�
 use Rattle.std.proofs.lemmas.List.{length-map, length-reverse, drop_all}
 use Rattle.std.specs.Bool.{MatchBool}
 use Rattle.leader1822.specs.Host.{Host, same_host}
-use Rattle.leader1822.specs.Calls.{is_memory, is_halt}
+use Rattle.leader1822.specs.Calls.{Calls, is_memory, is_halt}
 use Rattle.leader1822.specs.declared.carrier.CarrierFault.{CarrierFault}
 use Rattle.leader1822.specs.declared.carrier.CarrierFault.TheVariants as fault
 use Rattle.leader1822.specs.declared.crossing.Crossing.{Crossing}
@@ -15,7 +15,7 @@ use Rattle.sockets.specs.Sending.{next_out, offered}
 use Rattle.net_sim.specs.Book.{Kept}
 use Rattle.net_sim.specs.Inside.Calm.{CalmTurn, Round}
 use Rattle.net_sim.specs.Inside.Parts.{IsOnce, hosts_of}
-use Rattle.net_sim.specs.World.{Calls, WorldState, WorldFault, Carrier, Program, Event, Quiet, Offer, Take, Seat, seat_of, seated, services_of, noticed, turn_of, Refuses, Does, Halts, Passes, OfferEnds, OfferGives, TakeEnds, TakeGives, QuietEnds, AtProgram, AtSeat, EventGives, StepGives, wants_memory, stops, Repeats, TurnsOf, up_in, Calms, CalmGives}
+use Rattle.net_sim.specs.World.{WorldState, WorldFault, Carrier, Program, Event, Quiet, Offer, Take, Seat, seat_of, seated, services_of, noticed, turn_of, Refuses, Does, Halts, Passes, OfferEnds, OfferGives, TakeEnds, TakeGives, QuietEnds, AtProgram, AtSeat, EventGives, StepGives, wants_memory, stops, Repeats, TurnsOf, up_in, Calms, CalmGives}
 use Rattle.net_sim.proofs.Hosts.SeatLemmas.{absent}
 
 abbrev Answer : Type 0

@@ -2,7 +2,7 @@
 use Rattle.std.proofs.Common.{◌≡◌, ◌⊎◌, ◌&&◌, if◌then◌else◌, not, is_some, inl, inr, ℕ, Bool, true, false, List, [], ◌∷◌, ◌++◌, ◌-◌, take, drop, length, reverse, Option, Some, None, Result, Ok, Err, OnOk, IfErr, MatchResult, refl, ap, sym, subst, ◌∙◌}
 use Rattle.std.proofs.Math.Seq.{drop-append_seam}
 use Rattle.std.proofs.lemmas.List.{reverse-append, reverse-reverse, take_rest}
-use Rattle.leader1822.specs.Calls.{Seen, ShowsTake, crossing_of}
+use Rattle.leader1822.specs.Calls.{Calls, Seen, ShowsTake, crossing_of}
 use Rattle.leader1822.specs.Host.{Host}
 use Rattle.leader1822.specs.declared.crossing.Crossing.{Crossing}
 use Rattle.leader1822.specs.declared.crossing.Crossing.TheVariants as crossing
@@ -28,7 +28,7 @@ use Rattle.host_services.specs.Services.{ServiceDeskState, ServicesState, openin
 use Rattle.host_services.specs.Turns.{server_begun, user_begun}
 use Rattle.host_services.specs.TypedLines.{line_bits}
 use Rattle.net_sim.specs.Inside.Parts.{AreDone, Sits, running, world_ended}
-use Rattle.net_sim.specs.World.{Calls, WorldState, WorldFault, Program, Seat, ServiceSeat, seat_of, seated, services_of, serviced, turn_of, tended, with_server, with_user, wants_memory, world_moved, Does, DoesOrHalts, Halts, Refuses, AtSeat, AskGives, OfferGives, TakeGives, TypeGives}
+use Rattle.net_sim.specs.World.{WorldState, WorldFault, Program, Seat, ServiceSeat, seat_of, seated, services_of, serviced, turn_of, tended, with_server, with_user, wants_memory, world_moved, Does, DoesOrHalts, Halts, Refuses, AtSeat, AskGives, OfferGives, TakeGives, TypeGives}
 use Rattle.net_sim.proofs.Hosts.SeatLemmas.{sits_gives}
 
 halts : {C : Type 0} (c : C) (old : WorldState C) (seats : List Seat) (ss : List ServiceSeat) (k : Kept) (f : WorldFault) → wants_memory f ≡ true → k ≡ old.kept → Halts c old (Err f) (world_ended c seats ss k (Err f))

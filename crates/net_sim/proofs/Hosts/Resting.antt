@@ -4,7 +4,7 @@ use Rattle.std.proofs.lemmas.Bool.{eqb-true}
 use Rattle.std.proofs.lemmas.Bool.Decides.{nat_tests}
 use Rattle.std.specs.Bool.{MatchBool}
 use Rattle.leader1822.specs.Host.{Host, same_host}
-use Rattle.leader1822.specs.Calls.{Seen, ShowsTake, halted, is_memory, is_halt}
+use Rattle.leader1822.specs.Calls.{Calls, Seen, ShowsTake, halted, is_memory, is_halt}
 use Rattle.leader1822.specs.Rest.{BringsNothing, Rests, TakesNothing}
 use Rattle.leader1822.specs.declared.carrier.CarrierFault.{CarrierFault}
 use Rattle.leader1822.specs.declared.carrier.CarrierFault.TheVariants as fault
@@ -14,7 +14,7 @@ use Rattle.sockets.specs.Pairs.{NcpState}
 use Rattle.sockets.specs.Sending.{next_out}
 use Rattle.net_sim.specs.Carriers.{shown}
 use Rattle.net_sim.specs.Inside.Calm.{CarrierRests, IsSilent, IsSilentAt}
-use Rattle.net_sim.specs.World.{Calls, WorldState, WorldFault, Carrier, Event, Quiet, Offer, Take, Seat, seat_of, Refuses, Does, OfferGives, TakeGives, AtProgram, AtSeat, EventGives, StepGives, stops, Repeats, TurnsOf, up_in, Calms}
+use Rattle.net_sim.specs.World.{WorldState, WorldFault, Carrier, Event, Quiet, Offer, Take, Seat, seat_of, Refuses, Does, OfferGives, TakeGives, AtProgram, AtSeat, EventGives, StepGives, stops, Repeats, TurnsOf, up_in, Calms}
 use Rattle.net_sim.proofs.Hosts.Calming.{Passed, none_repeated}
 
 -- ---- what a carrier shows that rests

@@ -1,6 +1,6 @@
 -- A host that is through a reset takes of its peer only what went out after its last clean point.
 use Rattle.std.proofs.Common.{◌≡◌, ℕ, Bool, true, false, if◌then◌else◌, List, [], ◌∷◌, ◌++◌, length, Result, Some, refl, ap, sym, subst, ◌∙◌}
-use Rattle.leader1822.specs.Calls.{Seen}
+use Rattle.leader1822.specs.Calls.{Calls, Seen}
 use Rattle.leader1822.specs.Host.{Host, same_host}
 use Rattle.leader1822.specs.Mailboxes as mail
 use Rattle.leader1822.specs.Mailboxes.{same_flow}
@@ -25,7 +25,7 @@ use Rattle.net_sim.specs.Story.{events_of, program}
 use Rattle.net_sim.specs.Timeline.{contacts_of, crossings_of, events_in, seen_box}
 use Rattle.net_sim.specs.Carriers.{shown}
 use Rattle.net_sim.specs.Whole.{Each, IsNamed, seat_in}
-use Rattle.net_sim.specs.World.{Calls, Event, Seat, WorldFault, WorldState, opening_world, seat_of, StepGives, RunGives, CalmGives}
+use Rattle.net_sim.specs.World.{Event, Seat, WorldFault, WorldState, opening_world, seat_of, StepGives, RunGives, CalmGives}
 use Rattle.net_sim.proofs.Books.Booked.{calm_books, opening_booked, run_books, step_books}
 use Rattle.net_sim.proofs.Books.Reported.{calm_reported, opening_reported, run_reported, step_reported}
 use Rattle.net_sim.proofs.Hosts.Seats.{found_seat}

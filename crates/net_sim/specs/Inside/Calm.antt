@@ -5,7 +5,8 @@ use Rattle.leader1822.specs.Host.{Host}
 use Rattle.leader1822.specs.Rest.{Rests}
 use Rattle.sockets.specs.Pairs.{NcpState}
 use Rattle.sockets.specs.Sending.{next_out}
-use Rattle.net_sim.specs.World.{Calls, Seat, WorldState, WorldFault, Quiet, Offer, Take, StepGives, Repeats, TurnsOf, stops, up_in}
+use Rattle.net_sim.specs.World.{Seat, WorldState, WorldFault, Quiet, Offer, Take, StepGives, Repeats, TurnsOf, stops, up_in}
+use Rattle.leader1822.specs.Calls.{Calls}
 
 -- a host takes up to 16 times, and then offers up to 32 times
 abbrev pub CalmTurn : {C : Type 0} → Calls C → Host → WorldState C → Result (Unit {0}) WorldFault → WorldState C → Type 0

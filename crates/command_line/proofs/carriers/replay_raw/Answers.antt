@@ -1,18 +1,18 @@
 use Rattle.std.proofs.Common.{Err, ap}
-use Rattle.replay.specs.Replay.{Calls}
+use Rattle.leader1822.specs.Calls.{Calls}
 use Rattle.command_line.proofs.Faults.{told_memory, told_write}
 use Rattle.command_line.proofs.Written.{writes_all, writes_part}
 use Rattle.command_line.proofs.carriers.replay_raw.Goals as goal
 
 pub returns-in-Ok-clause-replayed : goal.returns-in-Ok-clause-replayed
 returns-in-Ok-clause-replayed g c =
-    let calls : Calls g.row.C.Denot = record { seen = g.C.Carrier.seen; offers = g.C.Carrier.offers; takes = g.C.Carrier.takes; steps = g.C.Carrier.steps; rounds = g.C.Carrier.rounds } in
+    let calls : Calls g.row.C.Denot = g.C.Carrier.calls in
     writes_all calls c.args.carrier c.replay_events.new.carrier c.args.events.now c.args.detail (g.W.Output.contents c.args.writer.now) (g.W.Output.contents c.replay_events.new.writer) (g.W.Output.contents c.write_last.new.writer)
     c.requires.unused c.in-Ok.ensures.replayed c.in-Ok.ensures.messages c.in-Ok.ensures.run c.in_ok-write_last-in-Ok.ensures.written
 
 pub returns-clause-stopped : goal.returns-clause-stopped
 returns-clause-stopped g c = λ e.
-    let calls : Calls g.row.C.Denot = record { seen = g.C.Carrier.seen; offers = g.C.Carrier.offers; takes = g.C.Carrier.takes; steps = g.C.Carrier.steps; rounds = g.C.Carrier.rounds } in
+    let calls : Calls g.row.C.Denot = g.C.Carrier.calls in
     writes_part calls c.args.carrier c.replay_events.new.carrier c.args.events.now c.args.detail (g.W.Output.contents c.args.writer.now) (g.W.Output.contents c.replay_events.new.writer)
     c.requires.unused (c.in-Err.ensures.memory (ap Err (told_memory c.in-Err.fault c.from.result c.from.ensures e))) c.in-Err.ensures.messages c.in-Err.ensures.run
 

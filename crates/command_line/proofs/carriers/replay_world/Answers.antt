@@ -1,13 +1,13 @@
 use Rattle.std.proofs.Common.{Err, ap, inr, ◌∙◌}
 use Rattle.net_sim.specs.Book.{Kept}
-use Rattle.replay.specs.Replay.{Calls}
+use Rattle.leader1822.specs.Calls.{Calls}
 use Rattle.command_line.proofs.Faults.{told_memory, told_write}
 use Rattle.command_line.proofs.Written.{world_writes_all, world_writes_part}
 use Rattle.command_line.proofs.carriers.replay_world.Goals as goal
 
 pub returns-in-Ok-clause-replayed : goal.returns-in-Ok-clause-replayed
 returns-in-Ok-clause-replayed g c =
-    let calls : Calls g.row.C.Denot = record { seen = g.C.Carrier.seen; offers = g.C.Carrier.offers; takes = g.C.Carrier.takes; steps = g.C.Carrier.steps; rounds = g.C.Carrier.rounds } in
+    let calls : Calls g.row.C.Denot = g.C.Carrier.calls in
     world_writes_all calls c.args.carrier c.in_ok-world.world c.replay_events-outcome.new.world c.args.events.items c.lives.result.now c.args.book c.args.detail
     (g.W.Output.contents c.args.writer.now) (g.W.Output.contents c.replay_events-outcome.new.writer) (g.W.Output.contents c.write_lives.new.writer)
     c.in_ok-world.ensures (rw c.in-Ok.is at c.replay_events-outcome.ensures.replayed) c.book_of-kept.ensures.promise
@@ -16,7 +16,7 @@ returns-in-Ok-clause-replayed g c =
 
 pub returns-clause-stopped : goal.returns-clause-stopped
 returns-clause-stopped g c = λ e.
-    let calls : Calls g.row.C.Denot = record { seen = g.C.Carrier.seen; offers = g.C.Carrier.offers; takes = g.C.Carrier.takes; steps = g.C.Carrier.steps; rounds = g.C.Carrier.rounds } in
+    let calls : Calls g.row.C.Denot = g.C.Carrier.calls in
     inr (world_writes_part calls c.args.carrier c.in_ok-world.world c.replay_events-outcome.new.world c.args.events.items c.args.detail (g.W.Output.contents c.args.writer.now) (g.W.Output.contents c.replay_events-outcome.new.writer)
     c.in_ok-world.ensures (c.replay_events-outcome.ensures.memory (c.in-Err.is ∙ ap Err (told_memory c.in-Err.fault c.from.result c.from.ensures e))) c.book_of-kept.ensures.promise)
 

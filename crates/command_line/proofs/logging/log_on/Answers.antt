@@ -1,7 +1,7 @@
 use Rattle.std.proofs.Common.{◌≡◌, OnOk, rules, subst}
 use Rattle.subnet.specs.Calls.{Kept}
 use Rattle.topology.specs.declared.network.CarrierKind.TheVariants as kind
-use Rattle.command_line.specs.Carriers.{subnet_calls}
+use Rattle.subnet.specs.Working.{subnet_calls}
 use Rattle.command_line.specs.Events.{asked_of}
 use Rattle.command_line.specs.Logs.{LogsFrom}
 use Rattle.command_line.proofs.Written.{logged_over}

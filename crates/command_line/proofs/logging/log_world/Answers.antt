@@ -1,4 +1,4 @@
-use Rattle.replay.specs.Replay.{Calls}
+use Rattle.leader1822.specs.Calls.{Calls}
 use Rattle.net_sim.specs.Book.{Kept}
 use Rattle.replay.specs.declared.print.Detail.TheVariants.{Sizes}
 use Rattle.std.proofs.Common.{None, ap, ◌∙◌, reverse}
@@ -7,5 +7,5 @@ use Rattle.command_line.proofs.logging.log_world.Goals as goal
 
 pub returns-in-Ok-clause-logged : goal.returns-in-Ok-clause-logged
 returns-in-Ok-clause-logged g c =
-    let calls : Calls g.row.C.Denot = record { seen = g.C.Carrier.seen; offers = g.C.Carrier.offers; takes = g.C.Carrier.takes; steps = g.C.Carrier.steps; rounds = g.C.Carrier.rounds } in
+    let calls : Calls g.row.C.Denot = g.C.Carrier.calls in
     logs_world calls c.args.carrier c.in_ok-world.world c.replay_events.new.world c.args.events.items Sizes c.crossings.result.now c.lives.result.now c.handed.result.now None None (g.W.Output.contents c.args.writer.now) (g.W.Output.contents c.write_log.new.writer) c.in_ok-world.ensures c.in-Ok.ensures.replayed c.book_of-book.ensures.promise (c.crossings.ensures ∙ ap (λ (k : Kept). reverse k.book.crossings) c.book_of-book.ensures.value) (c.lives.ensures ∙ ap (λ (k : Kept). k.book.lives) c.book_of-book.ensures.value) c.handed.ensures.value c.in_ok-write_log-in-Ok.ensures.written c.in_ok-write_log-in-Ok.ensures.valid

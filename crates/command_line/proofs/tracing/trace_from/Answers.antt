@@ -1,5 +1,5 @@
 use Rattle.std.proofs.Common.{Err, ap}
-use Rattle.replay.specs.Replay.{Calls}
+use Rattle.leader1822.specs.Calls.{Calls}
 use Rattle.trace.specs.Traces.{Inside}
 use Rattle.command_line.proofs.Faults.{told_memory, told_write}
 use Rattle.command_line.proofs.Traced.{flushed_trace}
@@ -7,7 +7,7 @@ use Rattle.command_line.proofs.tracing.trace_from.Goals as goal
 
 pub returns-in-Ok-clause-traced : goal.returns-in-Ok-clause-traced
 returns-in-Ok-clause-traced g c =
-    let calls : Calls g.row.C.Denot = record { seen = g.C.Carrier.seen; offers = g.C.Carrier.offers; takes = g.C.Carrier.takes; steps = g.C.Carrier.steps; rounds = g.C.Carrier.rounds } in
+    let calls : Calls g.row.C.Denot = g.C.Carrier.calls in
     let inside : Inside g.row.C.Denot = record { calm = g.C.Inspect.calm; whole = g.C.Inspect.whole; parts = g.C.Inspect.parts; fate = g.C.Inspect.fate } in
     flushed_trace calls inside c.args.network.now c.args.carrier c.trace_events.new.carrier c.args.lines.now c.args.events.now (g.W.Output.contents c.args.writer.now) (g.W.Output.contents c.trace_events.new.writer) (g.W.Output.contents c.flush.new.self) c.in-Ok.ensures.traced c.flush.ensures.kept
 

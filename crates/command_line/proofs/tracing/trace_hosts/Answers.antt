@@ -1,20 +1,19 @@
 use Rattle.std.proofs.Common.{Err, ap, inr}
 use Rattle.net_sim.specs.Carriers.{shown}
-use Rattle.net_sim.specs.World.{Calls}
-use Rattle.command_line.specs.Carriers.{hosting}
+use Rattle.leader1822.specs.Calls.{Calls}
 use Rattle.command_line.proofs.Faults.{told_memory, told_write}
 use Rattle.command_line.proofs.Traced.{flushed_world, world_ends}
 use Rattle.command_line.proofs.tracing.trace_hosts.Goals as goal
 
 pub returns-in-Ok-clause-traced : goal.returns-in-Ok-clause-traced
 returns-in-Ok-clause-traced g c =
-    let calls : Calls g.row.C.Denot = shown (hosting (record { seen = g.C.Carrier.seen; offers = g.C.Carrier.offers; takes = g.C.Carrier.takes; steps = g.C.Carrier.steps; rounds = g.C.Carrier.rounds })) in
+    let calls : Calls g.row.C.Denot = shown g.C.Carrier.calls in
     flushed_world calls g.C.Inspect.whole c.args.network.now c.args.carrier c.in_ok-world.world c.trace_world.new.world c.args.lines.now c.args.events.items
     (g.W.Output.contents c.args.writer.now) (g.W.Output.contents c.trace_world.new.writer) (g.W.Output.contents c.flush.new.self) c.in_ok-world.ensures c.in-Ok.ensures.traced c.flush.ensures.kept
 
 pub returns-clause-stopped : goal.returns-clause-stopped
 returns-clause-stopped g c = λ e.
-    let calls : Calls g.row.C.Denot = shown (hosting (record { seen = g.C.Carrier.seen; offers = g.C.Carrier.offers; takes = g.C.Carrier.takes; steps = g.C.Carrier.steps; rounds = g.C.Carrier.rounds })) in
+    let calls : Calls g.row.C.Denot = shown g.C.Carrier.calls in
     inr (world_ends calls g.C.Inspect.whole c.args.network.now c.args.carrier c.in_ok-world.world c.trace_world.new.world c.args.lines.now c.args.events.items
     (g.W.Output.contents c.args.writer.now) (g.W.Output.contents c.trace_world.new.writer) c.in_ok-world.ensures (c.in-Err.ensures.memory (ap Err (told_memory c.in-Err.fault c.from.result c.from.ensures e))))
 

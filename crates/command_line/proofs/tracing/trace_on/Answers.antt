@@ -2,7 +2,8 @@ use Rattle.std.proofs.Common.{◌≡◌, ◌⊎◌, ◌∙◌, OnOk, rules, subs
 use Rattle.std.specs.Io.KnownBytes.{Keeps}
 use Rattle.subnet.specs.Calls.{Kept}
 use Rattle.topology.specs.declared.network.CarrierKind.TheVariants as kind
-use Rattle.command_line.specs.Carriers.{subnet_calls, subnet_of}
+use Rattle.subnet.specs.Working.{subnet_calls}
+use Rattle.command_line.specs.Carriers.{subnet_of}
 use Rattle.command_line.specs.Events.{asked_of}
 use Rattle.command_line.specs.Traced.{EndsAll, TracesAll, subnet_inside}
 use Rattle.command_line.proofs.Traced.{ends_over, traced_over}

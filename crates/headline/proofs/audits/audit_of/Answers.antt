@@ -15,7 +15,7 @@ returns g c =
     ap (λ (xs : List Crossing). reverse xs) (c.crossings.ensures ∙ ap (λ (x : Kept). reverse x.book.crossings) c.book_of-book.ensures.value) ∙ reverse-reverse k.book.crossings in
     let lives : c.lives.result.now ≡ k.book.lives = c.lives.ensures ∙ ap (λ (x : Kept). x.book.lives) c.book_of-book.ensures.value in
     let handed : c.handed.result.now ≡ k.handed = c.handed.ensures.value in
-    let says : Says said.Kept k.book.crossings k.book.lives k.handed = kept_promise g.C.Carrier.seen c.args.world.now c.book_of-book.ensures.promise in
+    let says : Says said.Kept k.book.crossings k.book.lives k.handed = kept_promise g.C.Carrier.calls.seen c.args.world.now c.book_of-book.ensures.promise in
     let with_handed = subst (λ (h : List (List Bool)). Says said.Kept k.book.crossings k.book.lives h) (sym handed) says in
     let with_lives = subst (λ (xs : List Life). Says said.Kept k.book.crossings xs c.handed.result.now) (sym lives) with_handed in
     (c.audit.ensures said.Kept).1 (subst (λ (l : List Crossing). Says said.Kept l c.lives.result.now c.handed.result.now) (sym log) with_lives)

@@ -1,16 +1,16 @@
 use Rattle.std.proofs.Common.{rules, [], ◌∷◌, ap, ◌-◌, take, drop, length, sym, ◌∙◌}
-use Rattle.leader1822.specs.Calls.{Seen}
+use Rattle.leader1822.specs.Calls.{Calls, Seen}
 use Rattle.leader1822.specs.declared.crossing.Crossing.TheVariants as crossing
 use Rattle.net_sim.specs.Carriers.{shown}
 use Rattle.net_sim.specs.Inside.Parts.{Serves}
-use Rattle.net_sim.specs.World.{Calls, services_of}
+use Rattle.net_sim.specs.World.{services_of}
 use Rattle.net_sim.proofs.Hosts.Serving.{serves}
 use Rattle.net_sim.proofs.Hosts.Ends.{offer_ends, offer_halts, newest}
 use Rattle.net_sim.proofs.events.offer.Goals as goal
 
 pub returns-in_err-message : goal.returns-in_err-message
 returns-in_err-message g c =
-    let calls : Calls g.row.C.Denot = shown (record { seen = g.C.Carrier.seen; offers = g.C.Carrier.offers; takes = g.C.Carrier.takes; steps = g.C.Carrier.steps; rounds = g.C.Carrier.rounds }) in
+    let calls : Calls g.row.C.Denot = shown g.C.Carrier.calls in
     let sits = c.in_ok-at.ensures in
     let none = c.in_err-message.ensures c.args.host sits.0 sits.1 in
     offer_halts calls c.args.host c.in_ok-at.at sits.0 c.args.carrier.now c.args.seats.now c.args.services.now c.args.book.now c.in_err-message.field-0.0 c.from_residual-in_err-message.result sits.1 none.0 none.1 (search rules)
@@ -23,8 +23,8 @@ go_out-requires-clause-services g c =
 
 pub returns : goal.returns
 returns g c =
-    let calls : Calls g.row.C.Denot = shown (record { seen = g.C.Carrier.seen; offers = g.C.Carrier.offers; takes = g.C.Carrier.takes; steps = g.C.Carrier.steps; rounds = g.C.Carrier.rounds }) in
+    let calls : Calls g.row.C.Denot = shown g.C.Carrier.calls in
     let sits = c.in_ok-at.ensures in
     let here : Serves c.args.host c.in_ok-at.at (services_of c.args.host c.args.services.now) c.args.services.now = serves c.args.host c.in_ok-at.at sits.0 c.args.seats.now c.args.services.now c.requires.once c.requires.order sits.1 in
     offer_ends calls c.args.host c.in_ok-at.at sits.0 c.in-Some.message c.args.carrier.now c.offer_out.new.self c.args.seats.now c.go_out.new.seats c.args.services.now c.go_out.new.services c.args.book.now c.go_out.new.book (take (length c.log.result.now - length c.log-before.result.now) (drop (length c.log-before.result.now) c.log.result.now)) c.go_out.result
-    sits.1 (sym (c.in_ok-message.ensures c.args.host sits.0 sits.1) ∙ c.in-Some.is) (search rules) (newest (crossing.Out c.in-Some.message ∷ []) (g.C.Carrier.seen c.args.carrier.now).log (g.C.Carrier.seen c.offer_out.new.self).log c.log-before.result.now c.log.result.now c.log-before.ensures.value c.log.ensures.value (ap (λ (s : Seen). s.log) c.in_default-offer_out.ensures.shown.shown)) (c.go_out.ensures.done c.args.host sits.0 (services_of c.args.host c.args.services.now) sits.1 here) c.go_out.ensures.kept
+    sits.1 (sym (c.in_ok-message.ensures c.args.host sits.0 sits.1) ∙ c.in-Some.is) (search rules) (newest (crossing.Out c.in-Some.message ∷ []) (g.C.Carrier.calls.seen c.args.carrier.now).log (g.C.Carrier.calls.seen c.offer_out.new.self).log c.log-before.result.now c.log.result.now c.log-before.ensures.value c.log.ensures.value (ap (λ (s : Seen). s.log) c.in_default-offer_out.ensures.shown.shown)) (c.go_out.ensures.done c.args.host sits.0 (services_of c.args.host c.args.services.now) sits.1 here) c.go_out.ensures.kept

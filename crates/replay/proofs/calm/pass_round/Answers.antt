@@ -1,18 +1,19 @@
 use Rattle.std.proofs.Common.{◌≡◌, ◌<◌, ◌≤◌, length, get_or, sym, subst, ◌∙◌, Err, rules}
-use Rattle.replay.specs.Replay.{Calls, Round}
+use Rattle.replay.specs.Replay.{Round}
+use Rattle.leader1822.specs.Calls.{Calls}
 use Rattle.replay.proofs.Passing.{all_turned, grew_more, none_turned, one_turned, turn_ends}
 use Rattle.replay.proofs.Shown.{grew_round}
 use Rattle.replay.proofs.calm.pass_round.Goals as goal
 
 pub loop-index-init : goal.loop-index-init
 loop-index-init g c =
-    let calls : Calls g.row.C.Denot = record { seen = g.C.Carrier.seen; offers = g.C.Carrier.offers; takes = g.C.Carrier.takes; steps = g.C.Carrier.steps; rounds = g.C.Carrier.rounds } in
+    let calls : Calls g.row.C.Denot = g.C.Carrier.calls in
     none_turned calls c.args.carrier.now c.quiet_round.new.self c.quiet_round.result c.quiet_round.ensures.relation c.in_ok-calmly.ensures.calm
     (grew_round (calls.seen c.args.carrier.now) c.quiet_round.result (calls.seen c.quiet_round.new.self) c.quiet_round.ensures.shown)
 
 pub loop-index-preserved : goal.loop-index-preserved
 loop-index-preserved g c =
-    let calls : Calls g.row.C.Denot = record { seen = g.C.Carrier.seen; offers = g.C.Carrier.offers; takes = g.C.Carrier.takes; steps = g.C.Carrier.steps; rounds = g.C.Carrier.rounds } in
+    let calls : Calls g.row.C.Denot = g.C.Carrier.calls in
     let grew = grew_round (calls.seen c.args.carrier.now) c.quiet_round.result (calls.seen c.quiet_round.new.self) c.quiet_round.ensures.shown in
     let hosts : c.hosts-hosts.result.now ≡ (calls.seen c.args.carrier.now).hosts = c.hosts-hosts.ensures.value ∙ grew.hosts in
     let now : c.hosts.result.now ≡ (calls.seen c.args.carrier.now).hosts = c.hosts.ensures.value ∙ c.loop-index.invariant.grew.hosts in
@@ -23,7 +24,7 @@ loop-index-preserved g c =
 
 pub returns-in_err-take_all-clause-round : goal.returns-in_err-take_all-clause-round
 returns-in_err-take_all-clause-round g c =
-    let calls : Calls g.row.C.Denot = record { seen = g.C.Carrier.seen; offers = g.C.Carrier.offers; takes = g.C.Carrier.takes; steps = g.C.Carrier.steps; rounds = g.C.Carrier.rounds } in
+    let calls : Calls g.row.C.Denot = g.C.Carrier.calls in
     let grew = grew_round (calls.seen c.args.carrier.now) c.quiet_round.result (calls.seen c.quiet_round.new.self) c.quiet_round.ensures.shown in
     let hosts : c.hosts-hosts.result.now ≡ (calls.seen c.args.carrier.now).hosts = c.hosts-hosts.ensures.value ∙ grew.hosts in
     let now : c.hosts.result.now ≡ (calls.seen c.args.carrier.now).hosts = c.hosts.ensures.value ∙ c.loop-index.invariant.grew.hosts in
@@ -35,12 +36,12 @@ returns-in_err-take_all-clause-round g c =
 
 pub returns-in_err-take_all-clause-grew : goal.returns-in_err-take_all-clause-grew
 returns-in_err-take_all-clause-grew g c =
-    let calls : Calls g.row.C.Denot = record { seen = g.C.Carrier.seen; offers = g.C.Carrier.offers; takes = g.C.Carrier.takes; steps = g.C.Carrier.steps; rounds = g.C.Carrier.rounds } in
+    let calls : Calls g.row.C.Denot = g.C.Carrier.calls in
     grew_more (calls.seen c.args.carrier.now) (calls.seen c.loop-index.carrier) (calls.seen c.take_all.new.carrier) c.loop-index.invariant.grew c.in_err-take_all.ensures.grew
 
 pub returns-clause-round : goal.returns-clause-round
 returns-clause-round g c =
-    let calls : Calls g.row.C.Denot = record { seen = g.C.Carrier.seen; offers = g.C.Carrier.offers; takes = g.C.Carrier.takes; steps = g.C.Carrier.steps; rounds = g.C.Carrier.rounds } in
+    let calls : Calls g.row.C.Denot = g.C.Carrier.calls in
     let grew = grew_round (calls.seen c.args.carrier.now) c.quiet_round.result (calls.seen c.quiet_round.new.self) c.quiet_round.ensures.shown in
     let hosts : c.hosts-hosts.result.now ≡ (calls.seen c.args.carrier.now).hosts = c.hosts-hosts.ensures.value ∙ grew.hosts in
     all_turned calls c.args.carrier.now c.loop-index.carrier c.loop-index.index (subst (λ hs. length hs ≤ c.loop-index.index) hosts c.loop-index-test.false) c.loop-index.invariant

@@ -1,6 +1,6 @@
 use Rattle.std.proofs.Common.{Some, sym, subst}
 use Rattle.subnet_trace.specs.Elements.{calm_left, round_left}
-use Rattle.subnet_trace.specs.Parts.{of_subnet}
+use Rattle.subnet.specs.Working.{subnet_calls}
 use Rattle.subnet_trace.specs.Steps.{IsNext}
 use Rattle.trace.specs.Traces.{GoesOnWith}
 use Rattle.subnet_trace.proofs.Onward.{calm_idle, goes_on_with, in_next_round}
@@ -8,12 +8,12 @@ use Rattle.subnet_trace.proofs.calm.next_in_calm.Goals as goal
 
 pub returns-in-Some : goal.returns-in-Some
 returns-in-Some c =
-    subst (λ next. GoesOnWith of_subnet (λ k p. calm_left k.net p) c.args.subnet.now c.args.place (Some next)) (sym c.in_round.ensures)
+    subst (λ next. GoesOnWith subnet_calls (λ k p. calm_left k.net p) c.args.subnet.now c.args.place (Some next)) (sym c.in_round.ensures)
     (goes_on_with c.args.subnet.now c.args.place (c.in-Some.event, c.in-Some.stage) c.in-Some.ensures)
 
 pub returns-in-Some-next_in_round : goal.returns-in-Some-next_in_round
 returns-in-Some-next_in_round c =
-    subst (λ next. GoesOnWith of_subnet (λ k p. calm_left k.net p) c.args.subnet.now c.args.place (Some next)) (sym c.in_round-in-Some-next_in_round.ensures)
+    subst (λ next. GoesOnWith subnet_calls (λ k p. calm_left k.net p) c.args.subnet.now c.args.place (Some next)) (sym c.in_round-in-Some-next_in_round.ensures)
     (in_next_round c.args.subnet.now c.args.place (c.in-Some-next_in_round.event, c.in-Some-next_in_round.stage) c.if-place.false (subst (λ r. IsNext c.args.subnet.now.net (λ round. round_left round c.args.place.stage c.args.subnet.now.net) r) c.in_default.is c.next_in_round.ensures) c.in-Some-next_in_round.ensures)
 
 pub returns-in-None : goal.returns-in-None

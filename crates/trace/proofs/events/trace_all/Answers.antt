@@ -1,5 +1,5 @@
 use Rattle.std.proofs.Common.{◌≡◌, ◌≤◌, ◌+◌, ℕ, Err, arith, drop, length, refl, rules, slice_index_or, subst}
-use Rattle.replay.specs.Replay.{Calls}
+use Rattle.leader1822.specs.Calls.{Calls}
 use Rattle.replay.specs.declared.events.ReplayFault.TheVariants as fault
 use Rattle.trace.specs.Steps.{EventEnds}
 use Rattle.trace.specs.Traces.{EndsEvent, Inside, MayTell, StopsElement, TellsEvent, numbered_from}
@@ -8,13 +8,13 @@ use Rattle.trace.proofs.events.trace_all.Goals as goal
 
 pub loop-place-init : goal.loop-place-init
 loop-place-init g c =
-    let calls : Calls g.row.C.Denot = record { seen = g.C.Carrier.seen; offers = g.C.Carrier.offers; takes = g.C.Carrier.takes; steps = g.C.Carrier.steps; rounds = g.C.Carrier.rounds } in
+    let calls : Calls g.row.C.Denot = g.C.Carrier.calls in
     let inside : Inside g.row.C.Denot = record { calm = g.C.Inspect.calm; whole = g.C.Inspect.whole; parts = g.C.Inspect.parts; fate = g.C.Inspect.fate } in
     (refl, none_yet (TellsEvent calls inside) c.args.carrier.now (numbered_from c.args.lines.now 1 c.args.events.now) (g.W.Output.contents c.args.writer.now), c.requires.whole)
 
 pub loop-place-preserved : goal.loop-place-preserved
 loop-place-preserved g c =
-    let calls : Calls g.row.C.Denot = record { seen = g.C.Carrier.seen; offers = g.C.Carrier.offers; takes = g.C.Carrier.takes; steps = g.C.Carrier.steps; rounds = g.C.Carrier.rounds } in
+    let calls : Calls g.row.C.Denot = g.C.Carrier.calls in
     let inside : Inside g.row.C.Denot = record { calm = g.C.Inspect.calm; whole = g.C.Inspect.whole; parts = g.C.Inspect.parts; fate = g.C.Inspect.fate } in
     let i : ℕ = c.loop-place.place in (
       c.loop-place.invariant.0,
@@ -25,7 +25,7 @@ loop-place-preserved g c =
 
 pub returns-clause-traced : goal.returns-clause-traced
 returns-clause-traced g c =
-    let calls : Calls g.row.C.Denot = record { seen = g.C.Carrier.seen; offers = g.C.Carrier.offers; takes = g.C.Carrier.takes; steps = g.C.Carrier.steps; rounds = g.C.Carrier.rounds } in
+    let calls : Calls g.row.C.Denot = g.C.Carrier.calls in
     let inside : Inside g.row.C.Denot = record { calm = g.C.Inspect.calm; whole = g.C.Inspect.whole; parts = g.C.Inspect.parts; fate = g.C.Inspect.fate } in
     let past : length c.args.events.now ≤ c.loop-place.place = omega (arith, c.loop-place.invariant.0, c.loop-place-test.false) in
     all_told (TellsEvent calls inside) c.args.carrier.now c.loop-place.carrier (numbered_from c.args.lines.now 1 c.args.events.now) (numbered_from c.args.lines.now (c.loop-place.place + 1) (drop c.loop-place.place c.args.events.now))
@@ -33,7 +33,7 @@ returns-clause-traced g c =
 
 pub returns-in_err-trace_event-clause-memory : goal.returns-in_err-trace_event-clause-memory
 returns-in_err-trace_event-clause-memory g c = λ e.
-    let calls : Calls g.row.C.Denot = record { seen = g.C.Carrier.seen; offers = g.C.Carrier.offers; takes = g.C.Carrier.takes; steps = g.C.Carrier.steps; rounds = g.C.Carrier.rounds } in
+    let calls : Calls g.row.C.Denot = g.C.Carrier.calls in
     let inside : Inside g.row.C.Denot = record { calm = g.C.Inspect.calm; whole = g.C.Inspect.whole; parts = g.C.Inspect.parts; fate = g.C.Inspect.fate } in
     let i : ℕ = c.loop-place.place in
     let told : c.trace_event.result ≡ Err fault.OutOfMemory = search (rules, e) in
@@ -43,7 +43,7 @@ returns-in_err-trace_event-clause-memory g c = λ e.
 
 pub returns-in_err-trace_event-clause-cannot_write : goal.returns-in_err-trace_event-clause-cannot_write
 returns-in_err-trace_event-clause-cannot_write g c = λ e.
-    let calls : Calls g.row.C.Denot = record { seen = g.C.Carrier.seen; offers = g.C.Carrier.offers; takes = g.C.Carrier.takes; steps = g.C.Carrier.steps; rounds = g.C.Carrier.rounds } in
+    let calls : Calls g.row.C.Denot = g.C.Carrier.calls in
     let inside : Inside g.row.C.Denot = record { calm = g.C.Inspect.calm; whole = g.C.Inspect.whole; parts = g.C.Inspect.parts; fate = g.C.Inspect.fate } in
     let i : ℕ = c.loop-place.place in
     let told : c.trace_event.result ≡ Err fault.CannotWrite = search (rules, e) in

@@ -1,5 +1,5 @@
 use Rattle.std.proofs.Common.{◌≡◌, ◌+◌, drop, false, length}
-use Rattle.replay.specs.Replay.{Calls}
+use Rattle.leader1822.specs.Calls.{Calls}
 use Rattle.trace.specs.Traces.{Inside, TellsEvent, numbered_from}
 use Rattle.trace.proofs.Telling.{SoFar}
 use Rattle.trace.proofs.events.trace_all.Given as goal
@@ -7,7 +7,7 @@ use Rattle.trace.proofs.events.trace_all.Given as goal
 -- the events so far happened, and their lines are written; no write has failed
 abbrev pub invariant-loop-place : goal.invariant-loop-place
 invariant-loop-place g l =
-    let calls : Calls g.row.C.Denot = record { seen = g.C.Carrier.seen; offers = g.C.Carrier.offers; takes = g.C.Carrier.takes; steps = g.C.Carrier.steps; rounds = g.C.Carrier.rounds } in
+    let calls : Calls g.row.C.Denot = g.C.Carrier.calls in
     let inside : Inside g.row.C.Denot = record { calm = g.C.Inspect.calm; whole = g.C.Inspect.whole; parts = g.C.Inspect.parts; fate = g.C.Inspect.fate } in
     (l.place-end ≡ length l.events)
     × SoFar (TellsEvent calls inside) l.fn.carrier (numbered_from l.lines 1 l.events) (numbered_from l.lines (l.place + 1) (drop l.place l.events)) l.carrier (g.W.Output.contents l.fn.writer) (g.W.Output.contents l.writer)

@@ -1,5 +1,5 @@
 use Rattle.std.proofs.Common.{◌≡◌, false, length}
-use Rattle.replay.specs.Replay.{Calls}
+use Rattle.leader1822.specs.Calls.{Calls}
 use Rattle.trace.specs.Traces.{Inside, TellsElement}
 use Rattle.trace.proofs.Telling.{SoFar}
 use Rattle.trace.proofs.events.trace_calm.Given as goal
@@ -7,7 +7,7 @@ use Rattle.trace.proofs.events.trace_calm.Given as goal
 -- the elementary events so far happened, and their lines are written; what is left is what the carrier says; no write has failed
 abbrev pub invariant-elements : goal.invariant-elements
 invariant-elements g l =
-    let calls : Calls g.row.C.Denot = record { seen = g.C.Carrier.seen; offers = g.C.Carrier.offers; takes = g.C.Carrier.takes; steps = g.C.Carrier.steps; rounds = g.C.Carrier.rounds } in
+    let calls : Calls g.row.C.Denot = g.C.Carrier.calls in
     let inside : Inside g.row.C.Denot = record { calm = g.C.Inspect.calm; whole = g.C.Inspect.whole; parts = g.C.Inspect.parts; fate = g.C.Inspect.fate } in
     SoFar (TellsElement calls inside l.spot) l.fn.carrier (g.C.Inspect.calm l.fn.carrier l.rounds) (g.C.Inspect.left l.carrier l.place) l.carrier (g.W.Output.contents l.fn.writer) (g.W.Output.contents l.writer)
     × (g.W.Output.failed l.writer ≡ false)

@@ -2,7 +2,7 @@ use Rattle.std.proofs.Common.{◌++◌, List, Option, drop, length, subst}
 use Rattle.std.specs.Io.KnownBytes.{Appends}
 use Rattle.leader1822.specs.declared.crossing.Crossing.{Crossing}
 use Rattle.replay.specs.Output.{shown_crossings, shown_refusal}
-use Rattle.replay.specs.Replay.{Calls}
+use Rattle.leader1822.specs.Calls.{Calls}
 use Rattle.script.specs.Input.{ended_line}
 use Rattle.trace.specs.Texts.{trace_line}
 use Rattle.trace.specs.Traces.{Inside}
@@ -13,7 +13,7 @@ use Rattle.trace.proofs.events.trace_element.Goals as goal
 
 pub returns-clause-ends : goal.returns-clause-ends
 returns-clause-ends g c =
-    let calls : Calls g.row.C.Denot = record { seen = g.C.Carrier.seen; offers = g.C.Carrier.offers; takes = g.C.Carrier.takes; steps = g.C.Carrier.steps; rounds = g.C.Carrier.rounds } in
+    let calls : Calls g.row.C.Denot = g.C.Carrier.calls in
     let inside : Inside g.row.C.Denot = record { calm = g.C.Inspect.calm; whole = g.C.Inspect.whole; parts = g.C.Inspect.parts; fate = g.C.Inspect.fate } in
     let x : Element = record { round = c.args.round; event = c.args.event.now } in
     tells calls inside c.args.spot c.args.carrier.now c.call.new.carrier x c.in_ok-outcome.outcome c.log-booked.result.now c.log.result.now (g.W.Output.contents c.args.writer.now) (g.W.Output.contents c.print_line.new.writer)

@@ -1,12 +1,13 @@
 use Rattle.std.proofs.Common.{rules}
-use Rattle.replay.specs.Replay.{Calls, IsOneCall}
+use Rattle.replay.specs.Replay.{IsOneCall}
+use Rattle.leader1822.specs.Calls.{Calls}
 use Rattle.trace.specs.Traces.{Inside}
 use Rattle.trace.proofs.Telling.{one_element, one_ends}
 use Rattle.trace.proofs.events.trace_event.Goals as goal
 
 pub returns-in-Out-clause-ends : goal.returns-in-Out-clause-ends
 returns-in-Out-clause-ends g c =
-    let calls : Calls g.row.C.Denot = record { seen = g.C.Carrier.seen; offers = g.C.Carrier.offers; takes = g.C.Carrier.takes; steps = g.C.Carrier.steps; rounds = g.C.Carrier.rounds } in
+    let calls : Calls g.row.C.Denot = g.C.Carrier.calls in
     let inside : Inside g.row.C.Denot = record { calm = g.C.Inspect.calm; whole = g.C.Inspect.whole; parts = g.C.Inspect.parts; fate = g.C.Inspect.fate } in
     let one : IsOneCall c.args.event.now = search rules in
     one_ends calls inside c.args.carrier.now c.trace_element.new.carrier c.args.spot c.args.event.now (record { round = 0; event = c.args.event.now }) c.trace_element.result (g.W.Output.contents c.args.writer.now) (g.W.Output.contents c.trace_element.new.writer)

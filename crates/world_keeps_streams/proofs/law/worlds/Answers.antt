@@ -6,19 +6,19 @@ use Rattle.world_keeps_streams.proofs.Books.Firsts.{world_firsts}
 use Rattle.world_keeps_streams.proofs.law.worlds.Goals as goal
 
 pub returns-clause-source : goal.returns-clause-source
-returns-clause-source g c hosts w lawful receiver there q some = world_source hosts g.C.Carrier.seen w lawful receiver there q some
+returns-clause-source g c hosts w lawful receiver there q some = world_source hosts g.C.Carrier.calls.seen w lawful receiver there q some
 
 pub returns-clause-sent : goal.returns-clause-sent
-returns-clause-sent g c hosts w lawful receiver sender here there m = world_sent hosts g.C.Carrier.seen w lawful receiver sender here there m
+returns-clause-sent g c hosts w lawful receiver sender here there m = world_sent hosts g.C.Carrier.calls.seen w lawful receiver sender here there m
 
 pub returns-clause-arrives : goal.returns-clause-arrives
-returns-clause-arrives g c hosts w lawful = world_arrives g.C.Carrier.seen hosts w lawful
+returns-clause-arrives g c hosts w lawful = world_arrives g.C.Carrier.calls.seen hosts w lawful
 
 pub returns-clause-closes : goal.returns-clause-closes
-returns-clause-closes g c hosts w lawful = world_closes g.C.Carrier.seen hosts w lawful
+returns-clause-closes g c hosts w lawful = world_closes g.C.Carrier.calls.seen hosts w lawful
 
 pub returns-clause-firsts : goal.returns-clause-firsts
-returns-clause-firsts g c hosts w lawful = world_firsts g.C.Carrier.seen hosts w lawful
+returns-clause-firsts g c hosts w lawful = world_firsts g.C.Carrier.calls.seen hosts w lawful
 
 pub returns-clause-rests : goal.returns-clause-rests
-returns-clause-rests g c hosts w lawful = world_rests g.C.Carrier.seen hosts w lawful
+returns-clause-rests g c hosts w lawful = world_rests g.C.Carrier.calls.seen hosts w lawful

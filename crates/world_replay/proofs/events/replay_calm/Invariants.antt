@@ -1,11 +1,11 @@
 use Rattle.std.proofs.Common.{◌≡◌, ◌≤◌, false}
 use Rattle.net_sim.specs.Carriers.{shown}
-use Rattle.net_sim.specs.World.{Calls}
+use Rattle.leader1822.specs.Calls.{Calls}
 use Rattle.world_replay.proofs.Rounds.{HaveRounds}
 use Rattle.world_replay.proofs.events.replay_calm.Given as goal
 
 -- this many rounds have passed, and what they showed is written; no write has failed
 abbrev pub invariant-loop : goal.invariant-loop
 invariant-loop g l =
-    let calls : Calls g.row.C.Denot = shown (record { seen = g.C.Carrier.seen; offers = g.C.Carrier.offers; takes = g.C.Carrier.takes; steps = g.C.Carrier.steps; rounds = g.C.Carrier.rounds }) in
+    let calls : Calls g.row.C.Denot = shown g.C.Carrier.calls in
     HaveRounds calls l.detail l.counter l.fn.world l.world (g.W.Output.contents l.fn.writer) (g.W.Output.contents l.writer) × (g.W.Output.failed l.writer ≡ false) × (l.counter ≤ l.rounds)

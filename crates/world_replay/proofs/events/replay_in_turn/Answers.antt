@@ -1,7 +1,7 @@
 use Rattle.std.proofs.Common.{◌≡◌, ◌∷◌, [], ◌++◌, Err, rules, ap, sym, subst, ◌∙◌}
 use Rattle.std.proofs.lemmas.List.{append_assoc}
 use Rattle.net_sim.specs.Carriers.{shown}
-use Rattle.net_sim.specs.World.{Calls}
+use Rattle.leader1822.specs.Calls.{Calls}
 use Rattle.replay.proofs.lemmas.{last_shown, last_written, one_written}
 use Rattle.replay.specs.declared.events.ReplayFault.TheVariants as fault
 use Rattle.world_replay.specs.Output.{shown_text}
@@ -11,7 +11,7 @@ use Rattle.world_replay.proofs.events.replay_in_turn.Goals as goal
 
 pub loop-event-preserved : goal.loop-event-preserved
 loop-event-preserved g c =
-    let calls : Calls g.row.C.Denot = shown (record { seen = g.C.Carrier.seen; offers = g.C.Carrier.offers; takes = g.C.Carrier.takes; steps = g.C.Carrier.steps; rounds = g.C.Carrier.rounds }) in (
+    let calls : Calls g.row.C.Denot = shown g.C.Carrier.calls in (
       c.loop-event.invariant.0 ∙ ap (λ es. c.loop-event.yielded ++ es) c.in-Some.ensures.steps.0 ∙ sym (append_assoc c.loop-event.yielded (c.in-Some.event ∷ []) c.next.new.self.rest.items),
       one_written (Happens calls) (shown_text c.args.detail) c.args.world.now c.loop-event.world c.replay_event.new.world c.loop-event.yielded c.in-Some.event
           (g.W.Output.contents c.args.writer.now) (g.W.Output.contents c.loop-event.writer) (g.W.Output.contents c.replay_event.new.writer) c.loop-event.invariant.1 c.in_ok-replay_event.ensures.ends,
@@ -20,7 +20,7 @@ loop-event-preserved g c =
 
 pub returns-in_err-replay_event-clause-memory : goal.returns-in_err-replay_event-clause-memory
 returns-in_err-replay_event-clause-memory g c = λ e.
-    let calls : Calls g.row.C.Denot = shown (record { seen = g.C.Carrier.seen; offers = g.C.Carrier.offers; takes = g.C.Carrier.takes; steps = g.C.Carrier.steps; rounds = g.C.Carrier.rounds }) in
+    let calls : Calls g.row.C.Denot = shown g.C.Carrier.calls in
     let is : c.replay_event.result ≡ Err fault.OutOfMemory = search rules in
     last_written (Happens calls) (StopsIn calls) (shown_text c.args.detail) c.args.world.now c.loop-event.world c.replay_event.new.world c.args.events.items c.loop-event.yielded c.in-Some.event c.next.new.self.rest.items
     (g.W.Output.contents c.args.writer.now) (g.W.Output.contents c.loop-event.writer) (g.W.Output.contents c.replay_event.new.writer)
@@ -29,7 +29,7 @@ returns-in_err-replay_event-clause-memory g c = λ e.
 
 pub returns-in_err-replay_event-clause-cannot_write : goal.returns-in_err-replay_event-clause-cannot_write
 returns-in_err-replay_event-clause-cannot_write g c = λ e.
-    let calls : Calls g.row.C.Denot = shown (record { seen = g.C.Carrier.seen; offers = g.C.Carrier.offers; takes = g.C.Carrier.takes; steps = g.C.Carrier.steps; rounds = g.C.Carrier.rounds }) in
+    let calls : Calls g.row.C.Denot = shown g.C.Carrier.calls in
     let is : c.replay_event.result ≡ Err fault.CannotWrite = search rules in
     let last = subst (λ r. EventEnds calls c.args.detail c.loop-event.world c.in-Some.event r c.replay_event.new.world (g.W.Output.contents c.loop-event.writer) (g.W.Output.contents c.replay_event.new.writer)) is c.replay_event.ensures.ends in (
       c.loop-event.invariant.1.shown ++ last.0,

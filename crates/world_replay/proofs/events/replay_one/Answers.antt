@@ -2,7 +2,7 @@ use Rattle.std.proofs.Common.{◌≡◌, ◌≤◌, length, ap, subst, ◌∙◌
 use Rattle.std.proofs.lemmas.List.{length-reverse}
 use Rattle.net_sim.specs.Book.{Kept}
 use Rattle.net_sim.specs.Carriers.{shown}
-use Rattle.net_sim.specs.World.{Calls}
+use Rattle.leader1822.specs.Calls.{Calls}
 use Rattle.world_replay.specs.Gains.{Gains}
 use Rattle.world_replay.proofs.Grown.{longer, more_notices, more_reports}
 use Rattle.world_replay.proofs.Replays.{News, event_ends, event_gains}
@@ -10,7 +10,7 @@ use Rattle.world_replay.proofs.events.replay_one.Goals as goal
 
 pub print_news-requires-clause-crossed : goal.print_news-requires-clause-crossed
 print_news-requires-clause-crossed g c =
-    let calls : Calls g.row.C.Denot = shown (record { seen = g.C.Carrier.seen; offers = g.C.Carrier.offers; takes = g.C.Carrier.takes; steps = g.C.Carrier.steps; rounds = g.C.Carrier.rounds }) in
+    let calls : Calls g.row.C.Denot = shown g.C.Carrier.calls in
     let grew : Gains c.args.world.now.kept c.happen-outcome.new.world.kept = event_gains calls c.args.event c.args.world.now c.happen-outcome.result c.happen-outcome.new.world c.happen-outcome.ensures in
     let was : length c.crossings-crossed.result.now ≡ length c.args.world.now.kept.book.crossings =
     ap length c.crossings-crossed.ensures ∙ length-reverse c.book.result.now.book.crossings ∙ ap (λ (k : Kept). length k.book.crossings) c.book.ensures.value in
@@ -20,7 +20,7 @@ print_news-requires-clause-crossed g c =
 
 pub print_news-requires-clause-told : goal.print_news-requires-clause-told
 print_news-requires-clause-told g c =
-    let calls : Calls g.row.C.Denot = shown (record { seen = g.C.Carrier.seen; offers = g.C.Carrier.offers; takes = g.C.Carrier.takes; steps = g.C.Carrier.steps; rounds = g.C.Carrier.rounds }) in
+    let calls : Calls g.row.C.Denot = shown g.C.Carrier.calls in
     let grew : Gains c.args.world.now.kept c.happen-outcome.new.world.kept = event_gains calls c.args.event c.args.world.now c.happen-outcome.result c.happen-outcome.new.world c.happen-outcome.ensures in
     let was : length c.notices-told.result.now ≡ length c.args.world.now.kept.book.notices = ap length c.notices-told.ensures ∙ ap (λ (k : Kept). length k.book.notices) c.book-2.ensures.value in
     let is : length c.book-4.result.now.book.notices ≡ length c.happen-outcome.new.world.kept.book.notices = ap (λ (k : Kept). length k.book.notices) c.book-4.ensures.value in
@@ -29,7 +29,7 @@ print_news-requires-clause-told g c =
 
 pub print_news-requires-clause-said : goal.print_news-requires-clause-said
 print_news-requires-clause-said g c =
-    let calls : Calls g.row.C.Denot = shown (record { seen = g.C.Carrier.seen; offers = g.C.Carrier.offers; takes = g.C.Carrier.takes; steps = g.C.Carrier.steps; rounds = g.C.Carrier.rounds }) in
+    let calls : Calls g.row.C.Denot = shown g.C.Carrier.calls in
     let grew : Gains c.args.world.now.kept c.happen-outcome.new.world.kept = event_gains calls c.args.event c.args.world.now c.happen-outcome.result c.happen-outcome.new.world c.happen-outcome.ensures in
     let was : length c.reports-said.result.now ≡ length c.args.world.now.kept.book.reports = ap length c.reports-said.ensures ∙ ap (λ (k : Kept). length k.book.reports) c.book-3.ensures.value in
     let is : length c.book-4.result.now.book.reports ≡ length c.happen-outcome.new.world.kept.book.reports = ap (λ (k : Kept). length k.book.reports) c.book-4.ensures.value in
@@ -38,7 +38,7 @@ print_news-requires-clause-said g c =
 
 pub returns-clause-ends : goal.returns-clause-ends
 returns-clause-ends g c =
-    let calls : Calls g.row.C.Denot = shown (record { seen = g.C.Carrier.seen; offers = g.C.Carrier.offers; takes = g.C.Carrier.takes; steps = g.C.Carrier.steps; rounds = g.C.Carrier.rounds }) in
+    let calls : Calls g.row.C.Denot = shown g.C.Carrier.calls in
     let crossed : length c.crossings-crossed.result.now ≡ length c.args.world.now.kept.book.crossings =
     ap length c.crossings-crossed.ensures ∙ length-reverse c.book.result.now.book.crossings ∙ ap (λ (k : Kept). length k.book.crossings) c.book.ensures.value in
     let told : length c.notices-told.result.now ≡ length c.args.world.now.kept.book.notices = ap length c.notices-told.ensures ∙ ap (λ (k : Kept). length k.book.notices) c.book-2.ensures.value in

@@ -1,6 +1,7 @@
 use Rattle.std.proofs.Common.{◌≡◌, ◌+◌, ◌∷◌, [], Err, List, ℕ, arith, ap, length, rules, slice_index_or, subst, sym}
 use Rattle.net_sim.specs.Carriers.{shown}
-use Rattle.net_sim.specs.World.{Calls, WorldState}
+use Rattle.net_sim.specs.World.{WorldState}
+use Rattle.leader1822.specs.Calls.{Calls}
 use Rattle.replay.specs.declared.events.ReplayFault.TheVariants as fault
 use Rattle.trace.specs.declared.element.Spot.{Spot}
 use Rattle.world_script.specs.declared.event.WorldEvent.{WorldEvent}
@@ -11,7 +12,7 @@ use Rattle.world_trace.proofs.traced.trace_all.Goals as goal
 
 pub loop-event-init : goal.loop-event-init
 loop-event-init g c =
-    let calls : Calls g.row.C.Denot = shown (record { seen = g.C.Carrier.seen; offers = g.C.Carrier.offers; takes = g.C.Carrier.takes; steps = g.C.Carrier.steps; rounds = g.C.Carrier.rounds }) in
+    let calls : Calls g.row.C.Denot = shown g.C.Carrier.calls in
     let gives : c.into_iter-event-iterator.result.rest.items ≡ c.args.events.items = search rules in (
       omega (arith, ap length gives),
       subst (λ (left : List WorldEvent). SoFar (λ (old : WorldState g.row.C.Denot) (e : Spot × WorldEvent) (new : WorldState g.row.C.Denot) (lines : List (List ℕ)). TellsAt calls g.C.Inspect.whole e.0 old e.1 new lines) c.args.world.now (numbered_from c.args.lines.now 1 c.args.events.items) (numbered_from c.args.lines.now 1 left) c.args.world.now (g.W.Output.contents c.args.writer.now) (g.W.Output.contents c.args.writer.now)) (sym gives)
@@ -21,7 +22,7 @@ loop-event-init g c =
 
 pub loop-event-preserved : goal.loop-event-preserved
 loop-event-preserved g c =
-    let calls : Calls g.row.C.Denot = shown (record { seen = g.C.Carrier.seen; offers = g.C.Carrier.offers; takes = g.C.Carrier.takes; steps = g.C.Carrier.steps; rounds = g.C.Carrier.rounds }) in
+    let calls : Calls g.row.C.Denot = shown g.C.Carrier.calls in
     let i : ℕ = c.loop-event.passed in
     let all : List (Spot × WorldEvent) = numbered_from c.args.lines.now 1 c.args.events.items in
     let left : List WorldEvent = c.loop-event.event-iterator.rest.items in
@@ -36,7 +37,7 @@ loop-event-preserved g c =
 
 pub returns-clause-traced : goal.returns-clause-traced
 returns-clause-traced g c =
-    let calls : Calls g.row.C.Denot = shown (record { seen = g.C.Carrier.seen; offers = g.C.Carrier.offers; takes = g.C.Carrier.takes; steps = g.C.Carrier.steps; rounds = g.C.Carrier.rounds }) in
+    let calls : Calls g.row.C.Denot = shown g.C.Carrier.calls in
     let count : length c.loop-event.event-iterator.rest.items ≡ 0 = search rules in
     let none : c.loop-event.event-iterator.rest.items ≡ [] = none_left c.loop-event.event-iterator.rest.items count in
     all_done (λ (old : WorldState g.row.C.Denot) (e : Spot × WorldEvent) (new : WorldState g.row.C.Denot) (lines : List (List ℕ)). TellsAt calls g.C.Inspect.whole e.0 old e.1 new lines) c.args.world.now c.loop-event.world (numbered_from c.args.lines.now 1 c.args.events.items) (numbered_from c.args.lines.now (c.loop-event.passed + 1) c.loop-event.event-iterator.rest.items)
@@ -44,7 +45,7 @@ returns-clause-traced g c =
 
 pub returns-in_err-trace_event-clause-memory : goal.returns-in_err-trace_event-clause-memory
 returns-in_err-trace_event-clause-memory g c = λ e.
-    let calls : Calls g.row.C.Denot = shown (record { seen = g.C.Carrier.seen; offers = g.C.Carrier.offers; takes = g.C.Carrier.takes; steps = g.C.Carrier.steps; rounds = g.C.Carrier.rounds }) in
+    let calls : Calls g.row.C.Denot = shown g.C.Carrier.calls in
     let i : ℕ = c.loop-event.passed in
     let all : List (Spot × WorldEvent) = numbered_from c.args.lines.now 1 c.args.events.items in
     let left : List WorldEvent = c.loop-event.event-iterator.rest.items in
@@ -57,7 +58,7 @@ returns-in_err-trace_event-clause-memory g c = λ e.
 
 pub returns-in_err-trace_event-clause-cannot_write : goal.returns-in_err-trace_event-clause-cannot_write
 returns-in_err-trace_event-clause-cannot_write g c = λ e.
-    let calls : Calls g.row.C.Denot = shown (record { seen = g.C.Carrier.seen; offers = g.C.Carrier.offers; takes = g.C.Carrier.takes; steps = g.C.Carrier.steps; rounds = g.C.Carrier.rounds }) in
+    let calls : Calls g.row.C.Denot = shown g.C.Carrier.calls in
     let i : ℕ = c.loop-event.passed in
     let all : List (Spot × WorldEvent) = numbered_from c.args.lines.now 1 c.args.events.items in
     let left : List WorldEvent = c.loop-event.event-iterator.rest.items in

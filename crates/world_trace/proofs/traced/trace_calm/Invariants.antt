@@ -1,11 +1,11 @@
 use Rattle.std.proofs.Common.{◌≡◌, ◌≤◌, false}
 use Rattle.net_sim.specs.Carriers.{shown}
-use Rattle.net_sim.specs.World.{Calls}
+use Rattle.leader1822.specs.Calls.{Calls}
 use Rattle.world_trace.proofs.Telling.{Passed}
 use Rattle.world_trace.proofs.traced.trace_calm.Given as goal
 
 -- this many rounds have passed, and their lines are written; no write has failed
 abbrev pub invariant-loop-passed : goal.invariant-loop-passed
 invariant-loop-passed g l =
-    let calls : Calls g.row.C.Denot = shown (record { seen = g.C.Carrier.seen; offers = g.C.Carrier.offers; takes = g.C.Carrier.takes; steps = g.C.Carrier.steps; rounds = g.C.Carrier.rounds }) in
+    let calls : Calls g.row.C.Denot = shown g.C.Carrier.calls in
     Passed calls g.C.Inspect.whole l.spot l.passed l.fn.world l.world (g.W.Output.contents l.fn.writer) (g.W.Output.contents l.writer) × (g.W.Output.failed l.writer ≡ false) × (l.passed ≤ l.rounds)

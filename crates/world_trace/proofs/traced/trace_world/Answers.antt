@@ -1,6 +1,6 @@
 use Rattle.std.proofs.Common.{List, ℕ}
 use Rattle.net_sim.specs.Carriers.{shown}
-use Rattle.net_sim.specs.World.{Calls}
+use Rattle.leader1822.specs.Calls.{Calls}
 use Rattle.replay.proofs.lemmas.{on_ok}
 use Rattle.world_trace.specs.Traces.{StopsOne, TracesWorld, WorldTraceEnds}
 use Rattle.world_trace.proofs.Telling.{after_opening}
@@ -8,7 +8,7 @@ use Rattle.world_trace.proofs.traced.trace_world.Goals as goal
 
 pub returns-clause-traced : goal.returns-clause-traced
 returns-clause-traced g c =
-    let calls : Calls g.row.C.Denot = shown (record { seen = g.C.Carrier.seen; offers = g.C.Carrier.offers; takes = g.C.Carrier.takes; steps = g.C.Carrier.steps; rounds = g.C.Carrier.rounds }) in
+    let calls : Calls g.row.C.Denot = shown g.C.Carrier.calls in
     on_ok c.trace_all.result
     (λ h. after_opening g.C.Inspect.whole c.args.network.now c.args.world.now (TracesWorld calls g.C.Inspect.whole c.args.world.now c.args.lines.now c.args.events.items c.trace_all.new.world)
     (g.W.Output.contents c.args.writer.now) (g.W.Output.contents c.print_opening.new.writer) (g.W.Output.contents c.trace_all.new.writer) c.in_ok-print_opening.ensures.written h)
@@ -16,6 +16,6 @@ returns-clause-traced g c =
 
 pub returns-clause-memory : goal.returns-clause-memory
 returns-clause-memory g c = λ e.
-    let calls : Calls g.row.C.Denot = shown (record { seen = g.C.Carrier.seen; offers = g.C.Carrier.offers; takes = g.C.Carrier.takes; steps = g.C.Carrier.steps; rounds = g.C.Carrier.rounds }) in
+    let calls : Calls g.row.C.Denot = shown g.C.Carrier.calls in
     after_opening g.C.Inspect.whole c.args.network.now c.args.world.now (WorldTraceEnds calls g.C.Inspect.whole (StopsOne calls) c.args.world.now c.args.lines.now c.args.events.items c.trace_all.new.world)
     (g.W.Output.contents c.args.writer.now) (g.W.Output.contents c.print_opening.new.writer) (g.W.Output.contents c.trace_all.new.writer) c.in_ok-print_opening.ensures.written (c.trace_all.ensures.memory e)

@@ -3,33 +3,34 @@ use Rattle.std.proofs.Math.Seq.{take-append_seam}
 use Rattle.net_sim.specs.Carriers.{shown}
 use Rattle.net_sim.specs.Inside.Held.{IsHeld}
 use Rattle.net_sim.specs.Inside.Parts.{AreLive, IsOnce, world_ended, hosts_of, hosts_served, running, runs_out}
-use Rattle.net_sim.specs.World.{Calls, EventGives, ServiceSeat, Seat}
+use Rattle.net_sim.specs.World.{EventGives, ServiceSeat, Seat}
+use Rattle.leader1822.specs.Calls.{Calls}
 use Rattle.net_sim.proofs.Books.Held.{followed_held, held_live, held_once, held_order}
 use Rattle.net_sim.proofs.world.World.follow.Goals as goal
 
 pub follow-done-requires-clause-once : goal.follow-done-requires-clause-once
 follow-done-requires-clause-once g c =
-    let held : IsHeld g.C.Carrier.seen c.args.self.now = search rules in
+    let held : IsHeld g.C.Carrier.calls.seen c.args.self.now = search rules in
     let seats : c.deref_mut.result.now ≡ c.args.self.now.seats = search rules in
-    subst (λ (s : List Seat). IsOnce (hosts_of s)) (sym seats) (held_once g.C.Carrier.seen c.args.self.now held (search rules))
+    subst (λ (s : List Seat). IsOnce (hosts_of s)) (sym seats) (held_once g.C.Carrier.calls.seen c.args.self.now held (search rules))
 
 pub follow-done-requires-clause-live : goal.follow-done-requires-clause-live
 follow-done-requires-clause-live g c =
-    let held : IsHeld g.C.Carrier.seen c.args.self.now = search rules in
+    let held : IsHeld g.C.Carrier.calls.seen c.args.self.now = search rules in
     let seats : c.deref_mut.result.now ≡ c.args.self.now.seats = search rules in
-    subst AreLive (sym seats) (held_live g.C.Carrier.seen c.args.self.now held (search rules))
+    subst AreLive (sym seats) (held_live g.C.Carrier.calls.seen c.args.self.now held (search rules))
 
 pub follow-done-requires-clause-order : goal.follow-done-requires-clause-order
 follow-done-requires-clause-order g c =
-    let held : IsHeld g.C.Carrier.seen c.args.self.now = search rules in
+    let held : IsHeld g.C.Carrier.calls.seen c.args.self.now = search rules in
     let seats : c.deref_mut.result.now ≡ c.args.self.now.seats = search rules in
     let services : c.deref_mut-2.result.now ≡ c.args.self.now.services = search rules in
-    ap (λ (s : List ServiceSeat). hosts_served s) services ∙ held_order g.C.Carrier.seen c.args.self.now held (search rules) ∙ ap (λ (s : List Seat). hosts_of s) (sym seats)
+    ap (λ (s : List ServiceSeat). hosts_served s) services ∙ held_order g.C.Carrier.calls.seen c.args.self.now held (search rules) ∙ ap (λ (s : List Seat). hosts_of s) (sym seats)
 
 pub invariant_of-self : goal.invariant_of-self
 invariant_of-self g c =
-    let calls : Calls g.row.C.Denot = record { seen = g.C.Carrier.seen; offers = g.C.Carrier.offers; takes = g.C.Carrier.takes; steps = g.C.Carrier.steps; rounds = g.C.Carrier.rounds } in
-    let held : IsHeld g.C.Carrier.seen c.args.self.now = search rules in
+    let calls : Calls g.row.C.Denot = g.C.Carrier.calls in
+    let held : IsHeld g.C.Carrier.calls.seen c.args.self.now = search rules in
     let seats : take c.self.inside.seats.len (c.follow-done.new.seats ++ drop (length c.follow-done.new.seats) c.self.inside.seats.items) ≡ c.follow-done.new.seats =
     ap (λ (n : ℕ). take n (c.follow-done.new.seats ++ drop (length c.follow-done.new.seats) c.self.inside.seats.items)) (search rules) ∙ take-append_seam c.follow-done.new.seats (drop (length c.follow-done.new.seats) c.self.inside.seats.items) in
     let services : take c.self.inside.services.len (c.follow-done.new.services ++ drop (length c.follow-done.new.services) c.self.inside.services.items) ≡ c.follow-done.new.services =

@@ -1,19 +1,19 @@
 use Rattle.std.proofs.Common.{rules, ◌≡◌, List, subst}
-use Rattle.leader1822.specs.Calls.{InOrder}
+use Rattle.leader1822.specs.Calls.{Calls, InOrder}
 use Rattle.leader1822.specs.Host.{Host, IsAddress}
 use Rattle.std.specs.List.{All}
 use Rattle.net_sim.specs.Book.{opening_kept}
-use Rattle.net_sim.specs.World.{Calls, opening_seats, opening_services}
+use Rattle.net_sim.specs.World.{opening_seats, opening_services}
 use Rattle.net_sim.proofs.Books.Held.{opening_held}
 use Rattle.net_sim.proofs.world.World.new.Goals as goal
 
 pub invariant_of-result : goal.invariant_of-result
 invariant_of-result g c =
-    let calls : Calls g.row.C.Denot = record { seen = g.C.Carrier.seen; offers = g.C.Carrier.offers; takes = g.C.Carrier.takes; steps = g.C.Carrier.steps; rounds = g.C.Carrier.rounds } in
-    let hosts : List Host = (g.C.Carrier.seen c.args.carrier).hosts in
-    let order : InOrder (g.C.Carrier.seen c.args.carrier).hosts = c.hosts.ensures.ordered in
-    let addresses : All (λ (h : Host). IsAddress h) (g.C.Carrier.seen c.args.carrier).hosts = subst (All (λ (h : Host). IsAddress h)) c.hosts-3.ensures.value c.are_addresses.ensures in
-    let seats : c.in_ok-seats.seats.items ≡ opening_seats (g.C.Carrier.seen c.args.carrier).hosts = search rules in
-    let services : c.in_ok-services.services.items ≡ opening_services (g.C.Carrier.seen c.args.carrier).hosts = search rules in
+    let calls : Calls g.row.C.Denot = g.C.Carrier.calls in
+    let hosts : List Host = (g.C.Carrier.calls.seen c.args.carrier).hosts in
+    let order : InOrder (g.C.Carrier.calls.seen c.args.carrier).hosts = c.hosts.ensures.ordered in
+    let addresses : All (λ (h : Host). IsAddress h) (g.C.Carrier.calls.seen c.args.carrier).hosts = subst (All (λ (h : Host). IsAddress h)) c.hosts-3.ensures.value c.are_addresses.ensures in
+    let seats : c.in_ok-seats.seats.items ≡ opening_seats (g.C.Carrier.calls.seen c.args.carrier).hosts = search rules in
+    let services : c.in_ok-services.services.items ≡ opening_services (g.C.Carrier.calls.seen c.args.carrier).hosts = search rules in
     let kept : c.new.result ≡ opening_kept = search rules in
     rw (seats, services, kept) (opening_held calls c.args.carrier c.requires.unused order addresses)

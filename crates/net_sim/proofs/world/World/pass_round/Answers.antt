@@ -1,25 +1,26 @@
 use Rattle.std.proofs.Common.{◌≡◌, ◌+◌, ◌<◌, ◌≤◌, true, false, List, length, Some, None, Ok, ap, sym, subst, ◌∙◌, arith}
 use Rattle.net_sim.specs.Carriers.{shown}
-use Rattle.net_sim.specs.World.{Calls, WorldState, Seat, stops}
+use Rattle.net_sim.specs.World.{WorldState, Seat, stops}
+use Rattle.leader1822.specs.Calls.{Calls}
 use Rattle.net_sim.proofs.Hosts.Calming.{Found, Turned, rest_runs, none_turned, one_turned, none_here, stop_turned, all_turned, as_many, stop_round, whole_round}
 use Rattle.net_sim.proofs.world.World.pass_round.Goals as goal
 use Rattle.net_sim.proofs.world.World.pass_round.Goals.{in-Some+else-stops-2, in_default}
 
 pub returns-then-stops : goal.returns-then-stops
 returns-then-stops g c =
-    let calls : Calls g.row.C.Denot = shown (record { seen = g.C.Carrier.seen; offers = g.C.Carrier.offers; takes = g.C.Carrier.takes; steps = g.C.Carrier.steps; rounds = g.C.Carrier.rounds }) in
+    let calls : Calls g.row.C.Denot = shown g.C.Carrier.calls in
     let is : stops c.step-passed.result ≡ true = sym c.stops.ensures ∙ c.if-stops.true in
     stop_round calls c.args.self.now c.step-passed.new.self c.step-passed.result c.step-passed.ensures is
 
 pub loop-at-init : goal.loop-at-init
 loop-at-init g c =
-    let calls : Calls g.row.C.Denot = shown (record { seen = g.C.Carrier.seen; offers = g.C.Carrier.offers; takes = g.C.Carrier.takes; steps = g.C.Carrier.steps; rounds = g.C.Carrier.rounds }) in
+    let calls : Calls g.row.C.Denot = shown g.C.Carrier.calls in
     let on : stops c.step-passed.result ≡ false = sym c.stops.ensures ∙ c.if-stops.false in
     none_turned calls c.step-passed.new.self (c.seats-seats.ensures.once (rest_runs calls c.args.self.now c.step-passed.result c.step-passed.new.self on c.step-passed.ensures))
 
 pub returns-then-stops-2 : goal.returns-then-stops-2
 returns-then-stops-2 g c =
-    let calls : Calls g.row.C.Denot = shown (record { seen = g.C.Carrier.seen; offers = g.C.Carrier.offers; takes = g.C.Carrier.takes; steps = g.C.Carrier.steps; rounds = g.C.Carrier.rounds }) in
+    let calls : Calls g.row.C.Denot = shown g.C.Carrier.calls in
     let on : stops c.step-passed.result ≡ false = sym c.stops.ensures ∙ c.if-stops.false in
     let is : stops c.take_turn-answer.result ≡ true = sym c.stops-in-Some.ensures ∙ c.if-stops-2.true in
     let many : length c.seats.result.now ≡ length c.loop-at.self.seats = ap (λ (xs : List Seat). length xs) c.seats.ensures.value in
@@ -32,7 +33,7 @@ returns-then-stops-2 g c =
 
 pub loop-at-preserved : goal.loop-at-preserved
 loop-at-preserved g c =
-    let calls : Calls g.row.C.Denot = shown (record { seen = g.C.Carrier.seen; offers = g.C.Carrier.offers; takes = g.C.Carrier.takes; steps = g.C.Carrier.steps; rounds = g.C.Carrier.rounds }) in
+    let calls : Calls g.row.C.Denot = shown g.C.Carrier.calls in
     let many : length c.seats.result.now ≡ length c.loop-at.self.seats = ap (λ (xs : List Seat). length xs) c.seats.ensures.value in
     let first : length c.seats-seats.result.now ≡ length c.step-passed.new.self.seats = ap (λ (xs : List Seat). length xs) c.seats-seats.ensures.value in
     let still : length c.loop-at.self.seats ≡ length c.step-passed.new.self.seats = as_many calls c.step-passed.new.self c.loop-at.self c.loop-at.at c.loop-at.invariant in
@@ -49,7 +50,7 @@ loop-at-preserved g c =
 
 pub returns : goal.returns
 returns g c =
-    let calls : Calls g.row.C.Denot = shown (record { seen = g.C.Carrier.seen; offers = g.C.Carrier.offers; takes = g.C.Carrier.takes; steps = g.C.Carrier.steps; rounds = g.C.Carrier.rounds }) in
+    let calls : Calls g.row.C.Denot = shown g.C.Carrier.calls in
     let on : stops c.step-passed.result ≡ false = sym c.stops.ensures ∙ c.if-stops.false in
     let first : length c.seats-seats.result.now ≡ length c.step-passed.new.self.seats = ap (λ (xs : List Seat). length xs) c.seats-seats.ensures.value in
     let le : length c.step-passed.new.self.seats ≤ c.loop-at.at = omega (arith, first, c.loop-at-test.false) in

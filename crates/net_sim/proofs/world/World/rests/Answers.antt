@@ -1,12 +1,13 @@
 use Rattle.std.proofs.Common.{Ok}
 use Rattle.net_sim.specs.Carriers.{shown}
-use Rattle.net_sim.specs.World.{Calls, WorldState}
+use Rattle.net_sim.specs.World.{WorldState}
+use Rattle.leader1822.specs.Calls.{Calls}
 use Rattle.net_sim.proofs.Hosts.Calming.{begun, none_passed}
 use Rattle.net_sim.proofs.Hosts.Resting.{rest_passed}
 use Rattle.net_sim.proofs.world.World.rests.Goals as goal
 
 pub returns : goal.returns
 returns g c = λ rests times.
-    let calls : Calls g.row.C.Denot = shown (record { seen = g.C.Carrier.seen; offers = g.C.Carrier.offers; takes = g.C.Carrier.takes; steps = g.C.Carrier.steps; rounds = g.C.Carrier.rounds }) in
+    let calls : Calls g.row.C.Denot = shown g.C.Carrier.calls in
     let w : WorldState g.row.C.Denot = c.args.self.now in
     begun calls times w (Ok tt) w (c.has_calmed.ensures.running rests) (rest_passed calls times 0 w w (none_passed calls times w) (c.has_calmed.ensures.running rests) (c.has_calmed.ensures.carrier rests) (c.has_calmed.ensures.silent rests))

@@ -1,13 +1,14 @@
 use Rattle.std.proofs.Common.{rules, ◌≡◌, ◌+◌, ◌∷◌, drop, true, false, ap, ◌∙◌}
 use Rattle.std.proofs.lemmas.List.{drop_more}
 use Rattle.net_sim.specs.Carriers.{shown}
-use Rattle.net_sim.specs.World.{Calls, Event, stops}
+use Rattle.net_sim.specs.World.{Event, stops}
+use Rattle.leader1822.specs.Calls.{Calls}
 use Rattle.net_sim.proofs.Books.RunLoop.{run_more, run_stops, runs_on}
 use Rattle.net_sim.proofs.world.World.run.Goals as goal
 
 pub returns-then-stops : goal.returns-then-stops
 returns-then-stops g c =
-    let calls : Calls g.row.C.Denot = record { seen = g.C.Carrier.seen; offers = g.C.Carrier.offers; takes = g.C.Carrier.takes; steps = g.C.Carrier.steps; rounds = g.C.Carrier.rounds } in
+    let calls : Calls g.row.C.Denot = g.C.Carrier.calls in
     let is : drop c.loop-event.event-index c.args.events.now ≡ c.event-item.result ∷ drop (c.loop-event.event-index + 1) c.args.events.now =
     drop_more c.args.events.now c.loop-event.event-index c.event-item.result (search rules) ∙ ap (λ (e : Event). e ∷ drop (c.loop-event.event-index + 1) c.args.events.now) (search rules) in
     let off : stops c.follow-done.result ≡ true = search rules in
@@ -18,7 +19,7 @@ returns-then-stops g c =
 
 pub loop-event-preserved : goal.loop-event-preserved
 loop-event-preserved g c =
-    let calls : Calls g.row.C.Denot = record { seen = g.C.Carrier.seen; offers = g.C.Carrier.offers; takes = g.C.Carrier.takes; steps = g.C.Carrier.steps; rounds = g.C.Carrier.rounds } in
+    let calls : Calls g.row.C.Denot = g.C.Carrier.calls in
     let is : drop c.loop-event.event-index c.args.events.now ≡ c.event-item.result ∷ drop (c.loop-event.event-index + 1) c.args.events.now =
     drop_more c.args.events.now c.loop-event.event-index c.event-item.result (search rules) ∙ ap (λ (e : Event). e ∷ drop (c.loop-event.event-index + 1) c.args.events.now) (search rules) in
     let on : stops c.follow-done.result ≡ false = search rules in

@@ -1,10 +1,11 @@
 use Rattle.net_sim.specs.Carriers.{shown}
-use Rattle.net_sim.specs.World.{Calls, Take}
+use Rattle.net_sim.specs.World.{Take}
+use Rattle.leader1822.specs.Calls.{Calls}
 use Rattle.net_sim.proofs.Hosts.Calming.{Repeated}
 use Rattle.net_sim.proofs.world.World.take_all.Given as goal
 
 -- something has crossed each time
 abbrev pub invariant-loop : goal.invariant-loop
 invariant-loop g l =
-    let calls : Calls g.row.C.Denot = shown (record { seen = g.C.Carrier.seen; offers = g.C.Carrier.offers; takes = g.C.Carrier.takes; steps = g.C.Carrier.steps; rounds = g.C.Carrier.rounds }) in
+    let calls : Calls g.row.C.Denot = shown g.C.Carrier.calls in
     Repeated calls (Take l.host) 16 l.counter l.fn.self l.self
