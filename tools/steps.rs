@@ -9,7 +9,8 @@
 //! world. In every other case it is 0, and what was seen is printed. `check steps` makes each allocation fail in turn.
 #![tactic(auto)]
 
-use leader1822::{Carrier, CarrierFault, Direction, HostAddr, NetEvent, PlainBoxes};
+use interface::{Carrier, CarrierFault, Direction, HostAddr, NetEvent};
+use leader1822::PlainBoxes;
 use net_sim::{BitLog, Book, Event, World, WorldFault};
 use script::{RawEvent, read_script};
 use sockets::{NcpFault, Request};

@@ -8,7 +8,7 @@
 ghost use Rattle.std.specs.Prelude.{◌≤◌};
 
 use bit_messages::{BitFault, Bits};
-use leader1822::{Flow, HostAddr, HostMessage, Link, Text};
+use interface::{Flow, HostAddr, HostMessage, Link, Text};
 use packetiser::{Packet, PacketFault, cut};
 use std::alloc::Global;
 use std::env;

@@ -6,7 +6,7 @@
 //! `check hosts` compares all this with an independent model of the rules.
 
 use crate::words::{Words, spell_bits, spell_octets};
-use leader1822::{Answer, HostMessage, Inbound, Text};
+use interface::{Answer, HostMessage, Inbound, Text};
 use sockets::{Ncp, NcpFault, Notice, Request};
 use std::alloc::Global;
 

@@ -8,7 +8,7 @@
 use crate::words::{Words, spell_bits, spell_octets};
 use imp_channel::Frame;
 use imp_node::{Imp, Outgoing};
-use leader1822::{Answer, CarrierFault, Flow, HostMessage, ImpNumber, Inbound, Number, Text};
+use interface::{Answer, CarrierFault, Flow, HostMessage, ImpNumber, Inbound, Number, Text};
 use std::alloc::Global;
 
 /// What is printed for an IMP and the calls on it.

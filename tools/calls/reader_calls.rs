@@ -8,7 +8,8 @@
 
 use crate::words::{Words, spell_bits, spell_octets};
 use imp_channel::{Content, Frame};
-use leader1822::{Answer, Flow, Leader, LeaderFault};
+use interface::{Answer, Flow};
+use leader1822::{Leader, LeaderFault};
 use ncp_control::{Command, ControlFault, DataHeader, read_one};
 use packetiser::{Packet, PacketKind};
 use std::alloc::Global;

@@ -5,7 +5,7 @@
 //! `calm` refusals are not printed. `check subnet` compares all this with an independent model of the rules.
 
 use crate::words::Words;
-use leader1822::{Carrier, CarrierFault, HostAddr, HostMessage, NetEvent, Text};
+use interface::{Carrier, CarrierFault, HostAddr, HostMessage, NetEvent, Text};
 use std::alloc::Global;
 use subnet::{Ends, Subnet};
 

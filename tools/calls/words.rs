@@ -1,7 +1,7 @@
 //! The words of a line that names a call.
 
 use bit_messages::Bits;
-use leader1822::{Direction, Flow, HostAddr, ImpNumber, Link, Number};
+use interface::{Direction, Flow, HostAddr, ImpNumber, Link, Number};
 use std::alloc::Global;
 
 /// The words of a line that are left.

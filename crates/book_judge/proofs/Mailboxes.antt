@@ -11,16 +11,16 @@ use Rattle.std.specs.FinMap.{get-empty, get-insert}
 use Rattle.std.specs.Ordering.{eq_by_cmp, is_eq}
 use Rattle.std.specs.declared.cmp.Ordering.{Ordering}
 use Rattle.std.specs.declared.cmp.Ordering.TheVariants.{Less, Equal, Greater}
-use Rattle.leader1822.specs.Flow.{flow_cmp, same_flow}
-use Rattle.leader1822.specs.Host.{Host, is_host, same_host}
-use Rattle.leader1822.specs.Mailboxes.{Box, Empty, Waiting, Taken, WaitsWith, Fits, fetched, box_of, is_up, up_after_crossing, IsRun}
-use Rattle.leader1822.specs.declared.address.Flow.{Flow}
-use Rattle.leader1822.specs.declared.crossing.Answer.{Answer}
-use Rattle.leader1822.specs.declared.crossing.Answer.TheVariants as answer
-use Rattle.leader1822.specs.declared.crossing.Crossing.{Crossing}
-use Rattle.leader1822.specs.declared.crossing.Crossing.TheVariants as crossing
-use Rattle.leader1822.specs.declared.message.HostMessage.{HostMessage}
-use Rattle.leader1822.proofs.lemmas.{both_ways, exact_flows, flows_total, run_below, same_flow-refl, same_flow-true, same_host-refl, same_host-true}
+use Rattle.interface.specs.Flow.{flow_cmp, same_flow}
+use Rattle.interface.specs.Host.{Host, is_host, same_host}
+use Rattle.interface.specs.Mailboxes.{Box, Empty, Waiting, Taken, WaitsWith, Fits, fetched, box_of, is_up, up_after_crossing, IsRun}
+use Rattle.interface.specs.declared.address.Flow.{Flow}
+use Rattle.interface.specs.declared.crossing.Answer.{Answer}
+use Rattle.interface.specs.declared.crossing.Answer.TheVariants as answer
+use Rattle.interface.specs.declared.crossing.Crossing.{Crossing}
+use Rattle.interface.specs.declared.crossing.Crossing.TheVariants as crossing
+use Rattle.interface.specs.declared.message.HostMessage.{HostMessage}
+use Rattle.interface.proofs.lemmas.{both_ways, exact_flows, flows_total, run_below, same_flow-refl, same_flow-true, same_host-refl, same_host-true}
 use Rattle.book_judge.specs.Inside as tests
 use Rattle.book_judge.specs.Inside.{to_itself, mark_in, held_in, fresh, same_text}
 use Rattle.book_judge.specs.Runs.{IsSomeRun, StraysAt}

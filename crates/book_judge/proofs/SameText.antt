@@ -9,7 +9,7 @@ use Rattle.std.specs.Cmp.Lexicographic.{pointwise}
 use Rattle.std.specs.Prelude.{replicate}
 use Rattle.bit_messages.specs.Octets.{bits_of, octets_of, spare_bits}
 use Rattle.bit_messages.proofs.lemmas.{bits_again}
-use Rattle.leader1822.proofs.lemmas.{and_true, both_ways}
+use Rattle.interface.proofs.lemmas.{and_true, both_ways}
 use Rattle.book_judge.specs.Inside.{same_bit, same_text}
 
 same_bit-true : (x y : Bool) → same_bit x y ≡ true → x ≡ y

@@ -1,14 +1,14 @@
 -- The rows.
 use Rattle.std.proofs.Common.{◌≡◌, ℕ, Bool, true, false, ◌||◌, List, [], ◌∷◌, refl, ap, sym, ◌∙◌}
-use Rattle.leader1822.specs.Host.{Host, is_host, same_host}
-use Rattle.leader1822.specs.Mailboxes.{Empty, Fits, IsRun}
-use Rattle.leader1822.specs.declared.address.Flow.{Flow}
-use Rattle.leader1822.specs.declared.crossing.Answer.{Answer}
-use Rattle.leader1822.specs.declared.crossing.Answer.TheVariants as answer
-use Rattle.leader1822.specs.declared.crossing.Crossing.{Crossing}
-use Rattle.leader1822.specs.declared.crossing.Crossing.TheVariants as crossing
-use Rattle.leader1822.specs.declared.message.HostMessage.{HostMessage}
-use Rattle.leader1822.proofs.lemmas.{same_flow-refl, same_host-refl}
+use Rattle.interface.specs.Host.{Host, is_host, same_host}
+use Rattle.interface.specs.Mailboxes.{Empty, Fits, IsRun}
+use Rattle.interface.specs.declared.address.Flow.{Flow}
+use Rattle.interface.specs.declared.crossing.Answer.{Answer}
+use Rattle.interface.specs.declared.crossing.Answer.TheVariants as answer
+use Rattle.interface.specs.declared.crossing.Crossing.{Crossing}
+use Rattle.interface.specs.declared.crossing.Crossing.TheVariants as crossing
+use Rattle.interface.specs.declared.message.HostMessage.{HostMessage}
+use Rattle.interface.proofs.lemmas.{same_flow-refl, same_host-refl}
 use Rattle.book_judge.specs.Runs.{IsSomeRun, StraysAt}
 
 is_there : (h : Host) → is_host (h ∷ []) h ≡ true

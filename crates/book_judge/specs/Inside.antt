@@ -1,13 +1,13 @@
 -- What the contracts of private functions say. No public clause cites this file.
 use Rattle.std.specs.Prelude.{ℕ, Bool, true, false, not, ◌&&◌, nat_le, if◌then◌else◌, List, [], ◌∷◌, slice_get, Option, Some, None}
 use Rattle.std.specs.FinMap as map
-use Rattle.leader1822.specs.Flow.{flow_cmp}
-use Rattle.leader1822.specs.Host.{Host}
-use Rattle.leader1822.specs.declared.address.Flow.{Flow}
-use Rattle.leader1822.specs.declared.crossing.Answer.{Answer}
-use Rattle.leader1822.specs.declared.crossing.Answer.TheVariants as answer
-use Rattle.leader1822.specs.declared.crossing.Crossing.{Crossing}
-use Rattle.leader1822.specs.declared.crossing.Crossing.TheVariants as crossing
+use Rattle.interface.specs.Flow.{flow_cmp}
+use Rattle.interface.specs.Host.{Host}
+use Rattle.interface.specs.declared.address.Flow.{Flow}
+use Rattle.interface.specs.declared.crossing.Answer.{Answer}
+use Rattle.interface.specs.declared.crossing.Answer.TheVariants as answer
+use Rattle.interface.specs.declared.crossing.Crossing.{Crossing}
+use Rattle.interface.specs.declared.crossing.Crossing.TheVariants as crossing
 use Rattle.book_judge.specs.declared.mail.Held.{Held}
 use Rattle.book_judge.specs.declared.mail.Held.TheVariants as held
 use Rattle.book_judge.specs.declared.mail.Mail.{Mail}

@@ -1,8 +1,8 @@
 -- Whether what crossed is a run of the mailboxes, where nobody says which hosts the network has (BBN Report 1822: one message outstanding on a link).
 use Rattle.std.specs.Prelude.{ℕ, ◌+◌, List, take, reverse}
-use Rattle.leader1822.specs.Host.{Host}
-use Rattle.leader1822.specs.Mailboxes.{IsRun}
-use Rattle.leader1822.specs.declared.crossing.Crossing.{Crossing}
+use Rattle.interface.specs.Host.{Host}
+use Rattle.interface.specs.Mailboxes.{IsRun}
+use Rattle.interface.specs.declared.crossing.Crossing.{Crossing}
 
 -- a run between some hosts; the log is the newest first
 abbrev pub IsSomeRun : List Crossing → Type 0

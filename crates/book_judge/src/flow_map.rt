@@ -3,7 +3,7 @@
 ghost use Rattle.std.specs.Prelude.{◌≡◌, OnOk};
 ghost use Rattle.std.specs.FinMap as map;
 
-use leader1822::Flow;
+use interface::Flow;
 use std::alloc::{AllocError, Global};
 use std::collections::BTreeMap;
 use std::marker::Model;
@@ -16,8 +16,8 @@ pub(crate) struct FlowMap<V> {
 
 impl<V> Model for FlowMap<V> {
     ghost use Rattle.std.specs.FinMap as map;
-    ghost use Rattle.leader1822.specs.Codes.{coded_flow};
-    ghost use Rattle.leader1822.specs.Flow.{flow_cmp};
+    ghost use Rattle.interface.specs.Codes.{coded_flow};
+    ghost use Rattle.interface.specs.Flow.{flow_cmp};
 
     ghost Value = { map.FinMap flow_cmp V };
 

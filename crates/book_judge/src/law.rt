@@ -1,12 +1,12 @@
 //! Logs that are runs between some hosts, and logs that stop being one. The functions here do nothing: each clause is a row.
 
 ghost use Rattle.std.specs.Prelude.{[], ◌∷◌};
-ghost use Rattle.leader1822.specs.Host.{Host};
-ghost use Rattle.leader1822.specs.declared.address.Flow.{Flow};
-ghost use Rattle.leader1822.specs.declared.crossing.Answer.{Answer};
-ghost use Rattle.leader1822.specs.declared.crossing.Answer.TheVariants as answer;
-ghost use Rattle.leader1822.specs.declared.crossing.Crossing.TheVariants as crossing;
-ghost use Rattle.leader1822.specs.declared.message.HostMessage.{HostMessage};
+ghost use Rattle.interface.specs.Host.{Host};
+ghost use Rattle.interface.specs.declared.address.Flow.{Flow};
+ghost use Rattle.interface.specs.declared.crossing.Answer.{Answer};
+ghost use Rattle.interface.specs.declared.crossing.Answer.TheVariants as answer;
+ghost use Rattle.interface.specs.declared.crossing.Crossing.TheVariants as crossing;
+ghost use Rattle.interface.specs.declared.message.HostMessage.{HostMessage};
 ghost use Rattle.book_judge.specs.Runs.{IsSomeRun, StraysAt};
 
 /// Logs of one crossing.

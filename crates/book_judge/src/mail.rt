@@ -5,7 +5,7 @@ ghost use Rattle.book_judge.specs.Inside as tests;
 
 use crate::flow_map::FlowMap;
 use crate::texts::same_text;
-use leader1822::{Answer, Crossing, Flow, HostAddr, Link, Text};
+use interface::{Answer, Crossing, Flow, HostAddr, Link, Text};
 use std::alloc::{AllocError, Global};
 
 /// What is known of a flow's last message, by the place where it went out.

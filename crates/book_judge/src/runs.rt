@@ -4,7 +4,7 @@ ghost use Rattle.std.specs.Prelude.{◌≡◌, IfOk, MatchOption, reverse};
 ghost use Rattle.book_judge.specs.Runs.{IsSomeRun, StraysAt};
 
 use crate::mail::Mail;
-use leader1822::Crossing;
+use interface::Crossing;
 use std::alloc::{AllocError, Global};
 
 /// Returns the place of the first crossing with which a log is no run of the mailboxes between any hosts (BBN Report 1822: one

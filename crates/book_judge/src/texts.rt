@@ -3,7 +3,7 @@
 ghost use Rattle.std.specs.Prelude.{◌≡◌};
 ghost use Rattle.book_judge.specs.Inside as tests;
 
-use leader1822::Text;
+use interface::Text;
 
 /// Returns whether these are the same bits.
 pub(crate) fn same_text(a: &Text, b: &Text) -> bool

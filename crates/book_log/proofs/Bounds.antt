@@ -1,7 +1,7 @@
 -- Which hosts there are.
 use Rattle.std.proofs.Common.{◌≤◌, refl}
 use Rattle.std.proofs.lemmas.Bool.{le-leb}
-use Rattle.leader1822.specs.Host.{Host}
+use Rattle.interface.specs.Host.{Host}
 use Rattle.script.specs.Spelling.{IsHost}
 
 pub host_there : (h : Host) → 1 ≤ h.imp → h.imp ≤ 63 → h.host ≤ 3 → IsHost h

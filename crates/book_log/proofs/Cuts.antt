@@ -6,8 +6,8 @@ use Rattle.std.specs.List.{All, join_with_byte}
 use Rattle.bit_messages.specs.Octets.{octets_of}
 use Rattle.bit_messages.proofs.lemmas.{octets_below}
 use Rattle.hex.specs.Hex.{encode_upper, encode_with, upper_digits}
-use Rattle.leader1822.specs.Host.{Host}
-use Rattle.leader1822.specs.Printed.{host_text}
+use Rattle.interface.specs.Host.{Host}
+use Rattle.interface.specs.Printed.{host_text}
 use Rattle.script.specs.Spelling.{IsHost, ReadsAs, octets_text}
 use Rattle.script.specs.Steps.{Lacks}
 use Rattle.script.proofs.lemmas.{host_unmarked, unmarked_where}

@@ -4,7 +4,7 @@ ghost use Rattle.std.specs.Prelude.{◌≡◌};
 ghost use Rattle.book_log.specs.Steps.{Adds, opening_book};
 
 use crate::lines::Line;
-use leader1822::Crossing;
+use interface::Crossing;
 use net_sim::{BitLog, Life};
 use std::alloc::{AllocError, Global};
 use std::marker::Model;

@@ -8,7 +8,7 @@ ghost use Rattle.book_log.specs.Steps.{AreCounts, AreEnds, IsAnswer, IsKind, IsL
 
 use crate::words::Words;
 use bit_messages::Bits;
-use leader1822::{Answer, Crossing, Flow, HostAddr, HostMessage, Text};
+use interface::{Answer, Crossing, Flow, HostAddr, HostMessage, Text};
 use net_sim::{Amount, BitLog, Life};
 use std::alloc::{AllocError, Global};
 

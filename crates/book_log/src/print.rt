@@ -13,7 +13,7 @@ ghost use Rattle.book_log.specs.Log.{IsBook, IsCrossing, IsHanded, IsLife, hande
 ghost use Rattle.book_log.specs.Steps.{octet_at};
 
 use crate::ranges::{has_crossing_ranges, has_life_ranges, has_list_range};
-use leader1822::{Answer, Crossing};
+use interface::{Answer, Crossing};
 use net_sim::{BitLog, Life};
 use replay::{Detail, Output, WriteFailed, print_crossing};
 use std::fmt;

@@ -5,7 +5,7 @@ ghost use Rattle.std.specs.Prelude.{◌<◌, ◌^◌};
 ghost use Rattle.script.specs.Spelling.{IsFlow, IsHost, IsMessage};
 ghost use Rattle.book_log.specs.Log.{IsAmount, IsCrossing, IsHanded, IsLife};
 
-use leader1822::{Crossing, Flow, HostAddr, HostMessage};
+use interface::{Crossing, Flow, HostAddr, HostMessage};
 use net_sim::{Amount, BitLog, Life};
 
 /// Proves that a crossing names hosts, links and texts that can exist.

@@ -2,12 +2,12 @@
 
 ghost use Rattle.std.specs.Prelude.{◌≡◌, ◌∷◌, ◌<◌, ◌≤◌, ◌^◌, [], MatchOption, IfOk, length};
 ghost use Rattle.std.specs.Fmt.{decimal};
-ghost use Rattle.leader1822.specs.Printed.{flow_text, host_text};
+ghost use Rattle.interface.specs.Printed.{flow_text, host_text};
 ghost use Rattle.script.specs.Spelling.{IsFlow, IsHost, ReadsAs, octets_text};
 ghost use Rattle.book_log.specs.Steps.{TakesAs, TakesWords, begins_wrong, flow_words, is_over, words_behind, words_in, words_left};
 
 use bit_messages::Bits;
-use leader1822::{Flow, HostAddr, Link};
+use interface::{Flow, HostAddr, Link};
 use script::reading::{cut, plain_number, read_bits, read_host, read_number};
 use std::alloc::{AllocError, Global};
 use std::str;

@@ -4,16 +4,16 @@ use Rattle.std.proofs.lemmas.List.{reverse-reverse}
 use Rattle.book_log.specs.Log.{Book}
 use Rattle.book_log.proofs.lemmas.{book_once}
 use Rattle.headline.proofs.lemmas.{kept_promise}
-use Rattle.leader1822.specs.Host.{Host}
-use Rattle.leader1822.specs.Mailboxes.{IsRun}
-use Rattle.leader1822.specs.Messages.{SafeMessages}
-use Rattle.leader1822.specs.declared.crossing.Crossing.{Crossing}
+use Rattle.interface.specs.Host.{Host}
+use Rattle.interface.specs.Mailboxes.{IsRun}
+use Rattle.interface.specs.Messages.{SafeMessages}
+use Rattle.interface.specs.declared.crossing.Crossing.{Crossing}
 use Rattle.net_sim.specs.Audit.{Says}
 use Rattle.net_sim.specs.declared.auditing.said.Audit.{Audit}
 use Rattle.net_sim.specs.declared.auditing.said.Audit.TheVariants as audit
 use Rattle.net_sim.specs.declared.auditing.said.Part.TheVariants as part
 use Rattle.net_sim.specs.declared.life.Life.{Life}
-use Rattle.leader1822.specs.Calls.{Calls}
+use Rattle.interface.specs.Calls.{Calls}
 use Rattle.topology.specs.Topology.{TopologyFields}
 use Rattle.topology.specs.declared.network.CarrierKind.{CarrierKind}
 use Rattle.topology.specs.declared.network.CarrierKind.TheVariants as kind

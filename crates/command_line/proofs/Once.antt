@@ -5,7 +5,7 @@ use Rattle.net_sim.specs.Carriers.{shown}
 use Rattle.net_sim.specs.World.{WorldState, opening_world}
 use Rattle.net_sim.specs.declared.life.Life.{Life}
 use Rattle.replay.specs.Output.{Shown, output}
-use Rattle.leader1822.specs.Calls.{Calls}
+use Rattle.interface.specs.Calls.{Calls}
 use Rattle.replay.specs.Settled.{AreSettled}
 use Rattle.replay.specs.declared.print.Detail.{Detail}
 use Rattle.topology.specs.Topology.{TopologyFields}

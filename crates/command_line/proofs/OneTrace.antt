@@ -3,7 +3,7 @@ use Rattle.std.proofs.Common.{◌≡◌, ℕ, List, [], ◌∷◌, ◌++◌, Som
 use Rattle.std.proofs.lemmas.List.{append_assoc, append-nil}
 use Rattle.replay.specs.InTurn.{HappensOnce, InTurn, ShowsFront, text_of}
 use Rattle.replay.specs.Output.{Shown, crossings_of}
-use Rattle.leader1822.specs.Calls.{Calls}
+use Rattle.interface.specs.Calls.{Calls}
 use Rattle.replay.specs.Settled.{AreSettled}
 use Rattle.replay.proofs.lemmas.{OneReplay, ends_front, in_turn_once, replays_once, text_of-append}
 use Rattle.script.proofs.lemmas.{parted_once}

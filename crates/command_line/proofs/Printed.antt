@@ -4,12 +4,12 @@ use Rattle.std.proofs.lemmas.List.{length-append}
 use Rattle.std.specs.Io.KnownBytes.{Appends}
 use Rattle.std.specs.List.{Contains}
 use Rattle.headline.specs.Promise.{KeepsPromise}
-use Rattle.leader1822.specs.Boxes.{Boxes}
-use Rattle.leader1822.specs.Calls.{Calls, Seen}
-use Rattle.leader1822.specs.Host.{Host}
-use Rattle.leader1822.specs.Mailboxes.{IsRun}
-use Rattle.leader1822.specs.Messages.{SafeMessages}
-use Rattle.leader1822.specs.declared.crossing.Crossing.{Crossing}
+use Rattle.leader1822.specs.Boxes.{Boxes, plain_calls}
+use Rattle.interface.specs.Calls.{Calls, Seen}
+use Rattle.interface.specs.Host.{Host}
+use Rattle.interface.specs.Mailboxes.{IsRun}
+use Rattle.interface.specs.Messages.{SafeMessages}
+use Rattle.interface.specs.declared.crossing.Crossing.{Crossing}
 use Rattle.net_sim.specs.Book.{Book}
 use Rattle.net_sim.specs.declared.book.Told.{Told}
 use Rattle.net_sim.specs.Formed.{FormedBook}
@@ -31,7 +31,6 @@ use Rattle.topology.specs.declared.network.CarrierKind.TheVariants as kind
 use Rattle.world_keeps_connections.specs.Connections.{HasReported, IsConnected, IsEnd, JoinedBook}
 use Rattle.world_replay.specs.Output as lines
 use Rattle.world_script.specs.declared.event.WorldEvent.{WorldEvent}
-use Rattle.leader1822.specs.Boxes.{plain_calls}
 use Rattle.subnet.specs.Working.{subnet_calls}
 use Rattle.command_line.specs.Carriers.{plain_of, subnet_of}
 use Rattle.command_line.specs.Events.{Asked, Raw, World}

@@ -3,7 +3,7 @@ use Rattle.std.proofs.Common.{◌≡◌, ◌≢◌, ◌⊎◌, ◌∙◌, inl, i
 use Rattle.std.proofs.lemmas.List.{length-map}
 use Rattle.std.specs.Io.KnownBytes.{Keeps}
 use Rattle.replay.specs.InTurn.{text_of}
-use Rattle.leader1822.specs.Calls.{Calls}
+use Rattle.interface.specs.Calls.{Calls}
 use Rattle.script.specs.Script.{AskForAs, asks, lines_of}
 use Rattle.script.specs.Spelling.{IsEvent, spelling}
 use Rattle.script.proofs.lemmas.{parted_once}
@@ -11,7 +11,6 @@ use Rattle.script.specs.declared.event.RawEvent.{RawEvent}
 use Rattle.topology.specs.Topology.{TopologyFields}
 use Rattle.topology.specs.declared.network.CarrierKind.{CarrierKind}
 use Rattle.trace.specs.Traces.{AfterOpening, Inside, Traces, WritesTrace, asking_from, event_lines}
-use Rattle.net_sim.specs.World as world
 use Rattle.net_sim.specs.World.{WorldState, opening_world}
 use Rattle.world_trace.specs.Traces as worlds
 use Rattle.world_trace.specs.Traces.{StopsOne, TracesWorld, WorldTraceEnds}

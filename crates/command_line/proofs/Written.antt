@@ -3,15 +3,15 @@ use Rattle.std.proofs.Common.{◌≡◌, ◌⊎◌, inl, inr, ℕ, Bool, List, [
 use Rattle.std.proofs.lemmas.List.{append-nil}
 use Rattle.std.specs.Io.KnownBytes.{Appends, Keeps}
 use Rattle.headline.specs.Promise.{KeepsPromise}
-use Rattle.leader1822.specs.Mailboxes.{IsRun}
-use Rattle.leader1822.specs.Messages.{SafeMessages}
+use Rattle.interface.specs.Mailboxes.{IsRun}
+use Rattle.interface.specs.Messages.{SafeMessages}
 use Rattle.net_sim.specs.Book.{opening_kept}
 use Rattle.net_sim.specs.Carriers.{shown}
 use Rattle.net_sim.specs.World.{WorldState, opening_world}
 use Rattle.net_sim.specs.declared.life.Life.{Life}
 use Rattle.replay.specs.Output.{Writes, crossings_of, output}
 use Rattle.replay.specs.Replay.{EndsIn, Replays, StopsIn}
-use Rattle.leader1822.specs.Calls.{Calls}
+use Rattle.interface.specs.Calls.{Calls}
 use Rattle.replay.specs.declared.print.Detail.{Detail}
 use Rattle.replay.proofs.lemmas.{appends_more, on_ok, replays_show, stops_show}
 use Rattle.script.specs.declared.event.RawEvent.{RawEvent}

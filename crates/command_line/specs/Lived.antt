@@ -1,6 +1,6 @@
 -- Which lives crossings and notices make.
 use Rattle.std.specs.Prelude.{◌≡◌, ℕ, suc, ◌==◌, if◌then◌else◌, List, [], ◌∷◌, map, length}
-use Rattle.leader1822.specs.declared.crossing.Crossing.{Crossing}
+use Rattle.interface.specs.declared.crossing.Crossing.{Crossing}
 use Rattle.net_sim.specs.Book.{lives_crossed, lives_told, nothing}
 use Rattle.net_sim.specs.declared.book.Told.{Told}
 use Rattle.net_sim.specs.declared.life.Life.{Life}

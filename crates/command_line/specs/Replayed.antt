@@ -2,16 +2,15 @@
 use Rattle.std.specs.Prelude.{◌≡◌, ℕ, Bool, true, false, List, [], ◌++◌, reverse, Option, codes}
 use Rattle.std.specs.Io.KnownBytes.{Appends}
 use Rattle.headline.specs.Promise.{KeepsPromise}
-use Rattle.leader1822.specs.Mailboxes.{IsRun}
-use Rattle.leader1822.specs.Messages.{SafeMessages}
+use Rattle.interface.specs.Mailboxes.{IsRun}
+use Rattle.interface.specs.Messages.{SafeMessages}
 use Rattle.net_sim.specs.Book.{Book}
 use Rattle.net_sim.specs.Carriers.{shown}
 use Rattle.net_sim.specs.World.{WorldState, opening_world}
-use Rattle.net_sim.specs.World as world
 use Rattle.net_sim.specs.declared.life.Life.{Life}
 use Rattle.replay.specs.Output.{Shown, Writes, crossings_of, output}
 use Rattle.replay.specs.Replay.{EndsIn, Replays, StopsIn}
-use Rattle.leader1822.specs.Calls.{Calls}
+use Rattle.interface.specs.Calls.{Calls}
 use Rattle.replay.specs.declared.print.Detail.{Detail}
 use Rattle.script.specs.declared.event.RawEvent.{RawEvent}
 use Rattle.topology.specs.Topology.{TopologyFields}

@@ -1,7 +1,7 @@
 -- What is written of a replay as a trace.
 use Rattle.std.specs.Prelude.{◌≡◌, ℕ, List, None, Option, length}
-use Rattle.leader1822.specs.Boxes.{Boxes}
-use Rattle.leader1822.specs.Calls.{Calls}
+use Rattle.leader1822.specs.Boxes.{Boxes, plain_calls}
+use Rattle.interface.specs.Calls.{Calls}
 use Rattle.script.specs.Input.{IsParted}
 use Rattle.script.specs.declared.event.RawEvent.{RawEvent}
 use Rattle.subnet.specs.Calls.{Kept}
@@ -15,12 +15,10 @@ use Rattle.trace.specs.Elements.{calm_of}
 use Rattle.trace.specs.Texts.{changed_text, whole_text}
 use Rattle.trace.specs.Traces.{AfterOpening, Inside, StopsElement, TraceEnds, Traces, WritesTrace, event_lines}
 use Rattle.net_sim.specs.Carriers.{shown}
-use Rattle.net_sim.specs.World as world
 use Rattle.net_sim.specs.World.{WorldState, opening_world}
 use Rattle.world_script.specs.declared.event.WorldEvent.{WorldEvent}
 use Rattle.world_trace.specs.Traces as worlds
 use Rattle.world_trace.specs.Traces.{StopsOne, TracesWorld, WorldTraceEnds}
-use Rattle.leader1822.specs.Boxes.{plain_calls}
 use Rattle.subnet.specs.Working.{subnet_calls}
 use Rattle.command_line.specs.Carriers.{plain_of, subnet_of}
 use Rattle.command_line.specs.Events.{Asked, Raw, World}

@@ -1,9 +1,9 @@
 -- Words for worked rows: a receiving end of a connection, where one message of two bits arrived.
 use Rattle.std.specs.Prelude.{true, false, List, [], ◌∷◌}
-use Rattle.leader1822.specs.Host.{Host}
-use Rattle.leader1822.specs.declared.crossing.Crossing.{Crossing}
-use Rattle.leader1822.specs.declared.crossing.Crossing.TheVariants as crossing
-use Rattle.leader1822.specs.declared.message.HostMessage.{HostMessage}
+use Rattle.interface.specs.Host.{Host}
+use Rattle.interface.specs.declared.crossing.Crossing.{Crossing}
+use Rattle.interface.specs.declared.crossing.Crossing.TheVariants as crossing
+use Rattle.interface.specs.declared.message.HostMessage.{HostMessage}
 use Rattle.host_pairs.specs.declared.notice.Notice.TheVariants as notice
 use Rattle.net_sim.specs.Book.{new_life}
 use Rattle.net_sim.specs.declared.book.Told.{Told}

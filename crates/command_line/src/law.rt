@@ -3,11 +3,11 @@
 
 ghost use Rattle.std.specs.Prelude.{◌≡◌, ◌==◌, ◌++◌, ℕ, Bool, true, false, List, [], ◌∷◌, Ok, Option, Some, reverse};
 ghost use Rattle.host_services.specs.declared.report.Reported.{Reported};
-ghost use Rattle.leader1822.specs.Boxes.{Boxes};
-ghost use Rattle.leader1822.specs.Host.{Host};
-ghost use Rattle.leader1822.specs.Mailboxes.{IsRun};
-ghost use Rattle.leader1822.specs.declared.crossing.Crossing.TheVariants as crossing;
-ghost use Rattle.leader1822.specs.declared.message.HostMessage.{HostMessage};
+ghost use Rattle.leader1822.specs.Boxes.{Boxes, plain_calls};
+ghost use Rattle.interface.specs.Host.{Host};
+ghost use Rattle.interface.specs.Mailboxes.{IsRun};
+ghost use Rattle.interface.specs.declared.crossing.Crossing.TheVariants as crossing;
+ghost use Rattle.interface.specs.declared.message.HostMessage.{HostMessage};
 ghost use Rattle.host_pairs.specs.declared.notice.Notice.TheVariants as notice;
 ghost use Rattle.net_sim.specs.Book.{Book};
 ghost use Rattle.net_sim.specs.Formed.{FormedBook};
@@ -21,7 +21,6 @@ ghost use Rattle.world_replay.specs.Output as lines;
 ghost use Rattle.world_replay.specs.Output.{Shown, crossings_of, notices_of, reports_of};
 ghost use Rattle.world_script.specs.declared.event.WorldEvent.{WorldEvent};
 ghost use Rattle.command_line.specs.Audits.{IsKeptLog, SaysKept, kept};
-ghost use Rattle.leader1822.specs.Boxes.{plain_calls};
 ghost use Rattle.command_line.specs.Joins.{PrintTheSame, TellTheSame};
 ghost use Rattle.command_line.specs.Lived.{AreLived};
 ghost use Rattle.command_line.specs.Logs.{Logged, LogsInput};

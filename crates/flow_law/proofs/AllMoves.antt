@@ -1,6 +1,6 @@
 -- Each move keeps the clauses, and shows the hosts what their mailbox allows.
 use Rattle.std.proofs.Common.{◌≡◌, Bool, true, false, List, [], ◌∷◌, ◌++◌, None, inl, inr, refl, ap, sym, ◌∙◌, subst, append_assoc, if◌then◌else◌}
-use Rattle.leader1822.specs.Mailboxes.{Box, Mail, Passing, WaitsWith, MailNeeds, mail_after, mail_of, IsFlowRun}
+use Rattle.interface.specs.Mailboxes.{Box, Mail, Passing, WaitsWith, MailNeeds, mail_after, mail_of, IsFlowRun}
 use Rattle.link_table.specs.declared.destination.Fate.TheVariants as fate
 use Rattle.flow_law.specs.View.{View, Packet, Queued, mail_now}
 use Rattle.flow_law.specs.Moves.{Move, Needs, Makes, Either, CanOffer, CanTakeMessage, NeedsAll, Grown, queued_text, view_moved, after_all, shows, shown_by}

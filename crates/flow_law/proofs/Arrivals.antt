@@ -1,9 +1,9 @@
 -- Packets arrive, and hosts take what waits for them.
 use Rattle.std.proofs.Common.{◌≡◌, ℕ, Bool, true, false, List, [], ◌∷◌, ◌++◌, Option, Some, None, inl, inr, refl, ap, sym, ◌∙◌, subst, eq-eqb, if◌then◌else◌}
 use Rattle.std.proofs.lemmas.Bool.{cases_Bool}
-use Rattle.leader1822.specs.declared.crossing.Answer.{Answer}
-use Rattle.leader1822.specs.declared.crossing.Answer.TheVariants as answer
-use Rattle.leader1822.specs.Mailboxes.{Box, Fits, fetched}
+use Rattle.interface.specs.declared.crossing.Answer.{Answer}
+use Rattle.interface.specs.declared.crossing.Answer.TheVariants as answer
+use Rattle.interface.specs.Mailboxes.{Box, Fits, fetched}
 use Rattle.link_table.specs.declared.destination.Fate.{Fate}
 use Rattle.link_table.specs.declared.destination.Fate.TheVariants as fate
 use Rattle.flow_law.specs.View.{View, Packet, Queued, Kind, is_request, is_refusal}

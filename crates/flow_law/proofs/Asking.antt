@@ -1,7 +1,7 @@
 -- The source's IMP asks what became of the outstanding message, and the destination's IMP answers it.
 use Rattle.std.proofs.Common.{◌≡◌, ◌≢◌, ℕ, Bool, true, false, List, Option, Some, inl, inr, refl, ap, sym, ◌∙◌, subst}
-use Rattle.leader1822.specs.declared.crossing.Answer.TheVariants as answer
-use Rattle.leader1822.specs.Mailboxes.{Box, Fits}
+use Rattle.interface.specs.declared.crossing.Answer.TheVariants as answer
+use Rattle.interface.specs.Mailboxes.{Box, Fits}
 use Rattle.link_table.specs.Numbers.{Near}
 use Rattle.link_table.specs.declared.destination.Fate.{Fate}
 use Rattle.link_table.specs.declared.destination.Fate.TheVariants as fate

@@ -1,6 +1,6 @@
 -- A message is offered: a Dead at once, a message to another IMP, a message within one IMP.
 use Rattle.std.proofs.Common.{◌≡◌, ℕ, ◌<◌, Bool, true, false, List, [], ◌∷◌, ◌++◌, Some, None, inl, inr, refl, ap, sym, ◌∙◌, subst}
-use Rattle.leader1822.specs.declared.crossing.Answer.TheVariants as answer
+use Rattle.interface.specs.declared.crossing.Answer.TheVariants as answer
 use Rattle.link_table.specs.Numbers.{modulus, Near}
 use Rattle.link_table.proofs.lemmas.{near_same}
 use Rattle.flow_law.specs.View.{View, Packet, Queued, Kind, is_refusal}

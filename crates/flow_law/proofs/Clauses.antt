@@ -3,8 +3,8 @@ use Rattle.std.proofs.Common.{◌≡◌, ◌≢◌, ℕ, ◌<◌, Bool, true, fa
 use Rattle.std.specs.List.{Contains}
 use Rattle.std.proofs.lemmas.Bool.{cases_Bool}
 use Rattle.std.proofs.lemmas.List.Elements.{Contains-push_cases}
-use Rattle.leader1822.specs.declared.crossing.Answer.TheVariants as answer
-use Rattle.leader1822.specs.Mailboxes.{Box, Fits}
+use Rattle.interface.specs.declared.crossing.Answer.TheVariants as answer
+use Rattle.interface.specs.Mailboxes.{Box, Fits}
 use Rattle.link_table.specs.Numbers.{modulus, next, is_new, Near}
 use Rattle.link_table.proofs.lemmas.{near_next, near_old, near_same, next_in, not_next, two}
 use Rattle.flow_law.specs.View.{View, Packet, Queued, is_request}

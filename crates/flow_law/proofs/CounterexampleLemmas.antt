@@ -1,7 +1,7 @@
 -- Each machine that lacks a need breaks its mailbox.
 use Rattle.std.proofs.Common.{◌≡◌, ◌≢◌, ℕ, true, false, [], ◌∷◌, Some, None, inl, refl, sym, ◌∙◌, subst, arith}
 use Rattle.std.specs.List.{Contains}
-use Rattle.leader1822.specs.Mailboxes.{Box}
+use Rattle.interface.specs.Mailboxes.{Box}
 use Rattle.link_table.specs.Numbers.{modulus, window, next, oldest, is_new, Near}
 use Rattle.link_table.proofs.lemmas.{near_same, not_next, two}
 use Rattle.flow_law.specs.View.{Packet, Kind, is_request}

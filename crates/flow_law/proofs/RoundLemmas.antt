@@ -2,7 +2,7 @@
 -- again. Nothing is used of the modulus and the window but that the modulus is more than twice the window.
 use Rattle.std.proofs.Common.{◌≡◌, ℕ, zero, suc, ◌-◌, ◌<◌, true, List, [], ◌∷◌, Some, inl, refl, ap, sym, ◌∙◌, subst, arith}
 use Rattle.std.specs.List.{Contains}
-use Rattle.leader1822.specs.declared.crossing.Answer.TheVariants as answer
+use Rattle.interface.specs.declared.crossing.Answer.TheVariants as answer
 use Rattle.link_table.specs.Numbers.{modulus, window, next, is_new}
 use Rattle.link_table.proofs.lemmas.{new_again, next_below, next_last, next_new, some_ahead, two, wide}
 use Rattle.link_table.specs.declared.destination.Fate.TheVariants as fate

@@ -2,8 +2,8 @@
 -- The law of a flow does not rest on them. They show which of its needs keep the mailbox.
 use Rattle.std.specs.Prelude.{◌≡◌, ◌≢◌, ℕ, zero, suc, ◌-◌, Bool, true, false, List, [], ◌∷◌, Some, None}
 use Rattle.std.specs.List.{Contains}
-use Rattle.leader1822.specs.declared.crossing.Answer.TheVariants as answer
-use Rattle.leader1822.specs.Mailboxes.{IsFlowRun}
+use Rattle.interface.specs.declared.crossing.Answer.TheVariants as answer
+use Rattle.interface.specs.Mailboxes.{IsFlowRun}
 use Rattle.link_table.specs.Numbers.{modulus, window, is_new}
 use Rattle.link_table.specs.declared.destination.Fate.TheVariants as fate
 use Rattle.flow_law.specs.View.{View, Packet, Queued, Kind, is_request, mail_now}

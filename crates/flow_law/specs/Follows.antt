@@ -1,9 +1,9 @@
 -- What the layer above shows of its steps, and what it gets: each flow makes a list of moves, so the log stays a run.
 use Rattle.std.specs.Prelude.{◌≡◌, Bool, false, List, [], ◌∷◌, ◌++◌, length}
-use Rattle.leader1822.specs.declared.address.Flow.{Flow}
-use Rattle.leader1822.specs.declared.crossing.Crossing.{Crossing}
-use Rattle.leader1822.specs.Host.{Host}
-use Rattle.leader1822.specs.Mailboxes.{Mail, Passing, passings, passed, opening_mail, mail_of, same_flow, IsFlowRun, UpsAreHosts}
+use Rattle.interface.specs.declared.address.Flow.{Flow}
+use Rattle.interface.specs.declared.crossing.Crossing.{Crossing}
+use Rattle.interface.specs.Host.{Host}
+use Rattle.interface.specs.Mailboxes.{Mail, Passing, passings, passed, opening_mail, mail_of, same_flow, IsFlowRun, UpsAreHosts}
 use Rattle.flow_law.specs.View.{View, Packet, mail_now}
 use Rattle.flow_law.specs.Moves.{Move, NeedsAll, Grown, after_all, shown_by}
 use Rattle.flow_law.specs.Invariant.{Invariant}

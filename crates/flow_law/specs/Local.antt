@@ -3,8 +3,8 @@
 -- Such a flow has no packets on lines. Its message is queued as it is begun (`BeginLocal`), and its answer is given in the
 -- same step: seen as moves, the answer's packet is made, heard and gone.
 use Rattle.std.specs.Prelude.{ℕ, Bool, true, false, List, [], ◌∷◌, ◌++◌, None, if◌then◌else◌}
-use Rattle.leader1822.specs.declared.crossing.Answer.TheVariants as answer
-use Rattle.leader1822.specs.Mailboxes.{Box, fetched}
+use Rattle.interface.specs.declared.crossing.Answer.TheVariants as answer
+use Rattle.interface.specs.Mailboxes.{Box, fetched}
 use Rattle.link_table.specs.declared.destination.Fate.TheVariants as fate
 use Rattle.flow_law.specs.View.{View, Packet, Queued, Kind}
 use Rattle.flow_law.specs.Moves.{Move, with_answer, with_fate, with_fates}

@@ -1,7 +1,7 @@
 -- Every history of one flow: what its hosts see is a run of its mailbox.
 use Rattle.std.specs.Prelude.{◌≡◌, Bool, true, List, [], ◌∷◌, ◌++◌, None}
 use Rattle.std.specs.List.{Contains}
-use Rattle.leader1822.specs.Mailboxes.{Box, Passing}
+use Rattle.interface.specs.Mailboxes.{Box, Passing}
 use Rattle.flow_law.specs.View.{View, Packet}
 use Rattle.flow_law.specs.Moves.{Move, Needs, Makes, Either, view_moved, shows}
 

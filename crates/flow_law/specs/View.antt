@@ -1,7 +1,7 @@
 -- One flow as the whole network holds it: what its two IMPs and its two hosts keep for it, and its packets.
 use Rattle.std.specs.Prelude.{ℕ, Bool, true, false, List, Option}
-use Rattle.leader1822.specs.declared.crossing.Answer.{Answer}
-use Rattle.leader1822.specs.Mailboxes.{Box, Mail}
+use Rattle.interface.specs.declared.crossing.Answer.{Answer}
+use Rattle.interface.specs.Mailboxes.{Box, Mail}
 use Rattle.link_table.specs.declared.destination.Fate.{Fate}
 
 -- a packet carries a piece of a message, or notifies the source that the message was taken, or that its host is down; or it

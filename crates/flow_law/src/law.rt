@@ -3,11 +3,11 @@
 
 ghost use Rattle.std.specs.Prelude.{◌≡◌, Bool, true, false, List, [], ◌∷◌, ◌++◌, Some};
 ghost use Rattle.std.specs.List.{Contains};
-ghost use Rattle.leader1822.specs.Host.{Host, same_host};
-ghost use Rattle.leader1822.specs.Mailboxes.{Passing, mail_of, IsFlowRun, IsRun, EachIsRun, UpsAreHosts};
-ghost use Rattle.leader1822.specs.declared.address.Flow.{Flow};
-ghost use Rattle.leader1822.specs.declared.crossing.Crossing.{Crossing};
-ghost use Rattle.leader1822.specs.declared.crossing.Crossing.TheVariants as crossing;
+ghost use Rattle.interface.specs.Host.{Host, same_host};
+ghost use Rattle.interface.specs.Mailboxes.{Passing, mail_of, IsFlowRun, IsRun, EachIsRun, UpsAreHosts};
+ghost use Rattle.interface.specs.declared.address.Flow.{Flow};
+ghost use Rattle.interface.specs.declared.crossing.Crossing.{Crossing};
+ghost use Rattle.interface.specs.declared.crossing.Crossing.TheVariants as crossing;
 ghost use Rattle.flow_law.specs.View.{View, Packet, Queued, mail_now};
 ghost use Rattle.flow_law.specs.Moves.{Move, Needs, CanTakeMessage, CanStartSource, view_moved, shown_by};
 ghost use Rattle.flow_law.specs.Invariant.{Invariant};

@@ -1,9 +1,9 @@
 -- A book that keeps its promise is well-formed, so its audit is kept.
 use Rattle.std.proofs.Common.{◌≡◌, ℕ, Bool, List, [], ◌∷◌, length, refl, ap, sym, arith, Option, Some, None}
 use Rattle.std.specs.Prelude.{IsSome}
-use Rattle.leader1822.specs.declared.crossing.Crossing.{Crossing}
+use Rattle.interface.specs.declared.crossing.Crossing.{Crossing}
 use Rattle.headline.specs.Promise.{KeepsPromise}
-use Rattle.leader1822.specs.Calls.{Seen}
+use Rattle.interface.specs.Calls.{Seen}
 use Rattle.net_sim.specs.Audit.{IsWellFormed, Says}
 use Rattle.net_sim.specs.World.{WorldState}
 use Rattle.net_sim.specs.declared.auditing.said.Audit.TheVariants as said

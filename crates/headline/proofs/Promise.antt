@@ -1,5 +1,5 @@
 -- The promise of a book, put together from its parts.
-use Rattle.leader1822.specs.Calls.{Seen}
+use Rattle.interface.specs.Calls.{Seen}
 use Rattle.net_sim.specs.Clean.{IsLawful}
 use Rattle.net_sim.specs.World.{WorldState}
 use Rattle.net_sim.proofs.lemmas.{booked_messages}

@@ -1,5 +1,5 @@
 -- What the book of a world promises.
-use Rattle.leader1822.specs.Calls.{Seen}
+use Rattle.interface.specs.Calls.{Seen}
 use Rattle.net_sim.specs.Clean.{IsLawful}
 use Rattle.net_sim.specs.Formed.{FormedBook}
 use Rattle.net_sim.specs.Notices.{FormedNotices}

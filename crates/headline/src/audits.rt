@@ -4,7 +4,7 @@ ghost use Rattle.std.specs.Prelude.{◌≡◌};
 ghost use Rattle.net_sim.specs.declared.auditing.said.Audit.TheVariants as said;
 
 use crate::book::book_of;
-use leader1822::Carrier;
+use interface::Carrier;
 use net_sim::{Audit, World, audit};
 
 /// Returns the audit of the book of a world. It is `Kept`, whatever the world's carrier is made of and whatever

@@ -3,7 +3,7 @@
 ghost use Rattle.std.specs.Prelude.{◌≡◌};
 ghost use Rattle.headline.specs.Promise.{KeepsPromise};
 
-use leader1822::Carrier;
+use interface::Carrier;
 use net_sim::{Book, World};
 
 /// Returns the book of a world. It keeps its promise, whatever the world's carrier is made of and whatever happened.

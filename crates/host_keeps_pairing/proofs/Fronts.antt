@@ -1,7 +1,7 @@
 -- What was heard of two sockets is what was said first.
 use Rattle.std.proofs.Common.{◌≡◌, ℕ, zero, suc, Bool, List, [], ◌∷◌, ◌++◌, refl, ap, sym, ◌∙◌}
 use Rattle.std.proofs.lemmas.List.{append_assoc}
-use Rattle.leader1822.specs.Host.{Host}
+use Rattle.interface.specs.Host.{Host}
 use Rattle.pairing_law.specs.Marks.{Mark, IsOlder}
 use Rattle.pairing_law.specs.Places.{placed, tagged}
 use Rattle.pairing_law.proofs.lemmas.{placed_front}

@@ -14,7 +14,7 @@ use Rattle.sockets.specs.Requests.{refusal, served, served_notices}
 use Rattle.sockets.specs.Sending.{next_out, offered}
 use Rattle.sockets.specs.Worked.{first, second, talk, reset, opening_connection, closing}
 use Rattle.host_pairs.specs.declared.entry.Closing.TheVariants as closing
-use Rattle.leader1822.specs.Host.{same_host}
+use Rattle.interface.specs.Host.{same_host}
 use Rattle.host_keeps_pairing.specs.Known.{all_known}
 use Rattle.host_keeps_pairing.specs.Openings.{with_openings}
 use Rattle.host_keeps_pairing.specs.Words.{marks}

@@ -1,7 +1,7 @@
 -- What a host's user asks for, and what it finds where it takes a message of its peer (NIC 8246, control commands).
 use Rattle.std.specs.Prelude.{◌≡◌, ℕ, false, if◌then◌else◌, List, [], ◌∷◌}
 use Rattle.std.specs.List.{list_any}
-use Rattle.leader1822.specs.Host.{Host, same_host}
+use Rattle.interface.specs.Host.{Host, same_host}
 use Rattle.ncp_control.specs.Command.{is_alone}
 use Rattle.ncp_control.specs.declared.command.Command.{Command}
 use Rattle.ncp_control.specs.declared.command.Command.TheVariants as command

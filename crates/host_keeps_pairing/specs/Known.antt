@@ -1,6 +1,6 @@
 -- What a host's user knows of an end: its program reports when a connection opens, and when it is over (NIC 8246, RTS, STR and CLS).
 use Rattle.std.specs.Prelude.{◌≡◌, ℕ, ◌==◌, ◌&&◌, if◌then◌else◌, List, [], ◌∷◌}
-use Rattle.leader1822.specs.Host.{Host, same_host}
+use Rattle.interface.specs.Host.{Host, same_host}
 use Rattle.pairing_law.specs.Ends.{End}
 use Rattle.pairing_law.specs.Partners.{IsOpen}
 use Rattle.pairing_law.specs.Sides.{Life}

@@ -1,7 +1,7 @@
 -- What is said of two sockets in texts, each with the place where it went out, as a word of the law of pairing (NIC 8246, RTS, STR
 -- and CLS).
 use Rattle.std.specs.Prelude.{ℕ, suc, Bool, true, false, List, [], ◌∷◌}
-use Rattle.leader1822.specs.Host.{Host}
+use Rattle.interface.specs.Host.{Host}
 use Rattle.ncp_control.specs.Packing.{spellings}
 use Rattle.ncp_control.specs.declared.command.Command.TheVariants as command
 use Rattle.host_pairs.specs.Control.{control_text, orders_of}

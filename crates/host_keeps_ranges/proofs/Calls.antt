@@ -1,12 +1,12 @@
 -- Each call of a host's program keeps its numbers in their ranges, and what goes out is read as what it was made of.
 use Rattle.std.proofs.Common.{◌≡◌, ℕ, ◌*◌, ◌^◌, ◌≤◌, nat_lt, filter, Bool, true, false, not, ◌||◌, ◌==◌, if◌then◌else◌, zero, suc, List, [], ◌∷◌, take, length, Option, Some, None, All, refl, sym, subst}
 use Rattle.std.proofs.lemmas.List.Elements.{All-append, All-cons, All-nil}
-use Rattle.leader1822.specs.Host.{Host, address_octet, same_host}
-use Rattle.leader1822.specs.declared.address.Flow.{Flow}
-use Rattle.leader1822.specs.declared.crossing.Answer.{Answer}
-use Rattle.leader1822.specs.declared.crossing.Answer.TheVariants as answer
-use Rattle.leader1822.specs.declared.crossing.Inbound.TheVariants as inbound
-use Rattle.leader1822.specs.declared.message.HostMessage.{HostMessage}
+use Rattle.interface.specs.Host.{Host, address_octet, same_host}
+use Rattle.interface.specs.declared.address.Flow.{Flow}
+use Rattle.interface.specs.declared.crossing.Answer.{Answer}
+use Rattle.interface.specs.declared.crossing.Answer.TheVariants as answer
+use Rattle.interface.specs.declared.crossing.Inbound.TheVariants as inbound
+use Rattle.interface.specs.declared.message.HostMessage.{HostMessage}
 use Rattle.ncp_control.proofs.lemmas.{longest_front, packed_again}
 use Rattle.ncp_control.specs.Command.{IsCommand, IsOctet, spelling}
 use Rattle.ncp_control.specs.Packing.{spellings}

@@ -1,7 +1,7 @@
 -- What a user asks for keeps the numbers in their ranges.
 use Rattle.std.proofs.Common.{◌≡◌, ℕ, Bool, true, false, not, ◌&&◌, if◌then◌else◌, List, [], ◌∷◌, ◌++◌, find, Option, Some, None, IsTrue, refl, arith}
-use Rattle.leader1822.specs.Host.{Host}
-use Rattle.leader1822.proofs.lemmas.{not_false}
+use Rattle.interface.specs.Host.{Host}
+use Rattle.interface.proofs.lemmas.{not_false}
 use Rattle.ncp_control.specs.Command.{IsCommand, IsOctet, IsWord}
 use Rattle.ncp_control.specs.Numbers.{is_byte_size, is_connection_link, is_receive_socket, is_send_socket}
 use Rattle.ncp_control.specs.declared.command.Command.{Command}

@@ -3,7 +3,7 @@ use Rattle.std.proofs.Common.{◌≡◌, ℕ, ◌+◌, ◌-◌, ◌^◌, ◌<◌
 use Rattle.std.specs.List.{list_any}
 use Rattle.bit_messages.specs.Octets.{octets_of}
 use Rattle.bit_messages.proofs.lemmas.{octets_below}
-use Rattle.leader1822.specs.Host.{Host}
+use Rattle.interface.specs.Host.{Host}
 use Rattle.ncp_control.specs.Allocation as counters
 use Rattle.ncp_control.proofs.lemmas.{share-le}
 use Rattle.ncp_control.specs.Command.{IsCommand, IsOctet, IsWord, spelling}

@@ -1,11 +1,11 @@
 //! What becomes of the numbers of a host. The functions here do nothing: each clause is a law.
 
 ghost use Rattle.std.specs.Prelude.{◌≡◌, ℕ, ◌^◌, Some, None, List, [], ◌∷◌};
-ghost use Rattle.leader1822.specs.Host.{Host};
-ghost use Rattle.leader1822.specs.declared.address.Flow.{Flow};
-ghost use Rattle.leader1822.specs.declared.crossing.Answer.{Answer};
-ghost use Rattle.leader1822.specs.declared.crossing.Inbound.TheVariants as inbound;
-ghost use Rattle.leader1822.specs.declared.message.HostMessage.{HostMessage};
+ghost use Rattle.interface.specs.Host.{Host};
+ghost use Rattle.interface.specs.declared.address.Flow.{Flow};
+ghost use Rattle.interface.specs.declared.crossing.Answer.{Answer};
+ghost use Rattle.interface.specs.declared.crossing.Inbound.TheVariants as inbound;
+ghost use Rattle.interface.specs.declared.message.HostMessage.{HostMessage};
 ghost use Rattle.ncp_control.specs.declared.command.Command.TheVariants as command;
 ghost use Rattle.host_pairs.specs.Control.{Legal, Wrong};
 ghost use Rattle.host_pairs.specs.Entries.{sending_end};

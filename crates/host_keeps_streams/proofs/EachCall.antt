@@ -1,6 +1,6 @@
 -- Each call of a host's program is, on a link, moves of the law, if new ends have new numbers.
 use Rattle.std.proofs.Common.{◌≡◌, ℕ, false, List, None}
-use Rattle.leader1822.specs.Host.{Host}
+use Rattle.interface.specs.Host.{Host}
 use Rattle.ncp_control.specs.declared.command.Command.{Command}
 use Rattle.ncp_control.specs.declared.command.Command.TheVariants as command
 use Rattle.stream_law.specs.Receivers.{Receiver}

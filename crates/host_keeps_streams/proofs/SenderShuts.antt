@@ -1,7 +1,7 @@
 -- What the sender of a link does by a CLS of its peer.
 use Rattle.std.proofs.Common.{◌≡◌, ℕ, Bool, true, false, ◌==◌, if◌then◌else◌, List, [], ◌∷◌, ◌++◌, map, filter, Option, Some, None, refl, ap, sym, subst, ◌∙◌, inl, inr, eq-eqb}
 use Rattle.std.proofs.lemmas.Bool.{eqb-true, or_parts}
-use Rattle.leader1822.specs.Host.{Host}
+use Rattle.interface.specs.Host.{Host}
 use Rattle.stream_law.specs.Words as words
 use Rattle.stream_law.specs.Words.{for}
 use Rattle.stream_law.specs.Senders as senders

@@ -2,8 +2,8 @@
 //! of them `name` identifies the connection of two sockets by a number.
 
 ghost use Rattle.std.specs.Prelude.{◌≡◌, ℕ, Bool, true, false, List, [], ◌∷◌, ◌++◌, find, Some, None};
-ghost use Rattle.leader1822.specs.Host.{Host};
-ghost use Rattle.leader1822.specs.declared.crossing.Answer.TheVariants as answer;
+ghost use Rattle.interface.specs.Host.{Host};
+ghost use Rattle.interface.specs.declared.crossing.Answer.TheVariants as answer;
 ghost use Rattle.ncp_control.specs.Command.{IsCommand};
 ghost use Rattle.ncp_control.specs.DataHeader.{header_of};
 ghost use Rattle.ncp_control.specs.Numbers.{is_receive_socket};

@@ -2,7 +2,7 @@
 //! nothing: each clause is a law.
 
 ghost use Rattle.std.specs.Prelude.{◌≡◌, ℕ, Bool, true, false, List, [], ◌∷◌, Some, None};
-ghost use Rattle.leader1822.specs.Host.{Host};
+ghost use Rattle.interface.specs.Host.{Host};
 ghost use Rattle.ncp_control.specs.declared.command.Command.TheVariants as command;
 ghost use Rattle.stream_law.specs.Senders as senders;
 ghost use Rattle.host_pairs.specs.Entries.{sending_end};

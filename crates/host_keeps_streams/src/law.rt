@@ -3,7 +3,7 @@
 
 ghost use Rattle.std.specs.Prelude.{◌≡◌, ℕ, ◌*◌, ◌==◌, Bool, true, false, List, [], ◌∷◌, ◌++◌, take, filter, find, Some, None, is_some};
 ghost use Rattle.std.specs.List.{list_any};
-ghost use Rattle.leader1822.specs.Host.{Host};
+ghost use Rattle.interface.specs.Host.{Host};
 ghost use Rattle.ncp_control.specs.Allocation as counters;
 ghost use Rattle.ncp_control.specs.DataHeader.{header_of, data_bits};
 ghost use Rattle.ncp_control.specs.Numbers.{is_receive_socket};

@@ -3,8 +3,8 @@ use Rattle.std.proofs.Common.{◌≡◌, ℕ, ◌++◌, ◌==◌, Bool, true, fa
 use Rattle.std.specs.List.{list_any}
 use Rattle.std.proofs.lemmas.List.{append-nil}
 use Rattle.ncp_control.specs.declared.command.Command.{Command}
-use Rattle.leader1822.specs.Host.{Host}
-use Rattle.leader1822.specs.declared.crossing.Answer.TheVariants as answer
+use Rattle.interface.specs.Host.{Host}
+use Rattle.interface.specs.declared.crossing.Answer.TheVariants as answer
 use Rattle.host_pairs.specs.Entries.{is_due, must_close, closed_when, cls_of}
 use Rattle.host_pairs.specs.Phases.{is_ready, rfnm_phase}
 use Rattle.host_pairs.specs.Desk.{command_queued, desk_of}

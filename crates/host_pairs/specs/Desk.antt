@@ -1,7 +1,7 @@
 -- The connections of a pair, and what listens.
 use Rattle.std.specs.Prelude.{ℕ, Bool, not, ◌==◌, List, [], ◌∷◌, ◌++◌, map, filter, find, Option}
 use Rattle.std.specs.List.{list_any, flat_map}
-use Rattle.leader1822.specs.Host.{Host}
+use Rattle.interface.specs.Host.{Host}
 use Rattle.ncp_control.specs.declared.command.Command.{Command}
 use Rattle.host_pairs.specs.Entries.{must_close, closed_when, cls_of, is_over, ending}
 use Rattle.host_pairs.specs.Pair.{PairState}

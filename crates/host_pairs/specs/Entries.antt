@@ -1,7 +1,7 @@
 -- One end of a connection (NIC 8246, connections: RTS, STR and CLS).
 use Rattle.std.specs.Prelude.{ℕ, Bool, true, false, not, ◌==◌, ◌&&◌, ◌||◌, if◌then◌else◌, List, [], ◌∷◌, length, find, Option, Some, None, is_some}
 use Rattle.std.specs.List.{list_any, range_with_len}
-use Rattle.leader1822.specs.Host.{Host}
+use Rattle.interface.specs.Host.{Host}
 use Rattle.ncp_control.specs.Allocation as counters
 use Rattle.ncp_control.specs.Numbers.{is_receive_socket}
 use Rattle.ncp_control.specs.declared.command.Command.{Command}

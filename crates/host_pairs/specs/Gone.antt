@@ -1,6 +1,6 @@
 -- A pair once something of it has gone out.
 use Rattle.std.specs.Prelude.{ℕ, ◌++◌}
-use Rattle.leader1822.specs.Host.{Host}
+use Rattle.interface.specs.Host.{Host}
 use Rattle.host_pairs.specs.Turn.{TurnState}
 use Rattle.host_pairs.specs.Desk.{DeskState, desk_of}
 use Rattle.host_pairs.specs.Parcels.{Parcel, parcel_gone, pair_after, signal_gone, with_connections}

@@ -1,6 +1,6 @@
 -- What goes out of a pair next (NIC 8246: RST and RRP each go by themselves, control messages hold 120 octets, data go within the allocation).
 use Rattle.std.specs.Prelude.{ℕ, ◌*◌, ◌/◌, ◌==◌, ◌&&◌, not, Bool, false, nat_lt, min, if◌then◌else◌, List, [], ◌∷◌, length, take, drop, filter, find, Option, Some, None, is_some}
-use Rattle.leader1822.specs.Host.{Host}
+use Rattle.interface.specs.Host.{Host}
 use Rattle.ncp_control.specs.Allocation as counters
 use Rattle.ncp_control.specs.Command.{spelling}
 use Rattle.ncp_control.specs.Packing.{spellings, packed_count}

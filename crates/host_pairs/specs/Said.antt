@@ -1,7 +1,7 @@
 -- How much more a pair has to say than before, to the peer or to the user: only then it needs memory.
 use Rattle.std.specs.Prelude.{ℕ, ◌+◌, ◌-◌, ◌==◌, Bool, if◌then◌else◌, List, [], ◌∷◌, length}
-use Rattle.leader1822.specs.Host.{Host}
-use Rattle.leader1822.specs.declared.crossing.Answer.{Answer}
+use Rattle.interface.specs.Host.{Host}
+use Rattle.interface.specs.declared.crossing.Answer.{Answer}
 use Rattle.host_pairs.specs.Turn.{TurnState, order_taken, if_ready, answered_turn}
 use Rattle.host_pairs.specs.Control.{Order, orders_of}
 use Rattle.host_pairs.specs.Data.{data_taken}

@@ -17,7 +17,7 @@ use crate::ends::{
 use crate::entry::Entry;
 use crate::found::{Found, receiver_on, sender_on};
 use crate::listener::{listener_on, stop_listening};
-use leader1822::HostAddr;
+use interface::HostAddr;
 use ncp_control::{ByteSize, Command, ConnectionLink, ReceiveSocket, SendSocket};
 use std::alloc::{AllocError, Global};
 

@@ -11,7 +11,7 @@ ghost use Rattle.host_pairs.specs.Desk.{command_queued};
 use crate::commands::ERRONEOUS;
 use crate::turn::Turn;
 use bit_messages::Bits;
-use leader1822::HostAddr;
+use interface::HostAddr;
 use ncp_control::{Command, ControlFault, DataHeader, HEADER_BITS, MAX_CONTROL_OCTETS, read_one};
 use std::alloc::{AllocError, Global};
 

@@ -11,7 +11,7 @@ ghost use Rattle.host_pairs.specs.Entries.{is_at, entry_at, sends_on, receives_o
 use crate::Notice;
 use crate::entry::{Closing, Entry};
 use crate::queue::Queue;
-use leader1822::HostAddr;
+use interface::HostAddr;
 use ncp_control::{ByteSize, Command, ConnectionLink};
 use std::alloc::{AllocError, Global};
 

@@ -6,7 +6,7 @@ ghost use Rattle.host_pairs.specs.Parcels as parcels;
 
 use crate::desk::Desk;
 use crate::ends::{ask, send_cls};
-use leader1822::HostAddr;
+use interface::HostAddr;
 use ncp_control::Command;
 use std::alloc::AllocError;
 

@@ -1,7 +1,7 @@
 //! What the network control program reports to its user.
 
 use bit_messages::Bits;
-use leader1822::HostAddr;
+use interface::HostAddr;
 use ncp_control::MAX_QUOTED;
 
 /// Something that happened to a peer or a socket of this host. Stamps are places in the log.

@@ -17,7 +17,7 @@ use crate::pair::Pair;
 use crate::phase::Phase;
 use crate::queue::Queue;
 use bit_messages::Bits;
-use leader1822::{Answer, HostAddr};
+use interface::{Answer, HostAddr};
 use ncp_control::Command;
 use std::alloc::{AllocError, Global};
 use std::marker::Model;

@@ -8,7 +8,7 @@ ghost use Rattle.host_pairs.specs.Parcels as parcels;
 use crate::outgoing::Outgoing;
 use crate::phase::Phase;
 use crate::turn::Turn;
-use leader1822::HostAddr;
+use interface::HostAddr;
 use std::alloc::{AllocError, Global};
 
 impl Turn {

@@ -1,7 +1,7 @@
 -- What services ask for, and whom they name.
 use Rattle.std.specs.Prelude.{◌≡◌, ◌<◌, List, [], ◌∷◌, ◌++◌, length, None, All}
 use Rattle.std.specs.List.{fold}
-use Rattle.leader1822.specs.Host.{IsAddress}
+use Rattle.interface.specs.Host.{IsAddress}
 use Rattle.ncp_control.specs.Command.{IsWord}
 use Rattle.sockets.specs.Pairs.{NcpState}
 use Rattle.sockets.specs.Requests.{refusal, served}

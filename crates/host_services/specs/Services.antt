@@ -1,6 +1,6 @@
 -- What runs on a host beside its network control program, and the host while it has its turn.
 use Rattle.std.specs.Prelude.{ℕ, ◌+◌, List, [], ◌∷◌, ◌++◌, Option, None}
-use Rattle.leader1822.specs.Host.{Host}
+use Rattle.interface.specs.Host.{Host}
 use Rattle.sockets.specs.Pairs.{NcpState}
 use Rattle.sockets.specs.Requests.{served}
 use Rattle.sockets.specs.declared.request.Request.{Request}

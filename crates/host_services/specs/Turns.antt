@@ -3,7 +3,7 @@
 use Rattle.std.specs.Prelude.{ℕ, ◌+◌, List, [], ◌∷◌, ◌++◌, length, Option, Some, None}
 use Rattle.std.specs.List.{fold}
 use Rattle.std.specs.Option.{option_or}
-use Rattle.leader1822.specs.Host.{Host}
+use Rattle.interface.specs.Host.{Host}
 use Rattle.icp.specs.Outcomes.{IcpTurn}
 use Rattle.icp.specs.Server.{ServerState, opening_server, server_local, server_requests, server_turn}
 use Rattle.icp.specs.Sockets.{server_fault, user_fault}

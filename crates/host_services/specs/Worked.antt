@@ -1,6 +1,6 @@
 -- What the worked rows speak of: a host with a program that has just come up, and its services.
 use Rattle.std.specs.Prelude.{ℕ}
-use Rattle.leader1822.specs.Host.{Host}
+use Rattle.interface.specs.Host.{Host}
 use Rattle.sockets.specs.Pairs.{opening_state}
 use Rattle.host_services.specs.Services.{ServiceDeskState, opening_desk}
 use Rattle.host_services.specs.declared.report.Report.{Report}

@@ -7,7 +7,7 @@ ghost use Rattle.host_services.specs.Turns as turns;
 ghost use Rattle.sockets.specs.Requests.{refusal};
 
 use crate::{Report, Reported};
-use leader1822::HostAddr;
+use interface::HostAddr;
 use ncp_control::SendSocket;
 use sockets::{Ncp, NcpFault, Request};
 use std::alloc::{AllocError, Global};

@@ -6,7 +6,7 @@ ghost use Rattle.host_pairs.specs.declared.notice.Notice.{Notice};
 ghost use Rattle.host_services.specs.Named.{HasAsked, NamePeers};
 ghost use Rattle.host_services.specs.Services.{ServiceDeskState, ServicesState};
 ghost use Rattle.host_services.specs.Turns.{server_begun, services_told, user_begun};
-ghost use Rattle.leader1822.specs.Host.{Host, IsAddress};
+ghost use Rattle.interface.specs.Host.{Host, IsAddress};
 
 /// What services do to their host: its program has served what they have asked for and nothing else, one request after another, and
 /// has refused none of that. They name peers by addresses, in numbers of their types, where their users did; they contact nobody.

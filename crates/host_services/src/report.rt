@@ -1,7 +1,7 @@
 //! What services report.
 
 use icp::Outcome;
-use leader1822::HostAddr;
+use interface::HostAddr;
 use terminal::Line;
 
 /// What a service of a host reports.

@@ -14,7 +14,7 @@ use crate::desk::ServiceDesk;
 use crate::hearing::Subject;
 use crate::{Report, Service};
 use icp::{Failure, Outcome, Said, Server, StartFault, User};
-use leader1822::HostAddr;
+use interface::HostAddr;
 use ncp_control::SendSocket;
 use sockets::Notice;
 use std::alloc::{AllocError, Global};

@@ -4,7 +4,7 @@ ghost use Rattle.std.specs.Prelude.{◌≡◌, false};
 
 use crate::opening::{OPENED, READY};
 use bit_messages::Bits;
-use leader1822::{Answer, Flow, HostAddr, HostMessage, Inbound, Link, Text};
+use interface::{Answer, Flow, HostAddr, HostMessage, Inbound, Link, Text};
 use sockets::{Ncp, NcpFault, Notice, Request};
 use std::alloc::Global;
 

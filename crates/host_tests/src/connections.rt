@@ -1,7 +1,7 @@
 //! The opening and the end of connections.
 
 use crate::acts::{Act, Row, Scene, Start, goes};
-use leader1822::Answer;
+use interface::Answer;
 
 const A_LISTENER_ANSWERS_AND_CLOSES: [Row; 11] = [
     (Act::Listen(33, 8), &[], "", ""),

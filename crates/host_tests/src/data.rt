@@ -1,7 +1,7 @@
 //! Data within what was granted, what is asked back, interrupts and echoes.
 
 use crate::acts::{Act, Row, Scene, Start, goes};
-use leader1822::Answer;
+use interface::Answer;
 
 /// The octets 1 to 13.
 const THIRTEEN: [u8; 13] = [1, 2, 3, 4, 5, 6, 7, 8, 9, 10, 11, 12, 13];

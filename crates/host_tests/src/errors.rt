@@ -1,7 +1,7 @@
 //! What is answered by an ERR, octet by octet.
 
 use crate::acts::{Act, Row, Scene, Start, goes};
-use leader1822::Answer;
+use interface::Answer;
 
 const AN_ILLEGAL_CODE_AND_MISSING_OCTETS_END_THE_READING: [Row; 7] = [
     (

@@ -1,7 +1,7 @@
 //! How scenes begin.
 
 use crate::acts::{Act, Row};
-use leader1822::Answer;
+use interface::Answer;
 
 /// 0/2 resets the pair.
 pub(crate) const READY: [Row; 3] = [

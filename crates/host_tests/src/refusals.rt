@@ -1,7 +1,7 @@
 //! Each refusal of each call.
 
 use crate::acts::{Act, Row, Scene, Start, goes};
-use leader1822::Answer;
+use interface::Answer;
 
 /// RTS from sockets 100, 102 to 122 to socket 33, on links 2 to 13.
 const TWELVE: &str = "0/2 0 0008007800\

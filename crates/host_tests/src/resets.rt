@@ -1,7 +1,7 @@
 //! The reset of a pair.
 
 use crate::acts::{Act, Row, Scene, Start, goes};
-use leader1822::Answer;
+use interface::Answer;
 
 const A_CONTACT_IS_ANSWERED: [Row; 4] = [
     (Act::Contact(2), &[], "", "0/2 0 00080001000C"),

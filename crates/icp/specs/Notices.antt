@@ -1,6 +1,6 @@
 -- What a notice says of one socket, or of one host.
 use Rattle.std.specs.Prelude.{ℕ, Bool, false, ◌==◌, ◌&&◌, nat_lt, if◌then◌else◌, List, length, Option, Some, None}
-use Rattle.leader1822.specs.Host.{Host, same_host}
+use Rattle.interface.specs.Host.{Host, same_host}
 use Rattle.icp.specs.declared.notices.Partner.{Partner}
 use Rattle.host_pairs.specs.declared.notice.Notice.{Notice}
 use Rattle.host_pairs.specs.declared.notice.Notice.TheVariants as notice

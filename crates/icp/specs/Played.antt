@@ -1,7 +1,7 @@
 -- The two machines over a list of notices.
 use Rattle.std.specs.Prelude.{◌≡◌, true, ℕ, ◌+◌, ◌≤◌, Bool, if◌then◌else◌, List, [], ◌∷◌, ◌++◌, length, take, Option, Some, None}
 use Rattle.std.specs.List.{list_any}
-use Rattle.leader1822.specs.Host.{Host}
+use Rattle.interface.specs.Host.{Host}
 use Rattle.std.specs.Option.{option_or}
 use Rattle.ncp_control.specs.Numbers.{is_receive_socket}
 use Rattle.icp.specs.Notices.{arrived_on, is_opened, opened_on}

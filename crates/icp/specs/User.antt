@@ -1,6 +1,6 @@
 -- The user of an initial connection (RFC 165).
 use Rattle.std.specs.Prelude.{ℕ, ◌+◌, Bool, true, false, ◌&&◌, ◌||◌, is_none, nat_lt, if◌then◌else◌, List, [], ◌∷◌, ◌++◌, length, take, Option, Some, None}
-use Rattle.leader1822.specs.Host.{Host}
+use Rattle.interface.specs.Host.{Host}
 use Rattle.ncp_control.specs.Numbers.{is_receive_socket}
 use Rattle.icp.specs.Notices.{is_opened, arrived_on, brings_bits, has_ended, is_reset}
 use Rattle.icp.specs.Outcomes.{IcpTurn, passed, failed, local_outcome}

@@ -1,6 +1,6 @@
 -- What the worked rows speak of: a user at 0/1 with socket 16, and a server at 0/2 with socket 7 and base 100.
 use Rattle.std.specs.Prelude.{ℕ, List}
-use Rattle.leader1822.specs.Host.{Host}
+use Rattle.interface.specs.Host.{Host}
 use Rattle.icp.specs.Played.{server_played, user_played}
 use Rattle.icp.specs.Server.{opening_server}
 use Rattle.icp.specs.User.{opening_user}

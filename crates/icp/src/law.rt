@@ -1,7 +1,7 @@
 //! Laws of the two machines, over their definitions. The functions here do nothing: each clause is the law.
 
 ghost use Rattle.std.specs.Prelude.{◌≡◌, ℕ, ◌+◌, ◌<◌, ◌≤◌, ◌^◌, List, [], ◌∷◌, length};
-ghost use Rattle.leader1822.specs.Host.{Host};
+ghost use Rattle.interface.specs.Host.{Host};
 ghost use Rattle.icp.specs.Played.{IsConnected, IsServed, server_played, user_played};
 ghost use Rattle.icp.specs.Server.{ServerState, opening_server};
 ghost use Rattle.icp.specs.Sockets.{socket_bits, socket_of};

@@ -4,7 +4,7 @@ ghost use Rattle.std.specs.Prelude.{◌≡◌, Some, None, MatchOption};
 ghost use Rattle.icp.specs.Notices as notices;
 
 use bit_messages::Bits;
-use leader1822::HostAddr;
+use interface::HostAddr;
 use sockets::Notice;
 
 /// The far end of a connection: a socket at a host.

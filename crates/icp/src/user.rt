@@ -15,7 +15,7 @@ use crate::server::{OCTET_SIZE, RECEIVE_STEP, SEND_STEP};
 use crate::sockets_said::{SOCKET_BITS, join, socket_of};
 use crate::{Failure, Outcome, Said, StartFault};
 use bit_messages::Bits;
-use leader1822::HostAddr;
+use interface::HostAddr;
 use ncp_control::{ReceiveSocket, SendSocket};
 use sockets::{NcpFault, Notice, Request};
 use std::alloc::{AllocError, Global};

@@ -3,7 +3,7 @@ use Rattle.std.proofs.Common.{◌≡◌, ℕ, zero, suc, ◌+◌, ◌-◌, ◌*�
 use Rattle.std.proofs.lemmas.Bool.{cases_eq, eq-eqb, ne_eqb, le-leb, lt-leb, le-ltb}
 use Rattle.std.proofs.Math.Nat.{pow-suc}
 use Rattle.std.proofs.lemmas.List.{append_assoc, append-nil, drop_more, length-drop, nil_from_length, take_more_set, take_all, take_rest}
-use Rattle.leader1822.specs.Host.{most_imps}
+use Rattle.interface.specs.Host.{most_imps}
 use Rattle.packetiser.specs.Format as packets
 use Rattle.routing.specs.Vector.{is_vector, IsVector}
 use Rattle.imp_channel.specs.Carriage.{Carriage}

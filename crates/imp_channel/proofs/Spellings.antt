@@ -2,7 +2,7 @@
 use Rattle.std.proofs.Common.{◌≡◌, ℕ, zero, suc, ◌+◌, ◌%◌, ◌/◌, ◌<◌, ◌≤◌, Bool, true, false, List, [], ◌∷◌, length, All, Ok, Err, Result, refl, sym, ap, ◌∙◌, arith, eqb, leb, ltb, subst, if◌then◌else◌}
 use Rattle.std.proofs.lemmas.Bool.{leb-true, leb-false, eqb-true}
 use Rattle.std.proofs.lemmas.List.Elements.{All-tail}
-use Rattle.leader1822.specs.Host.{most_imps}
+use Rattle.interface.specs.Host.{most_imps}
 use Rattle.packetiser.specs.Format as packets
 use Rattle.packetiser.specs.PacketFields.{PacketFields, IsPacket}
 use Rattle.packetiser.specs.declared.fault.PacketFault.{PacketFault}

@@ -4,7 +4,7 @@
 -- the lowest place. In a packet frame octet 3 has the channel in its lowest three places and the packet's bit in the next, and
 -- the packet follows. In a routes frame the distances follow, an octet each, that to IMP 1 first.
 use Rattle.std.specs.Prelude.{◌≡◌, ℕ, zero, suc, ◌+◌, ◌*◌, ◌/◌, ◌%◌, ◌<◌, Bool, true, false, List, [], ◌∷◌, length, Result, Ok, Err, IsOk, nat_lt, nat_le, ◌==◌, if◌then◌else◌}
-use Rattle.leader1822.specs.Host.{most_imps}
+use Rattle.interface.specs.Host.{most_imps}
 use Rattle.packetiser.specs.PacketFields.{PacketFields, IsPacket}
 use Rattle.packetiser.specs.Format as packets
 use Rattle.packetiser.specs.declared.fault.PacketFault.{PacketFault}

@@ -5,7 +5,7 @@ ghost use Rattle.imp_channel.specs.Holding.{bits_carried};
 ghost use Rattle.imp_channel.specs.Format.{Gives, read_of, frame_in, packet_bits, packet_bits_after, packet_bits_in, spelling, after_version, content_of, kind_octet, rest_of, packet_in, routes_in, channel_octet, octet_of, bits_of, bit_value};
 
 use crate::ChannelFault;
-use leader1822::MOST_IMPS;
+use interface::MOST_IMPS;
 use packetiser::Packet;
 use routing::Vector;
 use std::alloc::{AllocError, Global};

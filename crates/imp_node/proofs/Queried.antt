@@ -4,8 +4,8 @@ use Rattle.std.specs.List.{list_any}
 use Rattle.std.proofs.lemmas.Bool.{cases_Bool}
 use Rattle.std.proofs.lemmas.List.Elements.{All-nil, All-cons}
 use Rattle.std.proofs.lemmas.List.Folds.{Any-from_list_any}
-use Rattle.leader1822.specs.declared.carrier.CarrierFault.TheVariants as fault
-use Rattle.leader1822.specs.declared.message.HostMessage.{HostMessage}
+use Rattle.interface.specs.declared.carrier.CarrierFault.TheVariants as fault
+use Rattle.interface.specs.declared.message.HostMessage.{HostMessage}
 use Rattle.imp_node.specs.State.{State, is_up}
 use Rattle.imp_node.specs.Flows.{is_idle, next_number}
 use Rattle.imp_node.specs.Offering.{Way, Nowhere, Here, Away, is_own, goes, begins, way_of, way_has_room, from_host, from_host_refusal}

@@ -4,8 +4,8 @@ use Rattle.std.specs.List.{list_any, flat_map}
 use Rattle.std.proofs.lemmas.List.{drop_all}
 use Rattle.std.proofs.lemmas.List.Folds.{list_any-append}
 use Rattle.std.proofs.lemmas.List.Sorted.{list_any-IsPermutation, length_permutation}
-use Rattle.leader1822.specs.declared.address.Flow.{Flow}
-use Rattle.leader1822.proofs.lemmas.{or_nothing}
+use Rattle.interface.specs.declared.address.Flow.{Flow}
+use Rattle.interface.proofs.lemmas.{or_nothing}
 use Rattle.packetiser.specs.PacketFields.{PacketFields, flow_of}
 use Rattle.packetiser.specs.Slots as slots
 use Rattle.packetiser.specs.Slots.{SlotState, IsSlot, IsTable, IsPieceFor, in_some_order}

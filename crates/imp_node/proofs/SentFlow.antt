@@ -2,7 +2,7 @@
 use Rattle.std.proofs.Common.{◌≡◌, Option, Some, ap, ◌∙◌}
 use Rattle.std.specs.Option.{option_map}
 use Rattle.std.specs.FinMap as finite
-use Rattle.leader1822.specs.Flow.{flow_cmp}
+use Rattle.interface.specs.Flow.{flow_cmp}
 use Rattle.link_table.specs.Flows.{number_in, begun, flow_answered, handed, given_up, answered_in, given_up_in, handed_in}
 use Rattle.link_table.specs.declared.source.Standing.{Standing}
 use Rattle.link_table.specs.declared.source.Standing.TheVariants as standing

@@ -3,10 +3,10 @@ use Rattle.std.proofs.Common.{◌≡◌, ℕ, zero, suc, Bool, true, false, List
 use Rattle.std.proofs.lemmas.Bool.{cases_Bool}
 use Rattle.std.specs.FinMap as finite
 use Rattle.std.specs.Option.{option_map}
-use Rattle.leader1822.specs.Flow.{same_flow}
-use Rattle.leader1822.specs.declared.address.Flow.{Flow}
-use Rattle.leader1822.specs.declared.crossing.Answer.{Answer}
-use Rattle.leader1822.proofs.lemmas.{same_flow-refl}
+use Rattle.interface.specs.Flow.{same_flow}
+use Rattle.interface.specs.declared.address.Flow.{Flow}
+use Rattle.interface.specs.declared.crossing.Answer.{Answer}
+use Rattle.interface.proofs.lemmas.{same_flow-refl}
 use Rattle.link_table.specs.Flows.{Sources, Destinations, last_in, outstanding_in, release_in, begun, flow_answered, given_up, handed, ended, ended_in}
 use Rattle.link_table.specs.declared.destination.Fate.{Fate}
 use Rattle.link_table.specs.declared.destination.Noted.{Noted}

@@ -4,10 +4,10 @@ use Rattle.std.proofs.lemmas.List.{get_or-set_same, get_or-set_other}
 use Rattle.std.specs.FinMap as finite
 use Rattle.std.proofs.lemmas.Bool.{cases_Bool}
 use Rattle.bit_messages.specs.Body.{body, has_mark, text_of}
-use Rattle.leader1822.specs.declared.address.Flow.{Flow}
-use Rattle.leader1822.specs.declared.crossing.Answer.{Answer}
-use Rattle.leader1822.specs.declared.crossing.Answer.TheVariants as answer
-use Rattle.leader1822.specs.declared.message.HostMessage.{HostMessage}
+use Rattle.interface.specs.declared.address.Flow.{Flow}
+use Rattle.interface.specs.declared.crossing.Answer.{Answer}
+use Rattle.interface.specs.declared.crossing.Answer.TheVariants as answer
+use Rattle.interface.specs.declared.message.HostMessage.{HostMessage}
 use Rattle.link_table.specs.Flows.{Sources, kept_in, told_by, told_in, last_in, outstanding_in, release_in, given_up, handed}
 use Rattle.link_table.specs.Keys.{is_from, drop_from}
 use Rattle.link_table.specs.Numbers.{is_new}

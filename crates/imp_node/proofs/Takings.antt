@@ -1,6 +1,6 @@
 -- What a host takes.
 use Rattle.std.proofs.Common.{◌≡◌, true, false, List, [], ◌∷◌, length, slice_get, option_map, nat_lt, Some, None, refl, ap, arith}
-use Rattle.leader1822.specs.declared.address.Flow.{Flow}
+use Rattle.interface.specs.declared.address.Flow.{Flow}
 use Rattle.imp_node.specs.declared.waiting.Message.{Message}
 use Rattle.imp_node.specs.declared.waiting.Told.{Told}
 use Rattle.imp_node.specs.State.{State}

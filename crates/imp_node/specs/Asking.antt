@@ -1,8 +1,8 @@
 -- The source's IMP asks what became of an outstanding message, in place of giving it up.
 use Rattle.std.specs.Prelude.{ℕ, not, [], Option, Some, None, is_none, if◌then◌else◌}
-use Rattle.leader1822.specs.declared.address.Flow.{Flow}
-use Rattle.leader1822.specs.declared.carrier.CarrierFault.{CarrierFault}
-use Rattle.leader1822.specs.declared.carrier.CarrierFault.TheVariants as fault
+use Rattle.interface.specs.declared.address.Flow.{Flow}
+use Rattle.interface.specs.declared.carrier.CarrierFault.{CarrierFault}
+use Rattle.interface.specs.declared.carrier.CarrierFault.TheVariants as fault
 use Rattle.packetiser.specs.declared.packet.PacketKind.TheVariants as kind
 use Rattle.imp_node.specs.State.{State, ImpTurn}
 use Rattle.imp_node.specs.Room.{has_room_to}

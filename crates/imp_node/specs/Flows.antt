@@ -5,9 +5,9 @@
 use Rattle.std.specs.Prelude.{ℕ, Bool, true, not, [], ◌∷◌, ◌++◌, ◌&&◌, slice_set, if◌then◌else◌}
 use Rattle.std.specs.FinMap as map
 use Rattle.std.specs.List.{list_any}
-use Rattle.leader1822.specs.Flow.{same_flow}
-use Rattle.leader1822.specs.declared.address.Flow.{Flow}
-use Rattle.leader1822.specs.declared.crossing.Answer.{Answer}
+use Rattle.interface.specs.Flow.{same_flow}
+use Rattle.interface.specs.declared.address.Flow.{Flow}
+use Rattle.interface.specs.declared.crossing.Answer.{Answer}
 use Rattle.link_table.specs.Flows as tables
 use Rattle.link_table.specs.Flows.{is_idle_in, number_in, release_in, begun, flow_answered, handed}
 use Rattle.link_table.specs.declared.destination.Fate.{Fate}

@@ -1,7 +1,7 @@
 -- The ends of lines: what is sent again, the distances that are announced, and ends that go down and up.
 use Rattle.std.specs.Prelude.{ℕ, ◌+◌, true, List, [], ◌∷◌, ◌++◌, length, map, Option, Some, None, nat_lt, slice_set, if◌then◌else◌}
-use Rattle.leader1822.specs.declared.carrier.CarrierFault.{CarrierFault}
-use Rattle.leader1822.specs.declared.carrier.CarrierFault.TheVariants as fault
+use Rattle.interface.specs.declared.carrier.CarrierFault.{CarrierFault}
+use Rattle.interface.specs.declared.carrier.CarrierFault.TheVariants as fault
 use Rattle.imp_channel.specs.Holding.{packets_in}
 use Rattle.imp_channel.specs.Line.{resent, routes_frame}
 use Rattle.imp_channel.specs.declared.frame.Frame.{Frame}

@@ -1,12 +1,12 @@
 -- A host hands a message to its IMP.
 use Rattle.std.specs.Prelude.{Bool, true, false, not, [], ◌++◌, Option, Some, None, ◌==◌, ◌&&◌, if◌then◌else◌}
 use Rattle.bit_messages.specs.Body.{body}
-use Rattle.leader1822.specs.Host.{Host}
-use Rattle.leader1822.specs.declared.address.Flow.{Flow}
-use Rattle.leader1822.specs.declared.carrier.CarrierFault.{CarrierFault}
-use Rattle.leader1822.specs.declared.carrier.CarrierFault.TheVariants as fault
-use Rattle.leader1822.specs.declared.crossing.Answer.TheVariants as answer
-use Rattle.leader1822.specs.declared.message.HostMessage.{HostMessage}
+use Rattle.interface.specs.Host.{Host}
+use Rattle.interface.specs.declared.address.Flow.{Flow}
+use Rattle.interface.specs.declared.carrier.CarrierFault.{CarrierFault}
+use Rattle.interface.specs.declared.carrier.CarrierFault.TheVariants as fault
+use Rattle.interface.specs.declared.crossing.Answer.TheVariants as answer
+use Rattle.interface.specs.declared.message.HostMessage.{HostMessage}
 use Rattle.link_table.specs.declared.destination.Fate.TheVariants as fate
 use Rattle.packetiser.specs.Pieces.{piece_count, packets_of}
 use Rattle.imp_node.specs.State.{State, ImpTurn, number, is_there, is_up}

@@ -5,8 +5,8 @@
 use Rattle.std.specs.Prelude.{ℕ, Bool, true, false, nat_lt, Option, ◌==◌, ◌&&◌, ◌||◌}
 use Rattle.std.specs.FinMap as map
 use Rattle.std.specs.List.{list_any}
-use Rattle.leader1822.specs.Flow.{same_flow}
-use Rattle.leader1822.specs.declared.address.Flow.{Flow}
+use Rattle.interface.specs.Flow.{same_flow}
+use Rattle.interface.specs.declared.address.Flow.{Flow}
 use Rattle.link_table.specs.Flows.{last_in, outstanding_in, kept_in, has_outstanding_to}
 use Rattle.link_table.specs.Keys.{has_from}
 use Rattle.packetiser.specs.PacketFields.{PacketFields, flow_of}

@@ -1,11 +1,11 @@
 -- A host takes what waits for it.
 use Rattle.std.specs.Prelude.{ℕ, Bool, true, not, List, [], ◌∷◌, Option, Some, None, is_none, is_some, ◌==◌, ◌&&◌, if◌then◌else◌}
-use Rattle.leader1822.specs.declared.carrier.CarrierFault.{CarrierFault}
-use Rattle.leader1822.specs.declared.carrier.CarrierFault.TheVariants as fault
-use Rattle.leader1822.specs.declared.crossing.Answer.{Answer}
-use Rattle.leader1822.specs.declared.crossing.Answer.TheVariants as answer
-use Rattle.leader1822.specs.declared.crossing.Inbound.{Inbound}
-use Rattle.leader1822.specs.declared.crossing.Inbound.TheVariants as inbound
+use Rattle.interface.specs.declared.carrier.CarrierFault.{CarrierFault}
+use Rattle.interface.specs.declared.carrier.CarrierFault.TheVariants as fault
+use Rattle.interface.specs.declared.crossing.Answer.{Answer}
+use Rattle.interface.specs.declared.crossing.Answer.TheVariants as answer
+use Rattle.interface.specs.declared.crossing.Inbound.{Inbound}
+use Rattle.interface.specs.declared.crossing.Inbound.TheVariants as inbound
 use Rattle.link_table.specs.Flows.{handed}
 use Rattle.link_table.specs.declared.destination.Fate.TheVariants as fate
 use Rattle.packetiser.specs.declared.packet.PacketKind.{PacketKind}

@@ -27,7 +27,7 @@ use crate::waiting::Message;
 use crate::{Imp, Outgoing};
 use bit_messages::{BitFault, Bits};
 use imp_channel::{Content, Frame, Received};
-use leader1822::{Answer, CarrierFault, Flow, Number, Text};
+use interface::{Answer, CarrierFault, Flow, Number, Text};
 use link_table::{Age, Asked, Fate};
 use packetiser::{Added, Outcome, Packet, PacketFault, PacketKind};
 use std::alloc::AllocError;

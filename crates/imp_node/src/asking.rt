@@ -10,7 +10,7 @@ ghost use Rattle.imp_node.specs.Turns.{Turned, Takes, ask_grows};
 
 use crate::steps::answer_packet;
 use crate::{Imp, Outgoing};
-use leader1822::{CarrierFault, Flow, Number};
+use interface::{CarrierFault, Flow, Number};
 use packetiser::PacketKind;
 use std::alloc::AllocError;
 

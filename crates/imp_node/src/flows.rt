@@ -5,7 +5,7 @@ ghost use Rattle.imp_node.specs.Stopping as stopping;
 ghost use Rattle.imp_node.specs.Turns.{Turned, Takes, give_up_grows, forget_grows, abandon_grows};
 
 use crate::{Imp, Outgoing};
-use leader1822::{Answer, CarrierFault, Flow, ImpNumber};
+use interface::{Answer, CarrierFault, Flow, ImpNumber};
 use std::alloc::AllocError;
 
 impl Imp {

@@ -12,7 +12,7 @@ ghost use Rattle.imp_node.specs.Inside.Seeking.{message_is};
 use crate::seeking::Sought;
 use crate::waiting::{Message, Told};
 use circular_buffer::HeapCircularBuffer;
-use leader1822::Flow;
+use interface::Flow;
 use std::alloc::{AllocError, Global};
 use std::collections::VecDeque;
 use std::marker::Model;

@@ -2,7 +2,7 @@
 
 ghost use Rattle.std.specs.Prelude.{◌≡◌, [], ◌+◌, ◌*◌, ◌<◌, ◌≤◌, ◌&&◌, Bool, true, false, length, replicate, nat_lt, nat_le, IfOk};
 ghost use Rattle.std.specs.List.{list_any, sum_by};
-ghost use Rattle.leader1822.specs.Host.{most_imps};
+ghost use Rattle.interface.specs.Host.{most_imps};
 ghost use Rattle.imp_node.specs.State as states;
 ghost use Rattle.imp_node.specs.State.{up_host, up_port, host_at};
 ghost use Rattle.imp_node.specs.Room as room;
@@ -15,7 +15,7 @@ use crate::host::Host;
 use crate::port::Port;
 use crate::spare::Spare;
 use imp_channel::Line;
-use leader1822::{Flow, HostAddr, ImpNumber};
+use interface::{Flow, HostAddr, ImpNumber};
 use link_table::{DestFlows, SourceFlows};
 use packetiser::{Packet, Reassembly};
 use routing::RouteTable;

@@ -5,14 +5,14 @@
 //! would fail.
 
 ghost use Rattle.std.specs.Prelude.{◌≡◌, ℕ, ◌-◌, ◌<◌, ◌==◌, if◌then◌else◌, true, false, List, [], ◌∷◌, ◌++◌, length, map, replicate, All, Any, ◌⊎◌, Some, None};
-ghost use Rattle.leader1822.specs.Host.{most_imps};
-ghost use Rattle.leader1822.specs.declared.address.Flow.{Flow};
-ghost use Rattle.leader1822.specs.declared.message.HostMessage.{HostMessage};
+ghost use Rattle.interface.specs.Host.{most_imps};
+ghost use Rattle.interface.specs.declared.address.Flow.{Flow};
+ghost use Rattle.interface.specs.declared.message.HostMessage.{HostMessage};
 ghost use Rattle.imp_channel.specs.Holding.{carried_by};
 ghost use Rattle.imp_channel.specs.declared.frame.Frame.{Frame};
-ghost use Rattle.leader1822.specs.declared.carrier.CarrierFault.TheVariants as fault;
-ghost use Rattle.leader1822.specs.declared.crossing.Answer.TheVariants as answer;
-ghost use Rattle.leader1822.specs.declared.crossing.Inbound.TheVariants as inbound;
+ghost use Rattle.interface.specs.declared.carrier.CarrierFault.TheVariants as fault;
+ghost use Rattle.interface.specs.declared.crossing.Answer.TheVariants as answer;
+ghost use Rattle.interface.specs.declared.crossing.Inbound.TheVariants as inbound;
 ghost use Rattle.packetiser.specs.declared.packet.PacketKind.TheVariants as kind;
 ghost use Rattle.imp_channel.specs.declared.frame.Content.TheVariants as content;
 ghost use Rattle.routing.specs.Vector.{infinite};

@@ -14,7 +14,7 @@ use crate::outgoing::push_frame;
 use crate::port::Port;
 use crate::{Imp, Outgoing};
 use imp_channel::{CHANNELS, Frame, Line};
-use leader1822::CarrierFault;
+use interface::CarrierFault;
 use routing::Vector;
 use std::alloc::{AllocError, Global};
 

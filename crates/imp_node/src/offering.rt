@@ -15,7 +15,7 @@ ghost use Rattle.imp_node.specs.Inside.Parts.{IsPacketFlow};
 use crate::waiting::Message;
 use crate::{Imp, Outgoing};
 use bit_messages::BODY_UNIT;
-use leader1822::{Answer, CarrierFault, Flow, HostMessage, Number, Text};
+use interface::{Answer, CarrierFault, Flow, HostMessage, Number, Text};
 use link_table::{Fate, FlowFault};
 use packetiser::cut;
 use packetiser::format::PACKET_BITS;

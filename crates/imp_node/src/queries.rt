@@ -7,7 +7,7 @@ ghost use Rattle.imp_node.specs.Inside.Seeking.{found};
 use crate::Imp;
 use crate::imp::busy_channels;
 use crate::seeking::Sought;
-use leader1822::{Flow, ImpNumber, Number};
+use interface::{Flow, ImpNumber, Number};
 
 impl Imp {
     /// Returns the number of the outstanding message of a flow; `None` where none is outstanding.

@@ -12,7 +12,7 @@ use crate::host::Host;
 use crate::port::Port;
 use crate::waiting::Message;
 use imp_channel::{Channel, Line};
-use leader1822::{Flow, ImpNumber, Number};
+use interface::{Flow, ImpNumber, Number};
 use packetiser::{Packet, PacketKind, Reassembly};
 
 /// What is looked for.

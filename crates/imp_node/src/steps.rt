@@ -9,13 +9,13 @@ ghost use Rattle.imp_node.specs.Pump as pumps;
 ghost use Rattle.imp_node.specs.Taking.{replied, reply_has_room};
 ghost use Rattle.imp_node.specs.Turns.{Takes, sends};
 ghost use Rattle.imp_node.specs.Inside.Parts.{IsPacketFlow};
-ghost use Rattle.leader1822.specs.declared.carrier.CarrierFault.TheVariants as fault;
+ghost use Rattle.interface.specs.declared.carrier.CarrierFault.TheVariants as fault;
 
 use crate::pump::{pump, target};
 use crate::waiting::{Message, Told};
 use crate::{Imp, Outgoing};
 use bit_messages::Bits;
-use leader1822::{Answer, CarrierFault, Flow, Number};
+use interface::{Answer, CarrierFault, Flow, Number};
 use link_table::Fate;
 use packetiser::{Packet, PacketKind};
 use std::alloc::{AllocError, Global};

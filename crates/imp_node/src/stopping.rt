@@ -11,7 +11,7 @@ ghost use Rattle.imp_node.specs.Inside.Parts.{IsPacketFlow, AreOfPackets};
 use crate::waiting::{Message, Told};
 use crate::{Imp, Outgoing};
 use circular_buffer::HeapCircularBuffer;
-use leader1822::{Answer, CarrierFault, Flow, HostAddr, Number};
+use interface::{Answer, CarrierFault, Flow, HostAddr, Number};
 use link_table::{Fate, SourceFlows};
 use packetiser::PacketKind;
 use std::alloc::AllocError;

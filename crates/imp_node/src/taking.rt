@@ -8,7 +8,7 @@ ghost use Rattle.imp_node.specs.Turns.{Turned, Takes, to_host_grows, takes_messa
 
 use crate::waiting::{Message, Told};
 use crate::{Imp, Outgoing};
-use leader1822::{Answer, CarrierFault, HostMessage, Inbound};
+use interface::{Answer, CarrierFault, HostMessage, Inbound};
 use link_table::Fate;
 use packetiser::PacketKind;
 use std::alloc::AllocError;

@@ -1,6 +1,6 @@
 //! What waits for a host.
 
-use leader1822::{Answer, Flow, Number, Text};
+use interface::{Answer, Flow, Number, Text};
 
 /// An answer that waits for the source of its flow.
 #[derive(Debug, Drop)]

@@ -7,13 +7,11 @@ use Rattle.std.specs.declared.cmp.Ordering.TheVariants.{Less, Equal, Greater}
 use Rattle.std.specs.Ordering.{nat_cmp, ordering_then, is_lt, is_le, eq_by_cmp}
 use Rattle.std.specs.Cmp.{eq_by_cmp_equiv}
 use Rattle.std.proofs.lemmas.Bool.Decides.{nat_tests}
-use Rattle.leader1822.specs.Host.{Host, host_cmp}
-use Rattle.leader1822.specs.Flow.{flow_cmp}
+use Rattle.interface.specs.Host.{Host, host_cmp}
+use Rattle.interface.specs.Flow.{flow_cmp}
 use Rattle.leader1822.specs.Inside.Named.{IsNamed}
-use Rattle.leader1822.specs.declared.address.Flow.{Flow}
-use Rattle.leader1822.proofs.Lists.{and_true, same_flow-true}
-use Rattle.leader1822.proofs.Order.{hosts_total, exact_hosts, flows_total}
-use Rattle.leader1822.proofs.FlowMap.{value_at, eq_flow}
+use Rattle.interface.specs.declared.address.Flow.{Flow}
+use Rattle.interface.proofs.lemmas.{and_true, eq_flow, exact_hosts, flows_total, hosts_total, same_flow-true, value_at}
 
 -- ---- what lies between the lowest and the highest flow from a host
 

@@ -4,25 +4,23 @@ use Rattle.std.proofs.lemmas.List.{append-nil}
 use Rattle.std.proofs.lemmas.Bool.{false≢true}
 use Rattle.std.specs.List.{list_any}
 use Rattle.std.specs.FinMap.{empty, get, get-empty, get-insert, get-remove}
-use Rattle.leader1822.specs.Host.{Host, same_host, is_host, InOrder}
-use Rattle.leader1822.specs.Flow.{flow_cmp}
-use Rattle.leader1822.specs.Mailboxes.{Box, same_flow}
+use Rattle.interface.specs.Host.{Host, same_host, is_host, InOrder}
+use Rattle.interface.specs.Flow.{flow_cmp}
+use Rattle.interface.specs.Mailboxes.{Box, same_flow}
 use Rattle.leader1822.specs.Boxes.{Boxes, WaitingAnswer, for_host, first_of_list, rest, is_of, is_about, is_rfnm, is_from, is_running, is_busy, is_outstanding, is_unsettled, one_if, offer_refusal, host_refusal, give_up_refusal, next_for, answer_first, inbound_of, inbound_taken, given_up, opening_boxes}
 use Rattle.leader1822.specs.Inside.Held.{Flows, Held, pending_of, IsIndexed, IsKept, is_unanswered, put, answer_if, cleared, flows_dead, held_offered, held_taken, held_given_up, held_stopped, held_started}
 use Rattle.leader1822.specs.Inside.Named.{IsNamed}
 use Rattle.leader1822.specs.Inside.Soundness.{texts_of, kinds_of, texts_for, kinds_for, FitsBox, AreTo, AreToldTo, Matches, IsSound}
-use Rattle.leader1822.specs.declared.address.Flow.{Flow}
-use Rattle.leader1822.specs.declared.crossing.Answer.{Answer}
-use Rattle.leader1822.specs.declared.crossing.Answer.TheVariants as answer
-use Rattle.leader1822.specs.declared.crossing.Inbound.{Inbound}
-use Rattle.leader1822.specs.declared.crossing.Inbound.TheVariants as inbound
+use Rattle.interface.specs.declared.address.Flow.{Flow}
+use Rattle.interface.specs.declared.crossing.Answer.{Answer}
+use Rattle.interface.specs.declared.crossing.Answer.TheVariants as answer
+use Rattle.interface.specs.declared.crossing.Inbound.{Inbound}
+use Rattle.interface.specs.declared.crossing.Inbound.TheVariants as inbound
 use Rattle.leader1822.specs.declared.flows.Pending.{Pending}
 use Rattle.leader1822.specs.declared.flows.Pending.TheVariants as pending
-use Rattle.leader1822.specs.declared.message.HostMessage.{HostMessage}
-use Rattle.leader1822.proofs.Lists.{and_true, same_host-true, same_host-refl, same_flow-true, same_flow-refl}
-use Rattle.leader1822.proofs.Order.{flows_total}
+use Rattle.interface.specs.declared.message.HostMessage.{HostMessage}
+use Rattle.interface.proofs.lemmas.{and_true, eq_flow, flows_total, same_flow-refl, same_flow-true, same_host-refl, same_host-true}
 use Rattle.leader1822.proofs.Waiting.{has_any, any_of, any_about, any_rfnm, none_from, if_same}
-use Rattle.leader1822.proofs.FlowMap.{eq_flow}
 use Rattle.leader1822.proofs.ForHost.{for_none}
 use Rattle.leader1822.proofs.Sound.{same_fits, fits_empty, Waits, Offerable, offerable, offered_here, offered_there, Runs, runs_here, TakesAnswer, takes_answer, answered_here, answered_there, TakesMessage, takes_message, fetched_here, fetched_there}
 use Rattle.leader1822.proofs.SoundEvents.{down_kinds, down_stands, runs_less, Outstanding, outstanding, GivesUp, gives_up, given_here, given_there, stopped_waits, texts_there, kinds_there}

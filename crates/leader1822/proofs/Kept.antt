@@ -7,11 +7,10 @@ use Rattle.std.specs.VecDeque.{deque_items}
 use Rattle.std.specs.Cmp.{eq_by_cmp_equiv}
 use Rattle.std.specs.Ordering.{eq_by_cmp}
 use Rattle.std.specs.FinMap.{get, get-empty, get-insert, get-remove, same_map}
-use Rattle.leader1822.specs.Host.{Host, host_cmp}
+use Rattle.interface.specs.Host.{Host, host_cmp}
 use Rattle.leader1822.specs.Boxes.{Queues, for_host, with_queue, first_of_list, rest}
 use Rattle.leader1822.specs.Inside.Shown.{shown, waiting_in}
-use Rattle.leader1822.proofs.Lists.{same_host-true}
-use Rattle.leader1822.proofs.Order.{hosts_total, exact_hosts}
+use Rattle.interface.proofs.lemmas.{exact_hosts, hosts_total, same_host-true}
 use Rattle.leader1822.proofs.ForHost.{eq_host}
 
 -- what a list of entries has for a host

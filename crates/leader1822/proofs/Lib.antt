@@ -1,12 +1,6 @@
-pub mod FlowByFlow
-pub mod Lists
-pub mod Order
-pub mod MessageLaw
-pub mod NotTaken
 pub mod Waiting
 pub mod ForHost
 pub mod Kept
-pub mod FlowMap
 pub mod FlowRange
 pub mod Newest
 pub mod Sound
@@ -16,6 +10,3 @@ pub mod Index
 pub mod Resting
 pub mod Giving
 pub mod ToldDead
-pub mod WorkedBoxes
-pub mod UnsafeLogs
-pub mod lemmas

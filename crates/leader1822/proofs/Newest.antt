@@ -1,7 +1,7 @@
 -- A list without the one element that passes a test, which is looked for from the end.
 use Rattle.std.proofs.Common.{◌≡◌, ℕ, zero, suc, ◌≤◌, Bool, true, false, not, List, [], ◌∷◌, length, filter, Option, Some, None, OnSome, refl, ap, sym, subst, arith}
 use Rattle.std.specs.List.{list_any, slice_get, remove}
-use Rattle.leader1822.proofs.Lists.{or_false}
+use Rattle.interface.proofs.lemmas.{or_false}
 
 some_same : {A : Type 0} {x y : A} → Some x ≡ Some y → x ≡ y
 some_same e = cc

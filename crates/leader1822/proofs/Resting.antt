@@ -1,16 +1,16 @@
 -- Plain boxes rest while their map by flow is empty.
 use Rattle.std.proofs.Common.{◌≡◌, Bool, true, false, ◌||◌, List, [], ◌∷◌, Option, None, is_some, Ok, Err, refl, ap, sym, ◌∙◌}
 use Rattle.std.specs.FinMap.{empty, get, get-empty}
-use Rattle.leader1822.specs.Host.{Host, is_host}
-use Rattle.leader1822.specs.Flow.{flow_cmp}
-use Rattle.leader1822.specs.Rest.{Rests, TakesNothing}
+use Rattle.interface.specs.Host.{Host, is_host}
+use Rattle.interface.specs.Flow.{flow_cmp}
+use Rattle.interface.specs.Rest.{Rests, TakesNothing}
 use Rattle.leader1822.specs.Boxes.{Boxes, BoxesRound, BoxesTake, WaitingAnswer, for_host, first_of_list, next_for, answer_first}
 use Rattle.leader1822.specs.Inside.Held.{Flows, Held, IsIndexed, IsKept}
 use Rattle.leader1822.specs.Inside.Soundness.{texts_of, kinds_of, texts_for, kinds_for, AreTo, AreToldTo, Matches}
-use Rattle.leader1822.specs.declared.address.Flow.{Flow}
-use Rattle.leader1822.specs.declared.carrier.CarrierFault.TheVariants as fault
-use Rattle.leader1822.specs.declared.message.HostMessage.{HostMessage}
-use Rattle.leader1822.proofs.Lists.{same_host-true, same_flow-refl}
+use Rattle.interface.specs.declared.address.Flow.{Flow}
+use Rattle.interface.specs.declared.carrier.CarrierFault.TheVariants as fault
+use Rattle.interface.specs.declared.message.HostMessage.{HostMessage}
+use Rattle.interface.proofs.lemmas.{same_flow-refl, same_host-true}
 use Rattle.leader1822.proofs.Waiting.{has_any}
 use Rattle.leader1822.proofs.Index.{some_pending}
 

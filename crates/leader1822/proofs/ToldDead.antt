@@ -2,7 +2,7 @@
 use Rattle.std.proofs.Common.{List}
 use Rattle.leader1822.specs.Boxes.{told_dead}
 use Rattle.leader1822.specs.Inside.Held.{Held, flows_dead}
-use Rattle.leader1822.specs.declared.message.HostMessage.{HostMessage}
+use Rattle.interface.specs.declared.message.HostMessage.{HostMessage}
 
 abbrev pub all_told : Held → List HostMessage → Held
 all_told c ms = record {

@@ -1,8 +1,8 @@
 -- Leaders and their octets (BBN Report 1822, message leaders).
 use Rattle.std.specs.Prelude.{ℕ, ◌%◌, ◌<◌, List, [], ◌∷◌, Option, Some, None, Result, Ok, Err, ◌==◌, if◌then◌else◌}
-use Rattle.leader1822.specs.Host.{Host, IsAddress, address_octet, host_of_octet}
-use Rattle.leader1822.specs.declared.crossing.Answer.{Answer}
-use Rattle.leader1822.specs.declared.crossing.Answer.TheVariants as answer
+use Rattle.interface.specs.Host.{Host, IsAddress, address_octet, host_of_octet}
+use Rattle.interface.specs.declared.crossing.Answer.{Answer}
+use Rattle.interface.specs.declared.crossing.Answer.TheVariants as answer
 use Rattle.leader1822.specs.declared.leader.Leader.{Leader}
 use Rattle.leader1822.specs.declared.leader.Leader.TheVariants as leader
 use Rattle.leader1822.specs.declared.leader.LeaderFault.{LeaderFault}

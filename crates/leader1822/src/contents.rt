@@ -2,23 +2,22 @@
 
 ghost use Rattle.std.specs.Prelude.{◌≡◌, ◌++◌, [], ◌∷◌, not, true, false, reverse, OnOk, OnErr, IfOk, IsSome, None, filter, length};
 ghost use Rattle.std.specs.FinMap as map;
-ghost use Rattle.leader1822.specs.Host.{Host, InOrder, is_host, same_host};
+ghost use Rattle.interface.specs.Host.{Host, is_host, same_host};
 ghost use Rattle.leader1822.specs.Boxes as boxes;
 ghost use Rattle.leader1822.specs.Boxes.{queued_if, told_dead};
 ghost use Rattle.leader1822.specs.Inside.Held.{IsIndexed, IsKept, is_message, is_unanswered, put, answer_if, cleared, flows_dead, held_admitted, held_offered, held_taken, held_given_up, held_stopped, held_started};
 ghost use Rattle.leader1822.specs.Inside.Named.{IsNamed};
 ghost use Rattle.leader1822.specs.Inside.Shown.{waiting_in};
 ghost use Rattle.leader1822.specs.Inside.Soundness.{KeepsLog};
-ghost use Rattle.leader1822.specs.declared.carrier.CarrierFault.TheVariants.{OutOfMemory};
-ghost use Rattle.leader1822.specs.declared.crossing.Answer.TheVariants as answer;
-ghost use Rattle.leader1822.specs.declared.crossing.Crossing.TheVariants as crossing;
-ghost use Rattle.leader1822.specs.declared.crossing.Inbound.TheVariants as inbound;
+ghost use Rattle.interface.specs.declared.carrier.CarrierFault.TheVariants.{OutOfMemory};
+ghost use Rattle.interface.specs.declared.crossing.Answer.TheVariants as answer;
+ghost use Rattle.interface.specs.declared.crossing.Crossing.TheVariants as crossing;
+ghost use Rattle.interface.specs.declared.crossing.Inbound.TheVariants as inbound;
 ghost use Rattle.leader1822.specs.declared.flows.Pending.TheVariants as pending;
 
 use crate::flows::{Flows, Pending};
-use crate::hosts::Hosts;
 use crate::queues::Queues;
-use crate::{Answer, CarrierFault, Crossing, Flow, HostAddr, HostMessage, Inbound};
+use interface::{Answer, CarrierFault, Crossing, Flow, HostAddr, HostMessage, Hosts, Inbound};
 use std::alloc::{AllocError, Global};
 use std::collections::VecDeque;
 use std::marker::Model;
@@ -43,8 +42,7 @@ impl Model for Contents {
     ghost use Rattle.std.specs.Prelude.{reverse};
     ghost use Rattle.std.specs.Coded.{codes};
     ghost use Rattle.leader1822.specs.Inside.Held.{Held};
-    ghost use Rattle.leader1822.specs.Inside.Codes.{coded_flows};
-    ghost use Rattle.leader1822.specs.Codes.{coded_queues, coded_answers};
+    ghost use Rattle.leader1822.specs.Inside.Codes.{coded_answers, coded_flows, coded_queues};
 
     ghost Value = { Held };
 

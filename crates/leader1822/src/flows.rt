@@ -3,9 +3,9 @@
 ghost use Rattle.std.specs.Prelude.{◌≡◌, OnOk, OnErr, IsSome, None, true, false};
 ghost use Rattle.std.specs.FinMap as map;
 ghost use Rattle.leader1822.specs.Inside.Named.{IsNamed};
-ghost use Rattle.leader1822.specs.declared.address.Flow.{Flow};
+ghost use Rattle.interface.specs.declared.address.Flow.{Flow};
 
-use crate::{Answer, Flow, HostAddr, Link};
+use interface::{Answer, Flow, HostAddr, Link};
 use std::alloc::{AllocError, Global};
 use std::collections::BTreeMap;
 use std::marker::Model;
@@ -27,7 +27,7 @@ pub(crate) struct Flows {
 
 impl Model for Flows {
     ghost use Rattle.std.specs.FinMap as map;
-    ghost use Rattle.leader1822.specs.Flow.{flow_cmp};
+    ghost use Rattle.interface.specs.Flow.{flow_cmp};
     ghost use Rattle.leader1822.specs.Inside.Codes.{coded_flows};
     ghost use Rattle.leader1822.specs.declared.flows.Pending.{Pending};
 

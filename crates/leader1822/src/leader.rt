@@ -3,7 +3,7 @@
 ghost use Rattle.std.specs.Prelude.{◌≡◌, ℕ, List, ◌∷◌, [], ◌++◌, ◌<◌, ◌*◌, ◌+◌, Ok, Err};
 ghost use Rattle.leader1822.specs.Leader.{read_from_host, read_from_imp, spelling, as_read, answer_type, regular_leader, answer_leader};
 
-use crate::{Answer, HostAddr, Link};
+use interface::{Answer, HostAddr, Link};
 use thiserror::Error;
 
 /// How many octets a leader has.

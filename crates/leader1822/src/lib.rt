@@ -1,32 +1,20 @@
-//! The interface between a host and its IMP (BBN Report 1822, with the 32-bit leader).
+//! The leaders of messages between a host and its IMP (BBN Report 1822, with the 32-bit leader), and the plainest
+//! carrier.
 //!
-//! Here live the words that cross it: addresses, links, flows, messages, leaders and answers. Here is
-//! also what the network promises to its hosts: one mailbox for each flow, which a log of crossings has
-//! to follow, and the trait [`Carrier`], whose every implementation keeps such a log. [`PlainBoxes`] is
-//! the plainest of them: mailboxes and nothing else.
-//!
-//! The layers above rely on a leader being read and written exactly, and on a carrier's log being a run
-//! of the mailboxes. Nothing here knows of packets, lines or routes.
+//! A [`Leader`] is read and written exactly. [`PlainBoxes`] is a [`Carrier`] that is mailboxes and nothing else. The
+//! words of the interface itself live in the crate `interface`, and are passed on.
 #![tactic(auto)]
 
-mod address;
-mod carrier;
 mod contents;
-mod crossing;
-mod event;
 mod flows;
-mod hosts;
 pub mod law;
 mod leader;
-mod message;
 mod plain_boxes;
 mod queues;
 
-pub use address::{Flow, HostAddr, ImpNumber, Link, MESSAGE_NUMBERS, MOST_IMPS, Number};
-pub use carrier::{Carrier, CarrierFault};
-pub use crossing::{Answer, Crossing, Inbound};
-pub use event::{Direction, NetEvent};
-pub use hosts::Hosts;
+pub use interface::{
+    Answer, Carrier, CarrierFault, Crossing, Direction, Flow, HostAddr, HostMessage, Hosts,
+    ImpNumber, Inbound, Link, MESSAGE_NUMBERS, MOST_IMPS, NetEvent, Number, Text,
+};
 pub use leader::{Leader, LeaderFault};
-pub use message::{HostMessage, Text};
 pub use plain_boxes::PlainBoxes;

@@ -1,12 +1,12 @@
 //! The plainest carrier: mailboxes and nothing else.
 
 ghost use Rattle.std.specs.Prelude.{◌≡◌, true, length, option_copied, slice_get};
-ghost use Rattle.leader1822.specs.Host.{InOrder};
+ghost use Rattle.interface.specs.Host.{InOrder};
 ghost use Rattle.leader1822.specs.Boxes as boxes;
 ghost use Rattle.leader1822.specs.Boxes.{BoxesDecided, opening_boxes};
 
 use crate::contents::Contents;
-use crate::{
+use interface::{
     Answer, Carrier, CarrierFault, Crossing, Flow, HostAddr, HostMessage, Inbound, NetEvent,
 };
 use std::alloc::Global;
@@ -22,7 +22,7 @@ pub struct PlainBoxes {
 impl Model for PlainBoxes {
     ghost use Rattle.std.specs.Coded.{codes};
     ghost use Rattle.leader1822.specs.Boxes.{Boxes};
-    ghost use Rattle.leader1822.specs.Codes.{coded_queues, coded_answers};
+    ghost use Rattle.leader1822.specs.Inside.Codes.{coded_queues, coded_answers};
     ghost use Rattle.leader1822.specs.Inside.Held.{IsKept};
 
     ghost Value = { Boxes };

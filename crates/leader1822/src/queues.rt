@@ -4,10 +4,10 @@ ghost use Rattle.std.specs.Prelude.{◌≡◌, ◌<◌, ◌++◌, List, [], ◌�
 ghost use Rattle.std.specs.FinMap as map;
 ghost use Rattle.std.specs.VecDeque.{deque_len, deque_capacity};
 ghost use Rattle.leader1822.specs.Boxes.{for_host, with_queue, queued_for, first_of_list, rest, is_of, is_rfnm_about};
-ghost use Rattle.leader1822.specs.declared.crossing.Answer.TheVariants as answer;
+ghost use Rattle.interface.specs.declared.crossing.Answer.TheVariants as answer;
 ghost use Rattle.leader1822.specs.Inside.Shown.{waiting_in};
 
-use crate::{Answer, Flow, HostAddr, HostMessage};
+use interface::{Answer, Flow, HostAddr, HostMessage};
 use std::alloc::{AllocError, Global};
 use std::collections::{BTreeMap, VecDeque};
 use std::marker::Model;
@@ -23,8 +23,8 @@ impl<T> Model for Queues<T> {
     ghost use Rattle.std.specs.Prelude.{List};
     ghost use Rattle.std.specs.Coded.{coded_list};
     ghost use Rattle.std.specs.FinMap as map;
-    ghost use Rattle.leader1822.specs.Host.{host_cmp};
-    ghost use Rattle.leader1822.specs.Codes.{coded_host};
+    ghost use Rattle.interface.specs.Host.{host_cmp};
+    ghost use Rattle.interface.specs.Codes.{coded_host};
     ghost use Rattle.leader1822.specs.Inside.Shown.{shown};
 
     ghost Value = { map.FinMap host_cmp (List T) };

@@ -9,12 +9,12 @@ use Rattle.std.specs.Cmp.{eq_by_cmp_equiv}
 use Rattle.std.specs.FinMap.{entries, entries_sorted, get, get-entries, from_entries, from_sorted, get-from_entries, get-from_sorted, entries-from_sorted, same_map}
 use Rattle.std.specs.FinMap.Entries.{find, below_all, is_sorted}
 use Rattle.std.specs.Map.{keys_of}
-use Rattle.leader1822.specs.Host.{Host, same_host}
-use Rattle.leader1822.specs.declared.address.Flow.{Flow}
+use Rattle.interface.specs.Host.{Host, same_host}
+use Rattle.interface.specs.declared.address.Flow.{Flow}
 use Rattle.link_table.specs.Keys.{flow_cmp}
 use Rattle.link_table.specs.Flows.{Sources, outstanding_in, has_outstanding, has_outstanding_to}
 use Rattle.link_table.specs.declared.source.Standing.{Standing}
-use Rattle.leader1822.proofs.lemmas.{exact_flows, flows_total, or_false}
+use Rattle.interface.proofs.lemmas.{exact_flows, flows_total, or_false}
 
 both : (a b : Bool) → a ≡ true → b ≡ true → (a && b) ≡ true
 both true b e f = f

@@ -7,15 +7,15 @@ use Rattle.std.specs.declared.cmp.Ordering.TheVariants.{Less, Equal, Greater}
 use Rattle.std.specs.Ordering.{nat_cmp, ordering_then, eq_by_cmp, is_eq}
 use Rattle.std.specs.Cmp.{eq_by_cmp_equiv}
 use Rattle.std.specs.FinMap.{FinMap, get, insert, keys, get-insert, get-retain_keys, contains_key-keys}
-use Rattle.leader1822.specs.Host.{Host, same_host, host_cmp}
-use Rattle.leader1822.specs.Mailboxes.{same_flow}
-use Rattle.leader1822.specs.declared.address.Flow.{Flow}
+use Rattle.interface.specs.Host.{Host, same_host, host_cmp}
+use Rattle.interface.specs.Mailboxes.{same_flow}
+use Rattle.interface.specs.declared.address.Flow.{Flow}
 use Rattle.link_table.specs.Flows.{Sources, Destinations, ended, ended_in, changed, changed_from, begun, flow_answered, given_up, handed, number_in, answered_in, given_up_in, handed_in}
 use Rattle.link_table.specs.Keys.{flow_cmp, is_from, drop_from, has_from}
 use Rattle.link_table.specs.declared.destination.Fate.{Fate}
 use Rattle.link_table.specs.declared.source.Standing.{Standing}
 use Rattle.link_table.specs.declared.source.Standing.TheVariants as standing
-use Rattle.leader1822.proofs.lemmas.{exact_flows, flows_total, or_false}
+use Rattle.interface.proofs.lemmas.{exact_flows, flows_total, or_false}
 use Rattle.link_table.specs.Flows.{last_of}
 use Rattle.link_table.specs.Numbers.{modulus}
 use Rattle.link_table.proofs.NumberLemmas.{next_in, some_number}

@@ -4,11 +4,11 @@ use Rattle.std.specs.List.{list_any, filter}
 use Rattle.std.specs.declared.cmp.Ordering.{Ordering}
 use Rattle.std.specs.declared.cmp.Ordering.TheVariants.{Less, Equal, Greater}
 use Rattle.std.specs.FinMap.{find, from_entries, same_map, get-from_entries}
-use Rattle.leader1822.specs.declared.address.Flow.{Flow}
+use Rattle.interface.specs.declared.address.Flow.{Flow}
 use Rattle.std.specs.FinMap.Entries.{find-where_key, put, by_order}
 use Rattle.std.specs.FinMap.{entries, entries-insert, get-retain_keys, empty, len-entries, len-empty}
 use Rattle.std.specs.Map.{keys_of}
-use Rattle.leader1822.proofs.lemmas.{exact_flows, flows_total}
+use Rattle.interface.proofs.lemmas.{exact_flows, flows_total}
 use Rattle.link_table.specs.Keys.{flow_cmp, is_from, drop_from, has_from}
 
 -- flows that compare alike are from the same IMP

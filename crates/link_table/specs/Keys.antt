@@ -3,9 +3,9 @@ use Rattle.std.specs.Prelude.{ℕ, Bool, ◌==◌, not, refl}
 use Rattle.std.specs.List.{list_any}
 use Rattle.std.specs.Coded.{Coded, code_by, coded×, coded_ℕ}
 use Rattle.std.specs.FinMap as map
-use Rattle.leader1822.specs.Host.{Host}
-pub use Rattle.leader1822.specs.Flow.{flow_cmp}
-use Rattle.leader1822.specs.declared.address.Flow.{Flow}
+use Rattle.interface.specs.Host.{Host}
+pub use Rattle.interface.specs.Flow.{flow_cmp}
+use Rattle.interface.specs.declared.address.Flow.{Flow}
 
 -- a flow as five numbers
 abbrev pub coded_host : Coded Host

@@ -1,7 +1,7 @@
 -- The numbers of a flow's messages, and what its destination takes for new.
 use Rattle.std.specs.Prelude.{ℕ, ◌≤◌, ◌<◌, Bool, Option}
 use Rattle.link_table.specs.Window.{next_of, ahead_of, oldest_of, is_new_of}
-use Rattle.leader1822.specs.Flow.{message_numbers}
+use Rattle.interface.specs.Flow.{message_numbers}
 
 -- how many numbers there are: 65,536
 unfoldable pub modulus : ℕ

@@ -7,7 +7,7 @@ ghost use Rattle.link_table.specs.Flows.{age_of, kept_in, asked_in, told_by, end
 
 use crate::flow_map::FlowMap;
 use crate::numbers::is_new;
-use leader1822::{Flow, ImpNumber, Number};
+use interface::{Flow, ImpNumber, Number};
 use std::alloc::{AllocError, Global};
 use std::collections::btree_map;
 use std::marker::Model;

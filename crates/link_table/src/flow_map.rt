@@ -5,7 +5,7 @@ ghost use Rattle.std.specs.FinMap as map;
 ghost use Rattle.std.specs.List.{list_any};
 ghost use Rattle.link_table.specs.Keys.{flow_cmp, is_from, drop_from, has_from};
 
-use leader1822::{Flow, ImpNumber};
+use interface::{Flow, ImpNumber};
 use std::alloc::{AllocError, Global};
 use std::collections::btree_map::{self, BTreeMap};
 use std::marker::Model;

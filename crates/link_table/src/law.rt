@@ -4,9 +4,9 @@
 ghost use Rattle.std.specs.Prelude.{◌≡◌, ◌≢◌, ℕ, ◌+◌, ◌-◌, ◌*◌, ◌<◌, ◌≤◌, ◌==◌, false, true, Option, Some, None, ◌↔◌, IsSome, if◌then◌else◌};
 ghost use Rattle.std.specs.Option.{option_map};
 ghost use Rattle.std.specs.FinMap as map;
-ghost use Rattle.leader1822.specs.Host.{Host, same_host};
-ghost use Rattle.leader1822.specs.Mailboxes.{same_flow};
-ghost use Rattle.leader1822.specs.declared.address.Flow.{Flow};
+ghost use Rattle.interface.specs.Host.{Host, same_host};
+ghost use Rattle.interface.specs.Mailboxes.{same_flow};
+ghost use Rattle.interface.specs.declared.address.Flow.{Flow};
 ghost use Rattle.link_table.specs.Flows.{Sources, Destinations, noted, ended, ended_in, begun, flow_answered, given_up, handed, number_in, last_in, outstanding_in, is_idle_in, answered_in, given_up_in, handed_in, release_in, has_outstanding, has_outstanding_to};
 ghost use Rattle.link_table.specs.Keys.{is_from, drop_from, has_from};
 ghost use Rattle.link_table.specs.declared.destination.Fate.{Fate};

@@ -19,5 +19,5 @@ mod source;
 
 pub use destination::{Age, Asked, DestFlows, Fate, Noted};
 pub use fault::FlowFault;
-pub use leader1822::Number;
+pub use interface::Number;
 pub use source::{Release, SourceFlows, Standing};

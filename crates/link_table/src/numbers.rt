@@ -3,7 +3,7 @@
 ghost use Rattle.std.specs.Prelude.{◌≡◌};
 ghost use Rattle.link_table.specs.Numbers.{next, oldest, is_new};
 
-use leader1822::{MESSAGE_NUMBERS, Number};
+use interface::{MESSAGE_NUMBERS, Number};
 
 /// How far ahead of the last number a number counts as new.
 pub const WINDOW: u32 = 32_767;

@@ -7,7 +7,7 @@ ghost use Rattle.link_table.specs.Flows.{FlowDecided, begin_fault, begun, flow_a
 use crate::FlowFault;
 use crate::flow_map::FlowMap;
 use crate::numbers::next;
-use leader1822::{Flow, HostAddr, ImpNumber, Number};
+use interface::{Flow, HostAddr, ImpNumber, Number};
 use std::alloc::Global;
 use std::collections::btree_map;
 use std::marker::Model;

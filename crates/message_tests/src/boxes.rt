@@ -2,10 +2,11 @@
 
 use crate::values::is_told;
 use bit_messages::{BitFault, Bits};
-use leader1822::{
-    Answer, Carrier, CarrierFault, Flow, HostAddr, HostMessage, ImpNumber, Inbound, Leader,
-    LeaderFault, Link, NetEvent, PlainBoxes, Text,
+use interface::{
+    Answer, Carrier, CarrierFault, Flow, HostAddr, HostMessage, ImpNumber, Inbound, Link, NetEvent,
+    Text,
 };
+use leader1822::{Leader, LeaderFault, PlainBoxes};
 use std::alloc::{AllocError, Global};
 
 /// Host 1 at IMP 2.

@@ -2,10 +2,10 @@
 -- book fails first.
 use Rattle.std.specs.Prelude.{◌≡◌, ℕ, Bool, List, length, IsSome, codes}
 use Rattle.std.specs.List.{Contains}
-use Rattle.leader1822.specs.Messages.{SafeMessages}
-use Rattle.leader1822.specs.declared.address.Flow.{Flow}
-use Rattle.leader1822.specs.declared.crossing.Crossing.{Crossing}
-use Rattle.leader1822.specs.declared.message.HostMessage.{HostMessage}
+use Rattle.interface.specs.Messages.{SafeMessages}
+use Rattle.interface.specs.declared.address.Flow.{Flow}
+use Rattle.interface.specs.declared.crossing.Crossing.{Crossing}
+use Rattle.interface.specs.declared.message.HostMessage.{HostMessage}
 use Rattle.net_sim.specs.Book.{Life}
 use Rattle.net_sim.specs.Formed.{CrossedAt, going, coming}
 use Rattle.net_sim.specs.Safe.{SafeBook, SafePartners, SafeStreams, SafeGrants, before, control_flow, last_out}

@@ -1,9 +1,9 @@
 -- What a world keeps of its hosts: the crossings, the notices to each user, the contacts, what services reported, and a life for
 -- each opened end of a connection (NIC 8246).
 use Rattle.std.specs.Prelude.{ℕ, ◌+◌, ◌==◌, ◌&&◌, Bool, true, false, not, if◌then◌else◌, List, [], ◌∷◌, ◌++◌, map, length}
-use Rattle.leader1822.specs.Host.{Host, same_host}
-use Rattle.leader1822.specs.declared.crossing.Crossing.{Crossing}
-use Rattle.leader1822.specs.declared.crossing.Crossing.TheVariants as crossing
+use Rattle.interface.specs.Host.{Host, same_host}
+use Rattle.interface.specs.declared.crossing.Crossing.{Crossing}
+use Rattle.interface.specs.declared.crossing.Crossing.TheVariants as crossing
 pub use Rattle.net_sim.specs.declared.book.Called.{Called}
 pub use Rattle.net_sim.specs.declared.book.Told.{Told}
 pub use Rattle.net_sim.specs.declared.life.Amount.{Amount}

@@ -1,10 +1,10 @@
 -- Clean points in a book (NIC 8246, RST and RRP), and what the law of resets asks of a world.
 use Rattle.std.specs.Prelude.{◌≡◌, ℕ, Bool, true, List, [], Option, Some}
-use Rattle.leader1822.specs.Calls.{Seen}
-use Rattle.leader1822.specs.Host.{Host, IsAddress, is_host}
-use Rattle.leader1822.specs.Mailboxes.{IsRun}
-use Rattle.leader1822.specs.declared.crossing.Crossing.{Crossing}
-use Rattle.leader1822.specs.declared.message.HostMessage.{HostMessage}
+use Rattle.interface.specs.Calls.{Seen}
+use Rattle.interface.specs.Host.{Host, IsAddress, is_host}
+use Rattle.interface.specs.Mailboxes.{IsRun}
+use Rattle.interface.specs.declared.crossing.Crossing.{Crossing}
+use Rattle.interface.specs.declared.message.HostMessage.{HostMessage}
 use Rattle.sockets.specs.Pairs.{NcpState, pair_with}
 use Rattle.host_pairs.specs.declared.notice.Notice.{Notice}
 use Rattle.reset_law.specs.Events.{Other}

@@ -1,8 +1,8 @@
 -- Where it shows that a book isn't safe: at a crossing, at one or two lives, or at a list of what was handed over.
 use Rattle.std.specs.Prelude.{◌≡◌, ◌⊎◌, ◌<◌, ◌+◌, ℕ, Bool, true, List, [], ◌∷◌, length, take, Some}
 use Rattle.std.specs.List.{Contains, slice_get}
-use Rattle.leader1822.specs.Messages.{SafeMessages}
-use Rattle.leader1822.specs.declared.crossing.Crossing.{Crossing}
+use Rattle.interface.specs.Messages.{SafeMessages}
+use Rattle.interface.specs.declared.crossing.Crossing.{Crossing}
 use Rattle.net_sim.specs.Audit.{IsStamped}
 use Rattle.net_sim.specs.Book.{Life}
 use Rattle.net_sim.specs.Safe.{AreHanded, IsGranted, Match, SafePartners, Source, before, receives}

@@ -1,6 +1,6 @@
 -- What services report of initial connections, and what their hosts heard until then (RFC 165).
 use Rattle.std.specs.Prelude.{◌≡◌, ◌⊎◌, ℕ, ◌+◌, ◌≤◌, true, false, List, ◌++◌, map, filter, length, take, None, All}
-use Rattle.leader1822.specs.Host.{Host, same_host}
+use Rattle.interface.specs.Host.{Host, same_host}
 use Rattle.host_pairs.specs.declared.notice.Notice.{Notice}
 use Rattle.icp.specs.Played.{IsConnected, IsServed, server_played, user_played}
 use Rattle.icp.specs.Server.{opening_server}

@@ -1,10 +1,10 @@
 -- The moments of a book, and what resets see of it: its crossings, and the contacts that users asked for.
 use Rattle.std.specs.Prelude.{◌≡◌, ℕ, ◌==◌, true, if◌then◌else◌, List, [], ◌∷◌, ◌++◌, length, Some, None}
-use Rattle.leader1822.specs.Host.{Host}
-use Rattle.leader1822.specs.Mailboxes as mail
-use Rattle.leader1822.specs.Mailboxes.{is_up}
-use Rattle.leader1822.specs.declared.crossing.Crossing.{Crossing}
-use Rattle.leader1822.specs.declared.crossing.Crossing.TheVariants as crossing
+use Rattle.interface.specs.Host.{Host}
+use Rattle.interface.specs.Mailboxes as mail
+use Rattle.interface.specs.Mailboxes.{is_up}
+use Rattle.interface.specs.declared.crossing.Crossing.{Crossing}
+use Rattle.interface.specs.declared.crossing.Crossing.TheVariants as crossing
 pub use Rattle.host_services.specs.Named.{IsAddressed, IsAsked}
 use Rattle.sockets.specs.Requests.{refusal}
 use Rattle.sockets.specs.Sending.{next_out}

@@ -1,8 +1,8 @@
 -- What is kept of a world describes one list of moments.
 use Rattle.std.specs.Prelude.{◌≡◌, false, if◌then◌else◌, List, [], ◌∷◌, map, Some, None, All}
-use Rattle.leader1822.specs.Calls.{Seen}
-use Rattle.leader1822.specs.Host.{Host, IsAddress}
-use Rattle.leader1822.specs.Mailboxes.{is_up}
+use Rattle.interface.specs.Calls.{Seen}
+use Rattle.interface.specs.Host.{Host, IsAddress}
+use Rattle.interface.specs.Mailboxes.{is_up}
 use Rattle.ncp_control.specs.Command.{IsWord}
 use Rattle.net_sim.specs.Story.{Moment, program}
 use Rattle.net_sim.specs.Timeline.{IsAddressed, IsAsked, IsTimeline, crossings_of, contacts_of}

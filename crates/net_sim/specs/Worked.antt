@@ -1,11 +1,11 @@
 -- Small books and small worlds: words for worked examples.
 use Rattle.std.specs.Prelude.{ℕ, Bool, true, false, List, [], ◌∷◌, replicate}
-use Rattle.leader1822.specs.Calls.{Calls, Seen, ShowsOffer, ShowsTake, ShowsStep, ShowsRound}
-use Rattle.leader1822.specs.Host.{Host}
-use Rattle.leader1822.specs.declared.crossing.Answer.TheVariants as answer
-use Rattle.leader1822.specs.declared.crossing.Crossing.{Crossing}
-use Rattle.leader1822.specs.declared.crossing.Crossing.TheVariants as crossing
-use Rattle.leader1822.specs.declared.message.HostMessage.{HostMessage}
+use Rattle.interface.specs.Calls.{Calls, Seen, ShowsOffer, ShowsTake, ShowsStep, ShowsRound}
+use Rattle.interface.specs.Host.{Host}
+use Rattle.interface.specs.declared.crossing.Answer.TheVariants as answer
+use Rattle.interface.specs.declared.crossing.Crossing.{Crossing}
+use Rattle.interface.specs.declared.crossing.Crossing.TheVariants as crossing
+use Rattle.interface.specs.declared.message.HostMessage.{HostMessage}
 use Rattle.sockets.specs.Pairs.{opening_state}
 use Rattle.host_pairs.specs.declared.notice.Notice.TheVariants as notice
 use Rattle.sockets.specs.declared.request.Request.TheVariants as request

@@ -18,7 +18,7 @@ use crate::book::{Book, Called, Page};
 use crate::hosting::{tend, told_by, write_crossing};
 use crate::seat::{Seat, ServiceSeat};
 use host_services::{Deeds, ServiceDesk, copy_of};
-use leader1822::HostAddr;
+use interface::HostAddr;
 use sockets::{Ncp, NcpFault, Notice, Request};
 use std::alloc::{AllocError, Global};
 

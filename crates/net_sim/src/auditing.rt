@@ -19,7 +19,7 @@ mod streams;
 use crate::bit_log::BitLog;
 use crate::life::Life;
 pub use findings::{Finding, locate};
-use leader1822::Crossing;
+use interface::Crossing;
 pub use said::{Audit, Part};
 
 /// Returns whether a log, its lives and what was handed over in each of them are a safe book. The log is the oldest

@@ -10,7 +10,7 @@ use crate::hosting::copy_of;
 use crate::life::Life;
 use crate::lives::Lives;
 use host_services::Reported;
-use leader1822::{Crossing, HostAddr};
+use interface::{Crossing, HostAddr};
 use sockets::{Notice, Request};
 use std::alloc::{AllocError, Global};
 use std::marker::Model;

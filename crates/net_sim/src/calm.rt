@@ -9,7 +9,7 @@ ghost use Rattle.net_sim.specs.World.{CalmGives, Repeats, Offer, Take};
 use crate::seat::Seat;
 use crate::world::{World, stops};
 use crate::{Event, WorldFault};
-use leader1822::{Carrier, CarrierFault, HostAddr};
+use interface::{Carrier, CarrierFault, HostAddr};
 
 /// How often a host takes in one round at most.
 const TAKINGS: u8 = 16;

@@ -1,7 +1,7 @@
 //! What may happen in a world, and why it is refused.
 
 use host_services::TypedLine;
-use leader1822::{CarrierFault, HostAddr, NetEvent};
+use interface::{CarrierFault, HostAddr, NetEvent};
 use sockets::{NcpFault, Request};
 use thiserror::Error;
 

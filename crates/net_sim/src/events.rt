@@ -15,7 +15,7 @@ use crate::parts::{
 use crate::seat::{Seat, ServiceSeat};
 use crate::{Event, WorldFault};
 use host_services::TypedLine;
-use leader1822::{Carrier, HostAddr, NetEvent};
+use interface::{Carrier, HostAddr, NetEvent};
 use sockets::Request;
 use std::alloc::Global;
 

@@ -3,7 +3,7 @@
 ghost use Rattle.std.specs.Prelude.{◌≡◌, ◌<◌, Some, true, false, IfOk, IfSome, OnOk, OnErr, map, reverse, length, slice_index_or};
 ghost use Rattle.std.specs.Bool.{OnTrue};
 ghost use Rattle.std.specs.List.{position};
-ghost use Rattle.leader1822.specs.Host.{same_host};
+ghost use Rattle.interface.specs.Host.{same_host};
 ghost use Rattle.net_sim.specs.Book.{all_asked, all_told, all_crossed, all_reported};
 ghost use Rattle.net_sim.specs.Inside.Lives.{told_at};
 ghost use Rattle.net_sim.specs.Inside.Parts.{IsDone, IsOnce, IsSettled, hosts_of};
@@ -17,7 +17,7 @@ use crate::asking::called_in;
 use crate::book::{Book, Page, Told};
 use crate::seat::{Seat, ServiceSeat};
 use host_services::{Deeds, ServiceDesk, Services};
-use leader1822::{Crossing, HostAddr, Inbound};
+use interface::{Crossing, HostAddr, Inbound};
 use sockets::{Ncp, Notice};
 use std::alloc::{AllocError, Global};
 

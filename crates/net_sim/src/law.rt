@@ -2,15 +2,15 @@
 //! do nothing: each clause is a law.
 
 ghost use Rattle.std.specs.Prelude.{◌≡◌, ◌⊎◌, ℕ, true, false, List, [], ◌∷◌, ◌++◌, length, Some, Result, Err, is_some};
-ghost use Rattle.leader1822.specs.Host.{Host, IsAddress, same_host};
-ghost use Rattle.leader1822.specs.declared.address.Flow.{Flow};
-ghost use Rattle.leader1822.specs.declared.crossing.Answer.{Answer};
-ghost use Rattle.leader1822.specs.declared.crossing.Crossing.{Crossing};
-ghost use Rattle.leader1822.specs.declared.crossing.Crossing.TheVariants as crossing;
-ghost use Rattle.leader1822.specs.declared.crossing.Inbound.TheVariants as inbound;
-ghost use Rattle.leader1822.specs.declared.message.HostMessage.{HostMessage};
-ghost use Rattle.leader1822.specs.Mailboxes.{Needs, IsRun, box_of, is_up};
-ghost use Rattle.leader1822.specs.Messages.{SafeMessages};
+ghost use Rattle.interface.specs.Host.{Host, IsAddress, same_host};
+ghost use Rattle.interface.specs.declared.address.Flow.{Flow};
+ghost use Rattle.interface.specs.declared.crossing.Answer.{Answer};
+ghost use Rattle.interface.specs.declared.crossing.Crossing.{Crossing};
+ghost use Rattle.interface.specs.declared.crossing.Crossing.TheVariants as crossing;
+ghost use Rattle.interface.specs.declared.crossing.Inbound.TheVariants as inbound;
+ghost use Rattle.interface.specs.declared.message.HostMessage.{HostMessage};
+ghost use Rattle.interface.specs.Mailboxes.{Needs, IsRun, box_of, is_up};
+ghost use Rattle.interface.specs.Messages.{SafeMessages};
 ghost use Rattle.net_sim.specs.Carriers.{shown, IsBooked};
 ghost use Rattle.net_sim.specs.Clean.{HaveAddresses, IsFresh, IsLawful, IsText, IsUnheard, is_through};
 ghost use Rattle.net_sim.specs.Story.{Crossed, Moment, IsStory, places, program, events_of};
@@ -35,7 +35,7 @@ ghost use Rattle.sockets.specs.Sending.{message_for, next_in, offered};
 ghost use Rattle.sockets.specs.declared.peer.Peer.{Peer};
 ghost use Rattle.sockets.specs.declared.request.Request.{Request};
 
-use leader1822::Carrier;
+use interface::Carrier;
 
 /// Each call of a host's program is, for each peer `h`, a step of the law of resets: where program and law agree on the pair
 /// before it, they agree on it after it.

@@ -11,7 +11,7 @@ use crate::bit_log::BitLog;
 use crate::tally::Tally;
 use crate::undo::{Mark, Undo};
 use bit_messages::Bits;
-use leader1822::HostAddr;
+use interface::HostAddr;
 use std::alloc::{AllocError, Global};
 
 /// This many messages, and this many bits in all.

@@ -18,7 +18,7 @@ use crate::open::Open;
 use crate::tally::Tally;
 use crate::undo::{Undo, take_back};
 use bit_messages::Bits;
-use leader1822::{Crossing, HostAddr};
+use interface::{Crossing, HostAddr};
 use sockets::{Notice, Request};
 use std::alloc::{AllocError, Global};
 use std::marker::Model;

@@ -6,7 +6,7 @@ ghost use Rattle.net_sim.specs.Inside.Places.{is_open_at};
 ghost use Rattle.net_sim.specs.declared.life.Life.{Life};
 
 use crate::life::{Ending, Life};
-use leader1822::HostAddr;
+use interface::HostAddr;
 use std::alloc::{AllocError, Global};
 use std::marker::Model;
 

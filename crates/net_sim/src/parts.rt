@@ -1,7 +1,7 @@
 //! What each event does to the parts of a world.
 
 ghost use Rattle.std.specs.Prelude.{◌≡◌, ◌<◌, ℕ, None, Some, Err, IfErr, OnOk, MatchResult, is_some, length, reverse, true};
-ghost use Rattle.leader1822.specs.Host.{Host};
+ghost use Rattle.interface.specs.Host.{Host};
 ghost use Rattle.host_services.specs.Services.{ServicesState, opening_desk};
 ghost use Rattle.host_services.specs.Turns.{server_begun, user_begun};
 ghost use Rattle.host_services.specs.TypedLines.{line_bits};
@@ -22,7 +22,7 @@ use crate::book::Book;
 use crate::hosting::{likely_place, place};
 use crate::seat::{Seat, ServiceSeat, empty_all, turn_all};
 use host_services::TypedLine;
-use leader1822::{CarrierFault, Crossing, HostAddr, HostMessage, Inbound};
+use interface::{CarrierFault, Crossing, HostAddr, HostMessage, Inbound};
 use sockets::{NcpFault, Request};
 use std::alloc::Global;
 

@@ -1,14 +1,14 @@
 //! Where a host's program runs.
 
 ghost use Rattle.std.specs.Prelude.{◌≡◌, None, Some, IfOk};
-ghost use Rattle.leader1822.specs.Host.{same_host};
+ghost use Rattle.interface.specs.Host.{same_host};
 ghost use Rattle.host_services.specs.Services.{no_services};
 ghost use Rattle.net_sim.specs.Inside.Seats.{emptied_in_order, turned_in_order};
 ghost use Rattle.net_sim.specs.World as world;
 ghost use Rattle.sockets.specs.Pairs.{opening_state};
 
 use host_services::Services;
-use leader1822::{Crossing, HostAddr};
+use interface::{Crossing, HostAddr};
 use sockets::Ncp;
 use std::alloc::{AllocError, Global};
 

@@ -1,12 +1,12 @@
 //! Worked examples of books and worlds. The functions here do nothing: each clause is a row, computed over the definitions.
 
 ghost use Rattle.std.specs.Prelude.{◌≡◌, ℕ, List, [], ◌∷◌, ◌++◌, Some, None, Ok, Err, Result, map, false, true};
-ghost use Rattle.leader1822.specs.Calls.{Seen};
-ghost use Rattle.leader1822.specs.Messages.{SafeMessages};
-ghost use Rattle.leader1822.specs.declared.carrier.CarrierFault.TheVariants as fault;
-ghost use Rattle.leader1822.specs.declared.crossing.Answer.TheVariants as answer;
-ghost use Rattle.leader1822.specs.declared.crossing.Crossing.TheVariants as crossing;
-ghost use Rattle.leader1822.specs.declared.event.NetEvent.TheVariants as event;
+ghost use Rattle.interface.specs.Calls.{Seen};
+ghost use Rattle.interface.specs.Messages.{SafeMessages};
+ghost use Rattle.interface.specs.declared.carrier.CarrierFault.TheVariants as fault;
+ghost use Rattle.interface.specs.declared.crossing.Answer.TheVariants as answer;
+ghost use Rattle.interface.specs.declared.crossing.Crossing.TheVariants as crossing;
+ghost use Rattle.interface.specs.declared.event.NetEvent.TheVariants as event;
 ghost use Rattle.net_sim.specs.Book.{opening_kept, book_told, asked, crossed, all_crossed};
 ghost use Rattle.net_sim.specs.Handed.{AreUnhanded};
 ghost use Rattle.net_sim.specs.Safe.{SafeBook, SafePartners, SafeStreams, SafeGrants, Match, own_request, partner_request, last_out, before, control_flow};

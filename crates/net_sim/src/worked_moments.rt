@@ -4,7 +4,7 @@
 ghost use Rattle.std.specs.Prelude.{◌≡◌, [], ◌∷◌, map};
 ghost use Rattle.host_pairs.specs.declared.notice.Notice.{Notice};
 ghost use Rattle.host_pairs.specs.declared.notice.Notice.TheVariants as notice;
-ghost use Rattle.leader1822.specs.declared.crossing.Inbound.TheVariants as inbound;
+ghost use Rattle.interface.specs.declared.crossing.Inbound.TheVariants as inbound;
 ghost use Rattle.net_sim.specs.Clean.{IsUnheard};
 ghost use Rattle.net_sim.specs.Book.{asked, book_told};
 ghost use Rattle.net_sim.specs.Story.{Asked, places, program};

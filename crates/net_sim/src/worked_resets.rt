@@ -1,7 +1,7 @@
 //! Worked examples of resets in a book. The functions here do nothing: each clause is a row, computed over the definitions.
 
 ghost use Rattle.std.specs.Prelude.{◌≡◌, List, [], ◌∷◌, Some, None, true};
-ghost use Rattle.leader1822.specs.declared.crossing.Crossing.TheVariants as crossing;
+ghost use Rattle.interface.specs.declared.crossing.Crossing.TheVariants as crossing;
 ghost use Rattle.net_sim.specs.Clean.{IsFresh, IsText, clean_point, is_through};
 ghost use Rattle.net_sim.specs.Timeline.{events_in};
 ghost use Rattle.net_sim.specs.Worked.{eight, message};

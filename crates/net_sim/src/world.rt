@@ -1,8 +1,7 @@
 //! Hosts with their programs over a carrier.
 
 ghost use Rattle.std.specs.Prelude.{◌≡◌, true, false, List, [], IfOk, OnOk, All};
-ghost use Rattle.leader1822.specs.Calls.{InOrder};
-ghost use Rattle.leader1822.specs.Host.{Host, IsAddress};
+ghost use Rattle.interface.specs.Host.{IsAddress};
 ghost use Rattle.net_sim.specs.Carriers.{shown};
 ghost use Rattle.net_sim.specs.Clean.{IsLawful};
 ghost use Rattle.net_sim.specs.Handed.{AreUnhanded};
@@ -17,7 +16,7 @@ use crate::book::Book;
 use crate::events::{follow, is_named, offer, take};
 use crate::seat::{Seat, ServiceSeat, opening_seats, opening_services};
 use crate::{Event, WorldFault};
-use leader1822::{Carrier, CarrierFault, HostAddr};
+use interface::{Carrier, CarrierFault, HostAddr};
 use sockets::NcpFault;
 use std::alloc::{AllocError, Global};
 use std::marker::Model;

@@ -4,7 +4,7 @@
 
 use crate::values::is_told;
 use imp_channel::{ACKS, ChannelFault, Content, Frame, Line, Received, SubmitFault};
-use leader1822::Number;
+use interface::Number;
 use packetiser::Packet;
 use routing::Vector;
 use std::alloc::{AllocError, Global};

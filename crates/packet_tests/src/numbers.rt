@@ -1,7 +1,7 @@
 //! Worked examples of the numbers of a flow's messages.
 
 use crate::values::{flow, from_imp_3, from_imp_4, is_told};
-use leader1822::{Flow, HostAddr, ImpNumber};
+use interface::{Flow, HostAddr, ImpNumber};
 use link_table::numbers::{is_new, next, oldest};
 use link_table::{
     Age, Asked, DestFlows, Fate, FlowFault, Noted, Number, Release, SourceFlows, Standing,

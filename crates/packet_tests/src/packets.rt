@@ -2,7 +2,7 @@
 
 use crate::values::{flow, is_told, to_imp_3};
 use bit_messages::{BitFault, Bits};
-use leader1822::{HostMessage, Number, Text};
+use interface::{HostMessage, Number, Text};
 use packetiser::{Added, Held, Outcome, Packet, PacketFault, PacketKind, Reassembly, cut};
 use std::alloc::{AllocError, Global};
 

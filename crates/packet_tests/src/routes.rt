@@ -1,7 +1,7 @@
 //! Route tables.
 
 use crate::values::far_from_others;
-use leader1822::MOST_IMPS;
+use interface::MOST_IMPS;
 use routing::{RouteTable, Vector};
 use std::alloc::{AllocError, Global};
 

@@ -3,7 +3,7 @@
 ghost use Rattle.std.specs.Prelude.{◌≡◌, ◌≤◌, length, IfOk};
 
 use crate::values::{distances, far_from_others};
-use leader1822::MOST_IMPS;
+use interface::MOST_IMPS;
 use routing::{RouteTable, Vector, settle};
 use std::alloc::{AllocError, Global};
 

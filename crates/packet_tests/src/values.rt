@@ -1,9 +1,9 @@
 //! Values that the rows share.
 
 ghost use Rattle.std.specs.Prelude.{◌≤◌};
-ghost use Rattle.leader1822.specs.Host.{most_imps};
+ghost use Rattle.interface.specs.Host.{most_imps};
 
-use leader1822::{Flow, HostAddr, Link, MOST_IMPS};
+use interface::{Flow, HostAddr, Link, MOST_IMPS};
 use routing::INFINITE;
 use std::alloc::Global;
 use std::fmt::Display;

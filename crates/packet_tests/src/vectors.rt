@@ -1,7 +1,7 @@
 //! Distances between IMPs.
 
 use crate::values::far_from_others;
-use leader1822::MOST_IMPS;
+use interface::MOST_IMPS;
 use routing::Vector;
 use std::alloc::AllocError;
 

@@ -1,6 +1,5 @@
 -- What slots hold.
-use Rattle.std.proofs.Common.{◌≡◌, ℕ, ◌+◌, ◌*◌, ◌%◌, ◌<◌, ◌≤◌, Bool, true, false, not, List, [], ◌∷◌, ◌++◌, length, refl, ap, sym, ◌∙◌, subst, arith, All, Contains, None, Some, filter, map, IsPermutation, length-append, replicate}
-use Rattle.std.proofs.Common.{nat_lt, ◌==◌, ◌||◌, ◌&&◌, eqb-true, eq-eqb, le-ltb, inl, inr, if◌then◌else◌}
+use Rattle.std.proofs.Common.{◌≡◌, ℕ, ◌+◌, ◌*◌, ◌%◌, ◌<◌, ◌≤◌, Bool, true, false, not, List, [], ◌∷◌, ◌++◌, length, refl, ap, sym, ◌∙◌, subst, arith, All, Contains, None, Some, filter, map, IsPermutation, length-append, replicate, nat_lt, ◌==◌, ◌||◌, ◌&&◌, eqb-true, eq-eqb, le-ltb, inl, inr, if◌then◌else◌}
 use Rattle.std.specs.List.{list_any, range_with_len}
 use Rattle.std.proofs.lemmas.Bool.{cases_Bool}
 use Rattle.std.proofs.lemmas.Bool.Decides.{nat_tests}
@@ -10,8 +9,8 @@ use Rattle.std.proofs.lemmas.List.Sorted.{IsPermutation-refl}
 use Rattle.bit_messages.specs.Body.{is_one, has_mark, text_of, strip_fault}
 use Rattle.bit_messages.specs.declared.fault.BitFault.TheVariants as bit_fault
 use Rattle.bit_messages.proofs.lemmas.{IsSplit, split_text}
-use Rattle.leader1822.specs.Flow.{same_flow, flow_before}
-use Rattle.leader1822.specs.declared.address.Flow.{Flow}
+use Rattle.interface.specs.Flow.{same_flow, flow_before}
+use Rattle.interface.specs.declared.address.Flow.{Flow}
 use Rattle.packetiser.specs.PacketFields.{PacketFields, IsPacket, IsPiece, Carries, flow_of}
 use Rattle.packetiser.specs.Pieces.{IsBodySize}
 use Rattle.packetiser.specs.Slots.{SlotState, IsTable, IsPieceFor, slot_of, pieces_for, kept_for, gathered, with_piece, put, without, outcome_of, answer_of, answer_by, added, added_by, has_room, is_old, rules_out, is_whole_from, joined_pieces, packets_in, in_some_order}

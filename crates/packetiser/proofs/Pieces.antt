@@ -1,9 +1,8 @@
 -- The pieces of a body.
-use Rattle.std.proofs.Common.{◌≡◌, ℕ, ◌+◌, ◌*◌, ◌<◌, ◌≤◌, Bool, true, false, List, length, take, drop, min, ap, ◌∙◌, arith, length-append, ◌-◌, length-drop, replicate, ◌∷◌, ◌==◌, eq-eqb, ◌≢◌}
+use Rattle.std.proofs.Common.{◌≡◌, ℕ, ◌+◌, ◌*◌, ◌<◌, ◌≤◌, Bool, true, false, List, length, take, drop, min, ap, ◌∙◌, arith, length-append, ◌-◌, length-drop, replicate, ◌∷◌, ◌==◌, eq-eqb, ◌≢◌, map, ◌++◌, []}
 use Rattle.std.proofs.lemmas.List.{length-take, length-replicate, take_min, drop-take}
-use Rattle.std.proofs.Common.{map, ◌++◌, []}
 use Rattle.std.proofs.lemmas.List.FromFn.{map-range_with_len_more}
-use Rattle.leader1822.specs.declared.address.Flow.{Flow}
+use Rattle.interface.specs.declared.address.Flow.{Flow}
 use Rattle.bit_messages.specs.Body.{body, filling}
 use Rattle.packetiser.specs.PacketFields.{IsPiece}
 use Rattle.packetiser.specs.Pieces.{piece_count, piece, IsBodySize, piece_packet, places}

@@ -1,20 +1,17 @@
 -- Slots and the pieces in them.
-use Rattle.std.proofs.Common.{◌≡◌, ℕ, ◌+◌, ◌<◌, ◌≤◌, Bool, true, false, not, List, [], ◌∷◌, ◌++◌, length, get_or, set, take, drop, refl, ap, sym, ◌∙◌, subst, arith, All, suc, Option, Some, None, insert, filter, unwrap_or}
-use Rattle.std.proofs.Common.{nat_lt, ◌==◌, ◌||◌, ◌&&◌, eqb-true, inl, inr, if◌then◌else◌}
-use Rattle.std.specs.List.{position, position_or_len, list_any, find}
+use Rattle.std.proofs.Common.{◌≡◌, ℕ, ◌+◌, ◌<◌, ◌≤◌, Bool, true, false, not, List, [], ◌∷◌, ◌++◌, length, get_or, set, take, drop, refl, ap, sym, ◌∙◌, subst, arith, All, suc, Option, Some, None, insert, filter, unwrap_or, nat_lt, ◌==◌, ◌||◌, ◌&&◌, eqb-true, inl, inr, if◌then◌else◌}
+use Rattle.std.specs.List.{position, position_or_len, list_any, find, slice_get}
 use Rattle.std.proofs.lemmas.Bool.{cases_Bool}
 use Rattle.std.proofs.lemmas.Bool.Decides.{nat_tests}
-use Rattle.std.proofs.lemmas.List.{length-set}
+use Rattle.std.proofs.lemmas.List.{length-set, append_assoc}
 use Rattle.std.proofs.lemmas.List.Elements.{All-cons, All-nil, All-head, All-tail, All-weaker, All-filter}
-use Rattle.std.proofs.lemmas.List.{append_assoc}
 use Rattle.std.proofs.lemmas.Grind.{flat_map-append}
 use Rattle.std.proofs.lemmas.List.Folds.{find_at}
 use Rattle.std.proofs.lemmas.List.Sums.{passes_at_first}
 use Rattle.std.proofs.lemmas.Option.{slice_get_read, same_Some}
-use Rattle.std.specs.List.{slice_get}
-use Rattle.leader1822.specs.Flow.{same_flow, flow_before}
-use Rattle.leader1822.proofs.lemmas.{flow_before_else, flow_before_trans, same_flow-true}
-use Rattle.leader1822.specs.declared.address.Flow.{Flow}
+use Rattle.interface.specs.Flow.{same_flow, flow_before}
+use Rattle.interface.proofs.lemmas.{flow_before_else, flow_before_trans, same_flow-true}
+use Rattle.interface.specs.declared.address.Flow.{Flow}
 use Rattle.packetiser.specs.PacketFields.{PacketFields, IsPacket, flow_of}
 use Rattle.packetiser.specs.Slots.{SlotState, IsSlot, IsInOrder, IsTable, IsPieceFor, PlacesRise, slot_of, pieces_for, kept_for, gathered, with_piece, put, without, kept, outcome_of, has_room, is_old, rules_out, is_whole_from, joined_pieces}
 use Rattle.packetiser.specs.declared.packet.PacketKind.TheVariants as kind

@@ -7,9 +7,9 @@ use Rattle.std.proofs.lemmas.List.Edits.{length-insert, length-remove}
 use Rattle.std.proofs.lemmas.List.Elements.{All-head, All-tail}
 use Rattle.std.proofs.lemmas.List.Folds.{find_at}
 use Rattle.std.proofs.lemmas.Option.{slice_get_past, get_or_from_slice_get}
-use Rattle.leader1822.specs.Flow.{same_flow, flow_before}
-use Rattle.leader1822.proofs.lemmas.{flow_before_never, same_flow-true}
-use Rattle.leader1822.specs.declared.address.Flow.{Flow}
+use Rattle.interface.specs.Flow.{same_flow, flow_before}
+use Rattle.interface.proofs.lemmas.{flow_before_never, same_flow-true}
+use Rattle.interface.specs.declared.address.Flow.{Flow}
 use Rattle.slab.specs.Slab.{Slab, get, ContainsKey, slab_len, Updates, with_value}
 use Rattle.slab.proofs.SlabLemmas.{Updates-with_value}
 use Rattle.packetiser.specs.Inside.{slots_at, is_there_and, IsKept}

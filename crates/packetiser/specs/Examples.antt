@@ -1,6 +1,6 @@
 -- Small packets and their octets, for the worked rows: from host 0 at IMP 1 to host 0 at IMP 3.
 use Rattle.std.specs.Prelude.{ℕ, true, false, List, [], ◌∷◌, Bool}
-use Rattle.leader1822.specs.declared.address.Flow.{Flow}
+use Rattle.interface.specs.declared.address.Flow.{Flow}
 use Rattle.packetiser.specs.PacketFields.{PacketFields}
 use Rattle.packetiser.specs.declared.packet.PacketKind.{PacketKind}
 

@@ -5,7 +5,7 @@
 -- follow. Of two octets the first is the higher one.
 use Rattle.std.specs.Prelude.{ℕ, ◌+◌, ◌*◌, ◌/◌, ◌%◌, Bool, not, List, ◌∷◌, length, take, drop, slice_index, Result, Ok, Err, nat_lt, nat_le, ◌||◌, ◌&&◌, ◌==◌, if◌then◌else◌}
 use Rattle.bit_messages.specs.Octets.{bits_of, octets_of}
-use Rattle.leader1822.specs.Host.{Host, address_octet}
+use Rattle.interface.specs.Host.{Host, address_octet}
 use Rattle.packetiser.specs.PacketFields.{PacketFields}
 use Rattle.packetiser.specs.Limits.{header_octets, piece_bits, most_pieces}
 use Rattle.packetiser.specs.declared.packet.PacketKind.{PacketKind}

@@ -1,8 +1,8 @@
 -- A packet, as a record of its fields.
 use Rattle.std.specs.Prelude.{◌≡◌, ℕ, ◌+◌, ◌%◌, ◌<◌, ◌≤◌, Bool, true, false, List, length}
-use Rattle.leader1822.specs.Host.{Host, most_imps}
-use Rattle.leader1822.specs.declared.address.Flow.{Flow}
-use Rattle.leader1822.specs.Flow.{message_numbers}
+use Rattle.interface.specs.Host.{Host, most_imps}
+use Rattle.interface.specs.declared.address.Flow.{Flow}
+use Rattle.interface.specs.Flow.{message_numbers}
 use Rattle.packetiser.specs.Limits.{piece_bits, most_pieces}
 use Rattle.packetiser.specs.declared.packet.PacketKind.{PacketKind}
 use Rattle.packetiser.specs.declared.packet.PacketKind.TheVariants as kind

@@ -1,7 +1,7 @@
 -- The pieces of a body (Heart et al., SJCC 1970: the source IMP breaks a message into packets).
 use Rattle.std.specs.Prelude.{◌≡◌, ℕ, ◌+◌, ◌-◌, ◌*◌, ◌/◌, ◌%◌, ◌<◌, ◌≤◌, Bool, List, length, take, drop, map, ◌==◌}
 use Rattle.std.specs.List.{range_with_len}
-use Rattle.leader1822.specs.declared.address.Flow.{Flow}
+use Rattle.interface.specs.declared.address.Flow.{Flow}
 use Rattle.packetiser.specs.PacketFields.{PacketFields}
 use Rattle.packetiser.specs.Limits.{piece_bits, most_pieces}
 use Rattle.packetiser.specs.declared.packet.PacketKind.TheVariants as kind

@@ -1,8 +1,8 @@
 -- What reassembly promises: words for the laws over its calls.
 use Rattle.std.specs.Prelude.{◌≡◌, ℕ, ◌<◌, Bool, true, false, List, [], ◌∷◌, ◌++◌, length, map, filter, All, Contains, ◌==◌, if◌then◌else◌}
 use Rattle.std.specs.List.{list_any, list_all}
-use Rattle.leader1822.specs.Flow.{same_flow}
-use Rattle.leader1822.specs.declared.address.Flow.{Flow}
+use Rattle.interface.specs.Flow.{same_flow}
+use Rattle.interface.specs.declared.address.Flow.{Flow}
 use Rattle.packetiser.specs.PacketFields.{PacketFields, flow_of}
 use Rattle.packetiser.specs.Pieces.{IsBodySize, piece_count, piece_packet, places}
 use Rattle.packetiser.specs.Slots.{SlotState, IsPieceFor, slot_of, pieces_for, has_room, is_whole_from, gathered, joined_pieces, added, without, packets_in}

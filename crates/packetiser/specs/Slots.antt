@@ -3,8 +3,8 @@
 -- The slots are a list in order of their flows. `pieces_at` goes by that order; `held` names messages in an unspecified order.
 use Rattle.std.specs.Prelude.{◌≡◌, ℕ, ◌+◌, ◌≤◌, ◌<◌, Bool, true, false, not, List, [], ◌∷◌, length, Option, Some, None, nat_lt, ◌==◌, ◌||◌, ◌&&◌, if◌then◌else◌, filter, All}
 use Rattle.std.specs.List.{find, list_any, flat_map}
-use Rattle.leader1822.specs.Flow.{same_flow, flow_before}
-use Rattle.leader1822.specs.declared.address.Flow.{Flow}
+use Rattle.interface.specs.Flow.{same_flow, flow_before}
+use Rattle.interface.specs.declared.address.Flow.{Flow}
 use Rattle.packetiser.specs.Limits.{slot_count}
 use Rattle.packetiser.specs.PacketFields.{PacketFields, IsPacket, flow_of}
 use Rattle.packetiser.specs.declared.packet.PacketKind.TheVariants as kind

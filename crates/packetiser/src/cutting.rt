@@ -9,7 +9,7 @@ use crate::fault::out_of_memory;
 use crate::format::{MAX_PACKETS, PACKET_BITS};
 use crate::{Packet, PacketFault, PacketKind};
 use bit_messages::Bits;
-use leader1822::{Flow, HostMessage, Number};
+use interface::{Flow, HostMessage, Number};
 use std::alloc::Global;
 
 /// Returns the packets of a message with this number: the pieces of its body in order, the last one marked (Heart et

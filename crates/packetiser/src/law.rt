@@ -1,21 +1,18 @@
 //! What packets, cutting and reassembly promise, as laws over the definitions that their calls cite. The
 //! functions here do nothing: each clause is a law.
 
-ghost use Rattle.std.specs.Prelude.{◌≡◌, ℕ, ◌+◌, ◌*◌, ◌<◌, ◌≤◌, Bool, true, false, List, [], ◌∷◌, ◌++◌, length, map};
-ghost use Rattle.std.specs.Prelude.{Option, None, Some, Ok, Err, All, IsPermutation, if◌then◌else◌};
+ghost use Rattle.std.specs.Prelude.{◌≡◌, ℕ, ◌+◌, ◌*◌, ◌<◌, ◌≤◌, Bool, true, false, List, [], ◌∷◌, ◌++◌, length, map, Option, None, Some, Ok, Err, All, IsPermutation, if◌then◌else◌};
 ghost use Rattle.bit_messages.specs.Body.{body, most_text_bits, has_mark, strip_fault};
 ghost use Rattle.bit_messages.specs.Octets.{bits_of};
 ghost use Rattle.bit_messages.specs.declared.fault.BitFault.TheVariants as bit_fault;
-ghost use Rattle.leader1822.specs.Flow.{same_flow};
-ghost use Rattle.leader1822.specs.declared.address.Flow.{Flow};
+ghost use Rattle.interface.specs.Flow.{same_flow};
+ghost use Rattle.interface.specs.declared.address.Flow.{Flow};
 ghost use Rattle.packetiser.specs.PacketFields.{PacketFields, IsPacket, flow_of};
 ghost use Rattle.packetiser.specs.Examples.{flow, request, request_packet, header, with_octet, with_octets, sixteen_bits, about_it};
 ghost use Rattle.packetiser.specs.Format.{spelling, read_of, is_bad_length};
 ghost use Rattle.packetiser.specs.Pieces.{piece_count, piece_packet, places, packets_of, IsBodySize, CarriesPieceOf};
-ghost use Rattle.packetiser.specs.Slots.{SlotState, IsTable, IsPieceFor, slot_of, kept_for, gathered, joined_pieces, is_whole_from};
-ghost use Rattle.packetiser.specs.Slots.{outcome_of, answer_of, added, without, packets_in, in_some_order, pieces_for, has_room};
-ghost use Rattle.packetiser.specs.Rejoining.{AreAmong, IsGathered, IsRejoined, Holds, answer_to, all_came, slots_after};
-ghost use Rattle.packetiser.specs.Rejoining.{Event, IsAmongOthers, places_in, after_events};
+ghost use Rattle.packetiser.specs.Slots.{SlotState, IsTable, IsPieceFor, slot_of, kept_for, gathered, joined_pieces, is_whole_from, outcome_of, answer_of, added, without, packets_in, in_some_order, pieces_for, has_room};
+ghost use Rattle.packetiser.specs.Rejoining.{AreAmong, IsGathered, IsRejoined, Holds, answer_to, all_came, slots_after, Event, IsAmongOthers, places_in, after_events};
 ghost use Rattle.packetiser.specs.declared.fault.PacketFault.TheVariants as fault;
 ghost use Rattle.packetiser.specs.declared.packet.PacketKind.TheVariants as kind;
 ghost use Rattle.packetiser.specs.declared.reassembly.Outcome.TheVariants as outcome;

@@ -4,8 +4,7 @@ ghost use Rattle.std.specs.Prelude.{◌≡◌, ℕ, ◌+◌, ◌<◌, ◌≤◌,
 ghost use Rattle.std.specs.Bool.{OnFalse};
 ghost use Rattle.packetiser.specs.PacketFields.{PacketFields, flow_of, IsPacket, Carries};
 ghost use Rattle.packetiser.specs.Faults.{Gives, GivesIfMemory};
-ghost use Rattle.packetiser.specs.Format.{spelling, read_of, kind_octet, kind_of, host_of, is_address};
-ghost use Rattle.packetiser.specs.Format.{is_short, is_not_canonical, is_bad_length, two_octets, bit_count, octet_count, place_octet};
+ghost use Rattle.packetiser.specs.Format.{spelling, read_of, kind_octet, kind_of, host_of, is_address, is_short, is_not_canonical, is_bad_length, two_octets, bit_count, octet_count, place_octet};
 ghost use Rattle.packetiser.specs.declared.fault.PacketFault.TheVariants as fault;
 
 use crate::PacketFault;
@@ -15,7 +14,7 @@ use crate::format::{
     PLACE_AT, SOURCE_AT,
 };
 use bit_messages::Bits;
-use leader1822::{Flow, HostAddr, Link, Number};
+use interface::{Flow, HostAddr, Link, Number};
 use std::alloc::{AllocError, Global};
 use std::marker::Model;
 
@@ -39,7 +38,7 @@ pub enum PacketKind {
 ///
 /// An answer or a question names its message's source and destination as a piece of the message does. An
 /// answer travels to the source, and a question to the destination. A question has the form of an answer,
-/// and what is said of answers here holds of it. IMPs are numbered from 1 to [`MOST_IMPS`](leader1822::MOST_IMPS). A piece has a place from 0 to 7 and 16 to 1008 bits in
+/// and what is said of answers here holds of it. IMPs are numbered from 1 to [`MOST_IMPS`](interface::MOST_IMPS). A piece has a place from 0 to 7 and 16 to 1008 bits in
 /// units of sixteen; each piece of a message but the last has 1008. No value of this type is outside the
 /// format.
 #[derive(Debug, Drop)]

@@ -1,13 +1,11 @@
 //! Reassembly: pieces of messages that aren't whole yet.
 
-ghost use Rattle.std.specs.Prelude.{◌≡◌, ◌<◌, ◌++◌, [], true, false, List, length};
-ghost use Rattle.std.specs.Prelude.{Option, Some, None, Err, OnErr, IfOk, is_some, option_map, slice_get};
+ghost use Rattle.std.specs.Prelude.{◌≡◌, ◌<◌, ◌++◌, [], true, false, List, length, Option, Some, None, Err, OnErr, IfOk, is_some, option_map, slice_get};
 ghost use Rattle.std.specs.List.{list_any};
 ghost use Rattle.bit_messages.specs.Body.{has_mark};
 ghost use Rattle.packetiser.specs.Faults.{GivesIfMemory};
 ghost use Rattle.packetiser.specs.PacketFields.{IsPacket};
-ghost use Rattle.packetiser.specs.Slots.{SlotState, slot_of, is_old, with_piece, is_whole_from, gathered, joined_pieces};
-ghost use Rattle.packetiser.specs.Slots.{without, outcome_of, answer_of, added, kept, grows, in_some_order, IsTable};
+ghost use Rattle.packetiser.specs.Slots.{SlotState, slot_of, is_old, with_piece, is_whole_from, gathered, joined_pieces, without, outcome_of, answer_of, added, kept, grows, in_some_order, IsTable};
 ghost use Rattle.packetiser.specs.Rejoining.{HasBodySize};
 ghost use Rattle.packetiser.specs.declared.fault.PacketFault.TheVariants as fault;
 
@@ -15,7 +13,7 @@ use crate::fault::out_of_memory;
 use crate::slot_table::{SlotTable, place_among};
 use crate::{Packet, PacketFault, PacketKind};
 use bit_messages::Bits;
-use leader1822::{Flow, Number};
+use interface::{Flow, Number};
 use std::alloc::{AllocError, Global};
 use std::marker::Model;
 

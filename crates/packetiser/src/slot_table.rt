@@ -2,7 +2,7 @@
 
 ghost use Rattle.std.specs.Prelude.{◌≡◌, ◌<◌, ◌≤◌, ◌∷◌, [], true, not, List, length, nat_lt, Option, Some, None, OnErr, IfOk, slice_get, insert, remove, option_copied};
 ghost use Rattle.std.specs.List.{position, position_or_len};
-ghost use Rattle.leader1822.specs.Flow.{same_flow, flow_before};
+ghost use Rattle.interface.specs.Flow.{same_flow, flow_before};
 ghost use Rattle.slab.specs.Slab.{get};
 ghost use Rattle.packetiser.specs.Faults.{GivesIfMemory};
 ghost use Rattle.packetiser.specs.Inside.{is_there_and};
@@ -11,7 +11,7 @@ ghost use Rattle.packetiser.specs.Slots.{SlotState, slot_of, pieces_for, kept_fo
 
 use crate::format::SLOTS;
 use crate::{Packet, PacketFault};
-use leader1822::{Flow, Number};
+use interface::{Flow, Number};
 use slab::Slab;
 use std::alloc::{AllocError, Global};
 use std::marker::Model;

@@ -1,6 +1,6 @@
 -- All steps of two programs on a link, as one.
 use Rattle.std.proofs.Common.{◌≡◌, ℕ, ◌*◌, ◌==◌, Bool, true, false, List, [], ◌∷◌, ◌++◌, take, Some}
-use Rattle.leader1822.specs.Host.{Host}
+use Rattle.interface.specs.Host.{Host}
 use Rattle.ncp_control.specs.Command.{IsCommand}
 use Rattle.ncp_control.specs.DataHeader.{IsHeader}
 use Rattle.ncp_control.specs.declared.command.Command.{Command}

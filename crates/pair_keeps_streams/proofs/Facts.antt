@@ -1,6 +1,6 @@
 -- What is known of each call of a host that stays, whatever the other does, and what follows where the other hears and says nothing.
 use Rattle.std.proofs.Common.{◌≡◌, ℕ, ◌==◌, true, false, List, ◌++◌, refl, sym, ◌∙◌}
-use Rattle.leader1822.specs.Host.{Host}
+use Rattle.interface.specs.Host.{Host}
 use Rattle.ncp_control.specs.declared.command.Command.{Command}
 use Rattle.stream_law.specs.Words.{Word}
 use Rattle.stream_law.specs.Receivers as receivers

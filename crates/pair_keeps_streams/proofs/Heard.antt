@@ -1,7 +1,7 @@
 -- How many CLS were heard of two sockets, by each call.
 use Rattle.std.proofs.Common.{◌≡◌, ℕ, ◌*◌, nat_le, ◌&&◌, Bool, true, false, List, map, Option, Some, None, is_some, refl, sym, subst, ◌∙◌}
 use Rattle.std.specs.List.{list_any}
-use Rattle.leader1822.specs.Host.{Host}
+use Rattle.interface.specs.Host.{Host}
 use Rattle.ncp_control.specs.DataHeader.{header_of, data_bits}
 use Rattle.ncp_control.specs.declared.command.Command.{Command}
 use Rattle.ncp_control.specs.declared.command.Command.TheVariants as command

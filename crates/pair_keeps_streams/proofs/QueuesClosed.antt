@@ -1,7 +1,7 @@
 -- Where ends close: by an answer, by a user, or by a CLS of the peer.
 use Rattle.std.proofs.Common.{◌≡◌, ℕ, ◌==◌, ◌&&◌, not, Bool, true, false, if◌then◌else◌, List, [], ◌∷◌, ◌++◌, map, filter, find, Option, Some, None, refl, ap, sym, subst, ◌∙◌}
-use Rattle.leader1822.specs.Host.{Host}
-use Rattle.leader1822.proofs.lemmas.{or_false}
+use Rattle.interface.specs.Host.{Host}
+use Rattle.interface.proofs.lemmas.{or_false}
 use Rattle.ncp_control.specs.declared.command.Command.{Command}
 use Rattle.stream_law.specs.Words as words
 use Rattle.stream_law.specs.Words.{Word}

@@ -1,6 +1,6 @@
 -- Calls by which the other host hears nothing and takes nothing.
 use Rattle.std.proofs.Common.{◌≡◌, ℕ, ◌==◌, ◌&&◌, not, Bool, true, false, if◌then◌else◌, List, [], ◌∷◌, ◌++◌, Option, Some, None, is_some, refl, ap, sym, subst, ◌∙◌, append-nil}
-use Rattle.leader1822.specs.Host.{Host}
+use Rattle.interface.specs.Host.{Host}
 use Rattle.ncp_control.specs.DataHeader.{header_of}
 use Rattle.ncp_control.specs.declared.command.Command.{Command}
 use Rattle.ncp_control.specs.declared.command.Command.TheVariants as command

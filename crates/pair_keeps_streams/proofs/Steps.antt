@@ -1,6 +1,6 @@
 -- Each call of a host that stays with another is a step of both.
 use Rattle.std.proofs.Common.{◌≡◌, ℕ, ◌*◌, ◌==◌, if◌then◌else◌, Bool, true, false, List, [], ◌∷◌, take, Some, refl, sym, subst}
-use Rattle.leader1822.specs.Host.{Host}
+use Rattle.interface.specs.Host.{Host}
 use Rattle.ncp_control.specs.Command.{IsCommand}
 use Rattle.ncp_control.specs.DataHeader.{IsHeader}
 use Rattle.ncp_control.specs.declared.command.Command.{Command}

@@ -1,9 +1,9 @@
 -- Where a stay begins: nothing was said since the connections were dropped last, and an older stay is over.
 use Rattle.std.proofs.Common.{◌≡◌, ◌≢◌, ◌⊎◌, ℕ, Bool, true, false, not, ◌&&◌, ◌||◌, List, [], ◌∷◌, Some, refl, ap, sym, subst, ◌∙◌, inl, inr, if◌then◌else◌, ◌==◌, eq-eqb}
 use Rattle.std.proofs.lemmas.Bool.{eqb-true}
-use Rattle.leader1822.specs.Host.{Host, same_host}
-use Rattle.leader1822.specs.declared.crossing.Answer.{Answer}
-use Rattle.leader1822.specs.declared.crossing.Answer.TheVariants as answer
+use Rattle.interface.specs.Host.{Host, same_host}
+use Rattle.interface.specs.declared.crossing.Answer.{Answer}
+use Rattle.interface.specs.declared.crossing.Answer.TheVariants as answer
 use Rattle.reset_law.specs.Phases.{Phase, Closed, Want, Gone, Heard, Ready, reset_phase, reply_phase, taken_phase, failed_phase}
 use Rattle.reset_law.specs.Events.{Message, Reset, Reply, Other, Event, Contact, Out, In, Told, Down, Up, Idle, Call, Send, Take, Hear, Begin, when, are, place, is_up}
 use Rattle.reset_law.specs.Boxes.{Box, Empty, Waiting, Taken, WaitsWith, Fits, Put, Fetch, Clear, ClearAll, fetched, posted, at_link, boxes}

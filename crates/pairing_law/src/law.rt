@@ -1,8 +1,8 @@
 //! What becomes of requests. The functions here do nothing: each clause is the law.
 
 ghost use Rattle.std.specs.Prelude.{◌≡◌, ℕ, Bool, true, false, List, [], ◌∷◌, Some, None};
-ghost use Rattle.leader1822.specs.Host.{Host};
-ghost use Rattle.leader1822.specs.declared.crossing.Answer.TheVariants as answer;
+ghost use Rattle.interface.specs.Host.{Host};
+ghost use Rattle.interface.specs.declared.crossing.Answer.TheVariants as answer;
 ghost use Rattle.reset_law.specs.Events as reset;
 ghost use Rattle.reset_law.specs.Phases.{Ready};
 ghost use Rattle.reset_law.specs.Pairs.{pair};

@@ -1,6 +1,6 @@
 -- Rounds of a carrier that counts its calls.
 use Rattle.std.proofs.Common.{◌≡◌, ℕ, ◌+◌, ◌≤◌, zero, suc, List, [], Result, Ok, Err, refl, subst, ◌∙◌, arith}
-use Rattle.leader1822.specs.declared.CarrierFault.{CarrierFault}
+use Rattle.interface.specs.declared.CarrierFault.{CarrierFault}
 use Rattle.replay.specs.Output.{Shown}
 use Rattle.replay.specs.Replay.{AllTake, EventGives, MayDo, Onward, Round, Rounds}
 use Rattle.replay.specs.Worked.{counting}

@@ -1,11 +1,11 @@
 -- A line that is put together from its end to its beginning.
 use Rattle.std.proofs.Common.{◌≡◌, ℕ, ◌++◌, List, ◌∷◌, codes, append_assoc}
 use Rattle.std.specs.Fmt.{decimal}
-use Rattle.leader1822.specs.Host.{Host}
-use Rattle.leader1822.specs.Printed.{answer_text, crossing_text, flow_text, host_text}
-use Rattle.leader1822.specs.declared.address.Flow.{Flow}
-use Rattle.leader1822.specs.declared.crossing.Answer.{Answer}
-use Rattle.leader1822.specs.declared.crossing.Crossing.TheVariants as crossing
+use Rattle.interface.specs.Host.{Host}
+use Rattle.interface.specs.Printed.{answer_text, crossing_text, flow_text, host_text}
+use Rattle.interface.specs.declared.address.Flow.{Flow}
+use Rattle.interface.specs.declared.crossing.Answer.{Answer}
+use Rattle.interface.specs.declared.crossing.Crossing.TheVariants as crossing
 
 pub host_before : (h : Host) (rest : List ℕ) → decimal h.host ++ 47 ∷ (decimal h.imp ++ rest) ≡ host_text h ++ rest
 host_before h rest = simp append_assoc

@@ -3,12 +3,12 @@ use Rattle.std.proofs.Common.{◌≡◌, ℕ, zero, suc, Bool, true, false, ◌|
 use Rattle.std.proofs.lemmas.Bool.{false≢true}
 use Rattle.std.proofs.lemmas.List.{append_assoc, append-nil, drop_all, drop_more, reverse-append}
 use Rattle.std.specs.Io.KnownBytes.{Appends}
-use Rattle.leader1822.specs.Calls.{Calls, Seen, is_halt, is_memory}
-use Rattle.leader1822.specs.Rest.{BringsNothing, Rests, TakesNothing}
-use Rattle.leader1822.specs.Host.{Host}
-use Rattle.leader1822.specs.declared.CarrierFault.{CarrierFault}
-use Rattle.leader1822.specs.declared.Inbound.{Inbound}
-use Rattle.leader1822.specs.declared.crossing.Crossing.{Crossing}
+use Rattle.interface.specs.Calls.{Calls, Seen, is_halt, is_memory}
+use Rattle.interface.specs.Rest.{BringsNothing, Rests, TakesNothing}
+use Rattle.interface.specs.Host.{Host}
+use Rattle.interface.specs.declared.CarrierFault.{CarrierFault}
+use Rattle.interface.specs.declared.Inbound.{Inbound}
+use Rattle.interface.specs.declared.crossing.Crossing.{Crossing}
 use Rattle.replay.specs.Output.{output, shown_crossings, shown_refusal}
 use Rattle.replay.specs.Replay.{AllTake, GoesOn, Halts, Onward, Round, Rounds, Takings, calmly}
 use Rattle.replay.specs.Steps.{EventEnds, Grew, PrintEnds}

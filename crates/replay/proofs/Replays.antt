@@ -3,7 +3,7 @@ use Rattle.std.proofs.Common.{◌≡◌, List, [], ◌∷◌, ◌++◌, reverse,
 use Rattle.std.proofs.lemmas.List.{append_assoc, reverse-append}
 use Rattle.replay.specs.Output.{Shown, crossings_of}
 use Rattle.replay.specs.Replay.{EndsIn, Replays, StopsIn}
-use Rattle.leader1822.specs.Calls.{Calls}
+use Rattle.interface.specs.Calls.{Calls}
 use Rattle.script.specs.declared.event.RawEvent.{RawEvent}
 use Rattle.replay.proofs.Shown.{crossings_again, crossings_of-append, happens_shows}
 

@@ -5,10 +5,10 @@ use Rattle.std.specs.Fmt.{decimal}
 use Rattle.std.specs.Io.KnownBytes.{Appends}
 use Rattle.hex.specs.Hex.{encode_upper, encode_with, upper_digits}
 use Rattle.hex.proofs.Pairs.{encode_with-drop}
-use Rattle.leader1822.specs.Printed.{crossing_text, flow_text}
-use Rattle.leader1822.specs.declared.crossing.Crossing.{Crossing}
-use Rattle.leader1822.specs.declared.crossing.Crossing.TheVariants as crossing
-use Rattle.leader1822.specs.declared.message.HostMessage.{HostMessage}
+use Rattle.interface.specs.Printed.{crossing_text, flow_text}
+use Rattle.interface.specs.declared.crossing.Crossing.{Crossing}
+use Rattle.interface.specs.declared.crossing.Crossing.TheVariants as crossing
+use Rattle.interface.specs.declared.message.HostMessage.{HostMessage}
 use Rattle.script.specs.Input.{ended_line}
 use Rattle.script.specs.Spelling.{octets_text, spelling}
 use Rattle.script.specs.declared.event.RawEvent.TheVariants as event

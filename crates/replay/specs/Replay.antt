@@ -1,12 +1,10 @@
 -- A script's events over a carrier, whatever it is made of.
 use Rattle.std.specs.Prelude.{◌≡◌, ℕ, zero, suc, true, false, ◌||◌, if◌then◌else◌, ◌⊎◌, ◌≤◌, List, [], ◌∷◌, ◌++◌, Option, Some, None, Result, Ok, Err, reverse}
-use Rattle.leader1822.specs.Host.{Host}
-use Rattle.leader1822.specs.Calls.{Calls, is_halt, is_memory}
-use Rattle.leader1822.specs.declared.CarrierFault.{CarrierFault}
-use Rattle.leader1822.specs.declared.Inbound.{Inbound}
-use Rattle.leader1822.specs.declared.NetEvent.{NetEvent}
-use Rattle.leader1822.specs.declared.HostMessage.{HostMessage}
-use Rattle.leader1822.specs.declared.crossing.Crossing.{Crossing}
+use Rattle.interface.specs.Host.{Host}
+use Rattle.interface.specs.Calls.{Calls, is_halt, is_memory}
+use Rattle.interface.specs.declared.CarrierFault.{CarrierFault}
+use Rattle.interface.specs.declared.Inbound.{Inbound}
+use Rattle.interface.specs.declared.crossing.Crossing.{Crossing}
 use Rattle.replay.specs.InTurn.{EndsInTurn, InTurn}
 use Rattle.replay.specs.Output.{Shown, shown_crossings, shown_refusal}
 use Rattle.script.specs.declared.event.RawEvent.{RawEvent}

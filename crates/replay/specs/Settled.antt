@@ -1,13 +1,13 @@
 -- Carriers that leave a replay no choice.
 use Rattle.std.specs.Prelude.{◌≡◌, List, ◌++◌, Option, Result, Err}
-use Rattle.leader1822.specs.Host.{Host}
-use Rattle.leader1822.specs.declared.CarrierFault.{CarrierFault}
-use Rattle.leader1822.specs.declared.Inbound.{Inbound}
-use Rattle.leader1822.specs.declared.NetEvent.{NetEvent}
-use Rattle.leader1822.specs.declared.HostMessage.{HostMessage}
-use Rattle.leader1822.specs.declared.crossing.Crossing.{Crossing}
+use Rattle.interface.specs.Host.{Host}
+use Rattle.interface.specs.declared.CarrierFault.{CarrierFault}
+use Rattle.interface.specs.declared.Inbound.{Inbound}
+use Rattle.interface.specs.declared.NetEvent.{NetEvent}
+use Rattle.interface.specs.declared.HostMessage.{HostMessage}
+use Rattle.interface.specs.declared.crossing.Crossing.{Crossing}
 use Rattle.replay.specs.Replay.{GoesOn, outcome_of}
-use Rattle.leader1822.specs.Calls.{Calls}
+use Rattle.interface.specs.Calls.{Calls}
 
 -- two answers are one, and so are the carriers that they leave
 pub record SameEnd {T C : Type 0} (r q : Result T CarrierFault) (new other : C) : Type 0 where

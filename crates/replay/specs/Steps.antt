@@ -1,9 +1,9 @@
 -- What the contracts of private functions say. No public clause cites this file.
 use Rattle.std.specs.Prelude.{◌≡◌, ℕ, List, ◌++◌, Option, Result, Ok, Err}
 use Rattle.std.specs.Io.KnownBytes.{Appends}
-use Rattle.leader1822.specs.Calls.{Calls, Seen}
-use Rattle.leader1822.specs.declared.CarrierFault.{CarrierFault}
-use Rattle.leader1822.specs.declared.crossing.Crossing.{Crossing}
+use Rattle.interface.specs.Calls.{Calls, Seen}
+use Rattle.interface.specs.declared.CarrierFault.{CarrierFault}
+use Rattle.interface.specs.declared.crossing.Crossing.{Crossing}
 use Rattle.replay.specs.Output.{Shown, Writes, output, shown_crossings, shown_refusal}
 use Rattle.replay.specs.Replay.{GoesOn, Halts, Happens, MayDo, StopsIn}
 use Rattle.replay.specs.declared.events.ReplayFault.{ReplayFault}

@@ -1,6 +1,6 @@
 -- Words for worked examples: a carrier that counts its calls.
 use Rattle.std.specs.Prelude.{◌≡◌, ℕ, suc, false, [], None, Ok}
-use Rattle.leader1822.specs.Calls.{Calls}
+use Rattle.interface.specs.Calls.{Calls}
 
 -- it has no hosts, each of its calls succeeds and counts one more, and nothing ever crosses
 abbrev pub counting : Calls ℕ

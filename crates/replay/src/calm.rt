@@ -10,7 +10,7 @@ use crate::events::ReplayFault;
 use crate::line::Line;
 use crate::output::Output;
 use crate::print::{Detail, print_outcome};
-use leader1822::{Carrier, CarrierFault, HostAddr};
+use interface::{Carrier, CarrierFault, HostAddr};
 
 /// How often a host takes in one round at most.
 const TAKINGS: u8 = 16;

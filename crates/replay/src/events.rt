@@ -1,8 +1,8 @@
 //! Replaying a script's events over a carrier.
 
 ghost use Rattle.std.specs.Prelude.{◌≡◌, Err, OnOk, List, false};
-ghost use Rattle.leader1822.specs.Mailboxes.{IsRun};
-ghost use Rattle.leader1822.specs.Messages.{SafeMessages};
+ghost use Rattle.interface.specs.Mailboxes.{IsRun};
+ghost use Rattle.interface.specs.Messages.{SafeMessages};
 ghost use Rattle.replay.specs.Failing.{TellsCannotWrite};
 ghost use Rattle.replay.specs.Replay.{EndsIn, MayDo, Replays, StopsIn, outcome_of};
 ghost use Rattle.replay.specs.Output.{Shown, Writes};
@@ -13,7 +13,7 @@ use crate::calm::replay_calm;
 use crate::line::Line;
 use crate::output::{Output, WriteFailed};
 use crate::print::{Detail, print_outcome};
-use leader1822::{Carrier, CarrierFault, HostAddr, HostMessage, Inbound, NetEvent};
+use interface::{Carrier, CarrierFault, HostAddr, HostMessage, Inbound, NetEvent};
 use script::RawEvent;
 use std::alloc::AllocError;
 use thiserror::Error;

@@ -2,8 +2,8 @@
 //! laws.
 
 ghost use Rattle.std.specs.Prelude.{◌≡◌, ◌++◌, List};
-ghost use Rattle.leader1822.specs.declared.crossing.Crossing.TheVariants as crossing;
-ghost use Rattle.leader1822.specs.declared.message.HostMessage.{HostMessage};
+ghost use Rattle.interface.specs.declared.crossing.Crossing.TheVariants as crossing;
+ghost use Rattle.interface.specs.declared.message.HostMessage.{HostMessage};
 ghost use Rattle.replay.specs.Output.{Shown, crossing_line};
 ghost use Rattle.replay.specs.Replay.{EndsIn, Replays, StopsIn};
 ghost use Rattle.replay.specs.Settled.{AreSettled};
@@ -12,7 +12,7 @@ ghost use Rattle.script.specs.Spelling.{spelling};
 ghost use Rattle.script.specs.declared.event.RawEvent.{RawEvent};
 ghost use Rattle.script.specs.declared.event.RawEvent.TheVariants as script_event;
 
-use leader1822::Carrier;
+use interface::Carrier;
 
 /// A carrier whose calls leave no choice leaves none to a replay: events have one outcome and show one list of
 /// lines. What is shown where memory runs out is a prefix of that list.

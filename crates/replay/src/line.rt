@@ -2,12 +2,12 @@
 
 ghost use Rattle.std.specs.Prelude.{◌≡◌, ◌+◌, ◌≤◌, ◌++◌, ◌∷◌, [], codes, drop, length};
 ghost use Rattle.std.specs.Fmt.{decimal};
-ghost use Rattle.leader1822.specs.Printed.{answer_text, crossing_text, flow_text, host_text};
-ghost use Rattle.leader1822.specs.declared.crossing.Crossing.TheVariants as crossing;
+ghost use Rattle.interface.specs.Printed.{answer_text, crossing_text, flow_text, host_text};
+ghost use Rattle.interface.specs.declared.crossing.Crossing.TheVariants as crossing;
 ghost use Rattle.script.specs.Input.{ended_line};
 
+use interface::{Answer, Crossing, Flow, HostAddr, HostMessage};
 use itoa::write_digits;
-use leader1822::{Answer, Crossing, Flow, HostAddr, HostMessage};
 use std::marker::Model;
 
 /// How many octets a line has room for, with its end.

@@ -15,7 +15,7 @@ use crate::events::ReplayFault;
 use crate::line::Line;
 use crate::output::{Output, WriteFailed};
 use bit_messages::Bits;
-use leader1822::{CarrierFault, Crossing, Text};
+use interface::{CarrierFault, Crossing, Text};
 
 /// The upper case hexadecimal digits.
 const DIGITS: [u8; 16] = *b"0123456789ABCDEF";

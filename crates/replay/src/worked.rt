@@ -2,7 +2,7 @@
 //! a carrier that counts its calls.
 
 ghost use Rattle.std.specs.Prelude.{◌≡◌, List, [], ◌∷◌};
-ghost use Rattle.leader1822.specs.declared.event.NetEvent.{NetEvent};
+ghost use Rattle.interface.specs.declared.event.NetEvent.{NetEvent};
 ghost use Rattle.replay.specs.Output.{Shown};
 ghost use Rattle.replay.specs.Replay.{MayDo};
 ghost use Rattle.replay.specs.Worked.{counting};

@@ -1,8 +1,8 @@
 -- A host that is through a reset takes only what went out after its last clean point.
 use Rattle.std.proofs.Common.{◌≡◌, ◌≢◌, ◌⊎◌, ℕ, ◌+◌, ◌<◌, Bool, true, false, ◌&&◌, List, [], ◌∷◌, Option, Some, None, refl, ap, sym, subst, ◌∙◌, inl, inr, if◌then◌else◌, ◌==◌, arith}
-use Rattle.leader1822.specs.Host.{Host, same_host}
-use Rattle.leader1822.specs.declared.crossing.Answer.TheVariants as answer
-use Rattle.leader1822.proofs.lemmas.{and_true}
+use Rattle.interface.specs.Host.{Host, same_host}
+use Rattle.interface.specs.declared.crossing.Answer.TheVariants as answer
+use Rattle.interface.proofs.lemmas.{and_true}
 use Rattle.reset_law.specs.Phases.{Phase, Closed, Want, Gone, Heard, Ready, taken_phase, failed_phase}
 use Rattle.reset_law.specs.Events.{Message, Reset, Reply, Other, Event, Contact, Out, In, Told, Down, Up, Idle, Part, Call, Send, Take, Hear, Begin, when, are, place}
 use Rattle.reset_law.specs.Boxes.{Box, Empty, Waiting, Taken, WaitsWith, Post, Put, Fetch, Clear, ClearAll, fetched, posted, at_link, boxes}

@@ -1,10 +1,10 @@
 -- What a host heard of its peer while it stays is a prefix of what that peer said.
 use Rattle.std.proofs.Common.{◌≡◌, ◌≢◌, ◌⊎◌, ℕ, Bool, true, false, not, ◌&&◌, ◌||◌, List, [], ◌∷◌, ◌++◌, refl, ap, sym, subst, ◌∙◌, inl, inr, if◌then◌else◌, ◌==◌, eq-eqb, append-nil}
 use Rattle.std.proofs.lemmas.Bool.{eqb-true}
-use Rattle.leader1822.specs.Host.{Host, same_host}
-use Rattle.leader1822.specs.declared.crossing.Answer.{Answer}
-use Rattle.leader1822.specs.declared.crossing.Answer.TheVariants as answer
-use Rattle.leader1822.proofs.lemmas.{and_true}
+use Rattle.interface.specs.Host.{Host, same_host}
+use Rattle.interface.specs.declared.crossing.Answer.{Answer}
+use Rattle.interface.specs.declared.crossing.Answer.TheVariants as answer
+use Rattle.interface.proofs.lemmas.{and_true}
 use Rattle.reset_law.specs.Phases.{Phase, Closed, Want, Gone, Heard, Ready, reply_phase, failed_phase}
 use Rattle.reset_law.specs.Events.{Message, Reset, Reply, Other, Event, Contact, Out, In, Told, Down, Up, Idle, Call, Send, Take, Hear, Begin, when, are, place, is_up}
 use Rattle.reset_law.specs.Boxes.{Box, Empty, Waiting, Taken, WaitsWith, Fits, Put, Fetch, Clear, ClearAll, fetched, posted, at_link, boxes}

@@ -1,9 +1,9 @@
 -- The mailboxes of the messages from one host to another, a box for each link (BBN Report 1822: one message outstanding on
 -- a link).
 use Rattle.std.specs.Prelude.{◌≡◌, ℕ, ◌==◌, List, [], ◌∷◌, Option, Some, None, if◌then◌else◌}
-use Rattle.leader1822.specs.Host.{Host, same_host}
-use Rattle.leader1822.specs.declared.crossing.Answer.{Answer}
-use Rattle.leader1822.specs.declared.crossing.Answer.TheVariants as answer
+use Rattle.interface.specs.Host.{Host, same_host}
+use Rattle.interface.specs.declared.crossing.Answer.{Answer}
+use Rattle.interface.specs.declared.crossing.Answer.TheVariants as answer
 use Rattle.reset_law.specs.Events.{Message, Event, Contact, Out, In, Told, Down, Up, Idle, place, when, are}
 
 -- none is outstanding, or a message waits to be taken, or it was taken and has no answer yet. A message is given by the place

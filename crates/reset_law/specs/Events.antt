@@ -1,8 +1,8 @@
 -- What resets see of a network: contacts, messages, answers, and hosts that stop and start (NIC 8246, RST and RRP; BBN
 -- Report 1822, RFNM). A list of events is read newest first.
 use Rattle.std.specs.Prelude.{ℕ, ◌+◌, Bool, true, false, ◌&&◌, List, [], ◌∷◌, Option, Some, None, if◌then◌else◌}
-use Rattle.leader1822.specs.Host.{Host, same_host, is_host}
-use Rattle.leader1822.specs.declared.crossing.Answer.{Answer}
+use Rattle.interface.specs.Host.{Host, same_host, is_host}
+use Rattle.interface.specs.declared.crossing.Answer.{Answer}
 
 -- a message from host to host: RST and RRP each go by themselves, and nothing else matters to a reset
 pub data Message : Type 0 where

@@ -1,7 +1,7 @@
 -- Two hosts that reset: words for worked examples.
 use Rattle.std.specs.Prelude.{true, List, [], ◌∷◌}
-use Rattle.leader1822.specs.Host.{Host}
-use Rattle.leader1822.specs.declared.crossing.Answer.TheVariants as answer
+use Rattle.interface.specs.Host.{Host}
+use Rattle.interface.specs.declared.crossing.Answer.TheVariants as answer
 use Rattle.reset_law.specs.Events.{Reset, Reply, Other, Event, Contact, Out, In, Told}
 
 abbrev pub one : Host

@@ -1,6 +1,6 @@
 -- What may happen: what the mailboxes allow, and what host programs do by themselves.
 use Rattle.std.specs.Prelude.{◌≡◌, ℕ, Bool, true, false, List, [], ◌∷◌}
-use Rattle.leader1822.specs.Host.{Host, is_host}
+use Rattle.interface.specs.Host.{Host, is_host}
 use Rattle.reset_law.specs.Events.{Other, Event, Contact, Out, In, Told, Down, Up, Idle, is_up}
 use Rattle.reset_law.specs.Boxes.{Empty, Waiting, WaitsWith, Fits, boxes}
 use Rattle.reset_law.specs.Pairs.{pair, MaySend}

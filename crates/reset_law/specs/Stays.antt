@@ -1,7 +1,7 @@
 -- What two hosts say to one another while they stay together, that is from where both are through a reset until one of
 -- them leaves (NIC 8246, RST: it closes all connections between two hosts).
 use Rattle.std.specs.Prelude.{◌≡◌, ℕ, Bool, true, false, not, ◌&&◌, ◌||◌, ◌==◌, List, [], ◌∷◌, ◌++◌, if◌then◌else◌}
-use Rattle.leader1822.specs.Host.{Host}
+use Rattle.interface.specs.Host.{Host}
 use Rattle.reset_law.specs.Phases.{Phase, Ready}
 use Rattle.reset_law.specs.Events.{Reset, Other, Event, In, Out, are}
 use Rattle.reset_law.specs.Boxes.{Box, Waiting}

@@ -3,7 +3,7 @@ use Rattle.std.proofs.Common.{◌≡◌, ℕ, zero, suc, ◌+◌, ◌-◌, ◌<�
 use Rattle.std.proofs.lemmas.Bool.{cases_lt}
 use Rattle.std.proofs.lemmas.Bool.Decides.{nat_tests}
 use Rattle.std.proofs.lemmas.List.{get_or-map, length-map}
-use Rattle.leader1822.specs.Host.{most_imps}
+use Rattle.interface.specs.Host.{most_imps}
 use Rattle.routing.specs.Vector.{infinite}
 use Rattle.routing.specs.RouteTable.{Table, heard_distance, distance_in, distance_to, vector_of, next_of, IsNext}
 use Rattle.routing.specs.Walks.{AreJoined, IsWalk, IsDistance}

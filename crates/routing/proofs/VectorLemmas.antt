@@ -5,7 +5,7 @@ use Rattle.std.proofs.lemmas.List.Edits.{fill_by_more}
 use Rattle.std.proofs.lemmas.List.Sums.{AllPass-from_list_all, list_all-from_AllPass}
 use Rattle.std.proofs.lemmas.Bool.{and_from, eq-eqb, eqb-true, le-leb, leb-true}
 use Rattle.std.specs.List.{list_all}
-use Rattle.leader1822.specs.Host.{most_imps}
+use Rattle.interface.specs.Host.{most_imps}
 use Rattle.routing.specs.Vector.{IsVector, is_vector, infinite}
 
 pub is_vector-true : (distances : List ℕ) → IsVector distances → is_vector distances ≡ true

@@ -1,6 +1,6 @@
 -- What the code of a table keeps.
 use Rattle.std.specs.Prelude.{◌≡◌, ℕ, ◌<◌, List}
-use Rattle.leader1822.specs.Host.{most_imps}
+use Rattle.interface.specs.Host.{most_imps}
 use Rattle.routing.specs.Vector.{infinite}
 use Rattle.routing.specs.RouteTable.{Table, least_heard, vector_of}
 

@@ -1,7 +1,7 @@
 -- What an IMP knows of routes, and what it concludes (Heart et al., SJCC 1970, routing).
 use Rattle.std.specs.Prelude.{◌≡◌, ℕ, ◌+◌, ◌-◌, ◌<◌, ◌==◌, ◌||◌, min, map, position, if◌then◌else◌, List, [], ◌∷◌, slice_index_or, slice_set, length, Option, Some, None, IsSome, replicate}
 use Rattle.std.specs.List.{range_with_len}
-use Rattle.leader1822.specs.Host.{most_imps}
+use Rattle.interface.specs.Host.{most_imps}
 use Rattle.routing.specs.Vector.{infinite}
 
 -- the IMP's own number, and the distances last heard on each port; None where nothing was heard since the line came up

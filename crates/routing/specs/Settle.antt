@@ -1,7 +1,7 @@
 -- Tables that exchange vectors in rounds.
 use Rattle.std.specs.Prelude.{◌≡◌, ℕ, zero, suc, ◌-◌, ◌<◌, ◌≤◌, ◌==◌, map, if◌then◌else◌, List, [], length, All, slice_index_or, Option, Some, None}
 use Rattle.std.specs.List.{filter_map}
-use Rattle.leader1822.specs.Host.{most_imps}
+use Rattle.interface.specs.Host.{most_imps}
 use Rattle.routing.specs.Vector.{infinite}
 use Rattle.routing.specs.RouteTable.{Table, vector_of, distance_to, next_of}
 use Rattle.routing.specs.Walks.{IsDistance}

@@ -1,7 +1,7 @@
 -- What an IMP announces to its neighbours of its distances (Heart et al., SJCC 1970, routing).
 use Rattle.std.specs.Prelude.{◌≡◌, ℕ, ◌≤◌, Bool, List, length, All, nat_le, ◌==◌, ◌&&◌}
 use Rattle.std.specs.List.{list_all}
-use Rattle.leader1822.specs.Host.{most_imps}
+use Rattle.interface.specs.Host.{most_imps}
 
 -- the distance of an IMP that no path leads to
 abbrev pub infinite : ℕ

@@ -2,7 +2,7 @@
 //! a law.
 
 ghost use Rattle.std.specs.Prelude.{◌≡◌, ◌≢◌, ℕ, ◌<◌, ◌≤◌, Some, List, [], ◌∷◌, length, map, replicate};
-ghost use Rattle.leader1822.specs.Host.{most_imps};
+ghost use Rattle.interface.specs.Host.{most_imps};
 ghost use Rattle.routing.specs.Vector.{IsVector, infinite};
 ghost use Rattle.routing.specs.Settle.{AreTablesOf, IsImp, IsNearer, IsRight, settled, table_of};
 ghost use Rattle.routing.specs.Walks.{IsDistance};

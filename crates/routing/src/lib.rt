@@ -4,7 +4,7 @@
 //! among them (Heart et al., "The interface message processor for the ARPA computer network", SJCC 1970,
 //! "Routing algorithm"). Such a list of distances is a [`Vector`].
 //!
-//! The layers above see a [`Vector`] as a list of [`leader1822::MOST_IMPS`] numbers, none above [`INFINITE`], in the order
+//! The layers above see a [`Vector`] as a list of [`interface::MOST_IMPS`] numbers, none above [`INFINITE`], in the order
 //! of the IMPs' numbers, of which the first is 1. Nothing here says that a distance is right.
 #![tactic(auto)]
 

@@ -2,13 +2,13 @@
 
 ghost use Rattle.std.specs.Prelude.{◌≡◌, ◌≢◌, ◌+◌, ◌<◌, ◌≤◌, ◌==◌, ℕ, min, if◌then◌else◌, IfOk, IfSome, OnErr, length, position, ◌↔◌, true, ◌-◌, All, Some, map, [], slice_index_or};
 ghost use Rattle.routing.specs.RouteTable.{opening_table, hears, loses, distance_in, heard_distance, least_heard, distance_to, vector_of, next_of};
-ghost use Rattle.leader1822.specs.Host.{most_imps};
+ghost use Rattle.interface.specs.Host.{most_imps};
 ghost use Rattle.routing.specs.Vector.{infinite, IsVector};
 ghost use Rattle.routing.specs.Inside.{IsKept};
 ghost use Rattle.routing.specs.Settle.{IsImp, after_round, neighbours, other_end};
 
 use crate::vector::{INFINITE, Vector};
-use leader1822::MOST_IMPS;
+use interface::MOST_IMPS;
 use std::alloc::{AllocError, Global};
 use std::marker::Model;
 

@@ -1,11 +1,11 @@
 //! What an IMP announces to its neighbours: its distance to every IMP.
 
 ghost use Rattle.std.specs.Prelude.{◌≡◌, ◌≤◌, ◌<◌, ◌↔◌, ℕ, min, slice_index_or, All, IsTrue, nat_le, true, Some, None, if◌then◌else◌};
-ghost use Rattle.leader1822.specs.Host.{most_imps};
+ghost use Rattle.interface.specs.Host.{most_imps};
 ghost use Rattle.std.specs.List.{list_all};
 ghost use Rattle.routing.specs.Vector.{IsVector, is_vector, infinite};
 
-use leader1822::MOST_IMPS;
+use interface::MOST_IMPS;
 use std::alloc::AllocError;
 use std::marker::Model;
 

@@ -4,9 +4,9 @@ use Rattle.std.proofs.lemmas.Bool.Decides.{nat_tests}
 use Rattle.std.proofs.lemmas.Fmt.{decimal_injective}
 use Rattle.std.proofs.lemmas.List.Elements.{All-append, All-cons}
 use Rattle.std.specs.Fmt.{decimal}
-use Rattle.leader1822.specs.Host.{Host, host_at, is_imp}
-use Rattle.leader1822.specs.Printed.{host_text, flow_text}
-use Rattle.leader1822.specs.declared.address.Flow.{Flow}
+use Rattle.interface.specs.Host.{Host, host_at, is_imp}
+use Rattle.interface.specs.Printed.{host_text, flow_text}
+use Rattle.interface.specs.declared.address.Flow.{Flow}
 use Rattle.script.specs.Spelling.{ReadsAs, IsHost, IsFlow}
 use Rattle.script.specs.Steps.{ReadsFlow, Lacks}
 use Rattle.script.proofs.Numbers.{All-unmarked_decimal}

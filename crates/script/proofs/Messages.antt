@@ -2,9 +2,9 @@
 use Rattle.std.proofs.Common.{◌≡◌, ◌≢◌, ℕ, ◌<◌, ◌≤◌, List, ◌∷◌, ◌++◌, length, Some, None, refl, sym, ap, ◌∙◌, arith, lit<}
 use Rattle.std.proofs.lemmas.Fmt.{decimal_injective}
 use Rattle.std.specs.Fmt.{decimal}
-use Rattle.leader1822.specs.Printed.{host_text}
-use Rattle.leader1822.specs.declared.message.HostMessage.{HostMessage}
-use Rattle.leader1822.specs.declared.address.Flow.{Flow}
+use Rattle.interface.specs.Printed.{host_text}
+use Rattle.interface.specs.declared.message.HostMessage.{HostMessage}
+use Rattle.interface.specs.declared.address.Flow.{Flow}
 use Rattle.script.specs.Spelling.{ReadsAs, IsHex, IsMessage, IsTextRead, message_text, octets_text}
 use Rattle.script.specs.Steps.{ReadsFlow, Lacks}
 use Rattle.script.proofs.Numbers.{All-unmarked_decimal}

@@ -10,12 +10,12 @@ use Rattle.std.specs.List.{All, flat_map, list_any}
 use Rattle.hex.proofs.HexLemmas.{decode_of-encode_upper}
 use Rattle.hex.specs.Hex.{decode_of}
 use Rattle.bit_messages.specs.Octets.{bits_of, octets_of}
-use Rattle.leader1822.specs.Host.{Host}
-use Rattle.leader1822.specs.Printed.{flow_text, host_text}
-use Rattle.leader1822.specs.declared.address.Flow.{Flow}
-use Rattle.leader1822.specs.declared.event.Direction.{Direction}
-use Rattle.leader1822.specs.declared.event.Direction.TheVariants as way
-use Rattle.leader1822.specs.declared.message.HostMessage.{HostMessage}
+use Rattle.interface.specs.Host.{Host}
+use Rattle.interface.specs.Printed.{flow_text, host_text}
+use Rattle.interface.specs.declared.address.Flow.{Flow}
+use Rattle.interface.specs.declared.event.Direction.{Direction}
+use Rattle.interface.specs.declared.event.Direction.TheVariants as way
+use Rattle.interface.specs.declared.message.HostMessage.{HostMessage}
 use Rattle.script.specs.Input.{IsParted, ended_line}
 use Rattle.script.specs.Script.{AskFor, AskForAs, lines_of}
 use Rattle.script.specs.Spelling.{IsEvent, IsFlow, IsHost, IsImp, IsMessage, direction_text, message_text, octets_text, spelling}

@@ -4,9 +4,9 @@ use Rattle.std.proofs.lemmas.Bool.Decides.{nat_tests}
 use Rattle.std.proofs.lemmas.Fmt.{decimal_injective}
 use Rattle.std.proofs.lemmas.List.Elements.{All-nil, All-cons}
 use Rattle.std.specs.Fmt.{decimal}
-use Rattle.leader1822.specs.Host.{imp_at, is_imp}
-use Rattle.leader1822.specs.declared.event.Direction.{Direction}
-use Rattle.leader1822.specs.declared.event.Direction.TheVariants as way
+use Rattle.interface.specs.Host.{imp_at, is_imp}
+use Rattle.interface.specs.declared.event.Direction.{Direction}
+use Rattle.interface.specs.declared.event.Direction.TheVariants as way
 use Rattle.script.specs.Spelling.{ReadsAs, IsImp, IsIndex, direction_text}
 use Rattle.script.specs.Steps.{Lacks, frame_text, IsFrame, pair_text, IsEnd, AreImps, IsDirection}
 use Rattle.script.proofs.Numbers.{All-unmarked_decimal}

@@ -11,8 +11,8 @@ use Rattle.std.specs.Fmt.{decimal}
 use Rattle.std.specs.Int.{IsInRange}
 use Rattle.std.specs.List.{All}
 use Rattle.std.specs.Str.Parse.{AllDigits}
-use Rattle.leader1822.specs.Host.{Host, host_at}
-use Rattle.leader1822.specs.Printed.{host_text}
+use Rattle.interface.specs.Host.{Host, host_at}
+use Rattle.interface.specs.Printed.{host_text}
 use Rattle.script.specs.Spelling.{ReadsAs, IsHost}
 use Rattle.script.specs.Steps.{begins_wrong, Lacks}
 use Rattle.script.proofs.Hosts.{host_range, host_read}

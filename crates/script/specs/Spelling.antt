@@ -4,14 +4,14 @@ use Rattle.std.specs.List.{list_all}
 use Rattle.std.specs.Fmt.{decimal}
 use Rattle.hex.specs.Hex.{decode_of, encode_upper}
 use Rattle.bit_messages.specs.Octets.{octets_of, bits_of, spare_bits}
-use Rattle.leader1822.specs.Host.{Host, host_at, imp_at}
-use Rattle.leader1822.specs.Printed.{host_text, flow_text}
-use Rattle.leader1822.specs.declared.address.Flow.{Flow}
-use Rattle.leader1822.specs.declared.event.Direction.{Direction}
-use Rattle.leader1822.specs.declared.event.Direction.TheVariants as direction
-use Rattle.leader1822.specs.declared.event.NetEvent.{NetEvent}
-use Rattle.leader1822.specs.declared.event.NetEvent.TheVariants as net
-use Rattle.leader1822.specs.declared.message.HostMessage.{HostMessage}
+use Rattle.interface.specs.Host.{Host, host_at, imp_at}
+use Rattle.interface.specs.Printed.{host_text, flow_text}
+use Rattle.interface.specs.declared.address.Flow.{Flow}
+use Rattle.interface.specs.declared.event.Direction.{Direction}
+use Rattle.interface.specs.declared.event.Direction.TheVariants as direction
+use Rattle.interface.specs.declared.event.NetEvent.{NetEvent}
+use Rattle.interface.specs.declared.event.NetEvent.TheVariants as net
+use Rattle.interface.specs.declared.message.HostMessage.{HostMessage}
 use Rattle.script.specs.declared.event.RawEvent.{RawEvent}
 use Rattle.script.specs.declared.event.RawEvent.TheVariants as event
 

@@ -2,11 +2,11 @@
 use Rattle.std.specs.Prelude.{◌≡◌, ◌++◌, codes, ℕ, ◌==◌, ◌&&◌, ◌||◌, nat_lt, Bool, true, false, List, [], ◌∷◌, Option, Some, None, length}
 use Rattle.std.specs.Fmt.{decimal}
 use Rattle.std.specs.List.{All}
-use Rattle.leader1822.specs.Printed.{host_text}
-use Rattle.leader1822.specs.declared.address.Flow.{Flow}
-use Rattle.leader1822.specs.declared.event.Direction.{Direction}
-use Rattle.leader1822.specs.declared.event.NetEvent.{NetEvent}
-use Rattle.leader1822.specs.declared.event.NetEvent.TheVariants as net
+use Rattle.interface.specs.Printed.{host_text}
+use Rattle.interface.specs.declared.address.Flow.{Flow}
+use Rattle.interface.specs.declared.event.Direction.{Direction}
+use Rattle.interface.specs.declared.event.NetEvent.{NetEvent}
+use Rattle.interface.specs.declared.event.NetEvent.TheVariants as net
 use Rattle.script.specs.Spelling.{IsHost, IsFlow, IsImp, IsIndex, direction_text}
 
 -- octets without this one

@@ -1,6 +1,6 @@
 //! What a line of a script asks for.
 
-use leader1822::{HostAddr, HostMessage, NetEvent};
+use interface::{HostAddr, HostMessage, NetEvent};
 
 /// What a line of a script asks for.
 #[derive(Debug, Drop)]

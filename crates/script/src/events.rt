@@ -1,7 +1,7 @@
 //! Scripts: one event a line.
 
 ghost use Rattle.std.specs.Prelude.{◌≡◌, ◌≢◌, ℕ, ◌==◌, ◌≤◌, false, List, ◌∷◌, ◌++◌, length, codes, MatchOption, MatchResult, IfOk, IfErr};
-ghost use Rattle.leader1822.specs.Printed.{flow_text};
+ghost use Rattle.interface.specs.Printed.{flow_text};
 ghost use Rattle.script.specs.Script.{lines_of, is_passed_over, AskFor, IsLineFault};
 ghost use Rattle.script.specs.Spelling.{ReadsAs, IsFlow, IsMessage, IsEvent, IsTextRead, WantsMemory, message_text, spelling};
 ghost use Rattle.script.specs.Steps.{ReadsFlow, Lacks};
@@ -11,7 +11,7 @@ use crate::fault::LineFault;
 use crate::input::{MAX_INPUT, first_line};
 use crate::network::read_net;
 use crate::word::{cut, is_word, plain_number, read_count, read_host, read_octet, read_text};
-use leader1822::{Flow, HostMessage, Link};
+use interface::{Flow, HostMessage, Link};
 use std::alloc::{AllocError, Global};
 
 /// Returns the events of a script, in order. Empty lines and lines that begin with `#` are ignored, but they are

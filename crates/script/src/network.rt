@@ -7,7 +7,7 @@ ghost use Rattle.script.specs.Steps.{Lacks, IsOfHosts, IsOfImps, IsOfLines, fram
 
 use crate::events::{cut_twice, read_three};
 use crate::word::{cut, is_word, plain_number, read_direction, read_host, read_imp};
-use leader1822::{Direction, ImpNumber, NetEvent};
+use interface::{Direction, ImpNumber, NetEvent};
 
 /// Returns what happens inside a network by a line, from its first word and what follows it. Frames come first, as the
 /// most frequent.

@@ -5,13 +5,13 @@ ghost use Rattle.std.specs.List.{All};
 ghost use Rattle.std.specs.Fmt.{decimal};
 ghost use Rattle.std.specs.Str.Parse.{AllDigits, digits_value};
 ghost use Rattle.bit_messages.specs.Octets.{bits_of};
-ghost use Rattle.leader1822.specs.Printed.{host_text};
+ghost use Rattle.interface.specs.Printed.{host_text};
 ghost use Rattle.script.specs.Steps.{begins_wrong, IsDirection, Lacks};
 ghost use Rattle.script.specs.Spelling.{ReadsAs, IsHost, IsImp, IsHex, direction_text, octets_text};
 
 use crate::hexadecimal::read_octets;
 use bit_messages::{BitFault, Bits, MAX_TEXT_BITS};
-use leader1822::{Direction, HostAddr, ImpNumber, Text};
+use interface::{Direction, HostAddr, ImpNumber, Text};
 use std::alloc::{AllocError, Global};
 
 /// Returns what precedes the first separator, and what follows it. `None` where there is no separator.

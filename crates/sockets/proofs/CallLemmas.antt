@@ -8,8 +8,8 @@ use Rattle.sockets.specs.Pairs.{NcpState, owner_of, pair_with, with_pair}
 use Rattle.host_pairs.specs.Desk.{listens_on}
 use Rattle.host_pairs.specs.Turn.{TurnState, answered_turn, freed, is_quiet}
 use Rattle.host_pairs.proofs.lemmas.{quiet_turn}
-use Rattle.leader1822.specs.declared.crossing.Answer.TheVariants as answer
-use Rattle.leader1822.specs.Host.{Host}
+use Rattle.interface.specs.declared.crossing.Answer.TheVariants as answer
+use Rattle.interface.specs.Host.{Host}
 use Rattle.sockets.specs.Peers.{AreInOrder}
 use Rattle.sockets.proofs.PeerLemmas.{owner_known}
 use Rattle.sockets.specs.Requests.{at_owner, closed_socket, with_peer}

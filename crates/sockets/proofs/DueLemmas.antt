@@ -1,7 +1,7 @@
 -- What goes to each peer next, beside them.
 use Rattle.std.proofs.Common.{◌≡◌, ℕ, ◌+◌, ◌<◌, ◌∙◌, false, cond, not, List, [], ◌∷◌, length, find, position, Option, Some, None, is_some, slice_index_or, slice_set, refl, ap, sym, subst, arith, zero, suc}
 use Rattle.std.specs.List.{insert, remove, position_or_len}
-use Rattle.leader1822.specs.Host.{Host}
+use Rattle.interface.specs.Host.{Host}
 use Rattle.host_pairs.proofs.lemmas.{none_found, one_found}
 use Rattle.host_pairs.specs.Outgoing.{HasRoom, IsThere, parcel_of}
 use Rattle.host_pairs.specs.Pair.{PairState, opening_pair}

@@ -1,7 +1,7 @@
 -- The peer that something goes to is among the peers with its pair.
 use Rattle.std.proofs.Common.{◌≡◌, ℕ, ◌<◌, Bool, true, false, List, [], ◌∷◌, Option, Some, None, refl, ap, subst, arith}
-use Rattle.leader1822.specs.Host.{Host, same_host, address_octet}
-use Rattle.leader1822.proofs.lemmas.{same_host-refl}
+use Rattle.interface.specs.Host.{Host, same_host, address_octet}
+use Rattle.interface.proofs.lemmas.{same_host-refl}
 use Rattle.host_pairs.specs.Outgoing.{IsThere, parcel_of}
 use Rattle.sockets.specs.Pairs.{pair_with}
 use Rattle.sockets.specs.Peers.{StandAbove, AreInOrder}

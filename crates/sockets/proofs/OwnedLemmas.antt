@@ -3,7 +3,7 @@ use Rattle.std.proofs.Common.{◌≡◌, ℕ, ◌<◌, ◌==◌, ◌&&◌, ◌||
 use Rattle.std.specs.BTreeSet.{BTreeSet, IsUpperBound, contains}
 use Rattle.std.specs.Ordering.{nat_cmp}
 use Rattle.host_pairs.proofs.lemmas.{beyond_last}
-use Rattle.leader1822.specs.Host.{Host, same_host, address_octet}
+use Rattle.interface.specs.Host.{Host, same_host, address_octet}
 use Rattle.ncp_control.specs.declared.command.Command.{Command}
 use Rattle.host_pairs.specs.Asked.{requested}
 use Rattle.host_pairs.specs.Entries.{entry_at, is_mine_on}

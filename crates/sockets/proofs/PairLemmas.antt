@@ -1,7 +1,7 @@
 -- A pair that is changed, and the others.
 use Rattle.std.proofs.Common.{◌≡◌, Bool, true, false, cond, List, [], ◌∷◌, refl, ap, sym, ◌∙◌, arith, nat_lt}
 use Rattle.std.proofs.lemmas.Bool.{ltb-true}
-use Rattle.leader1822.specs.Host.{Host, same_host, address_octet}
+use Rattle.interface.specs.Host.{Host, same_host, address_octet}
 use Rattle.host_pairs.specs.Pair.{PairState, opening_pair, is_opening}
 use Rattle.sockets.specs.Pairs.{pair_with, with_pair, placed, without_peer}
 use Rattle.sockets.specs.declared.peer.Peer.{Peer}

@@ -5,8 +5,8 @@ use Rattle.std.proofs.lemmas.List.Sums.{length-filter, count_by-le-length}
 use Rattle.std.specs.List.{insert, remove}
 use Rattle.std.specs.List.Sorted.{IsPartitionPoint, IsPartitionedBy}
 use Rattle.std.proofs.lemmas.Bool.{eqb-true, ltb-true, ltb-false}
-use Rattle.leader1822.specs.Host.{Host, IsAddress, same_host, address_octet}
-use Rattle.leader1822.proofs.lemmas.{same_host-refl}
+use Rattle.interface.specs.Host.{Host, IsAddress, same_host, address_octet}
+use Rattle.interface.proofs.lemmas.{same_host-refl}
 use Rattle.std.specs.declared.alloc.AllocError.{AllocError}
 use Rattle.ncp_control.specs.declared.command.Command.{Command}
 use Rattle.host_pairs.specs.Asked.{commanded, requested, with_end, with_more_bits}

@@ -1,11 +1,11 @@
 -- What comes in from the IMP: messages of peers, and answers to what this host has sent (NIC 8246; BBN Report 1822, RFNM).
 use Rattle.std.specs.Prelude.{ℕ, if◌then◌else◌, List, []}
-use Rattle.leader1822.specs.Host.{Host, same_host}
-use Rattle.leader1822.specs.declared.address.Flow.{Flow}
-use Rattle.leader1822.specs.declared.crossing.Answer.{Answer}
-use Rattle.leader1822.specs.declared.crossing.Inbound.{Inbound}
-use Rattle.leader1822.specs.declared.crossing.Inbound.TheVariants as inbound
-use Rattle.leader1822.specs.declared.message.HostMessage.{HostMessage}
+use Rattle.interface.specs.Host.{Host, same_host}
+use Rattle.interface.specs.declared.address.Flow.{Flow}
+use Rattle.interface.specs.declared.crossing.Answer.{Answer}
+use Rattle.interface.specs.declared.crossing.Inbound.{Inbound}
+use Rattle.interface.specs.declared.crossing.Inbound.TheVariants as inbound
+use Rattle.interface.specs.declared.message.HostMessage.{HostMessage}
 use Rattle.host_pairs.specs.Entries.{is_busy}
 use Rattle.sockets.specs.Pairs.{NcpState, pair_with, with_pair}
 use Rattle.host_pairs.specs.declared.notice.Notice.{Notice}

@@ -1,7 +1,7 @@
 -- Whom a request is about: words for the laws of one host.
 use Rattle.std.specs.Prelude.{Bool, false, if◌then◌else◌, Option, Some, None}
-use Rattle.leader1822.specs.Host.{Host, same_host}
-use Rattle.leader1822.specs.declared.message.HostMessage.{HostMessage}
+use Rattle.interface.specs.Host.{Host, same_host}
+use Rattle.interface.specs.declared.message.HostMessage.{HostMessage}
 use Rattle.sockets.specs.Pairs.{NcpState, owner_of}
 use Rattle.host_pairs.specs.Desk.{listens_on}
 use Rattle.host_pairs.specs.Parcels.{Parcel}

@@ -1,6 +1,6 @@
 -- What a host knows of each other host, and of its own sockets.
 use Rattle.std.specs.Prelude.{ℕ, Bool, false, not, nat_lt, if◌then◌else◌, List, [], ◌∷◌, filter, find, Option, Some, None}
-use Rattle.leader1822.specs.Host.{Host, same_host, address_octet}
+use Rattle.interface.specs.Host.{Host, same_host, address_octet}
 use Rattle.host_pairs.specs.Entries.{is_mine_on}
 use Rattle.host_pairs.specs.Pair.{PairState, opening_pair, is_opening}
 use Rattle.host_pairs.specs.declared.entry.Entry.{Entry}

@@ -1,6 +1,6 @@
 -- The order in which a host keeps its peers.
 use Rattle.std.specs.Prelude.{ℕ, ◌<◌, Bool, List, [], ◌∷◌, is_some}
-use Rattle.leader1822.specs.Host.{IsAddress, address_octet}
+use Rattle.interface.specs.Host.{IsAddress, address_octet}
 use Rattle.host_pairs.specs.Parcels.{next_of}
 use Rattle.sockets.specs.declared.peer.Peer.{Peer}
 

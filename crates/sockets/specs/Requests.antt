@@ -1,6 +1,6 @@
 -- What a user asks for (NIC 8246 leaves the calls to each host; RTS, STR, CLS, ALL, GVB, INR, INS, ECO and RST go out by them).
 use Rattle.std.specs.Prelude.{ℕ, ◌&&◌, ◌||◌, not, Bool, if◌then◌else◌, List, [], ◌∷◌, ◌++◌, length, Option, Some, None, is_some}
-use Rattle.leader1822.specs.Host.{Host}
+use Rattle.interface.specs.Host.{Host}
 use Rattle.ncp_control.specs.Numbers.{is_receive_socket, is_send_socket, is_byte_size}
 use Rattle.ncp_control.specs.declared.command.Command.TheVariants as command
 use Rattle.host_pairs.specs.Commands.{granted}

@@ -1,7 +1,7 @@
 -- What goes out of a host next (NIC 8246, data and control messages).
 use Rattle.std.specs.Prelude.{ℕ, List, [], ◌∷◌, Option, Some, None}
-use Rattle.leader1822.specs.Host.{Host}
-use Rattle.leader1822.specs.declared.message.HostMessage.{HostMessage}
+use Rattle.interface.specs.Host.{Host}
+use Rattle.interface.specs.declared.message.HostMessage.{HostMessage}
 use Rattle.host_pairs.specs.Desk.{DeskState, desk_of}
 use Rattle.sockets.specs.Pairs.{NcpState, with_pair}
 use Rattle.sockets.specs.declared.peer.Peer.{Peer}

@@ -1,7 +1,7 @@
 //! What comes in from the IMP: messages of peers, and answers to what this host has sent.
 
 ghost use Rattle.std.specs.Prelude.{◌≡◌, ◌+◌, ◌<◌, [], false, IfErr, IfOk, OnErr, length};
-ghost use Rattle.leader1822.specs.declared.crossing.Inbound.TheVariants as inbound;
+ghost use Rattle.interface.specs.declared.crossing.Inbound.TheVariants as inbound;
 ghost use Rattle.sockets.specs.Accepting as accepting;
 ghost use Rattle.host_pairs.specs.Turn.{TurnState, answered_turn};
 ghost use Rattle.std.specs.Bool.{OnFalse, OnTrue};
@@ -14,7 +14,7 @@ ghost use Rattle.sockets.specs.Pairs.{pair_with, with_pair};
 use crate::ncp::Ncp;
 use crate::{NcpFault, Notice};
 use host_pairs::{Listeners, Turn, is_busy};
-use leader1822::{Answer, Flow, HostAddr, HostMessage, Inbound};
+use interface::{Answer, Flow, HostAddr, HostMessage, Inbound};
 use std::alloc::AllocError;
 use std::mem;
 

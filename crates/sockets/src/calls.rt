@@ -19,7 +19,7 @@ use crate::ncp::Ncp;
 use crate::{NcpFault, Notice, Request};
 use bit_messages::Bits;
 use host_pairs::{Entry, Listener, listens_on, stop_listening};
-use leader1822::HostAddr;
+use interface::HostAddr;
 use ncp_control::Command;
 use std::alloc::AllocError;
 

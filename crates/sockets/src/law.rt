@@ -2,11 +2,11 @@
 
 ghost use Rattle.std.specs.Prelude.{◌≡◌, ℕ, List, [], ◌∷◌, ◌++◌, Option, Some, None, replicate, true, false, if◌then◌else◌};
 ghost use Rattle.bit_messages.specs.Octets.{bits_of};
-ghost use Rattle.leader1822.specs.Host.{Host, same_host};
-ghost use Rattle.leader1822.specs.declared.address.Flow.{Flow};
-ghost use Rattle.leader1822.specs.declared.crossing.Answer.{Answer};
-ghost use Rattle.leader1822.specs.declared.crossing.Inbound.TheVariants as inbound;
-ghost use Rattle.leader1822.specs.declared.message.HostMessage.{HostMessage};
+ghost use Rattle.interface.specs.Host.{Host, same_host};
+ghost use Rattle.interface.specs.declared.address.Flow.{Flow};
+ghost use Rattle.interface.specs.declared.crossing.Answer.{Answer};
+ghost use Rattle.interface.specs.declared.crossing.Inbound.TheVariants as inbound;
+ghost use Rattle.interface.specs.declared.message.HostMessage.{HostMessage};
 ghost use Rattle.sockets.specs.Accepting.{accepted};
 ghost use Rattle.sockets.specs.Dialogue.{state_of, Ask};
 ghost use Rattle.host_pairs.specs.About.{AreAbout};

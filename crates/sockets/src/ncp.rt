@@ -8,7 +8,7 @@ ghost use Rattle.sockets.specs.declared.fault.NcpFault.TheVariants as fault;
 use crate::peers::Peers;
 use crate::{NcpFault, Peer};
 use host_pairs::{Listener, Listeners};
-use leader1822::HostAddr;
+use interface::HostAddr;
 use std::alloc::{AllocError, Global};
 use std::marker::Model;
 

@@ -10,7 +10,7 @@ use crate::ncp::Ncp;
 use crate::peers::Peers;
 use crate::{NcpFault, Notice};
 use host_pairs::Outgoing;
-use leader1822::HostAddr;
+use interface::HostAddr;
 use std::alloc::AllocError;
 
 impl Peers {

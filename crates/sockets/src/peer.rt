@@ -1,7 +1,7 @@
 //! A host that this one speaks to.
 
 use host_pairs::Pair;
-use leader1822::HostAddr;
+use interface::HostAddr;
 
 /// Another host, and what this one knows of it.
 #[derive(Drop)]

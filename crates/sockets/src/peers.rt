@@ -4,7 +4,7 @@ ghost use Rattle.std.specs.Prelude.{◌≡◌, ◌<◌, ◌≤◌, [], OnOk, OnE
 ghost use Rattle.std.specs.Bool.{OnTrue, OnFalse};
 ghost use Rattle.std.specs.List as lists;
 ghost use Rattle.std.specs.List.Sorted.{IsPartitionPoint};
-ghost use Rattle.leader1822.specs.Host.{address_octet, same_host};
+ghost use Rattle.interface.specs.Host.{address_octet, same_host};
 ghost use Rattle.ncp_control.specs.Command.{is_alone};
 ghost use Rattle.host_pairs.specs.Asked.{commanded, requested, with_end, with_more_bits};
 ghost use Rattle.host_pairs.specs.Commands.{granted};
@@ -24,7 +24,7 @@ use crate::owned::Owned;
 use crate::peer::Peer;
 use bit_messages::Bits;
 use host_pairs::{Entry, Outgoing, Pair, own_place};
-use leader1822::HostAddr;
+use interface::HostAddr;
 use ncp_control::Command;
 use std::alloc::{AllocError, Global};
 use std::marker::Model;

@@ -19,7 +19,7 @@ ghost use Rattle.sockets.specs.declared.fault.NcpFault.{NcpFault};
 use crate::ncp::Ncp;
 use crate::{NcpFault, Request};
 use host_pairs::{Entry, free_link, has_end, listens_on};
-use leader1822::HostAddr;
+use interface::HostAddr;
 use ncp_control::{Allocation, ByteSize, Command, ConnectionLink, ReceiveSocket, SendSocket};
 
 impl Ncp {

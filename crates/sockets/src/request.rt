@@ -1,7 +1,7 @@
 //! What a user may ask of the network control program.
 
 use bit_messages::Bits;
-use leader1822::HostAddr;
+use interface::HostAddr;
 
 /// A user call with its arguments (NIC 8246 leaves them to each host). Programs above the sockets make
 /// these.

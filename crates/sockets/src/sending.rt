@@ -11,7 +11,7 @@ use crate::NcpFault;
 use crate::ncp::Ncp;
 use crate::peer::Peer;
 use host_pairs::Outgoing;
-use leader1822::{Flow, HostMessage, Link, Text};
+use interface::{Flow, HostMessage, Link, Text};
 use std::alloc::AllocError;
 
 impl Ncp {

@@ -1,7 +1,7 @@
 -- What is alive in a subnet: what its IMPs hold, and what live frames carry.
 use Rattle.std.specs.Prelude.{ℕ, Bool, false, List, [], ◌++◌, Option, Some, None, ◌||◌, ◌&&◌, ◌==◌, not}
 use Rattle.std.specs.List.{list_any, flat_map}
-use Rattle.leader1822.specs.declared.address.Flow.{Flow}
+use Rattle.interface.specs.declared.address.Flow.{Flow}
 use Rattle.packetiser.specs.PacketFields.{PacketFields}
 use Rattle.imp_channel.specs.Holding.{carried_by}
 use Rattle.imp_channel.specs.declared.frame.Frame.{Frame}

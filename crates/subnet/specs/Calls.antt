@@ -1,13 +1,13 @@
 -- How a call of a subnet ends, and which calls may run out of memory.
 use Rattle.std.specs.Prelude.{◌≡◌, ℕ, Bool, true, false, List, Option, Some, None, Result, Ok, Err, is_some, nat_lt, length, slice_get, ◌||◌, ◌&&◌}
 use Rattle.std.specs.List.{list_any}
-use Rattle.leader1822.specs.Calls.{is_memory}
-use Rattle.leader1822.specs.Host.{Host}
-use Rattle.leader1822.specs.declared.carrier.CarrierFault.{CarrierFault}
-use Rattle.leader1822.specs.declared.carrier.CarrierFault.TheVariants as fault
-use Rattle.leader1822.specs.declared.event.Direction.{Direction}
-use Rattle.leader1822.specs.declared.event.NetEvent.{NetEvent}
-use Rattle.leader1822.specs.declared.event.NetEvent.TheVariants as event
+use Rattle.interface.specs.Calls.{is_memory}
+use Rattle.interface.specs.Host.{Host}
+use Rattle.interface.specs.declared.carrier.CarrierFault.{CarrierFault}
+use Rattle.interface.specs.declared.carrier.CarrierFault.TheVariants as fault
+use Rattle.interface.specs.declared.event.Direction.{Direction}
+use Rattle.interface.specs.declared.event.NetEvent.{NetEvent}
+use Rattle.interface.specs.declared.event.NetEvent.TheVariants as event
 use Rattle.imp_channel.specs.Holding.{bits_carried}
 use Rattle.imp_channel.specs.declared.frame.Frame.{Frame}
 use Rattle.imp_node.specs.State.{State}

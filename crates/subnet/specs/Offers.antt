@@ -1,7 +1,7 @@
 -- What packets can carry of a message that a host offers.
 use Rattle.std.specs.Prelude.{◌≤◌, ◌<◌, Option, Some, None, length}
 use Rattle.bit_messages.specs.Body.{most_text_bits}
-use Rattle.leader1822.specs.declared.message.HostMessage.{HostMessage}
+use Rattle.interface.specs.declared.message.HostMessage.{HostMessage}
 use Rattle.packetiser.specs.PacketFields.{IsPacketHost}
 use Rattle.imp_node.specs.State.{State}
 use Rattle.imp_node.specs.Offering.{Way, Nowhere, Here, Away, way_of}

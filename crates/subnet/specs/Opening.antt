@@ -1,6 +1,6 @@
 -- A subnet at its opening: all IMPs, ends of lines and hosts are up.
 use Rattle.std.specs.Prelude.{◌≡◌, ℕ, ◌+◌, zero, suc, Bool, false, List, [], ◌∷◌, ◌++◌, map, Option, Some, None, slice_index_or, nat_lt, count_by}
-use Rattle.leader1822.specs.Host.{Host, is_host}
+use Rattle.interface.specs.Host.{Host, is_host}
 use Rattle.imp_node.specs.State.{State}
 use Rattle.imp_node.specs.State as imp
 pub use Rattle.subnet.specs.declared.wire.Ends.{Ends}

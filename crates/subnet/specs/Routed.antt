@@ -2,8 +2,8 @@
 -- to which one leads.
 use Rattle.std.specs.Prelude.{ℕ, ◌+◌, ◌≤◌, ◌<◌, List, Option, Some, None, length, All}
 use Rattle.bit_messages.specs.Body.{most_text_bits}
-use Rattle.leader1822.specs.Host.{IsAddress, most_imps}
-use Rattle.leader1822.specs.declared.message.HostMessage.{HostMessage}
+use Rattle.interface.specs.Host.{IsAddress, most_imps}
+use Rattle.interface.specs.declared.message.HostMessage.{HostMessage}
 use Rattle.imp_channel.specs.declared.frame.Content.{Content}
 use Rattle.imp_channel.specs.declared.frame.Content.TheVariants as content
 use Rattle.imp_channel.specs.declared.frame.Frame.{Frame}

@@ -1,9 +1,9 @@
 -- Whatever happens to a subnet: offers, takings, events and quiet rounds, of which some are refused.
 use Rattle.std.specs.Prelude.{List, [], ◌∷◌, Option, Some, None}
-use Rattle.leader1822.specs.Host.{Host}
-use Rattle.leader1822.specs.declared.carrier.CarrierFault.{CarrierFault}
-use Rattle.leader1822.specs.declared.event.NetEvent.{NetEvent}
-use Rattle.leader1822.specs.declared.message.HostMessage.{HostMessage}
+use Rattle.interface.specs.Host.{Host}
+use Rattle.interface.specs.declared.carrier.CarrierFault.{CarrierFault}
+use Rattle.interface.specs.declared.event.NetEvent.{NetEvent}
+use Rattle.interface.specs.declared.message.HostMessage.{HostMessage}
 use Rattle.subnet.specs.Net.{Net}
 use Rattle.subnet.specs.Events.{offer_refusal, offer_out, take_refusal, take_in, step_refusal, stepped, quiet_round}
 use Rattle.subnet.specs.Routed.{IsHostMessage}

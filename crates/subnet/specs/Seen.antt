@@ -1,6 +1,6 @@
 -- What hosts see of a subnet.
 use Rattle.std.specs.Prelude.{◌≡◌, false}
-use Rattle.leader1822.specs.Calls.{Seen}
+use Rattle.interface.specs.Calls.{Seen}
 use Rattle.subnet.specs.Net.{Net}
 use Rattle.subnet.specs.Opening.{hosts_from}
 

@@ -1,6 +1,6 @@
 -- What holds of a subnet after every event that keeps it sound.
 use Rattle.std.specs.Prelude.{◌≡◌, ℕ, Option, Some, None, All}
-use Rattle.leader1822.specs.declared.address.Flow.{Flow}
+use Rattle.interface.specs.declared.address.Flow.{Flow}
 use Rattle.packetiser.specs.PacketFields.{IsPacket}
 use Rattle.packetiser.specs.declared.packet.PacketKind.TheVariants as kind
 use Rattle.flow_law.specs.Follows.{AllSound}

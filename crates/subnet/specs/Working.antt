@@ -1,12 +1,12 @@
 -- A subnet as a carrier: what holds of it, and how its calls may go.
 use Rattle.std.specs.Prelude.{◌≡◌, true, false, Option, None, Result}
-use Rattle.leader1822.specs.Calls.{Calls, Seen, InOrder}
-use Rattle.leader1822.specs.Host.{Host}
-use Rattle.leader1822.specs.Mailboxes.{IsRun}
-use Rattle.leader1822.specs.declared.carrier.CarrierFault.{CarrierFault}
-use Rattle.leader1822.specs.declared.crossing.Inbound.{Inbound}
-use Rattle.leader1822.specs.declared.event.NetEvent.{NetEvent}
-use Rattle.leader1822.specs.declared.message.HostMessage.{HostMessage}
+use Rattle.interface.specs.Calls.{Calls, Seen, InOrder}
+use Rattle.interface.specs.Host.{Host}
+use Rattle.interface.specs.Mailboxes.{IsRun}
+use Rattle.interface.specs.declared.carrier.CarrierFault.{CarrierFault}
+use Rattle.interface.specs.declared.crossing.Inbound.{Inbound}
+use Rattle.interface.specs.declared.event.NetEvent.{NetEvent}
+use Rattle.interface.specs.declared.message.HostMessage.{HostMessage}
 use Rattle.subnet.specs.Net.{Net}
 use Rattle.subnet.specs.Calls.{Kept, running, refusal_of, Decided, take_grows, step_grows, round_grows}
 use Rattle.subnet.specs.Events.{offer_refusal, offer_out, take_refusal, taken_by_host, take_in, step_refusal, stepped, quiet_round}

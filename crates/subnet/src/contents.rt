@@ -11,7 +11,7 @@ use crate::Subnet;
 use crate::parts::Parts;
 use crate::wire::Wire;
 use imp_node::Imp;
-use leader1822::{HostAddr, ImpNumber};
+use interface::{HostAddr, ImpNumber};
 
 impl Subnet {
     /// Returns how many numbers there are for IMPs, from 0 on. There needn't be an IMP of each.

@@ -4,7 +4,7 @@ ghost use Rattle.std.specs.Prelude.{OnOk, OnErr};
 ghost use Rattle.subnet.specs.Inside.Calling.{AreLive, Steps, SameLog};
 
 use crate::parts::Parts;
-use leader1822::{CarrierFault, NetEvent};
+use interface::{CarrierFault, NetEvent};
 
 impl Parts {
     /// Lets an event happen in the subnet.

@@ -1,7 +1,7 @@
 //! What happens to flows.
 
 ghost use Rattle.std.specs.Prelude.{◌≡◌, OnOk};
-ghost use Rattle.leader1822.specs.declared.event.NetEvent.TheVariants as event;
+ghost use Rattle.interface.specs.declared.event.NetEvent.TheVariants as event;
 ghost use Rattle.subnet.specs.Net.{imp_at};
 ghost use Rattle.subnet.specs.Alive.{is_awaited_at};
 ghost use Rattle.subnet.specs.Events.{give_up_alive, outstanding_at};
@@ -10,7 +10,7 @@ ghost use Rattle.subnet.specs.Inside.Calling.{AreLive, Steps, SameLog};
 use crate::imp_call::ImpCall;
 use crate::parts::Parts;
 use crate::seeking::Sought;
-use leader1822::{CarrierFault, Flow, ImpNumber, Number};
+use interface::{CarrierFault, Flow, ImpNumber, Number};
 
 impl Parts {
     /// Throws away the pieces that the destination's IMP holds of a flow's message.

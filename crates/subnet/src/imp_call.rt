@@ -10,7 +10,7 @@ ghost use Rattle.subnet.specs.Inside.Calling.{call_refusal, call_turn, call_grow
 
 use imp_channel::Frame;
 use imp_node::{Imp, Outgoing};
-use leader1822::{CarrierFault, Flow, HostMessage, ImpNumber};
+use interface::{CarrierFault, Flow, HostMessage, ImpNumber};
 
 /// A call of an IMP that answers frames for its lines and nothing else.
 #[derive(Drop)]

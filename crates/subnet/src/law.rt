@@ -5,19 +5,19 @@
 //! would fail.
 
 ghost use Rattle.std.specs.Prelude.{◌≡◌, ◌≤◌, ◌+◌, ◌-◌, ℕ, true, false, List, [], ◌∷◌, ◌++◌, length, replicate, Option, Some, None, Result};
-ghost use Rattle.leader1822.specs.Calls.{IsFor, step_crossings, ShowsOffer, ShowsTake, ShowsStep, ShowsRound};
-ghost use Rattle.leader1822.specs.Host.{Host, InOrder, most_imps};
-ghost use Rattle.leader1822.specs.Mailboxes.{IsRun, is_up};
-ghost use Rattle.leader1822.specs.declared.address.Flow.{Flow};
-ghost use Rattle.leader1822.specs.declared.carrier.CarrierFault.{CarrierFault};
-ghost use Rattle.leader1822.specs.declared.carrier.CarrierFault.TheVariants as fault;
-ghost use Rattle.leader1822.specs.declared.crossing.Crossing.TheVariants as crossing;
-ghost use Rattle.leader1822.specs.declared.crossing.Inbound.{Inbound};
-ghost use Rattle.leader1822.specs.declared.event.Direction.{Direction};
-ghost use Rattle.leader1822.specs.declared.event.Direction.TheVariants as way;
-ghost use Rattle.leader1822.specs.declared.event.NetEvent.{NetEvent};
-ghost use Rattle.leader1822.specs.declared.event.NetEvent.TheVariants as event;
-ghost use Rattle.leader1822.specs.declared.message.HostMessage.{HostMessage};
+ghost use Rattle.interface.specs.Calls.{IsFor, step_crossings, ShowsOffer, ShowsTake, ShowsStep, ShowsRound};
+ghost use Rattle.interface.specs.Host.{Host, InOrder, most_imps};
+ghost use Rattle.interface.specs.Mailboxes.{IsRun, is_up};
+ghost use Rattle.interface.specs.declared.address.Flow.{Flow};
+ghost use Rattle.interface.specs.declared.carrier.CarrierFault.{CarrierFault};
+ghost use Rattle.interface.specs.declared.carrier.CarrierFault.TheVariants as fault;
+ghost use Rattle.interface.specs.declared.crossing.Crossing.TheVariants as crossing;
+ghost use Rattle.interface.specs.declared.crossing.Inbound.{Inbound};
+ghost use Rattle.interface.specs.declared.event.Direction.{Direction};
+ghost use Rattle.interface.specs.declared.event.Direction.TheVariants as way;
+ghost use Rattle.interface.specs.declared.event.NetEvent.{NetEvent};
+ghost use Rattle.interface.specs.declared.event.NetEvent.TheVariants as event;
+ghost use Rattle.interface.specs.declared.message.HostMessage.{HostMessage};
 ghost use Rattle.imp_channel.specs.declared.frame.Content.TheVariants as content;
 ghost use Rattle.routing.specs.Vector.{infinite};
 ghost use Rattle.imp_node.specs.Examples.{host, flow, only_packet, packets_to, packet_frame, no_acks, ack_frame};

@@ -1,8 +1,8 @@
 //! What happens on lines.
 
 ghost use Rattle.std.specs.Prelude.{◌≡◌, ◌<◌, length, slice_get, Some, None, is_some, if◌then◌else◌, true, IfSome, OnOk, OnErr};
-ghost use Rattle.leader1822.specs.declared.carrier.CarrierFault.TheVariants as fault;
-ghost use Rattle.leader1822.specs.declared.event.NetEvent.TheVariants as event;
+ghost use Rattle.interface.specs.declared.carrier.CarrierFault.TheVariants as fault;
+ghost use Rattle.interface.specs.declared.event.NetEvent.TheVariants as event;
 ghost use Rattle.subnet.specs.Net.{wire_at, frames_on};
 ghost use Rattle.subnet.specs.Events as events;
 ghost use Rattle.subnet.specs.Calls.{delivered_grows};
@@ -10,7 +10,7 @@ ghost use Rattle.subnet.specs.Inside.Calling.{AreLive, Steps, SameLog};
 
 use crate::imp_call::ImpCall;
 use crate::parts::Parts;
-use leader1822::{CarrierFault, Direction, ImpNumber};
+use interface::{CarrierFault, Direction, ImpNumber};
 use std::alloc::AllocError;
 
 impl Parts {

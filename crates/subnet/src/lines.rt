@@ -9,7 +9,7 @@ ghost use Rattle.subnet.specs.Inside.Taking.{hollowed};
 use crate::wire::{Ends, Wire};
 use imp_channel::Frame;
 use imp_node::Outgoing;
-use leader1822::Direction;
+use interface::Direction;
 use std::alloc::{AllocError, Global};
 use std::collections::VecDeque;
 use std::marker::Model;

@@ -16,7 +16,7 @@ ghost use Rattle.subnet.specs.Sound.{IsSound};
 use crate::imp_call::ImpCall;
 use crate::parts::Parts;
 use imp_node::Imp;
-use leader1822::{CarrierFault, Crossing, Flow, HostMessage, Number};
+use interface::{CarrierFault, Crossing, Flow, HostMessage, Number};
 use link_table::numbers::{next, oldest};
 
 impl Parts {

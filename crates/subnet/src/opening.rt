@@ -1,7 +1,7 @@
 //! How a subnet is opened from its hosts, sites and lines.
 
 ghost use Rattle.std.specs.Prelude.{◌≡◌, ◌+◌, ◌≤◌, ◌<◌, None, length, map, count_by, slice_index_or, All, IfOk, IfSome};
-ghost use Rattle.leader1822.specs.Host.{most_imps};
+ghost use Rattle.interface.specs.Host.{most_imps};
 ghost use Rattle.subnet.specs.Net.{ends_at};
 ghost use Rattle.subnet.specs.Opening as start;
 ghost use Rattle.subnet.specs.Inside.Calling.{AreLive};
@@ -10,7 +10,7 @@ use crate::lines::{Lines, port_of};
 use crate::parts::Parts;
 use crate::wire::{Ends, Wire};
 use imp_node::Imp;
-use leader1822::{HostAddr, Hosts, ImpNumber};
+use interface::{HostAddr, Hosts, ImpNumber};
 use std::alloc::{AllocError, Global};
 
 impl Parts {

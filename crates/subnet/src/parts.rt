@@ -1,8 +1,8 @@
 //! What a subnet is made of, and what its calls do to that.
 
 ghost use Rattle.std.specs.Prelude.{◌≡◌, ◌<◌, ◌≤◌, ◌∷◌, [], Some, None, true, false, length, OnOk, OnErr, IfOk, if◌then◌else◌, option_copied, slice_get};
-ghost use Rattle.leader1822.specs.Host.{is_host, most_imps};
-ghost use Rattle.leader1822.specs.declared.carrier.CarrierFault.TheVariants as fault;
+ghost use Rattle.interface.specs.Host.{is_host, most_imps};
+ghost use Rattle.interface.specs.declared.carrier.CarrierFault.TheVariants as fault;
 ghost use Rattle.subnet.specs.Net.{imp_at, wire_at, far_end, frames_on, port_of, put_all};
 ghost use Rattle.subnet.specs.Calls.{grows_at};
 ghost use Rattle.subnet.specs.Flows.{imp_is_up};
@@ -15,7 +15,7 @@ use crate::imp_call::{ImpCall, call_imp, reuse};
 use crate::lines::{Lines, port_of};
 use imp_channel::Frame;
 use imp_node::{Imp, Outgoing};
-use leader1822::{CarrierFault, Crossing, Direction, HostAddr, Hosts};
+use interface::{CarrierFault, Crossing, Direction, HostAddr, Hosts};
 use std::alloc::{AllocError, Global};
 use std::marker::Model;
 

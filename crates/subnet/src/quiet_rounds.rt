@@ -10,7 +10,7 @@ ghost use Rattle.subnet.specs.Inside.Calling.{AreLive, SameLog, carried_first};
 use crate::imp_call::{ImpCall, answers_at_imp, takes_at_imp};
 use crate::parts::Parts;
 use imp_node::Outgoing;
-use leader1822::Direction;
+use interface::Direction;
 use std::alloc::AllocError;
 
 impl Parts {

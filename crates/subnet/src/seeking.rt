@@ -13,7 +13,7 @@ use crate::parts::Parts;
 use crate::wire::Wire;
 use imp_channel::{Content, Frame};
 use imp_node::Imp;
-use leader1822::{Direction, Flow, ImpNumber, Number};
+use interface::{Direction, Flow, ImpNumber, Number};
 use packetiser::{Packet, PacketKind};
 use std::collections::VecDeque;
 

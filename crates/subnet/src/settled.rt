@@ -2,7 +2,7 @@
 
 ghost use Rattle.std.specs.Prelude.{◌≡◌, ◌<◌, ℕ, length, true, Some};
 ghost use Rattle.std.specs.List.{list_all};
-ghost use Rattle.leader1822.specs.declared.event.Direction.{Direction};
+ghost use Rattle.interface.specs.declared.event.Direction.{Direction};
 ghost use Rattle.imp_node.specs.State.{port_at};
 ghost use Rattle.subnet.specs.Net.{imp_at};
 ghost use Rattle.subnet.specs.Events as events;
@@ -13,7 +13,7 @@ ghost use Rattle.subnet.specs.Inside.Settled.{IsFree, IsStill, IsStillOn, is_sil
 use crate::parts::Parts;
 use crate::wire::Wire;
 use imp_node::Imp;
-use leader1822::{Direction, HostAddr};
+use interface::{Direction, HostAddr};
 
 impl Parts {
     /// Returns whether no frame is on a line, in no IMP a packet waits for a channel, and where both ends of a line are

@@ -2,7 +2,7 @@
 
 ghost use Rattle.std.specs.Prelude.{◌≡◌, ◌≤◌, ◌<◌, ◌==◌, ◌&&◌, not, true, false, length, slice_set, count_by, Some, IfOk, OnOk};
 ghost use Rattle.std.specs.List.{list_any};
-ghost use Rattle.leader1822.specs.declared.event.NetEvent.TheVariants as event;
+ghost use Rattle.interface.specs.declared.event.NetEvent.TheVariants as event;
 ghost use Rattle.imp_node.specs.State.{number};
 ghost use Rattle.imp_node.specs.Queries as queries;
 ghost use Rattle.subnet.specs.Net.{ends_at};
@@ -14,7 +14,7 @@ ghost use Rattle.subnet.specs.Inside.Calling.{IsLive, AreLive, Steps, SameLog};
 use crate::parts::Parts;
 use crate::seeking::Sought;
 use imp_node::Imp;
-use leader1822::{CarrierFault, ImpNumber};
+use interface::{CarrierFault, ImpNumber};
 use std::alloc::{AllocError, Global};
 
 impl Parts {

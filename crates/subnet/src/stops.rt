@@ -1,7 +1,7 @@
 //! Hosts that stop and start, and IMPs that stop.
 
 ghost use Rattle.std.specs.Prelude.{◌≡◌, ◌<◌, ◌≤◌, ◌++◌, length, None, true, reverse, slice_set, IfOk, OnOk, OnErr};
-ghost use Rattle.leader1822.specs.declared.event.NetEvent.TheVariants as event;
+ghost use Rattle.interface.specs.declared.event.NetEvent.TheVariants as event;
 ghost use Rattle.subnet.specs.Net.{imp_at};
 ghost use Rattle.subnet.specs.Calls.{grows_at, has_host_up};
 ghost use Rattle.subnet.specs.Events.{logging, downs_at, downs_from};
@@ -11,7 +11,7 @@ ghost use Rattle.imp_node.specs.State.{host_at};
 use crate::imp_call::ImpCall;
 use crate::parts::Parts;
 use imp_node::Imp;
-use leader1822::{CarrierFault, Crossing, HostAddr, ImpNumber};
+use interface::{CarrierFault, Crossing, HostAddr, ImpNumber};
 use std::alloc::{AllocError, Global};
 
 /// How many hosts an IMP has at most.

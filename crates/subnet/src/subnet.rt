@@ -1,8 +1,8 @@
 //! A packet subnet: all IMPs and lines, as a carrier.
 
 ghost use Rattle.std.specs.Prelude.{◌≡◌, ◌+◌, ◌<◌, ◌≤◌, ◌&&◌, true, false, reverse, None, Ok, All, IfSome, IfOk, length, slice_index_or};
-ghost use Rattle.leader1822.specs.Host.{most_imps};
-ghost use Rattle.leader1822.specs.Rest.{Rests};
+ghost use Rattle.interface.specs.Host.{most_imps};
+ghost use Rattle.interface.specs.Rest.{Rests};
 ghost use Rattle.subnet.specs.Inside.Calling.{AreLive, SameLog, runs_out};
 ghost use Rattle.subnet.specs.Inside.Remembering.{is_refused};
 ghost use Rattle.subnet.specs.Routed.{IsHostMessage};
@@ -14,7 +14,7 @@ ghost use Rattle.subnet.specs.Working.{IsWorking, subnet_calls, SubnetOffer, Sub
 
 use crate::parts::{Parts, runs_out};
 use crate::wire::Ends;
-use leader1822::{
+use interface::{
     Carrier, CarrierFault, Crossing, Flow, HostAddr, HostMessage, Inbound, NetEvent, Number,
 };
 use std::alloc::{AllocError, Global};
@@ -54,7 +54,7 @@ impl Model for Subnet {
 impl Subnet {
     /// Returns the subnet of these IMPs and lines at its opening: all IMPs, ends of lines and hosts are up. `sites`
     /// says by number how many hosts an IMP has, 0 to 4, where there is one: there is none of the number 0, and none
-    /// above [`leader1822::MOST_IMPS`]. `hosts` are the hosts of all IMPs, one after another. There are fewer than 256
+    /// above [`interface::MOST_IMPS`]. `hosts` are the hosts of all IMPs, one after another. There are fewer than 256
     /// lines.
     ///
     /// Errors: memory runs out, and nothing else.

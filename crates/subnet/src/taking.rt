@@ -1,7 +1,7 @@
 //! A host takes what came for it.
 
 ghost use Rattle.std.specs.Prelude.{◌≡◌, ◌∷◌, [], None, true, false, is_some, IfOk, IfSome, OnOk, OnErr};
-ghost use Rattle.leader1822.specs.Calls.{crossing_of};
+ghost use Rattle.interface.specs.Calls.{crossing_of};
 ghost use Rattle.imp_node.specs.Taking as taking;
 ghost use Rattle.imp_node.specs.Turns.{to_host_grows};
 ghost use Rattle.subnet.specs.Net.{imp_at};
@@ -12,7 +12,7 @@ ghost use Rattle.subnet.specs.Inside.Calling.{AreLive, CallEnds, SameLog, imp_by
 
 use crate::parts::Parts;
 use imp_node::{Imp, Outgoing};
-use leader1822::{CarrierFault, Crossing, HostAddr, Inbound};
+use interface::{CarrierFault, Crossing, HostAddr, Inbound};
 use std::alloc::AllocError;
 
 impl Parts {

@@ -8,7 +8,7 @@ ghost use Rattle.subnet.specs.Inside.Taking.{hollow, hollowed};
 ghost use Rattle.subnet.specs.Opening as start;
 
 use imp_channel::{ACKS, Content, Frame};
-use leader1822::Direction;
+use interface::Direction;
 use std::alloc::{AllocError, Global};
 use std::collections::VecDeque;
 use std::marker::Model;

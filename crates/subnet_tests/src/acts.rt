@@ -8,7 +8,7 @@ ghost use Rattle.subnet_tests.specs.Memory.{has_memory};
 use bit_messages::Bits;
 use imp_channel::Frame;
 use imp_node::{Imp, Outgoing};
-use leader1822::{
+use interface::{
     Answer, CarrierFault, Flow, HostAddr, HostMessage, ImpNumber, Inbound, Link, Number, Text,
 };
 use std::alloc::{AllocError, Global};

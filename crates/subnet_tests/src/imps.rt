@@ -3,7 +3,7 @@
 //! Each test is a table of acts, each with what has to come of it.
 
 use crate::acts::{Act, Row, Seen, Want, Way, other_at};
-use leader1822::{Answer, CarrierFault};
+use interface::{Answer, CarrierFault};
 use std::alloc::{AllocError, Global};
 
 /// The distances of IMPs that have heard nothing, and of IMP 3 where it has heard IMP 2.

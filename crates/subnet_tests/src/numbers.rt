@@ -1,7 +1,7 @@
 //! Worked examples of a subnet whose flow comes to the end of its window, and round to its first number.
 
 use crate::subnets::{Act, At, Event, Row, Want, Who, fitting, pair, row};
-use leader1822::{Answer, CarrierFault, Direction};
+use interface::{Answer, CarrierFault, Direction};
 use std::alloc::{AllocError, Global};
 use subnet::Subnet;
 

@@ -2,7 +2,7 @@
 
 use crate::acts::{Act, Row, Want, Way, other_at};
 use crate::imps::{EIGHT_BITS_OUT, EMPTY, FROM_2, FROM_3, long_text, pieces_out};
-use leader1822::{Answer, CarrierFault};
+use interface::{Answer, CarrierFault};
 use std::alloc::Global;
 
 /// An acknowledgement of nothing.

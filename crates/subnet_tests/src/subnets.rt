@@ -5,7 +5,7 @@
 //! 2 only, each with host 0.
 
 use bit_messages::Bits;
-use leader1822::{
+use interface::{
     Answer, Carrier, CarrierFault, Direction, Flow, HostAddr, HostMessage, ImpNumber, Inbound,
     Link, NetEvent, Number, Text,
 };

@@ -5,16 +5,16 @@ use Rattle.std.proofs.lemmas.Bool.Decides.{nat_tests}
 use Rattle.std.proofs.lemmas.List.{get_or_past, length-map}
 use Rattle.std.proofs.lemmas.List.Elements.{All-cons, All-nil}
 use Rattle.std.specs.List.{All, range_with_len}
-use Rattle.leader1822.specs.Calls.{crossing_of, is_halt, is_memory}
-use Rattle.leader1822.specs.Host.{Host}
-use Rattle.leader1822.specs.declared.CarrierFault.{CarrierFault}
-use Rattle.leader1822.specs.declared.CarrierFault.TheVariants as fault
-use Rattle.leader1822.specs.declared.Inbound.{Inbound}
-use Rattle.leader1822.specs.declared.NetEvent.{NetEvent}
-use Rattle.leader1822.specs.declared.NetEvent.TheVariants as net
-use Rattle.leader1822.specs.declared.crossing.Crossing.{Crossing}
-use Rattle.leader1822.specs.declared.event.Direction.{Direction}
-use Rattle.leader1822.specs.declared.event.Direction.TheVariants as way
+use Rattle.interface.specs.Calls.{crossing_of, is_halt, is_memory}
+use Rattle.interface.specs.Host.{Host}
+use Rattle.interface.specs.declared.CarrierFault.{CarrierFault}
+use Rattle.interface.specs.declared.CarrierFault.TheVariants as fault
+use Rattle.interface.specs.declared.Inbound.{Inbound}
+use Rattle.interface.specs.declared.NetEvent.{NetEvent}
+use Rattle.interface.specs.declared.NetEvent.TheVariants as net
+use Rattle.interface.specs.declared.crossing.Crossing.{Crossing}
+use Rattle.interface.specs.declared.event.Direction.{Direction}
+use Rattle.interface.specs.declared.event.Direction.TheVariants as way
 use Rattle.imp_channel.specs.declared.frame.Frame.{Frame}
 use Rattle.imp_node.specs.Arrival.{from_line}
 use Rattle.imp_node.specs.Lines.{resend, route}

@@ -2,7 +2,7 @@
 use Rattle.std.proofs.Common.{◌≡◌, ℕ, Option, Some, ap, sym, slice_get, ◌∙◌}
 use Rattle.imp_channel.specs.declared.frame.Frame.{Frame}
 use Rattle.imp_node.specs.State.{State}
-use Rattle.leader1822.specs.declared.event.Direction.{Direction}
+use Rattle.interface.specs.declared.event.Direction.{Direction}
 use Rattle.subnet.specs.Net.{Net, Wire, far_end, frames_on, imp_at, port_of, wire_at}
 use Rattle.subnet_trace.specs.Fates.{end_fate, frame_fate, imp_fate}
 

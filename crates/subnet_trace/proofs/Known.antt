@@ -4,14 +4,14 @@ use Rattle.std.proofs.lemmas.Bool.Decides.{nat_tests}
 use Rattle.std.proofs.lemmas.List.{length-set}
 use Rattle.std.proofs.lemmas.List.Elements.{All-cons, All-head, All-nil, All-set, All-tail, All-weaker}
 use Rattle.std.specs.List.{All}
-use Rattle.leader1822.specs.Host.{Host}
-use Rattle.leader1822.specs.declared.HostMessage.{HostMessage}
-use Rattle.leader1822.specs.declared.NetEvent.{NetEvent}
-use Rattle.leader1822.specs.declared.NetEvent.TheVariants as net
-use Rattle.leader1822.specs.declared.address.Flow.{Flow}
-use Rattle.leader1822.specs.declared.crossing.Crossing.{Crossing}
-use Rattle.leader1822.specs.declared.crossing.Crossing.TheVariants as crossing
-use Rattle.leader1822.specs.declared.event.Direction.{Direction}
+use Rattle.interface.specs.Host.{Host}
+use Rattle.interface.specs.declared.HostMessage.{HostMessage}
+use Rattle.interface.specs.declared.NetEvent.{NetEvent}
+use Rattle.interface.specs.declared.NetEvent.TheVariants as net
+use Rattle.interface.specs.declared.address.Flow.{Flow}
+use Rattle.interface.specs.declared.crossing.Crossing.{Crossing}
+use Rattle.interface.specs.declared.crossing.Crossing.TheVariants as crossing
+use Rattle.interface.specs.declared.event.Direction.{Direction}
 use Rattle.packetiser.specs.PacketFields.{IsPacket, PacketFields}
 use Rattle.packetiser.specs.Slots.{IsPieceFor, IsSlot, SlotState}
 use Rattle.imp_channel.specs.Holding.{carried_by}

@@ -2,15 +2,15 @@
 use Rattle.std.proofs.Common.{◌≡◌, ℕ, suc, ◌+◌, ◌-◌, ◌<◌, ◌&&◌, nat_lt, not, is_none, is_some, Bool, true, false, List, [], if◌then◌else◌, length, Option, Some, None, Result, Ok, Err, slice_get, slice_set, refl, sym, ap, ◌∙◌, subst, arith}
 use Rattle.std.proofs.lemmas.Bool.{ltb-false}
 use Rattle.std.proofs.lemmas.List.{get_or_past, nil_from_length, set-get_or}
-use Rattle.leader1822.specs.Calls.{is_halt, is_memory}
-use Rattle.leader1822.specs.Host.{Host}
-use Rattle.leader1822.specs.declared.CarrierFault.{CarrierFault}
-use Rattle.leader1822.specs.declared.CarrierFault.TheVariants as fault
-use Rattle.leader1822.specs.declared.Inbound.{Inbound}
-use Rattle.leader1822.specs.declared.NetEvent.{NetEvent}
-use Rattle.leader1822.specs.declared.NetEvent.TheVariants as net
-use Rattle.leader1822.specs.declared.event.Direction.{Direction}
-use Rattle.leader1822.specs.declared.event.Direction.TheVariants as way
+use Rattle.interface.specs.Calls.{is_halt, is_memory}
+use Rattle.interface.specs.Host.{Host}
+use Rattle.interface.specs.declared.CarrierFault.{CarrierFault}
+use Rattle.interface.specs.declared.CarrierFault.TheVariants as fault
+use Rattle.interface.specs.declared.Inbound.{Inbound}
+use Rattle.interface.specs.declared.NetEvent.{NetEvent}
+use Rattle.interface.specs.declared.NetEvent.TheVariants as net
+use Rattle.interface.specs.declared.event.Direction.{Direction}
+use Rattle.interface.specs.declared.event.Direction.TheVariants as way
 use Rattle.imp_channel.specs.declared.frame.Frame.{Frame}
 use Rattle.imp_node.specs.State.{State}
 use Rattle.replay.specs.Output.{Shown}
@@ -18,7 +18,7 @@ use Rattle.replay.specs.Replay.{GoesOn, Happens, IsOneCall, outcome_of}
 use Rattle.script.specs.declared.event.RawEvent.{RawEvent}
 use Rattle.script.specs.declared.event.RawEvent.TheVariants as event
 use Rattle.subnet.specs.Calls.{Kept, refusal_of, step_grows, take_grows}
-use Rattle.subnet.specs.Working.{SubnetStep, SubnetTake}
+use Rattle.subnet.specs.Working.{SubnetStep, SubnetTake, subnet_calls}
 use Rattle.subnet.specs.Events.{accepted, at_up, deliver, delivered, drop_frame, first_of, frame_refusal, gives, imp_refusal, is_imp, step_refusal, stepped, take_in, take_refusal, taken_by_host}
 use Rattle.subnet.specs.Flows.{imp_is_up}
 use Rattle.subnet.specs.Net.{Net, Wire, dropping, frames_on, imp_at, no_wire, wire_at, without_at}
@@ -27,7 +27,6 @@ use Rattle.trace.specs.Traces.{GoesOnWith}
 use Rattle.trace.specs.declared.element.Element.{Element}
 use Rattle.trace.proofs.lemmas.{idle_rounds, or_first}
 use Rattle.subnet_trace.specs.Elements.{calm_left, is_working, round_left, round_of}
-use Rattle.subnet.specs.Working.{subnet_calls}
 use Rattle.subnet_trace.specs.Steps.{IsNext, MayCall, MayCome, after}
 use Rattle.subnet_trace.specs.declared.place.Place.{Place}
 use Rattle.subnet_trace.specs.declared.place.Stage.{Stage}

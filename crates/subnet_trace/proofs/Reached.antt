@@ -4,13 +4,13 @@ use Rattle.std.proofs.lemmas.Bool.{false≢true}
 use Rattle.std.proofs.lemmas.Bool.Decides.{nat_tests}
 use Rattle.std.proofs.lemmas.List.Elements.{All-head, All-tail}
 use Rattle.std.specs.List.{All}
-use Rattle.leader1822.specs.Calls.{is_halt, is_memory}
-use Rattle.leader1822.specs.Host.{Host, IsAddress, most_imps}
-use Rattle.leader1822.specs.declared.CarrierFault.{CarrierFault}
-use Rattle.leader1822.specs.declared.HostMessage.{HostMessage}
-use Rattle.leader1822.specs.declared.Inbound.{Inbound}
-use Rattle.leader1822.specs.declared.NetEvent.{NetEvent}
-use Rattle.leader1822.proofs.lemmas.{or_false}
+use Rattle.interface.specs.Calls.{is_halt, is_memory}
+use Rattle.interface.specs.Host.{Host, IsAddress, most_imps}
+use Rattle.interface.specs.declared.CarrierFault.{CarrierFault}
+use Rattle.interface.specs.declared.HostMessage.{HostMessage}
+use Rattle.interface.specs.declared.Inbound.{Inbound}
+use Rattle.interface.specs.declared.NetEvent.{NetEvent}
+use Rattle.interface.proofs.lemmas.{or_false}
 use Rattle.replay.specs.Output.{Shown}
 use Rattle.replay.specs.Replay.{AllTake, Chain, GoesOn, Happens, Onward, Part, Quiet, Replays, Round, Rounds, Takings, calmly, outcome_of}
 use Rattle.script.specs.Spelling.{IsEvent, IsHost, IsMessage, IsNetEvent}
@@ -22,16 +22,14 @@ use Rattle.subnet.specs.Net.{Net}
 use Rattle.subnet.specs.Opening.{hosts_from, opening_subnet}
 use Rattle.subnet.specs.Routed.{IsHostMessage}
 use Rattle.subnet.specs.Sound.{IsSound}
-use Rattle.subnet.specs.Working.{IsWorking, SubnetOffer, SubnetRound, SubnetStep, SubnetTake}
+use Rattle.subnet.specs.Working.{IsWorking, SubnetOffer, SubnetRound, SubnetStep, SubnetTake, subnet_calls}
 use Rattle.subnet.specs.declared.Ends.{Ends}
 use Rattle.subnet.proofs.lemmas.{offer_working, opening_working, round_working, step_working, take_working}
-use Rattle.subnet.specs.Working.{subnet_calls}
 use Rattle.subnet_trace.specs.Told.{IsOneNetwork, IsReached, IsTold, SameTexts}
-use Rattle.trace.proofs.lemmas.{flow_named}
+use Rattle.trace.proofs.lemmas.{flow_named, goes_calmly}
 use Rattle.subnet_trace.proofs.Known.{IsKnown, offer_known, opening_known, round_known, step_known, take_known, told}
 use Rattle.subnet_trace.proofs.Rest.{runs}
 use Rattle.subnet_trace.proofs.Whole.{whole}
-use Rattle.trace.proofs.lemmas.{goes_calmly}
 
 -- ---- messages of a script
 

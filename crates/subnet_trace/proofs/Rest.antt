@@ -5,18 +5,18 @@ use Rattle.std.proofs.lemmas.Bool.Decides.{nat_tests}
 use Rattle.std.proofs.lemmas.List.{get_or-set_other}
 use Rattle.std.proofs.Math.Seq.{map-set_same}
 use Rattle.std.specs.List.{range_with_len}
-use Rattle.leader1822.specs.Calls.{is_halt, is_memory}
-use Rattle.leader1822.specs.Host.{Host}
-use Rattle.leader1822.specs.declared.CarrierFault.{CarrierFault}
-use Rattle.leader1822.specs.declared.CarrierFault.TheVariants as fault
-use Rattle.leader1822.specs.declared.HostMessage.{HostMessage}
-use Rattle.leader1822.specs.declared.Inbound.{Inbound}
-use Rattle.leader1822.specs.declared.NetEvent.{NetEvent}
-use Rattle.leader1822.specs.declared.NetEvent.TheVariants as net
-use Rattle.leader1822.specs.declared.crossing.Crossing.{Crossing}
-use Rattle.leader1822.specs.declared.event.Direction.{Direction}
-use Rattle.leader1822.specs.declared.event.Direction.TheVariants as way
-use Rattle.leader1822.proofs.lemmas.{or_false}
+use Rattle.interface.specs.Calls.{is_halt, is_memory}
+use Rattle.interface.specs.Host.{Host}
+use Rattle.interface.specs.declared.CarrierFault.{CarrierFault}
+use Rattle.interface.specs.declared.CarrierFault.TheVariants as fault
+use Rattle.interface.specs.declared.HostMessage.{HostMessage}
+use Rattle.interface.specs.declared.Inbound.{Inbound}
+use Rattle.interface.specs.declared.NetEvent.{NetEvent}
+use Rattle.interface.specs.declared.NetEvent.TheVariants as net
+use Rattle.interface.specs.declared.crossing.Crossing.{Crossing}
+use Rattle.interface.specs.declared.event.Direction.{Direction}
+use Rattle.interface.specs.declared.event.Direction.TheVariants as way
+use Rattle.interface.proofs.lemmas.{or_false}
 use Rattle.imp_channel.specs.declared.frame.Frame.{Frame}
 use Rattle.imp_node.specs.State.{ImpTurn, State}
 use Rattle.imp_node.specs.Offering.{from_host}

@@ -3,9 +3,9 @@ use Rattle.std.proofs.Common.{◌≡◌, ◌≤◌, ◌<◌, ◌==◌, ◌⊎◌
 use Rattle.std.proofs.lemmas.Bool.Decides.{nat_tests}
 use Rattle.std.proofs.lemmas.List.{get_or_past}
 use Rattle.std.specs.List.{range_with_len}
-use Rattle.leader1822.specs.Host.{Host}
-use Rattle.leader1822.specs.declared.event.Direction.{Direction}
-use Rattle.leader1822.specs.declared.event.Direction.TheVariants as way
+use Rattle.interface.specs.Host.{Host}
+use Rattle.interface.specs.declared.event.Direction.{Direction}
+use Rattle.interface.specs.declared.event.Direction.TheVariants as way
 use Rattle.packetiser.specs.PacketFields.{PacketFields}
 use Rattle.routing.specs.RouteTable.{vector_of}
 use Rattle.imp_channel.specs.Line.{answer_to}

@@ -4,10 +4,10 @@ use Rattle.std.proofs.lemmas.Bool.{false≢true, lt-ltb, ltb-false, ltb-true}
 use Rattle.std.proofs.Math.ListN.{drop_of_length-le}
 use Rattle.std.proofs.lemmas.List.{length-set}
 use Rattle.std.specs.List.{range_with_len}
-use Rattle.leader1822.specs.Host.{Host}
-use Rattle.leader1822.specs.declared.NetEvent.TheVariants as net
-use Rattle.leader1822.specs.declared.event.Direction.{Direction}
-use Rattle.leader1822.specs.declared.event.Direction.TheVariants as way
+use Rattle.interface.specs.Host.{Host}
+use Rattle.interface.specs.declared.NetEvent.TheVariants as net
+use Rattle.interface.specs.declared.event.Direction.{Direction}
+use Rattle.interface.specs.declared.event.Direction.TheVariants as way
 use Rattle.imp_channel.specs.declared.frame.Frame.{Frame}
 use Rattle.imp_node.specs.State.{ImpTurn, State}
 use Rattle.imp_node.specs.declared.outgoing.Outgoing.{Outgoing}

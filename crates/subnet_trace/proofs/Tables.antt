@@ -9,9 +9,9 @@ use Rattle.std.specs.Option.{option_map}
 use Rattle.std.specs.Ordering.{eq_by_cmp, is_eq, is_lt, ordering_reverse}
 use Rattle.std.specs.declared.cmp.Ordering.{Ordering}
 use Rattle.std.specs.declared.cmp.Ordering.TheVariants.{Less, Equal, Greater}
-use Rattle.leader1822.specs.Flow.{same_flow}
-use Rattle.leader1822.specs.declared.address.Flow.{Flow}
-use Rattle.leader1822.proofs.lemmas.{flows_total, same_flow-true}
+use Rattle.interface.specs.Flow.{same_flow}
+use Rattle.interface.specs.declared.address.Flow.{Flow}
+use Rattle.interface.proofs.lemmas.{flows_total, same_flow-true}
 use Rattle.link_table.specs.Flows.{Destinations, Sources, answered_in, begun, ended, ended_in, flow_answered, given_up, given_up_in, handed, handed_in, last_of, noted, number_in}
 use Rattle.link_table.specs.Keys.{drop_from, flow_cmp, is_from}
 use Rattle.link_table.specs.Numbers.{modulus}

@@ -6,11 +6,11 @@ use Rattle.std.proofs.lemmas.Bool.Decides.{nat_tests}
 use Rattle.std.specs.FinMap as fin
 use Rattle.std.specs.List.{All, range_with_len}
 use Rattle.imp_node.specs.State.{State}
-use Rattle.leader1822.specs.declared.address.Flow.{Flow}
+use Rattle.interface.specs.declared.address.Flow.{Flow}
 use Rattle.link_table.specs.declared.source.Standing.{Standing}
 use Rattle.subnet.specs.Events.{is_imp, site_at}
 use Rattle.subnet.specs.Net.{Net, Wire, imp_at, wire_at}
-use Rattle.leader1822.specs.Host.{most_imps}
+use Rattle.interface.specs.Host.{most_imps}
 use Rattle.routing.specs.RouteTable.{vector_of}
 use Rattle.trace.specs.Texts.{array, member, object}
 use Rattle.trace.proofs.lemmas.{AreClosed, IsClosed, Spelled, also_closed, array_closed, array_once, first_same, lists_spelled, member_once, none_closed, object_closed, object_once, rest_same}

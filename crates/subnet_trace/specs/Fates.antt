@@ -1,8 +1,8 @@
 -- What becomes of a frame that is delivered, by what the IMP makes of it.
 use Rattle.std.specs.Prelude.{ℕ, Option, Some, None, Result, Ok, Err, if◌then◌else◌, slice_get}
 use Rattle.std.specs.FinMap as map
-use Rattle.leader1822.specs.declared.event.Direction.{Direction}
-use Rattle.leader1822.specs.declared.event.NetEvent.TheVariants as net
+use Rattle.interface.specs.declared.event.Direction.{Direction}
+use Rattle.interface.specs.declared.event.NetEvent.TheVariants as net
 use Rattle.script.specs.declared.event.RawEvent.{RawEvent}
 use Rattle.script.specs.declared.event.RawEvent.TheVariants as event
 use Rattle.packetiser.specs.PacketFields.{PacketFields, flow_of}

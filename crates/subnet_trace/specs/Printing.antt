@@ -3,7 +3,7 @@ use Rattle.std.specs.Prelude.{ℕ, Bool, true, false, List, [], ◌∷◌, ◌++
 use Rattle.std.specs.Fmt.{decimal}
 use Rattle.imp_node.specs.Arrival.{Arrival, arrival_has_room}
 use Rattle.imp_node.specs.State.{State}
-use Rattle.leader1822.specs.declared.address.Flow.{Flow}
+use Rattle.interface.specs.declared.address.Flow.{Flow}
 use Rattle.packetiser.specs.PacketFields.{PacketFields}
 use Rattle.routing.specs.Vector.{infinite}
 use Rattle.subnet.specs.Net.{Net, Wire, ends_at}

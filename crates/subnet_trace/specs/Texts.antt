@@ -3,8 +3,8 @@ use Rattle.std.specs.Prelude.{ℕ, ◌+◌, Bool, true, false, nat_lt, List, [],
 use Rattle.std.specs.List.{list_any, range_with_len}
 use Rattle.std.specs.FinMap as fin
 use Rattle.std.specs.Fmt.{decimal}
-use Rattle.leader1822.specs.Host.{most_imps}
-use Rattle.leader1822.specs.declared.address.Flow.{Flow}
+use Rattle.interface.specs.Host.{most_imps}
+use Rattle.interface.specs.declared.address.Flow.{Flow}
 use Rattle.packetiser.specs.PacketFields.{PacketFields, flow_of}
 use Rattle.packetiser.specs.Slots.{SlotState}
 use Rattle.packetiser.specs.declared.packet.PacketKind.{PacketKind}

@@ -2,8 +2,8 @@
 -- decimal, and all distances are vectors.
 use Rattle.std.specs.Prelude.{◌≡◌, ℕ, ◌+◌, ◌<◌, ◌≤◌, ◌^◌, true, false, List, Option, Some, None, IfSome, All, length, map}
 use Rattle.std.specs.FinMap as fin
-use Rattle.leader1822.specs.Host.{Host, most_imps}
-use Rattle.leader1822.specs.declared.address.Flow.{Flow}
+use Rattle.interface.specs.Host.{most_imps}
+use Rattle.interface.specs.declared.address.Flow.{Flow}
 use Rattle.packetiser.specs.PacketFields.{PacketFields, flow_of}
 use Rattle.packetiser.specs.Slots.{SlotState}
 use Rattle.routing.specs.Vector.{IsVector}

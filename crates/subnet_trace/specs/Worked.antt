@@ -1,17 +1,17 @@
 -- Words for worked examples: a flow, packets of it, long numbers, and parts of calms.
 use Rattle.std.specs.Prelude.{ℕ, ◌^◌, true, false, List, [], ◌∷◌, Option, None, Some, replicate}
 use Rattle.std.specs.FinMap as map
-use Rattle.leader1822.specs.Host.{Host}
-use Rattle.leader1822.specs.declared.address.Flow.{Flow}
-use Rattle.leader1822.specs.declared.event.Direction.{Direction}
-use Rattle.leader1822.specs.declared.event.Direction.TheVariants as way
-use Rattle.leader1822.specs.declared.event.NetEvent.TheVariants as net
+use Rattle.interface.specs.Host.{Host}
+use Rattle.interface.specs.declared.address.Flow.{Flow}
+use Rattle.interface.specs.declared.event.Direction.{Direction}
+use Rattle.interface.specs.declared.event.Direction.TheVariants as way
+use Rattle.interface.specs.declared.event.NetEvent.TheVariants as net
 use Rattle.script.specs.declared.event.RawEvent.TheVariants as event
 use Rattle.imp_node.specs.Examples.{ack_frame, first_packet, from_1, imp, packet_frame, packets_to, slots_of, unmarked_packet}
 use Rattle.imp_node.specs.Flows.{answer_packet}
 use Rattle.imp_node.specs.Pump.{pump}
 use Rattle.imp_node.specs.State.{State, down_port, no_host, opening_node}
-use Rattle.leader1822.specs.declared.crossing.Answer.TheVariants as answer
+use Rattle.interface.specs.declared.crossing.Answer.TheVariants as answer
 use Rattle.link_table.specs.Flows.{noted}
 use Rattle.link_table.specs.declared.destination.Fate.TheVariants as kept
 use Rattle.routing.specs.RouteTable.{Table}

@@ -2,7 +2,7 @@
 
 ghost use Rattle.std.specs.Prelude.{◌≡◌, ◌<◌, false, drop, if◌then◌else◌, length, None, Some};
 ghost use Rattle.imp_node.specs.Queries as queries;
-ghost use Rattle.leader1822.specs.declared.event.NetEvent.TheVariants as net;
+ghost use Rattle.interface.specs.declared.event.NetEvent.TheVariants as net;
 ghost use Rattle.script.specs.declared.event.RawEvent.TheVariants as event;
 ghost use Rattle.subnet.specs.Alive.{says};
 ghost use Rattle.subnet.specs.Net.{imp_at};
@@ -16,7 +16,7 @@ ghost use Rattle.trace.specs.Elements.{takings_from};
 ghost use Rattle.trace.specs.Traces.{GoesOnWith};
 
 use crate::place::{Place, Stage};
-use leader1822::{Carrier, Direction, ImpNumber, NetEvent};
+use interface::{Carrier, Direction, ImpNumber, NetEvent};
 use script::RawEvent;
 use subnet::Subnet;
 use trace::Element;

@@ -15,7 +15,7 @@ ghost use Rattle.subnet_trace.specs.Printing.{fate_with_room, judged_with_room};
 
 use imp_channel::{Content, Frame};
 use imp_node::Imp;
-use leader1822::{Direction, NetEvent};
+use interface::{Direction, NetEvent};
 use link_table::{Age, Asked};
 use packetiser::{Outcome, Packet, PacketKind};
 use script::RawEvent;

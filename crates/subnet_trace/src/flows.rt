@@ -3,7 +3,7 @@
 ghost use Rattle.std.specs.Prelude.{◌≡◌, List, OnOk, false, map, ℕ};
 ghost use Rattle.std.specs.Io.KnownBytes.{Appends};
 ghost use Rattle.imp_node.specs.State.{State};
-ghost use Rattle.leader1822.specs.declared.address.Flow.{Flow};
+ghost use Rattle.interface.specs.declared.address.Flow.{Flow};
 ghost use Rattle.link_table.specs.Flows.{last_of};
 ghost use Rattle.replay.specs.Failing.{TellsFailure};
 ghost use Rattle.subnet_trace.specs.Printing.{known_text};
@@ -11,7 +11,7 @@ ghost use Rattle.subnet_trace.specs.Texts.{awaits_host, fate_word, flow_object, 
 ghost use Rattle.trace.specs.Texts.{array};
 
 use imp_node::Imp;
-use leader1822::{Flow, Number};
+use interface::{Flow, Number};
 use link_table::{Fate, Noted, Standing};
 use replay::{Output, WriteFailed};
 use std::collections::btree_map;

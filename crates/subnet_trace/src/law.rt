@@ -2,7 +2,7 @@
 
 ghost use Rattle.std.specs.List.{All};
 ghost use Rattle.std.specs.Prelude.{◌≡◌, ℕ, List, Option, true, false};
-ghost use Rattle.leader1822.specs.Host.{Host};
+ghost use Rattle.interface.specs.Host.{Host};
 ghost use Rattle.replay.specs.Output.{Shown};
 ghost use Rattle.replay.specs.Replay.{Happens, IsOneCall, Replays};
 ghost use Rattle.script.specs.declared.event.RawEvent.{RawEvent};

@@ -10,7 +10,7 @@ ghost use Rattle.trace.specs.Texts.{further};
 
 use crate::lists::Held;
 use imp_channel::{ACKS, Content, Frame};
-use leader1822::MOST_IMPS;
+use interface::MOST_IMPS;
 use packetiser::{Packet, PacketKind};
 use replay::{Output, WriteFailed};
 use routing::{INFINITE, RouteTable, Vector};

@@ -12,7 +12,7 @@ ghost use Rattle.trace.specs.Texts.{member};
 
 use crate::imp::print_imp;
 use crate::lists::InLine;
-use leader1822::{Direction, NetEvent};
+use interface::{Direction, NetEvent};
 use replay::{Output, WriteFailed};
 use script::RawEvent;
 use subnet::{Subnet, Wire};

@@ -1,6 +1,6 @@
 //! Where a calm of a subnet has come to.
 
-use leader1822::Direction;
+use interface::Direction;
 
 /// A place in a calm of a subnet, between two of its elementary events.
 #[derive(Clone, Copy, Debug)]

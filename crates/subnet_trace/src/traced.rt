@@ -10,7 +10,7 @@ use crate::calm::next_in_calm;
 use crate::fates::fate_of;
 use crate::parts::{print_parts, print_whole};
 use crate::place::{Place, Stage};
-use leader1822::{Carrier, CarrierFault, Crossing, HostAddr, HostMessage, Inbound, NetEvent};
+use interface::{Carrier, CarrierFault, Crossing, HostAddr, HostMessage, Inbound, NetEvent};
 use replay::{Output, WriteFailed};
 use script::RawEvent;
 use std::marker::Model;

@@ -6,9 +6,9 @@ ghost use Rattle.imp_channel.specs.declared.frame.Content.TheVariants as content
 ghost use Rattle.imp_channel.specs.Line.{opening_end};
 ghost use Rattle.imp_node.specs.Examples.{ack_frame, host};
 ghost use Rattle.imp_node.specs.State.{State, opening_node};
-ghost use Rattle.leader1822.specs.declared.crossing.Answer.TheVariants as answer;
-ghost use Rattle.leader1822.specs.declared.event.Direction.TheVariants as way;
-ghost use Rattle.leader1822.specs.declared.event.NetEvent.TheVariants as net;
+ghost use Rattle.interface.specs.declared.crossing.Answer.TheVariants as answer;
+ghost use Rattle.interface.specs.declared.event.Direction.TheVariants as way;
+ghost use Rattle.interface.specs.declared.event.NetEvent.TheVariants as net;
 ghost use Rattle.link_table.specs.declared.destination.Fate.TheVariants as fate;
 ghost use Rattle.link_table.specs.declared.source.Standing.TheVariants as standing;
 ghost use Rattle.subnet.specs.Examples.{ask_frame, data_frame, expecting, imp_1, imp_2, keeping_ours, opened_pair, pair, passing_frame, past_one, rfnm_frame, sending_ours, serving_ours};

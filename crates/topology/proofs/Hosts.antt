@@ -6,8 +6,8 @@ use Rattle.std.proofs.lemmas.Bool.{false≢true, and_parts}
 use Rattle.std.proofs.lemmas.Bool.Decides.{nat_tests}
 use Rattle.std.proofs.lemmas.List.Folds.{list_any-append}
 use Rattle.std.specs.List.{list_all}
-use Rattle.leader1822.specs.Host.{Host, is_host, most_imps, same_host}
-use Rattle.leader1822.proofs.lemmas.{both_ways, same_host-refl, same_host-true}
+use Rattle.interface.specs.Host.{Host, is_host, most_imps, same_host}
+use Rattle.interface.proofs.lemmas.{both_ways, same_host-refl, same_host-true}
 use Rattle.topology.specs.declared.network.ImpHosts.{ImpHosts}
 use Rattle.topology.specs.Topology.{TopologyFields, IsTopology, has_host, host_if, hosts_below, hosts_of, is_imp, most_hosts}
 

@@ -5,9 +5,9 @@ use Rattle.std.proofs.lemmas.Nat.{mod_below}
 use Rattle.std.proofs.lemmas.Bool.{cases_lt}
 use Rattle.std.proofs.lemmas.List.Elements.{All-nil, All-cons, All-append, All-head, All-tail}
 use Rattle.std.specs.List.{All, cons_option}
-use Rattle.leader1822.specs.Host.{Host}
-use Rattle.leader1822.specs.Host.{host_before, InOrder}
-use Rattle.leader1822.proofs.lemmas.{before_from_numbers}
+use Rattle.interface.specs.Host.{Host}
+use Rattle.interface.specs.Host.{host_before, InOrder}
+use Rattle.interface.proofs.lemmas.{before_from_numbers}
 use Rattle.topology.specs.declared.network.ImpHosts.{ImpHosts}
 use Rattle.topology.specs.Topology.{hosts_below, host_if, has_host, numbered_below, imp_of_number, IsRising}
 

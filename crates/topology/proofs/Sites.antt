@@ -7,7 +7,7 @@ use Rattle.std.proofs.lemmas.Bool.Decides.{nat_tests}
 use Rattle.std.proofs.lemmas.List.Elements.{All-nil, All-cons}
 use Rattle.std.proofs.lemmas.List.FromFn.{map-range_with_len_more, length-map-range_with_len}
 use Rattle.std.specs.List.{list_all, range_with_len}
-use Rattle.leader1822.specs.Host.{Host, most_imps}
+use Rattle.interface.specs.Host.{Host, most_imps}
 use Rattle.topology.specs.declared.network.ImpHosts.{ImpHosts}
 use Rattle.topology.specs.Topology.{AreSites, IsRising, IsTopology, TopologyFields, has_host, host_if, hosts_at, hosts_below, hosts_from, hosts_of, is_imp, site_of, sites_of}
 use Rattle.topology.proofs.Hosts.{place_of}

@@ -3,7 +3,7 @@
 
 ghost use Rattle.std.specs.Prelude.{◌≡◌, ◌≤◌, length, take, true, false, Some, None, ◌∷◌, [], codes, pos, negsuc};
 ghost use Rattle.toml.specs.Data.{no_items, item, no_members, member, integer, array, table, string, boolean};
-ghost use Rattle.leader1822.specs.Host.{Host, is_host};
+ghost use Rattle.interface.specs.Host.{Host, is_host};
 ghost use Rattle.topology.specs.declared.network.CarrierKind.{CarrierKind};
 ghost use Rattle.topology.specs.declared.network.CarrierKind.TheVariants as kind;
 ghost use Rattle.topology.specs.Examples.{document, raw_document, imp_table, line_table, two_imps, one_imp, one_line, imp_hosts, line, five_lines};

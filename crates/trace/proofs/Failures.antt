@@ -2,10 +2,10 @@
 use Rattle.std.proofs.Common.{◌≡◌, ℕ, Bool, false, true, List, [], ◌∷◌, None, Result, Ok, Err, ap, refl, subst, sym, ◌==◌}
 use Rattle.std.proofs.lemmas.Bool.{false≢true}
 use Rattle.leader1822.specs.Boxes.{Boxes, BoxesDecided, BoxesStep, host_stopped, opening_boxes, plain_calls}
-use Rattle.leader1822.specs.declared.CarrierFault.{CarrierFault}
-use Rattle.leader1822.specs.declared.CarrierFault.TheVariants as fault
-use Rattle.leader1822.specs.declared.event.NetEvent.TheVariants as net
-use Rattle.leader1822.specs.Host.{Host}
+use Rattle.interface.specs.declared.CarrierFault.{CarrierFault}
+use Rattle.interface.specs.declared.CarrierFault.TheVariants as fault
+use Rattle.interface.specs.declared.event.NetEvent.TheVariants as net
+use Rattle.interface.specs.Host.{Host}
 use Rattle.replay.specs.Replay.{EventGives}
 use Rattle.script.specs.declared.event.RawEvent.{RawEvent}
 use Rattle.trace.specs.Traces.{MayTell}

@@ -1,11 +1,11 @@
 -- A part of a calm that continues is the events of its course, one after another: over any carrier.
 use Rattle.std.proofs.Common.{◌≡◌, ◌||◌, ℕ, zero, suc, Bool, true, false, List, [], ◌∷◌, ◌++◌, Option, Some, None, Result, Ok, Err, if◌then◌else◌, reverse, refl, sym, ap, ◌∙◌, subst}
 use Rattle.std.proofs.lemmas.List.{append_assoc, append-nil, append_cancel_right, map-append, reverse-append, reverse-reverse}
-use Rattle.leader1822.specs.Calls.{Calls, is_halt, is_memory}
-use Rattle.leader1822.specs.Host.{Host}
-use Rattle.leader1822.specs.declared.CarrierFault.{CarrierFault}
-use Rattle.leader1822.specs.declared.Inbound.{Inbound}
-use Rattle.leader1822.specs.declared.crossing.Crossing.{Crossing}
+use Rattle.interface.specs.Calls.{Calls, is_halt, is_memory}
+use Rattle.interface.specs.Host.{Host}
+use Rattle.interface.specs.declared.CarrierFault.{CarrierFault}
+use Rattle.interface.specs.declared.Inbound.{Inbound}
+use Rattle.interface.specs.declared.crossing.Crossing.{Crossing}
 use Rattle.replay.specs.Output.{Shown, Crossed, shown_crossings, shown_refusal}
 use Rattle.replay.specs.Replay.{AllTake, GoesOn, Happens, IfGiven, Onward, Part, Replays, Round, Rounds, Takings, calmly, outcome_of}
 use Rattle.script.specs.declared.event.RawEvent.{RawEvent}

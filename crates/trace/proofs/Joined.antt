@@ -5,8 +5,8 @@ use Rattle.std.proofs.lemmas.Option.{slice_get-get_or, slice_get_within}
 use Rattle.std.specs.Fmt.{decimal}
 use Rattle.std.specs.Io.KnownBytes.{Appends}
 use Rattle.script.specs.Input.{ended_line}
-use Rattle.leader1822.specs.declared.carrier.CarrierFault.{CarrierFault}
-use Rattle.leader1822.specs.declared.crossing.Crossing.{Crossing}
+use Rattle.interface.specs.declared.carrier.CarrierFault.{CarrierFault}
+use Rattle.interface.specs.declared.crossing.Crossing.{Crossing}
 use Rattle.replay.specs.Output.{Crossed, Refused, Shown, shown_crossings, shown_refusal, shown_text}
 use Rattle.replay.specs.declared.print.Detail.TheVariants.{Sizes}
 use Rattle.replay.proofs.lemmas.{appends_more, crossings_shown}

@@ -3,9 +3,9 @@ use Rattle.std.proofs.Common.{◌≡◌, ℕ, suc, ◌<◌, ◌≤◌, ◌+◌, 
 use Rattle.std.proofs.lemmas.List.{append_assoc, append-nil, length-append, length-map, map-append, take_all, take_more}
 use Rattle.std.specs.Io.KnownBytes.{Appends}
 use Rattle.leader1822.specs.Boxes.{Boxes}
-use Rattle.leader1822.specs.Host.{Host}
-use Rattle.leader1822.specs.declared.crossing.Crossing.{Crossing}
-use Rattle.leader1822.specs.Printed.{host_text}
+use Rattle.interface.specs.Host.{Host}
+use Rattle.interface.specs.declared.crossing.Crossing.{Crossing}
+use Rattle.interface.specs.Printed.{host_text}
 use Rattle.replay.proofs.lemmas.{appends_more}
 use Rattle.script.specs.declared.event.RawEvent.{RawEvent}
 use Rattle.trace.specs.Joined.{begun, comma_before, joined_from}

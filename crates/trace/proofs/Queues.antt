@@ -11,7 +11,7 @@ use Rattle.std.specs.Ordering.{eq_by_cmp, is_eq, nat_cmp}
 use Rattle.std.specs.declared.cmp.Ordering.{Ordering}
 use Rattle.std.specs.declared.cmp.Ordering.TheVariants.{Less, Equal, Greater}
 use Rattle.leader1822.specs.Boxes.{Queues, for_host, queued_if, rest, with_queue}
-use Rattle.leader1822.specs.Host.{Host, host_cmp, is_host, same_host}
+use Rattle.interface.specs.Host.{Host, host_cmp, is_host, same_host}
 use Rattle.trace.specs.Kept.{AreQueues}
 
 -- ---- hosts

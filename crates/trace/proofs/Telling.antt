@@ -8,7 +8,7 @@ use Rattle.replay.specs.declared.events.ReplayFault.{ReplayFault}
 use Rattle.replay.specs.declared.events.ReplayFault.TheVariants as fault
 use Rattle.replay.proofs.lemmas.{appends_more, appends_none, last_shown, last_written, one_written}
 use Rattle.replay.specs.Replay.{IsOneCall}
-use Rattle.leader1822.specs.Calls.{Calls}
+use Rattle.interface.specs.Calls.{Calls}
 use Rattle.script.specs.Input.{ended_line}
 use Rattle.topology.specs.Topology.{TopologyFields}
 use Rattle.trace.specs.Texts.{opening_line}

@@ -3,8 +3,8 @@ use Rattle.std.proofs.Common.{◌≡◌, true, List, sym, subst, ◌∙◌}
 use Rattle.std.proofs.lemmas.List.Elements.{All-weaker}
 use Rattle.std.specs.List.{All}
 use Rattle.leader1822.specs.Boxes.{Boxes, WaitingAnswer, for_host}
-use Rattle.leader1822.specs.Host.{Host, is_host}
-use Rattle.leader1822.specs.declared.message.HostMessage.{HostMessage}
+use Rattle.interface.specs.Host.{Host, is_host}
+use Rattle.interface.specs.declared.message.HostMessage.{HostMessage}
 use Rattle.script.specs.Spelling.{IsHost, IsMessage}
 use Rattle.trace.specs.Kept.{AreQueues, IsTold, IsValidAnswer}
 use Rattle.trace.specs.Named.{IsFlowNamed, IsHostNamed}

@@ -1,8 +1,7 @@
 -- Elementary events: an event of a script, or within a calm each of its parts. First what all networks share, and then plain mailboxes.
 use Rattle.std.specs.Prelude.{ℕ, zero, suc, ◌-◌, Bool, ◌&&◌, drop, if◌then◌else◌, is_some, List, [], ◌∷◌, ◌++◌, map}
 use Rattle.leader1822.specs.Boxes.{Boxes, inbound_taken, is_running, next_for}
-use Rattle.leader1822.specs.Host.{Host}
-use Rattle.leader1822.specs.Calls.{Calls}
+use Rattle.interface.specs.Host.{Host}
 use Rattle.script.specs.declared.event.RawEvent.{RawEvent}
 use Rattle.script.specs.declared.event.RawEvent.TheVariants as event
 use Rattle.trace.specs.declared.element.Element.{Element}

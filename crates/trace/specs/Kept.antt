@@ -3,7 +3,7 @@ use Rattle.std.specs.Prelude.{◌≡◌, ◌≢◌, false, List, [], Some}
 use Rattle.std.specs.FinMap as map
 use Rattle.std.specs.List.{All}
 use Rattle.leader1822.specs.Boxes.{Boxes, Queues, WaitingAnswer, for_host}
-use Rattle.leader1822.specs.Host.{Host, is_host}
+use Rattle.interface.specs.Host.{Host, is_host}
 use Rattle.script.specs.Spelling.{IsFlow, IsHost, IsMessage}
 
 -- the queues are of hosts of the network only, each holds something, and what it holds is valid

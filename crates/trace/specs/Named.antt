@@ -1,7 +1,7 @@
 -- Hosts and flows that a trace names: their numbers are not too long for a decimal.
 use Rattle.std.specs.Prelude.{ℕ, ◌<◌, ◌^◌}
-use Rattle.leader1822.specs.Host.{Host}
-use Rattle.leader1822.specs.declared.address.Flow.{Flow}
+use Rattle.interface.specs.Host.{Host}
+use Rattle.interface.specs.declared.address.Flow.{Flow}
 
 -- a number of at most 64 digits: a decimal has no more
 abbrev pub IsShort : ℕ → Type 0

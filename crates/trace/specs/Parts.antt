@@ -1,10 +1,10 @@
 -- The parts of plain mailboxes, and which of them an event can change.
 use Rattle.std.specs.Prelude.{◌≡◌, Bool, true, false, ◌||◌, List, [], ◌∷◌, ◌++◌, if◌then◌else◌, filter, map}
 use Rattle.leader1822.specs.Boxes.{Boxes, for_host}
-use Rattle.leader1822.specs.Host.{Host, is_host, same_host}
-use Rattle.leader1822.specs.declared.crossing.Crossing.{Crossing}
-use Rattle.leader1822.specs.declared.crossing.Crossing.TheVariants as crossing
-use Rattle.leader1822.specs.declared.event.NetEvent.TheVariants as net
+use Rattle.interface.specs.Host.{Host, is_host, same_host}
+use Rattle.interface.specs.declared.crossing.Crossing.{Crossing}
+use Rattle.interface.specs.declared.crossing.Crossing.TheVariants as crossing
+use Rattle.interface.specs.declared.event.NetEvent.TheVariants as net
 use Rattle.script.specs.declared.event.RawEvent.{RawEvent}
 use Rattle.script.specs.declared.event.RawEvent.TheVariants as event
 

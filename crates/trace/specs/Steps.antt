@@ -1,16 +1,16 @@
 -- What the contracts of private functions say. No public clause cites this file.
 use Rattle.std.specs.Prelude.{◌≡◌, ℕ, true, List, drop, Option, Some, None, Result, Ok, Err, IfErr}
 use Rattle.leader1822.specs.Boxes.{Boxes}
-use Rattle.leader1822.specs.declared.carrier.CarrierFault.{CarrierFault}
+use Rattle.interface.specs.declared.carrier.CarrierFault.{CarrierFault}
 use Rattle.replay.specs.InTurn.{Happening}
 use Rattle.replay.specs.Replay.{EventGives}
-use Rattle.leader1822.specs.Calls.{Calls}
+use Rattle.interface.specs.Calls.{Calls}
 use Rattle.replay.specs.Steps.{Grew}
 use Rattle.replay.specs.declared.events.ReplayFault.{ReplayFault}
 use Rattle.replay.specs.declared.events.ReplayFault.TheVariants as fault
 use Rattle.script.specs.declared.event.RawEvent.{RawEvent}
 use Rattle.trace.specs.Traces.{EndsEvent, Inside, MayTell, StopsElement, TellsElement, TellsEvent, WritesTrace}
-use Rattle.leader1822.specs.Host.{Host}
+use Rattle.interface.specs.Host.{Host}
 use Rattle.script.specs.declared.event.RawEvent.TheVariants as event
 use Rattle.trace.specs.Elements.{from_boxes, is_given, no_course, round_left, taking, takings_from, then_course}
 use Rattle.trace.specs.declared.element.Element.{Element}

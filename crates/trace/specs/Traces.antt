@@ -1,10 +1,10 @@
 -- What is written as a trace, over any carrier whose inside can be traced.
 use Rattle.std.specs.Prelude.{◌≡◌, ℕ, suc, ◌+◌, ◌-◌, List, [], ◌∷◌, ◌++◌, Option, Some, None, if◌then◌else◌, slice_index_or}
-use Rattle.leader1822.specs.declared.crossing.Crossing.{Crossing}
+use Rattle.interface.specs.declared.crossing.Crossing.{Crossing}
 use Rattle.replay.specs.InTurn.{EndsInTurn, Happening, InTurn, WritesLines}
 use Rattle.replay.specs.Output.{Shown, crossings_of}
 use Rattle.replay.specs.Replay.{Happens, IsOneCall, MayDo, StopsIn}
-use Rattle.leader1822.specs.Calls.{Calls}
+use Rattle.interface.specs.Calls.{Calls}
 use Rattle.script.specs.declared.event.RawEvent.{RawEvent}
 use Rattle.script.specs.Script.{asks, lines_of}
 use Rattle.topology.specs.Topology.{TopologyFields}

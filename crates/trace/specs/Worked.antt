@@ -1,10 +1,10 @@
 -- Words for worked examples: two hosts of IMP 1, one of IMP 2, and messages from the first to the third.
 use Rattle.std.specs.Prelude.{true, false, List, [], ◌∷◌}
 use Rattle.leader1822.specs.Boxes.{Boxes, offered, opening_boxes}
-use Rattle.leader1822.specs.Host.{Host}
-use Rattle.leader1822.specs.declared.address.Flow.{Flow}
-use Rattle.leader1822.specs.declared.event.NetEvent.TheVariants as net
-use Rattle.leader1822.specs.declared.message.HostMessage.{HostMessage}
+use Rattle.interface.specs.Host.{Host}
+use Rattle.interface.specs.declared.address.Flow.{Flow}
+use Rattle.interface.specs.declared.event.NetEvent.TheVariants as net
+use Rattle.interface.specs.declared.message.HostMessage.{HostMessage}
 use Rattle.script.specs.declared.event.RawEvent.TheVariants as event
 use Rattle.trace.specs.declared.element.Element.{Element}
 

@@ -12,7 +12,7 @@ use crate::element::Spot;
 use crate::inspect::Inspect;
 use crate::line::print_line;
 use crate::opening::print_opening;
-use leader1822::{Carrier, CarrierFault};
+use interface::{Carrier, CarrierFault};
 use replay::{Output, ReplayFault};
 use script::RawEvent;
 use std::alloc::AllocError;

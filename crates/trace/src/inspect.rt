@@ -2,7 +2,7 @@
 
 ghost use Rattle.std.specs.Prelude.{◌≡◌, List, OnOk, Option, false, ℕ};
 ghost use Rattle.std.specs.Io.KnownBytes.{Appends};
-ghost use Rattle.leader1822.specs.declared.crossing.Crossing.{Crossing};
+ghost use Rattle.interface.specs.declared.crossing.Crossing.{Crossing};
 ghost use Rattle.replay.specs.Failing.{TellsFailure};
 ghost use Rattle.script.specs.declared.event.RawEvent.{RawEvent};
 ghost use Rattle.trace.specs.Traces.{GoesOnWith};
@@ -11,7 +11,7 @@ ghost use Rattle.trace.specs.declared.fate.Fate.{Fate};
 
 use crate::element::Element;
 use crate::fate::Fate;
-use leader1822::{Carrier, Crossing};
+use interface::{Carrier, Crossing};
 use replay::{Output, WriteFailed};
 use script::RawEvent;
 

@@ -2,13 +2,12 @@
 
 ghost use Rattle.std.specs.Prelude.{◌≡◌, ℕ, List, false};
 ghost use Rattle.std.specs.List.{All};
-ghost use Rattle.leader1822.specs.Boxes.{Boxes, opening_boxes};
-ghost use Rattle.leader1822.specs.Host.{Host};
+ghost use Rattle.leader1822.specs.Boxes.{Boxes, opening_boxes, plain_calls};
+ghost use Rattle.interface.specs.Host.{Host};
 ghost use Rattle.replay.specs.Output.{Shown, crossings_of};
 ghost use Rattle.replay.specs.Replay.{Happens, IsOneCall, Replays};
 ghost use Rattle.script.specs.Spelling.{IsEvent};
 ghost use Rattle.script.specs.declared.event.RawEvent.{RawEvent};
-ghost use Rattle.leader1822.specs.Boxes.{plain_calls};
 ghost use Rattle.trace.specs.Elements.{elements_of, events_of};
 ghost use Rattle.trace.specs.Kept.{IsTold};
 ghost use Rattle.trace.specs.Parts.{Part, IsPart, SamePart, is_named, parts_of};

@@ -2,7 +2,7 @@
 
 ghost use Rattle.std.specs.Prelude.{◌≡◌, ◌++◌, OnOk, false, map};
 ghost use Rattle.std.specs.Io.KnownBytes.{Appends};
-ghost use Rattle.leader1822.specs.Printed.{crossing_text};
+ghost use Rattle.interface.specs.Printed.{crossing_text};
 ghost use Rattle.replay.specs.Failing.{TellsFailure};
 ghost use Rattle.replay.specs.Output.{shown_crossings, shown_refusal, shown_text};
 ghost use Rattle.replay.specs.Replay.{GoesOn};
@@ -17,7 +17,7 @@ use crate::inspect::Inspect;
 use crate::json::print_array;
 use crate::print::print_comma;
 use crate::spelling::print_event;
-use leader1822::{CarrierFault, Crossing};
+use interface::{CarrierFault, Crossing};
 use replay::{Output, WriteFailed, carrier_refusal};
 use script::RawEvent;
 

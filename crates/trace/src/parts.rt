@@ -9,7 +9,8 @@ ghost use Rattle.trace.specs.Texts.{changed_text, member, part_name, part_text, 
 
 use crate::json::print_array;
 use crate::print::{print_comma, print_waiting};
-use leader1822::{Carrier, Crossing, HostAddr, NetEvent, PlainBoxes};
+use interface::{Carrier, Crossing, HostAddr, NetEvent};
+use leader1822::PlainBoxes;
 use replay::{Output, WriteFailed};
 use script::RawEvent;
 

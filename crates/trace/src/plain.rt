@@ -1,7 +1,7 @@
 //! The inside of plain mailboxes.
 
 ghost use Rattle.std.specs.Prelude.{◌≡◌, None, true};
-ghost use Rattle.leader1822.specs.Host.{is_host};
+ghost use Rattle.interface.specs.Host.{is_host};
 ghost use Rattle.trace.specs.Elements.{calm_left, calm_of, is_given};
 ghost use Rattle.trace.specs.Texts.{changed_text, whole_text};
 ghost use Rattle.trace.specs.Steps.{IsNext};
@@ -11,7 +11,8 @@ use crate::fate::Fate;
 use crate::inspect::Inspect;
 use crate::parts::{print_parts, print_whole};
 use crate::turn::Turn;
-use leader1822::{Carrier, Crossing, HostAddr, PlainBoxes};
+use interface::{Carrier, Crossing, HostAddr};
+use leader1822::PlainBoxes;
 use replay::{Output, WriteFailed};
 use script::RawEvent;
 

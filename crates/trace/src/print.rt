@@ -9,7 +9,8 @@ ghost use Rattle.trace.specs.Texts.{answer_object, message_object, queues_text};
 
 use crate::json::{Item, Listed, print_array};
 use crate::values::print_answer;
-use leader1822::{HostAddr, PlainBoxes};
+use interface::HostAddr;
+use leader1822::PlainBoxes;
 use replay::{Output, WriteFailed};
 
 /// Prints a comma before every item but the first.

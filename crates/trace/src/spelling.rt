@@ -6,7 +6,7 @@ ghost use Rattle.std.specs.Io.KnownBytes.{Appends};
 ghost use Rattle.replay.specs.Failing.{TellsFailure};
 ghost use Rattle.script.specs.Spelling.{direction_text, message_text, net_spelling, spelling};
 
-use leader1822::{Direction, HostMessage, ImpNumber, NetEvent};
+use interface::{Direction, HostMessage, ImpNumber, NetEvent};
 use replay::{Output, WriteFailed, print_text};
 use script::RawEvent;
 

@@ -4,13 +4,13 @@ ghost use Rattle.std.specs.Prelude.{◌≡◌, ◌++◌, OnOk, codes, false};
 ghost use Rattle.std.specs.Io.KnownBytes.{Appends};
 ghost use Rattle.hex.specs.Hex.{encode_upper};
 ghost use Rattle.bit_messages.specs.Octets.{octets_of};
-ghost use Rattle.leader1822.specs.Printed.{host_text};
+ghost use Rattle.interface.specs.Printed.{host_text};
 ghost use Rattle.replay.specs.Failing.{TellsFailure};
 ghost use Rattle.trace.specs.Texts.{answer_object, answer_word, bits_members, crossing_object, flow_members, host_string, message_object, of_kind, quoted};
 
 use crate::json::Item;
 use bit_messages::Bits;
-use leader1822::{Answer, Crossing, Flow, HostAddr, HostMessage};
+use interface::{Answer, Crossing, Flow, HostAddr, HostMessage};
 use replay::{Output, WriteFailed, print_bits};
 
 /// Prints the octets of bits in hexadecimal, as a string, which is empty where there are no bits.

@@ -2,11 +2,11 @@
 use Rattle.std.proofs.Common.{◌≡◌, inl, inr, ℕ, zero, suc, ◌<◌, Bool, true, false, not, ◌&&◌, ◌==◌, if◌then◌else◌, List, [], ◌∷◌, ◌++◌, length, get_or, refl, sym, subst, ◌∙◌, eq-eqb, arith}
 use Rattle.std.proofs.lemmas.Bool.{eqb-true}
 use Rattle.std.specs.List.{Contains}
-use Rattle.leader1822.specs.Host.{Host, same_host}
-use Rattle.leader1822.specs.Mailboxes as mail
-use Rattle.leader1822.specs.declared.crossing.Crossing.{Crossing}
-use Rattle.leader1822.specs.declared.crossing.Crossing.TheVariants as crossing
-use Rattle.leader1822.proofs.lemmas.{same_host-refl, same_host-true}
+use Rattle.interface.specs.Host.{Host, same_host}
+use Rattle.interface.specs.Mailboxes as mail
+use Rattle.interface.specs.declared.crossing.Crossing.{Crossing}
+use Rattle.interface.specs.declared.crossing.Crossing.TheVariants as crossing
+use Rattle.interface.proofs.lemmas.{same_host-refl, same_host-true}
 use Rattle.host_pairs.specs.declared.notice.Notice.{Notice}
 use Rattle.host_pairs.specs.declared.notice.Notice.TheVariants as notice
 use Rattle.host_pairs.proofs.lemmas.{both}

@@ -1,13 +1,13 @@
 -- Lives of the book that continue at both ends of the same sockets match.
 use Rattle.std.proofs.Common.{◌≡◌, ℕ, true, false, ◌==◌, List, Option, Some, None, IsSome, refl, ap, sym, subst, ◌∙◌, eq-eqb}
 use Rattle.std.specs.List.{Contains}
-use Rattle.leader1822.specs.Host.{Host, same_host}
-use Rattle.leader1822.specs.Mailboxes as mail
-use Rattle.leader1822.proofs.lemmas.{same_host-refl}
+use Rattle.interface.specs.Host.{Host, same_host}
+use Rattle.interface.specs.Mailboxes as mail
+use Rattle.interface.proofs.lemmas.{same_host-refl}
 use Rattle.ncp_control.specs.Numbers.{is_send_socket}
 use Rattle.host_keeps_pairing.specs.Known.{ArePartners}
-use Rattle.leader1822.specs.Calls.{Seen}
-use Rattle.leader1822.specs.declared.crossing.Crossing.{Crossing}
+use Rattle.interface.specs.Calls.{Seen}
+use Rattle.interface.specs.declared.crossing.Crossing.{Crossing}
 use Rattle.net_sim.specs.Clean.{HaveAddresses, IsLawful}
 use Rattle.net_sim.specs.World.{WorldState}
 use Rattle.world_keeps_pairing.proofs.lemmas.{between_itself, book_lives, book_run, life_matches, partner_named, served_in}

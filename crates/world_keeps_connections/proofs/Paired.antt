@@ -1,8 +1,8 @@
 -- The ends of a finished initial connection match.
 use Rattle.std.proofs.Common.{◌≡◌, ℕ, ◌+◌, ◌&&◌, Bool, true, false, if◌then◌else◌, nat_le, ◌%◌, List, take, Option, Some, None, refl, ap, sym, subst, ◌∙◌, eq-eqb, eqb-true, arith}
 use Rattle.std.proofs.lemmas.List.Elements.{All-contains}
-use Rattle.leader1822.specs.Calls.{Seen}
-use Rattle.leader1822.specs.Host.{Host}
+use Rattle.interface.specs.Calls.{Seen}
+use Rattle.interface.specs.Host.{Host}
 use Rattle.ncp_control.specs.Numbers.{is_receive_socket, is_send_socket}
 use Rattle.host_pairs.specs.declared.notice.Notice.{Notice}
 use Rattle.icp.specs.Sockets.{server_fault, user_fault}

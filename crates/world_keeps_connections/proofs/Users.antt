@@ -1,7 +1,7 @@
 -- What users know is so, over any list of moments.
 use Rattle.std.proofs.Common.{◌≡◌, true, List, [], refl, sym, subst}
-use Rattle.leader1822.specs.Host.{Host}
-use Rattle.leader1822.specs.Mailboxes as mail
+use Rattle.interface.specs.Host.{Host}
+use Rattle.interface.specs.Mailboxes as mail
 use Rattle.ncp_control.specs.Numbers.{is_receive_socket, is_send_socket}
 use Rattle.pairing_law.specs.Links.{Sockets, events_at, receiver, sender}
 use Rattle.pairing_law.specs.Partners.{IsIn}

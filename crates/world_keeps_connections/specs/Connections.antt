@@ -1,7 +1,7 @@
 -- A finished initial connection in a book: what the two machines reported, and the four ends (RFC 165).
 use Rattle.std.specs.Prelude.{◌≡◌, ℕ, ◌+◌, false, List}
 use Rattle.std.specs.List.{Contains}
-use Rattle.leader1822.specs.Host.{Host}
+use Rattle.interface.specs.Host.{Host}
 use Rattle.icp.specs.declared.outcome.Outcome.TheVariants as outcome
 use Rattle.host_services.specs.declared.report.Report.{Report}
 use Rattle.host_services.specs.declared.report.Report.TheVariants as report

@@ -1,7 +1,7 @@
 -- What the users of a world's hosts know of their ends, by all that their programs notified them of (NIC 8246, RTS, STR and CLS).
 use Rattle.std.specs.Prelude.{◌≡◌, ℕ, Bool, true, false, if◌then◌else◌, List, [], ◌∷◌}
-use Rattle.leader1822.specs.Host.{Host, same_host}
-use Rattle.leader1822.specs.declared.crossing.Crossing.TheVariants as crossing
+use Rattle.interface.specs.Host.{Host, same_host}
+use Rattle.interface.specs.declared.crossing.Crossing.TheVariants as crossing
 use Rattle.pairing_law.specs.Sides.{Life}
 use Rattle.host_keeps_pairing.specs.Known.{all_known}
 use Rattle.net_sim.specs.declared.life.Life as book

@@ -1,7 +1,7 @@
 //! What a finished initial connection has joined. The functions here do nothing: each clause is a law.
 
 ghost use Rattle.std.specs.Prelude.{◌≡◌, ℕ, true, List, All};
-ghost use Rattle.leader1822.specs.Host.{Host};
+ghost use Rattle.interface.specs.Host.{Host};
 ghost use Rattle.ncp_control.specs.Numbers.{is_receive_socket};
 ghost use Rattle.net_sim.specs.Book.{Book};
 ghost use Rattle.net_sim.specs.Clean.{IsLawful};
@@ -13,7 +13,7 @@ ghost use Rattle.sockets.specs.Worked.{first, second};
 ghost use Rattle.world_keeps_connections.specs.WorkedConnections as worked;
 ghost use Rattle.world_keeps_connections.specs.Connections.{IsConnected, IsEnd, JoinedBook};
 
-use leader1822::Carrier;
+use interface::Carrier;
 
 /// A finished initial connection pairs the right four sockets, in the book of every world over every carrier: where a server and a
 /// user are both done, and their four ends opened with one another and continue, the server's sending end matches the user's receiving

@@ -1,8 +1,8 @@
 //! What users know. The functions here do nothing: each clause is a law.
 
 ghost use Rattle.std.specs.Prelude.{◌≡◌, ℕ, true, false, List, [], ◌∷◌, map};
-ghost use Rattle.leader1822.specs.Host.{Host};
-ghost use Rattle.leader1822.specs.Mailboxes as mail;
+ghost use Rattle.interface.specs.Host.{Host};
+ghost use Rattle.interface.specs.Mailboxes as mail;
 ghost use Rattle.ncp_control.specs.Numbers.{is_receive_socket, is_send_socket};
 ghost use Rattle.pairing_law.specs.Links.{Sockets, receiver, sender};
 ghost use Rattle.pairing_law.specs.Partners.{IsIn};
@@ -15,7 +15,7 @@ ghost use Rattle.world_keeps_pairing.specs.Lives.{life_of};
 ghost use Rattle.net_sim.specs.Clean.{HaveAddresses, IsLawful};
 ghost use Rattle.net_sim.specs.World.{WorldState};
 ghost use Rattle.net_sim.specs.Safe.{Match, receives, sends};
-ghost use Rattle.leader1822.specs.declared.crossing.Crossing.TheVariants as crossing;
+ghost use Rattle.interface.specs.declared.crossing.Crossing.TheVariants as crossing;
 ghost use Rattle.sockets.specs.Worked.{first, second};
 ghost use Rattle.sockets.specs.declared.request.Request.TheVariants as request;
 ghost use Rattle.net_sim.specs.Story.{Moment, Crossed, Asked};
@@ -26,7 +26,7 @@ ghost use Rattle.world_keeps_pairing.specs.Free.{law_events, origin_in};
 ghost use Rattle.world_keeps_pairing.specs.Steps.{steps};
 ghost use Rattle.world_keeps_connections.specs.Users.{AreOpposite, known_in};
 
-use leader1822::Carrier;
+use interface::Carrier;
 
 /// The users of two hosts, over any list of moments of a world: all that crosses between their programs, and what they ask for.
 pub fn users()

@@ -1,8 +1,8 @@
 -- What notices of a host, and what its user asks for, do to the lives of one of its sockets.
 use Rattle.std.proofs.Common.{◌≡◌, ℕ, ◌==◌, ◌&&◌, Bool, true, false, not, if◌then◌else◌, List, [], ◌∷◌, ◌++◌, refl, sym, subst, ◌∙◌}
 use Rattle.std.proofs.lemmas.Bool.{eqb-true}
-use Rattle.leader1822.specs.Host.{Host, same_host}
-use Rattle.leader1822.proofs.lemmas.{same_host-refl, same_host-true}
+use Rattle.interface.specs.Host.{Host, same_host}
+use Rattle.interface.proofs.lemmas.{same_host-refl, same_host-true}
 use Rattle.host_pairs.specs.declared.notice.Notice.{Notice}
 use Rattle.host_pairs.specs.declared.notice.Notice.TheVariants as notice
 use Rattle.host_pairs.proofs.lemmas.{both, not_is}

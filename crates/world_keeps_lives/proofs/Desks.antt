@@ -1,8 +1,8 @@
 -- What is done to the connections of one pair, at one socket of the host.
 use Rattle.std.proofs.Common.{◌≡◌, ℕ, ◌==◌, ◌&&◌, ◌||◌, Bool, true, false, not, if◌then◌else◌, List, [], ◌∷◌, ◌++◌, map, find, Option, Some, None, is_some, refl, ap, sym, subst, ◌∙◌}
 use Rattle.std.proofs.lemmas.Bool.{eqb-true}
-use Rattle.leader1822.specs.Host.{Host}
-use Rattle.leader1822.proofs.lemmas.{or_false}
+use Rattle.interface.specs.Host.{Host}
+use Rattle.interface.proofs.lemmas.{or_false}
 use Rattle.host_pairs.specs.Entries.{changed_first, has_cls, is_ending, is_mine_on, is_open}
 use Rattle.host_pairs.specs.Desk.{listener_on, listens_on, without_listener}
 use Rattle.host_pairs.specs.declared.entry.Entry.{Entry}

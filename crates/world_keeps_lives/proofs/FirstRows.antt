@@ -1,7 +1,7 @@
 -- Lives of the first messages on their link, and lives that aren't.
 use Rattle.std.proofs.Common.{◌≡◌, inl, inr, ℕ, ◌<◌, ◌≤◌, Bool, true, false, List, [], ◌∷◌, map, length, Some, refl, ap, sym, subst, arith}
 use Rattle.std.specs.List.{Contains}
-use Rattle.leader1822.specs.declared.address.Flow.{Flow}
+use Rattle.interface.specs.declared.address.Flow.{Flow}
 use Rattle.net_sim.specs.Formed.{CrossedAt, IsFormed, coming, flow_of, going}
 use Rattle.net_sim.specs.Safe.{before}
 use Rattle.net_sim.specs.Worked.{eight_zeros}

@@ -1,7 +1,7 @@
 -- What goes out of a pair, at one socket of the host.
 use Rattle.std.proofs.Common.{◌≡◌, ◌⊎◌, inl, inr, ℕ, ◌==◌, ◌&&◌, Bool, true, false, if◌then◌else◌, List, [], ◌∷◌, ◌++◌, find, take, drop, Option, Some, None, is_some, refl, ap, sym, subst, ◌∙◌, eq-eqb}
 use Rattle.std.proofs.lemmas.List.{append_assoc, take-append-drop}
-use Rattle.leader1822.specs.Host.{Host}
+use Rattle.interface.specs.Host.{Host}
 use Rattle.ncp_control.specs.Command.{IsCommand}
 use Rattle.ncp_control.specs.Numbers.{is_receive_socket, is_send_socket}
 use Rattle.ncp_control.specs.declared.command.Command.{Command}

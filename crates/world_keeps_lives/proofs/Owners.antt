@@ -1,7 +1,7 @@
 -- The own end on a socket, over all peers of a host.
 use Rattle.std.proofs.Common.{◌≡◌, ℕ, ◌<◌, ◌||◌, Bool, true, false, List, [], ◌∷◌, find, Option, Some, None, is_some, refl, ap, sym, subst, ◌∙◌, arith}
-use Rattle.leader1822.specs.Host.{Host, address_octet, same_host}
-use Rattle.leader1822.proofs.lemmas.{same_host-refl}
+use Rattle.interface.specs.Host.{Host, address_octet, same_host}
+use Rattle.interface.proofs.lemmas.{same_host-refl}
 use Rattle.host_pairs.specs.Desk.{listens_on}
 use Rattle.host_pairs.specs.Entries.{is_mine_on}
 use Rattle.host_pairs.specs.declared.entry.Entry.{Entry}

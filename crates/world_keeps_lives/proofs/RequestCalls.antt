@@ -1,11 +1,11 @@
 -- What holds of each end that a host's program has with a peer, through each of its calls.
 use Rattle.std.proofs.Common.{◌≡◌, ℕ, ◌==◌, Bool, true, false, if◌then◌else◌, List, [], ◌∷◌, find, Option, Some, None, refl, sym, subst}
-use Rattle.leader1822.specs.Host.{Host, same_host}
-use Rattle.leader1822.specs.declared.address.Flow.{Flow}
-use Rattle.leader1822.specs.declared.crossing.Answer.{Answer}
-use Rattle.leader1822.specs.declared.crossing.Inbound.TheVariants as inbound
-use Rattle.leader1822.specs.declared.message.HostMessage.{HostMessage}
-use Rattle.leader1822.proofs.lemmas.{same_host-refl, same_host-true}
+use Rattle.interface.specs.Host.{Host, same_host}
+use Rattle.interface.specs.declared.address.Flow.{Flow}
+use Rattle.interface.specs.declared.crossing.Answer.{Answer}
+use Rattle.interface.specs.declared.crossing.Inbound.TheVariants as inbound
+use Rattle.interface.specs.declared.message.HostMessage.{HostMessage}
+use Rattle.interface.proofs.lemmas.{same_host-refl, same_host-true}
 use Rattle.ncp_control.specs.DataHeader.{data_bits, header_of}
 use Rattle.ncp_control.specs.declared.command.Command.TheVariants as command
 use Rattle.ncp_control.specs.declared.data_header.DataHeader.{DataHeader}

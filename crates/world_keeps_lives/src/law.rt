@@ -2,8 +2,8 @@
 
 ghost use Rattle.std.specs.Prelude.{◌≡◌, ◌⊎◌, ℕ, true, false, List, [], ◌∷◌, length};
 ghost use Rattle.std.specs.List.{Contains};
-ghost use Rattle.leader1822.specs.Host.{Host};
-ghost use Rattle.leader1822.specs.Mailboxes as mail;
+ghost use Rattle.interface.specs.Host.{Host};
+ghost use Rattle.interface.specs.Mailboxes as mail;
 ghost use Rattle.net_sim.specs.declared.life.Life.{Life};
 ghost use Rattle.net_sim.specs.Clean.{HaveAddresses, IsLawful};
 ghost use Rattle.net_sim.specs.Formed.{FormedBook, IsFormed};
@@ -29,7 +29,7 @@ ghost use Rattle.world_keeps_lives.specs.WorkedFormed.{arrived_told, gave, gave_
 ghost use Rattle.net_sim.specs.Worked.{crossings, eight_zeros, taker};
 ghost use Rattle.net_sim.specs.WorkedMoments.{sent_moments};
 
-use leader1822::Carrier;
+use interface::Carrier;
 
 /// What each host has, over every list of moments in which what crosses is a run of the mailboxes.
 pub fn programs()

@@ -2,9 +2,9 @@
 use Rattle.std.proofs.Common.{◌≡◌, inl, inr, ℕ, suc, true, List, [], ◌∷◌, ◌++◌, Option, Some, None, refl, ap, sym, subst, ◌∙◌, arith, false, IsSome}
 use Rattle.std.specs.List.{Contains}
 use Rattle.std.proofs.lemmas.List.Elements.{Contains-append_left, Contains-append_right}
-use Rattle.leader1822.specs.Host.{Host}
-use Rattle.leader1822.specs.Mailboxes as mail
-use Rattle.leader1822.specs.declared.crossing.Crossing.{Crossing}
+use Rattle.interface.specs.Host.{Host}
+use Rattle.interface.specs.Mailboxes as mail
+use Rattle.interface.specs.declared.crossing.Crossing.{Crossing}
 use Rattle.ncp_control.specs.Numbers.{is_receive_socket, is_send_socket}
 use Rattle.host_keeps_pairing.specs.Openings.{AreAmong}
 use Rattle.pairing_law.specs.Partners as law

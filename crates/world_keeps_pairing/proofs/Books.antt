@@ -1,8 +1,8 @@
 -- The lives of a book at two sockets: notices begin them, and nothing renames them.
 use Rattle.std.proofs.Common.{◌≡◌, ℕ, ◌==◌, Bool, true, false, ◌&&◌, if◌then◌else◌, List, [], ◌∷◌, ◌++◌, refl, ap, ◌∙◌}
-use Rattle.leader1822.specs.Host.{Host, same_host}
-use Rattle.leader1822.specs.declared.crossing.Crossing.{Crossing}
-use Rattle.leader1822.specs.declared.crossing.Crossing.TheVariants as crossing
+use Rattle.interface.specs.Host.{Host, same_host}
+use Rattle.interface.specs.declared.crossing.Crossing.{Crossing}
+use Rattle.interface.specs.declared.crossing.Crossing.TheVariants as crossing
 use Rattle.host_pairs.specs.About.{AreAbout, IsAbout}
 use Rattle.host_pairs.specs.declared.notice.Notice.{Notice}
 use Rattle.host_pairs.specs.declared.notice.Notice.TheVariants as notice

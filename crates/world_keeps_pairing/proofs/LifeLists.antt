@@ -1,8 +1,8 @@
 -- Lives of a book at two sockets, one by one: each is reported, and two of them at two places.
 use Rattle.std.proofs.Common.{◌≡◌, ◌≢◌, inl, inr, ℕ, zero, suc, ◌<◌, Bool, true, false, if◌then◌else◌, List, [], ◌∷◌, ◌++◌, length, get_or, refl, ap, sym, subst, ◌∙◌, eq-eqb, arith}
 use Rattle.std.specs.List.{Contains}
-use Rattle.leader1822.specs.Host.{Host}
-use Rattle.leader1822.proofs.lemmas.{same_host-refl}
+use Rattle.interface.specs.Host.{Host}
+use Rattle.interface.proofs.lemmas.{same_host-refl}
 use Rattle.host_keeps_pairing.specs.Openings.{AreAmong}
 use Rattle.pairing_law.specs.Partners.{IsIn, NoneOwns, NoneTook, OwnOnce, PartnerOnce}
 use Rattle.pairing_law.specs.Sides.{Life}

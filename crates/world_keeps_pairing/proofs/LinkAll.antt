@@ -1,10 +1,10 @@
 -- Links are free at each moment of two programs.
 use Rattle.std.proofs.Common.{◌≡◌, Bool, true, false, if◌then◌else◌, List, [], ◌∷◌, None, refl, ap, sym, subst, ◌∙◌}
-use Rattle.leader1822.specs.Host.{Host, same_host}
-use Rattle.leader1822.specs.declared.address.Flow.{Flow}
-use Rattle.leader1822.specs.declared.crossing.Answer.{Answer}
-use Rattle.leader1822.specs.declared.crossing.Crossing.TheVariants as crossing
-use Rattle.leader1822.specs.declared.crossing.Inbound.TheVariants as inbound
+use Rattle.interface.specs.Host.{Host, same_host}
+use Rattle.interface.specs.declared.address.Flow.{Flow}
+use Rattle.interface.specs.declared.crossing.Answer.{Answer}
+use Rattle.interface.specs.declared.crossing.Crossing.TheVariants as crossing
+use Rattle.interface.specs.declared.crossing.Inbound.TheVariants as inbound
 use Rattle.host_pairs.specs.Pair.{PairState}
 use Rattle.sockets.specs.Accepting.{accepted}
 use Rattle.sockets.specs.Pairs.{NcpState, opening_state, pair_with}

@@ -1,6 +1,6 @@
 -- Links are free, moment by moment.
 use Rattle.std.proofs.Common.{◌≡◌, Bool, true, false, List, [], ◌∷◌, refl, ap, ◌∙◌}
-use Rattle.leader1822.specs.Host.{Host}
+use Rattle.interface.specs.Host.{Host}
 use Rattle.reset_law.specs.Events.{Event}
 use Rattle.reset_law.specs.Stays as stay
 use Rattle.pairing_law.specs.Links.{Word, Who, Receiver, Sender, Step, Says, Hears}

@@ -1,7 +1,7 @@
 -- The lives of a book are openings of the law, at any two sockets.
 use Rattle.std.proofs.Common.{◌≡◌, ℕ, Bool, true, false, ◌&&◌, if◌then◌else◌, List, [], refl, sym, subst}
-use Rattle.leader1822.specs.Host.{Host}
-use Rattle.leader1822.specs.Mailboxes as mail
+use Rattle.interface.specs.Host.{Host}
+use Rattle.interface.specs.Mailboxes as mail
 use Rattle.ncp_control.specs.Numbers.{is_receive_socket, is_send_socket}
 use Rattle.host_pairs.proofs.lemmas.{both}
 use Rattle.host_keeps_pairing.specs.Openings.{AreAmong}

@@ -1,8 +1,8 @@
 -- At all moments the lives of the book at a receiving socket and a sending one are some of those that the law says.
 use Rattle.std.proofs.Common.{◌≡◌, ℕ, true, List, [], ◌∷◌, refl}
-use Rattle.leader1822.specs.Host.{Host, same_host}
-use Rattle.leader1822.specs.declared.crossing.Crossing.TheVariants as crossing
-use Rattle.leader1822.specs.declared.message.HostMessage.{HostMessage}
+use Rattle.interface.specs.Host.{Host, same_host}
+use Rattle.interface.specs.declared.crossing.Crossing.TheVariants as crossing
+use Rattle.interface.specs.declared.message.HostMessage.{HostMessage}
 use Rattle.host_keeps_ranges.specs.Ranges.{IsRanged}
 use Rattle.pairing_law.specs.Links.{Sockets, Who, Receiver, Sender}
 use Rattle.reset_law.specs.Runs.{IsRun}

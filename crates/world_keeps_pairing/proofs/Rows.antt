@@ -3,8 +3,8 @@ use Rattle.std.proofs.Common.{◌≡◌, [], ◌∷◌, refl}
 use Rattle.bit_messages.specs.Octets.{octets_of}
 use Rattle.host_keeps_pairing.specs.Spoken.{asking, reset_of_two}
 use Rattle.host_pairs.specs.Control.{orders_of}
-use Rattle.leader1822.specs.declared.crossing.Crossing.TheVariants as crossing
-use Rattle.leader1822.specs.declared.message.HostMessage.{HostMessage}
+use Rattle.interface.specs.declared.crossing.Crossing.TheVariants as crossing
+use Rattle.interface.specs.declared.message.HostMessage.{HostMessage}
 use Rattle.ncp_control.specs.Reading.{command_of, read_of}
 use Rattle.net_sim.specs.Safe.{control_flow}
 use Rattle.pairing_law.specs.Example.{first_sockets}

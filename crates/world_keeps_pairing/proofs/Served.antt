@@ -1,6 +1,6 @@
 -- What users ask for isn't refused, and has numbers of their types.
 use Rattle.std.proofs.Common.{◌≡◌, List, [], ◌∷◌, None}
-use Rattle.leader1822.specs.Host.{Host}
+use Rattle.interface.specs.Host.{Host}
 use Rattle.host_keeps_ranges.specs.Ranges.{IsAsked}
 use Rattle.sockets.specs.Requests.{refusal}
 use Rattle.net_sim.specs.Story.{Moment, Crossed, Asked, program}

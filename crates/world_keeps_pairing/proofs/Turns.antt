@@ -1,6 +1,6 @@
 -- One moment more: a host's program has, at two sockets, the end that the steps say.
 use Rattle.std.proofs.Common.{◌≡◌, ℕ, ◌==◌, Bool, true, false, not, ◌&&◌, if◌then◌else◌, List, [], ◌∷◌, refl, ap, sym, subst, ◌∙◌}
-use Rattle.leader1822.specs.Host.{Host, same_host}
+use Rattle.interface.specs.Host.{Host, same_host}
 use Rattle.host_pairs.specs.Control.{Order, orders_of}
 use Rattle.host_pairs.specs.Pair.{PairState}
 use Rattle.host_pairs.specs.Phases as program_phases

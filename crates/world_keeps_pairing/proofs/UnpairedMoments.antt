@@ -1,10 +1,10 @@
 -- All moments: two sockets that both receive or both send have no end and no life.
 use Rattle.std.proofs.Common.{◌≡◌, ℕ, ◌≤◌, List, [], ◌∷◌, None, sym, subst, arith}
-use Rattle.leader1822.specs.Host.{Host}
-use Rattle.leader1822.specs.Mailboxes as mail
-use Rattle.leader1822.specs.declared.crossing.Crossing.TheVariants as crossing
-use Rattle.leader1822.specs.declared.message.HostMessage.{HostMessage}
-use Rattle.leader1822.proofs.lemmas.{same_host-true, waits_with}
+use Rattle.interface.specs.Host.{Host}
+use Rattle.interface.specs.Mailboxes as mail
+use Rattle.interface.specs.declared.crossing.Crossing.TheVariants as crossing
+use Rattle.interface.specs.declared.message.HostMessage.{HostMessage}
+use Rattle.interface.proofs.lemmas.{same_host-true, waits_with}
 use Rattle.host_keeps_ranges.specs.Ranges.{IsRanged}
 use Rattle.sockets.specs.Requests.{refusal}
 use Rattle.host_pairs.specs.Parcels.{link_for, text_for}

@@ -1,11 +1,11 @@
 -- The lives of a world's book.
 use Rattle.std.proofs.Common.{◌≡◌, List, ◌++◌, IsSome, ap, sym, subst, true, Some}
 use Rattle.std.specs.List.{Contains}
-use Rattle.leader1822.specs.Calls.{Seen}
-use Rattle.leader1822.specs.Host.{Host}
-use Rattle.leader1822.specs.Mailboxes as mail
-use Rattle.leader1822.specs.declared.crossing.Crossing.{Crossing}
-use Rattle.leader1822.proofs.lemmas.{run_below}
+use Rattle.interface.specs.Calls.{Seen}
+use Rattle.interface.specs.Host.{Host}
+use Rattle.interface.specs.Mailboxes as mail
+use Rattle.interface.specs.declared.crossing.Crossing.{Crossing}
+use Rattle.interface.proofs.lemmas.{run_below}
 use Rattle.net_sim.specs.Book.{Kept}
 use Rattle.net_sim.specs.Clean.{IsLawful}
 use Rattle.net_sim.specs.Safe.{AreTwo, Match, SafePartners, own_request, partner_request, receives}

@@ -1,6 +1,6 @@
 -- The lives of a book beside the openings of the law of pairing (NIC 8246, RTS and STR).
 use Rattle.std.specs.Prelude.{◌≡◌, ◌⊎◌, ℕ, ◌==◌, Bool, true, ◌&&◌, if◌then◌else◌, List, [], ◌∷◌}
-use Rattle.leader1822.specs.Host.{Host, same_host}
+use Rattle.interface.specs.Host.{Host, same_host}
 use Rattle.ncp_control.specs.Numbers.{is_receive_socket, is_send_socket}
 use Rattle.pairing_law.specs.Sides.{Life}
 use Rattle.pairing_law.specs.Links.{receiver, sender}

@@ -1,7 +1,7 @@
 -- What two hosts say and hear of all their connections one way, over the law of resets, as steps of the law of pairing: host `a`
 -- has the receiving ends, and `b` the sending ones (NIC 8246, RTS, STR and CLS).
 use Rattle.std.specs.Prelude.{ℕ, Bool, not, ◌&&◌, if◌then◌else◌, List, [], ◌∷◌, ◌++◌}
-use Rattle.leader1822.specs.Host.{Host}
+use Rattle.interface.specs.Host.{Host}
 use Rattle.ncp_control.specs.Numbers.{is_receive_socket, is_send_socket}
 use Rattle.ncp_control.specs.declared.command.Command.TheVariants as command
 use Rattle.host_pairs.specs.Control.{Order, Legal, orders_of}

@@ -1,6 +1,6 @@
 -- Small lists of moments, newest first: words for worked examples.
 use Rattle.std.specs.Prelude.{List, ◌∷◌}
-use Rattle.leader1822.specs.declared.crossing.Crossing.TheVariants as crossing
+use Rattle.interface.specs.declared.crossing.Crossing.TheVariants as crossing
 use Rattle.sockets.specs.Worked.{first, second}
 use Rattle.sockets.specs.declared.request.Request.TheVariants as request
 use Rattle.net_sim.specs.Story.{Moment, Crossed, Asked}

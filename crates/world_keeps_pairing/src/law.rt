@@ -3,14 +3,14 @@
 
 ghost use Rattle.std.specs.Prelude.{◌≡◌, ℕ, ◌+◌, true, false, List, [], ◌∷◌, Some, IsSome};
 ghost use Rattle.std.specs.List.{Contains};
-ghost use Rattle.leader1822.specs.Host.{Host};
+ghost use Rattle.interface.specs.Host.{Host};
 ghost use Rattle.reset_law.specs.Events as reset;
 ghost use Rattle.reset_law.specs.Stays as stay;
 ghost use Rattle.reset_law.specs.Runs as runs;
-ghost use Rattle.leader1822.specs.Mailboxes as mail;
+ghost use Rattle.interface.specs.Mailboxes as mail;
 ghost use Rattle.ncp_control.specs.Numbers.{is_receive_socket, is_send_socket};
-ghost use Rattle.leader1822.specs.declared.crossing.Crossing.TheVariants as crossing;
-ghost use Rattle.leader1822.specs.declared.message.HostMessage.{HostMessage};
+ghost use Rattle.interface.specs.declared.crossing.Crossing.TheVariants as crossing;
+ghost use Rattle.interface.specs.declared.message.HostMessage.{HostMessage};
 ghost use Rattle.ncp_control.specs.declared.command.Command.TheVariants as command;
 ghost use Rattle.host_pairs.specs.Control.{Legal, Wrong};
 ghost use Rattle.host_keeps_pairing.specs.Spoken.{asking, reset_of_two};
@@ -41,7 +41,7 @@ ghost use Rattle.sockets.specs.Worked as dialogue;
 ghost use Rattle.world_keeps_pairing.specs.Lives.{ArePaired, life_of, openings, with_lives};
 ghost use Rattle.world_keeps_pairing.specs.WorkedLives.{closed_early};
 
-use leader1822::Carrier;
+use interface::Carrier;
 
 /// The steps of two hosts, over any list of events of the law of resets.
 pub fn dialogues()

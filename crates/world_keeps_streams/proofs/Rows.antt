@@ -1,6 +1,6 @@
 -- What the worked rows need: a host that has one peer has no ends with another.
 use Rattle.std.proofs.Common.{◌≡◌, ℕ, false, List, [], ◌∷◌, find, Option, None, refl, ap, ◌∙◌}
-use Rattle.leader1822.specs.Host.{Host, same_host}
+use Rattle.interface.specs.Host.{Host, same_host}
 use Rattle.sockets.specs.Pairs.{pair_in, pair_with}
 use Rattle.sockets.specs.declared.peer.Peer.{Peer}
 use Rattle.world_keeps_lives.specs.Lives.{mine_on}

@@ -1,8 +1,8 @@
 -- What becomes of data that a host takes (BBN Report 1822, RFNM; NIC 8246, messages of data).
 use Rattle.std.specs.Prelude.{◌≡◌, ◌==◌, false, true, List, [], ◌∷◌, ◌++◌, drop, Some}
 use Rattle.std.specs.List.{Contains}
-use Rattle.leader1822.specs.declared.crossing.Crossing.TheVariants as crossing
-use Rattle.leader1822.specs.declared.message.HostMessage.{HostMessage}
+use Rattle.interface.specs.declared.crossing.Crossing.TheVariants as crossing
+use Rattle.interface.specs.declared.message.HostMessage.{HostMessage}
 use Rattle.host_pairs.specs.Entries.{is_open}
 use Rattle.host_pairs.specs.declared.notice.Notice.TheVariants as notice
 use Rattle.net_sim.specs.Safe.{receives}

@@ -1,7 +1,7 @@
 -- What the end of a connection by CLS says to the user who receives (NIC 8246, CLS).
 use Rattle.std.specs.Prelude.{◌≡◌, ℕ, false, true, List, ◌++◌, Some}
 use Rattle.std.specs.List.{Contains}
-use Rattle.leader1822.specs.declared.crossing.Crossing.{Crossing}
+use Rattle.interface.specs.declared.crossing.Crossing.{Crossing}
 use Rattle.host_keeps_streams.specs.Histories.{HasClosed, name_now, numbered}
 use Rattle.net_sim.specs.Safe.{Match, own_request, receives}
 use Rattle.net_sim.specs.Story.{Moment, program}

@@ -1,9 +1,9 @@
 -- What two lives have in common while nothing waits between them (BBN Report 1822, RFNM; NIC 8246, messages of data).
 use Rattle.std.specs.Prelude.{◌≡◌, ℕ, Bool, false, true, List, ◌++◌, Some}
 use Rattle.std.specs.List.{Contains}
-use Rattle.leader1822.specs.Mailboxes.{Waiting, box_of}
-use Rattle.leader1822.specs.declared.address.Flow.{Flow}
-use Rattle.leader1822.specs.declared.crossing.Crossing.{Crossing}
+use Rattle.interface.specs.Mailboxes.{Waiting, box_of}
+use Rattle.interface.specs.declared.address.Flow.{Flow}
+use Rattle.interface.specs.declared.crossing.Crossing.{Crossing}
 use Rattle.host_pairs.specs.Entries.{is_open}
 use Rattle.net_sim.specs.Safe.{Match}
 use Rattle.net_sim.specs.Story.{Moment, program}

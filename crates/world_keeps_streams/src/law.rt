@@ -2,10 +2,10 @@
 
 ghost use Rattle.std.specs.Prelude.{◌≡◌, ℕ, ◌==◌, true, false, List, [], ◌∷◌, None, Some, length};
 ghost use Rattle.std.specs.List.{Contains};
-ghost use Rattle.leader1822.specs.Host.{Host};
-ghost use Rattle.leader1822.specs.Mailboxes as mail;
-ghost use Rattle.leader1822.specs.declared.crossing.Crossing.TheVariants as crossing;
-ghost use Rattle.leader1822.specs.declared.message.HostMessage.{HostMessage};
+ghost use Rattle.interface.specs.Host.{Host};
+ghost use Rattle.interface.specs.Mailboxes as mail;
+ghost use Rattle.interface.specs.declared.crossing.Crossing.TheVariants as crossing;
+ghost use Rattle.interface.specs.declared.message.HostMessage.{HostMessage};
 ghost use Rattle.host_keeps_streams.specs.Ends.{HasReceiver};
 ghost use Rattle.host_keeps_streams.specs.Histories.{AreAllowed, HasClosed, IsHistory, ends_now, name_now, numbered, receiver_now, sender_now};
 ghost use Rattle.host_keeps_streams.specs.Names.{IsSending};
@@ -30,7 +30,7 @@ ghost use Rattle.world_keeps_streams.specs.Rests.{AllRest, AreAtRest};
 ghost use Rattle.world_keeps_lives.specs.WorkedFormed.{gave};
 ghost use Rattle.world_keeps_streams.specs.Closes.{AllClose, IsClosedByPartner, TookAll, WasClosedByPartner};
 
-use leader1822::Carrier;
+use interface::Carrier;
 
 /// What each host's program does with a peer, over every list of moments in which what crosses is a run of the mailboxes.
 pub fn programs()

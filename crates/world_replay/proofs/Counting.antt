@@ -1,7 +1,7 @@
 -- Worlds over a carrier that counts its calls.
 use Rattle.std.proofs.Common.{◌≡◌, ℕ, ◌+◌, zero, suc, List, [], Result, Ok, Err, refl, ap, sym, subst, ◌∙◌, add-zero, arith}
 use Rattle.std.specs.Bool.{MatchBool}
-use Rattle.leader1822.specs.declared.carrier.CarrierFault.{CarrierFault}
+use Rattle.interface.specs.declared.carrier.CarrierFault.{CarrierFault}
 use Rattle.net_sim.specs.World.{Calms, QuietEnds, StepGives, TurnsOf, WorldState, stops, up_in, with_carrier}
 use Rattle.net_sim.specs.declared.event.Event.TheVariants.{Quiet}
 use Rattle.net_sim.specs.declared.event.WorldFault.{WorldFault}

@@ -4,9 +4,8 @@ use Rattle.std.proofs.lemmas.List.{append_assoc, append-nil, append_cancel_left,
 use Rattle.std.specs.Io.KnownBytes.{Appends}
 use Rattle.net_sim.specs.Book.{Kept}
 use Rattle.net_sim.specs.Carriers.{shown}
-use Rattle.net_sim.specs.World as world
 use Rattle.net_sim.specs.World.{CalmGives, WorldState, stops}
-use Rattle.leader1822.specs.Calls.{Calls}
+use Rattle.interface.specs.Calls.{Calls}
 use Rattle.net_sim.specs.declared.event.WorldFault.{WorldFault}
 use Rattle.replay.specs.InTurn.{HappensOnce, ShowsFront}
 use Rattle.replay.proofs.lemmas.{appends_more, ends_front, grown_more, in_turn_once}

@@ -5,10 +5,10 @@ use Rattle.std.proofs.lemmas.Bool.{false≢true}
 use Rattle.std.specs.Bool.{MatchBool}
 use Rattle.std.specs.Io.KnownBytes.{Appends}
 use Rattle.net_sim.specs.World.{CalmGives, Calms, Does, Refuses, TurnsOf, WorldState, stops, up_in}
-use Rattle.leader1822.specs.Calls.{Calls}
+use Rattle.interface.specs.Calls.{Calls}
 use Rattle.net_sim.specs.declared.event.WorldFault.{WorldFault}
 use Rattle.net_sim.specs.declared.event.WorldFault.TheVariants.{Carrier}
-use Rattle.leader1822.specs.declared.carrier.CarrierFault.TheVariants as carrier
+use Rattle.interface.specs.declared.carrier.CarrierFault.TheVariants as carrier
 use Rattle.replay.proofs.lemmas.{appends_more, appends_none}
 use Rattle.replay.specs.declared.events.ReplayFault.{ReplayFault}
 use Rattle.replay.specs.declared.events.ReplayFault.TheVariants as fault

@@ -1,7 +1,7 @@
 -- What a book gains, and how that is shown.
 use Rattle.std.specs.Prelude.{◌≡◌, List, ◌++◌, length, reverse}
 use Rattle.host_services.specs.declared.report.Reported.{Reported}
-use Rattle.leader1822.specs.declared.crossing.Crossing.{Crossing}
+use Rattle.interface.specs.declared.crossing.Crossing.{Crossing}
 use Rattle.net_sim.specs.Book.{Kept}
 use Rattle.net_sim.specs.declared.book.Told.{Told}
 use Rattle.world_replay.specs.Output.{Shown, shown_in_turn, told_in_turn}

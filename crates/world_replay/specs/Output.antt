@@ -1,7 +1,7 @@
 -- What the replay of a world's script prints.
 use Rattle.std.specs.Prelude.{ℕ, ◌-◌, List, [], ◌∷◌, ◌++◌, map, take, drop, max, Option, Result, Ok, Err}
 use Rattle.host_services.specs.declared.report.Reported.{Reported}
-use Rattle.leader1822.specs.declared.crossing.Crossing.{Crossing}
+use Rattle.interface.specs.declared.crossing.Crossing.{Crossing}
 use Rattle.net_sim.specs.declared.book.Told.{Told}
 use Rattle.net_sim.specs.declared.life.Life.{Life}
 use Rattle.net_sim.specs.declared.event.WorldFault.{WorldFault}

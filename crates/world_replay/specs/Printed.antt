@@ -8,8 +8,8 @@ use Rattle.icp.specs.declared.outcome.Failure.{Failure}
 use Rattle.icp.specs.declared.outcome.Failure.TheVariants as failure
 use Rattle.icp.specs.declared.outcome.Outcome.{Outcome}
 use Rattle.icp.specs.declared.outcome.Outcome.TheVariants as outcome
-use Rattle.leader1822.specs.Host.{Host}
-use Rattle.leader1822.specs.Printed.{host_text}
+use Rattle.interface.specs.Host.{Host}
+use Rattle.interface.specs.Printed.{host_text}
 use Rattle.net_sim.specs.declared.book.Told.{Told}
 use Rattle.net_sim.specs.declared.life.Life.{Life}
 use Rattle.net_sim.specs.declared.event.WorldFault.{WorldFault}

@@ -1,7 +1,7 @@
 -- The events of a world's script over a carrier, whatever it is made of.
 use Rattle.std.specs.Prelude.{◌≡◌, ℕ, ◌≤◌, true, false, List, [], ◌++◌, Result}
 use Rattle.net_sim.specs.World.{WorldState, StepGives, CalmGives, stops}
-use Rattle.leader1822.specs.Calls.{Calls}
+use Rattle.interface.specs.Calls.{Calls}
 use Rattle.net_sim.specs.declared.event.WorldFault.{WorldFault}
 use Rattle.replay.specs.InTurn.{InTurn, EndsInTurn}
 use Rattle.world_replay.specs.Gains.{Gains, news}

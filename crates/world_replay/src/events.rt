@@ -1,7 +1,7 @@
 //! Replaying the events of a world's script.
 
 ghost use Rattle.std.specs.Prelude.{◌≡◌, Err, List, Ok, OnOk, false, true, ℕ};
-ghost use Rattle.leader1822.specs.Messages.{SafeMessages};
+ghost use Rattle.interface.specs.Messages.{SafeMessages};
 ghost use Rattle.net_sim.specs.Carriers.{shown};
 ghost use Rattle.net_sim.specs.World.{CalmGives};
 ghost use Rattle.replay.specs.Failing.{TellsCannotWrite};
@@ -11,7 +11,7 @@ ghost use Rattle.world_replay.specs.Steps.{EventEnds, OneEnds};
 ghost use Rattle.world_script.specs.declared.event.WorldEvent.TheVariants as world_event;
 
 use crate::print::{print_news, print_refusal};
-use leader1822::Carrier;
+use interface::Carrier;
 use net_sim::{World, WorldFault};
 use replay::{Detail, Line, Output, ReplayFault};
 use world_script::WorldEvent;

@@ -9,7 +9,7 @@ ghost use Rattle.world_replay.specs.Output.{Shown};
 ghost use Rattle.world_replay.specs.Replay.{EndsIn, Replays, StopsIn};
 ghost use Rattle.world_script.specs.declared.event.WorldEvent.{WorldEvent};
 
-use leader1822::Carrier;
+use interface::Carrier;
 
 /// A carrier whose calls leave no choice leaves none to the replay of a world over it: events have one outcome and show one
 /// list of lines. What is shown where memory runs out is a prefix of that list.

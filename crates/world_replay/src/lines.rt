@@ -4,7 +4,7 @@ ghost use Rattle.std.specs.Prelude.{◌≡◌, Some};
 ghost use Rattle.world_replay.specs.Printed.{reason_name};
 
 use icp::{Failure, Outcome};
-use leader1822::HostAddr;
+use interface::HostAddr;
 use net_sim::Life;
 use std::fmt;
 

@@ -13,7 +13,7 @@ ghost use Rattle.world_replay.specs.Steps.{Fronts};
 
 use crate::lines::{LifeLine, OutcomeLine};
 use crate::told::put_told;
-use leader1822::{Crossing, HostAddr};
+use interface::{Crossing, HostAddr};
 use net_sim::{Book, Life, Report, Reported, Told, WorldFault};
 use replay::{Detail, Line, Output, ReplayFault, WriteFailed, carrier_refusal, print_crossing_in};
 use sockets::NcpFault;

@@ -2,11 +2,11 @@
 
 ghost use Rattle.std.specs.Prelude.{◌≡◌, ◌+◌, ◌≤◌, ◌++◌, ◌∷◌, [], codes, length};
 ghost use Rattle.std.specs.Fmt.{decimal};
-ghost use Rattle.leader1822.specs.Printed.{host_text};
+ghost use Rattle.interface.specs.Printed.{host_text};
 ghost use Rattle.script.specs.Input.{ended_line};
 ghost use Rattle.world_replay.specs.Printed.{notice_text, told_text, words};
 
-use leader1822::HostAddr;
+use interface::HostAddr;
 use net_sim::Told;
 use replay::Line;
 use sockets::Notice;

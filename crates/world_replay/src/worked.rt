@@ -2,8 +2,8 @@
 //! the definitions.
 
 ghost use Rattle.std.specs.Prelude.{◌≡◌, List, [], ◌∷◌, ◌++◌, codes, replicate};
-ghost use Rattle.leader1822.specs.declared.carrier.CarrierFault.TheVariants as fault;
-ghost use Rattle.leader1822.specs.declared.crossing.Crossing.TheVariants as crossing;
+ghost use Rattle.interface.specs.declared.carrier.CarrierFault.TheVariants as fault;
+ghost use Rattle.interface.specs.declared.crossing.Crossing.TheVariants as crossing;
 ghost use Rattle.net_sim.specs.Worked.{eight, four, giver, over, taker};
 ghost use Rattle.net_sim.specs.declared.event.Event.TheVariants as event;
 ghost use Rattle.net_sim.specs.declared.event.WorldFault.TheVariants.{Carrier, Program};

@@ -2,9 +2,9 @@
 use Rattle.std.proofs.Common.{◌≡◌, ℕ, ◌<◌, ◌^◌, List, ◌∷◌, ◌++◌, length, refl, sym, ap, ◌∙◌, arith, subst, lit<}
 use Rattle.std.proofs.lemmas.Fmt.{decimal_injective}
 use Rattle.std.specs.Fmt.{decimal}
-use Rattle.leader1822.specs.Host.{Host}
-use Rattle.leader1822.specs.Printed.{host_text}
-use Rattle.leader1822.specs.declared.event.NetEvent.{NetEvent}
+use Rattle.interface.specs.Host.{Host}
+use Rattle.interface.specs.Printed.{host_text}
+use Rattle.interface.specs.declared.event.NetEvent.{NetEvent}
 use Rattle.script.specs.Spelling.{IsHost, octets_text}
 use Rattle.script.specs.declared.event.RawEvent.TheVariants as raw
 use Rattle.script.proofs.lemmas.{SameCut, asked_once_as, event_once, host_once, host_unmarked, same_cut, text_once}

@@ -2,8 +2,8 @@
 use Rattle.std.specs.Prelude.{◌≡◌, true, ℕ, ◌^◌, ◌<◌, List, [], ◌++◌, ◌⊎◌, length, codes}
 use Rattle.std.specs.Fmt.{decimal}
 use Rattle.std.specs.List.{list_all}
-use Rattle.leader1822.specs.Host.{Host}
-use Rattle.leader1822.specs.Printed.{host_text}
+use Rattle.interface.specs.Host.{Host}
+use Rattle.interface.specs.Printed.{host_text}
 use Rattle.net_sim.specs.declared.event.Event.TheVariants as event
 use Rattle.script.specs.Spelling.{IsHex, IsHost, IsIndex, IsNetEvent, net_spelling, octets_text}
 use Rattle.sockets.specs.declared.request.Request.{Request}

@@ -2,7 +2,8 @@
 
 use crate::calls::{happened, host};
 use bit_messages::Bits;
-use leader1822::{Crossing, Flow, HostMessage, Link, PlainBoxes, Text};
+use interface::{Crossing, Flow, HostMessage, Link, Text};
+use leader1822::PlainBoxes;
 use net_sim::{Amount, Audit, BitLog, Finding, Life, Part, World, audit, locate};
 use std::alloc::Global;
 use std::process::Abort;

@@ -2,7 +2,8 @@
 
 ghost use Rattle.std.specs.Prelude.{◌≡◌};
 
-use leader1822::{CarrierFault, HostAddr, PlainBoxes};
+use interface::{CarrierFault, HostAddr};
+use leader1822::PlainBoxes;
 use net_sim::{Called, Event, World, WorldFault};
 use script::MAX_INPUT;
 use sockets::NcpFault;

@@ -1,6 +1,6 @@
 //! The texts of a world's faults: those of the part that refuses.
 
-use leader1822::CarrierFault;
+use interface::CarrierFault;
 use net_sim::WorldFault;
 use sockets::NcpFault;
 use std::alloc::Global;

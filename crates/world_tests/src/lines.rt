@@ -1,6 +1,6 @@
 //! What each line asks for.
 
-use leader1822::{Direction, HostAddr, NetEvent};
+use interface::{Direction, HostAddr, NetEvent};
 use net_sim::Event;
 use script::MAX_INPUT;
 use sockets::Request;

@@ -1,8 +1,9 @@
 -- What happened where a write failed.
 use Rattle.std.proofs.Common.{◌≡◌, ℕ, ◌≤◌, Bool, true, false, List, [], ◌∷◌, Err, ap, arith, refl, subst, ◌∙◌}
 use Rattle.std.specs.Bool.{MatchBool}
-use Rattle.leader1822.specs.declared.CarrierFault.TheVariants as fault
-use Rattle.net_sim.specs.World.{Calls, Calms, Refuses, WorldState}
+use Rattle.interface.specs.declared.CarrierFault.TheVariants as fault
+use Rattle.net_sim.specs.World.{Calms, Refuses, WorldState}
+use Rattle.interface.specs.Calls.{Calls}
 use Rattle.net_sim.specs.declared.event.WorldFault.TheVariants.{Carrier}
 use Rattle.world_replay.specs.Replay.{EventGives}
 use Rattle.world_script.specs.declared.event.WorldEvent.{WorldEvent}

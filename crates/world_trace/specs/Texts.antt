@@ -15,8 +15,8 @@ use Rattle.host_services.specs.declared.service.Service.TheVariants as service
 use Rattle.icp.specs.Server.{ServerState}
 use Rattle.icp.specs.User.{UserState}
 use Rattle.icp.specs.declared.notices.Partner.{Partner}
-use Rattle.leader1822.specs.Printed.{host_text}
-use Rattle.leader1822.specs.declared.crossing.Crossing.{Crossing}
+use Rattle.interface.specs.Printed.{host_text}
+use Rattle.interface.specs.declared.crossing.Crossing.{Crossing}
 use Rattle.ncp_control.specs.declared.allocation.Allocation.{Allocation}
 use Rattle.ncp_control.specs.declared.command.Command.{Command}
 use Rattle.ncp_control.specs.declared.command.Command.TheVariants as command

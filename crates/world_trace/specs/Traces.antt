@@ -1,7 +1,7 @@
 -- What is written as the trace of a world, over any carrier whose inside can be traced.
 use Rattle.std.specs.Prelude.{◌≡◌, ◌⊎◌, ℕ, zero, suc, ◌-◌, ◌≤◌, List, [], ◌∷◌, ◌++◌, Ok, slice_index_or}
 use Rattle.net_sim.specs.World.{CalmGives, WorldState}
-use Rattle.leader1822.specs.Calls.{Calls}
+use Rattle.interface.specs.Calls.{Calls}
 use Rattle.replay.specs.InTurn.{EndsInTurn, Happening, InTurn}
 use Rattle.topology.specs.Topology.{TopologyFields}
 use Rattle.trace.specs.declared.element.Spot.{Spot}

@@ -10,7 +10,7 @@ ghost use Rattle.world_trace.specs.Traces.{state_of};
 
 use crate::spelling::print_lines;
 use crate::values::Object;
-use leader1822::Crossing;
+use interface::Crossing;
 use net_sim::World;
 use replay::{Output, WriteFailed};
 use topology::Topology;

@@ -6,7 +6,7 @@ ghost use Rattle.std.specs.Io.KnownBytes.{Appends};
 ghost use Rattle.replay.specs.Failing.{TellsFailure};
 ghost use Rattle.script.specs.Spelling.{direction_text, net_spelling};
 
-use leader1822::{Direction, ImpNumber, NetEvent};
+use interface::{Direction, ImpNumber, NetEvent};
 use replay::{Output, WriteFailed};
 
 /// Returns the word of a direction.

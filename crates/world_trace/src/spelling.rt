@@ -12,7 +12,7 @@ ghost use Rattle.world_trace.specs.Texts.{escaped, event_text, lines_octet, line
 
 use crate::net_events::print_net_event;
 use bit_messages::Bits;
-use leader1822::HostAddr;
+use interface::HostAddr;
 use net_sim::Event;
 use replay::{Output, WriteFailed, print_bits};
 use sockets::Request;

@@ -14,7 +14,7 @@ ghost use Rattle.world_trace.specs.Traces.{AfterOpening, MayTell, StopsOne, Trac
 
 use crate::line::{print_line, print_opening};
 use crate::spelling::print_event;
-use leader1822::Carrier;
+use interface::Carrier;
 use net_sim::World;
 use replay::{Detail, Output, Printer, ReplayFault};
 use std::alloc::{AllocError, Global};

@@ -6,7 +6,7 @@ ghost use Rattle.hex.specs.Hex.{upper_digits};
 ghost use Rattle.trace.specs.Texts.{array, bool_text, object, quoted};
 ghost use Rattle.world_trace.specs.Steps.{mark_after, marked};
 
-use leader1822::HostAddr;
+use interface::HostAddr;
 use std::fmt;
 use std::fmt::Formatter;
 
@@ -148,7 +148,7 @@ impl fmt::Display for HexString<'_> {
 pub(crate) struct Name<'a>(pub &'a HostAddr);
 
 impl fmt::Display for Name<'_> {
-    ghost use Rattle.leader1822.specs.Printed.{host_text};
+    ghost use Rattle.interface.specs.Printed.{host_text};
 
     ghost output = { λ name. Some (quoted (host_text name.0.now)) };
 

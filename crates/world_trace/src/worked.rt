@@ -20,7 +20,7 @@ ghost use Rattle.world_script.specs.declared.event.WorldEvent.TheVariants as wor
 ghost use Rattle.world_trace.specs.Texts.{command_object, end_object, event_text, lines_text, pair_object, program_text, running_object, service_object};
 ghost use Rattle.world_trace.specs.Traces.{MayTell};
 
-use leader1822::Carrier;
+use interface::Carrier;
 
 /// Pairs, ends and commands.
 pub fn worked_pairs()
@@ -59,6 +59,6 @@ pub fn worked_lines()
 /// What is known of a world where a write failed: the event or round had happened, and its line is not among those that are known.
 pub fn worked_failures<C: Carrier>()
     // over no carrier does a calm of no rounds change anything
-    ensures nothing { (old new : WorldState C) (lines : List (List ℕ)) → MayTell (shown (record { seen = C.seen; offers = C.offers; takes = C.takes; steps = C.steps; rounds = C.rounds })) old (world.Calm 0) new lines → new ≡ old }
-    ensures no_line { (old new : WorldState C) (e : WorldEvent) (line : List ℕ) → MayTell (shown (record { seen = C.seen; offers = C.offers; takes = C.takes; steps = C.steps; rounds = C.rounds })) old e new (line ∷ []) → ⊥ }
+    ensures nothing { (old new : WorldState C) (lines : List (List ℕ)) → MayTell (shown C.calls) old (world.Calm 0) new lines → new ≡ old }
+    ensures no_line { (old new : WorldState C) (e : WorldEvent) (line : List ℕ) → MayTell (shown C.calls) old e new (line ∷ []) → ⊥ }
 {}

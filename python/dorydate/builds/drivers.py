@@ -19,7 +19,7 @@ from dorydate.builds.unproved import NotKept, build, keep, kept_for_sources
 from dorydate.parts import ROOT
 
 # what it uses: these, and the crates below them
-USES = "bit_messages hex icp imp_channel imp_node leader1822 ncp_control packetiser routing sockets subnet terminal"
+USES = "bit_messages hex icp imp_channel imp_node interface leader1822 ncp_control packetiser routing sockets subnet terminal"
 # an IMP without hosts and lines has nothing to announce
 EXAMPLE, WANTED = b"imp\nnew 1 0 0\nroute\n", b"ok\nok\n"
 CORES = os.cpu_count() or 1

@@ -31,7 +31,7 @@ INPUTS = (
     "examples/a-reset-that-fails-and-one-that-works", "examples/sent-within-the-allocation-and-asked-back",
     "cases/scenes_show_what_was_written_down/a_server_a_user_and_a_terminal",
 )  # fmt: skip
-USES = "leader1822 net_sim script sockets subnet world_script"
+USES = "interface leader1822 net_sim script sockets subnet world_script"
 EXAMPLE, WANTED = b"raw plain 2\ntake 0/1\n", b"end\n"
 SEEN = {(3, "stopped\n"): "in events", (4, "no memory outside of events\n"): "elsewhere"}
 CORES = os.cpu_count() or 1

@@ -81,7 +81,7 @@ def caller(root: str, folder: str) -> str:
         shutil.copytree(f"{root}/crates/{name}", f"{folder}/crates/{name}", symlinks=True)
     with open(f"{folder}/crates.txt", "w", encoding="utf-8") as file:
         file.writelines(f"{name}:{lines[name]}\n" for name in needed)
-        file.write("texts: bit_messages leader1822 packetiser\n")
+        file.write("texts: bit_messages interface packetiser\n")
     ran = subprocess.run(["rt", "run", "--", "pad16", "0"], cwd=f"{folder}/crates/texts", capture_output=True, text=True)
     if ran.returncode != 0:
         sys.exit(f"measure texts: tools/texts.rs is not proved over {root}:\n{ran.stderr[-2000:]}")

@@ -1,7 +1,7 @@
 -- Steps of a frame's coming in that the calls are made of.
 use Rattle.std.specs.Prelude.{ℕ, Bool, true, false, not, List, Result, Ok, Err, if◌then◌else◌}
 use Rattle.bit_messages.specs.Body.{has_mark, text_of}
-use Rattle.leader1822.specs.declared.address.Flow.{Flow}
+use Rattle.interface.specs.declared.address.Flow.{Flow}
 use Rattle.link_table.specs.declared.destination.Asked.{Asked}
 use Rattle.link_table.specs.declared.destination.Asked.TheVariants as asked
 use Rattle.link_table.specs.declared.destination.Fate.{Fate}

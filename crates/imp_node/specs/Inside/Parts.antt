@@ -1,7 +1,7 @@
 -- What holds of the parts that an IMP is made of.
 use Rattle.std.specs.Prelude.{◌≡◌, ◌≤◌, ◌<◌, List, length, All}
-use Rattle.leader1822.specs.Host.{most_imps}
-use Rattle.leader1822.specs.declared.address.Flow.{Flow}
+use Rattle.interface.specs.Host.{most_imps}
+use Rattle.interface.specs.declared.address.Flow.{Flow}
 use Rattle.routing.specs.RouteTable.{Table}
 use Rattle.imp_node.specs.declared.waiting.Message.{Message}
 use Rattle.imp_node.specs.declared.port.Port.{Port}

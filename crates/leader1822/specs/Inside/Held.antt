@@ -1,19 +1,19 @@
 -- The boxes, and a map that says at once whether something of a flow waits.
 use Rattle.std.specs.Prelude.{◌≡◌, Bool, true, false, not, List, [], ◌∷◌, ◌++◌, Option, Some, None, IsSome, if◌then◌else◌}
 use Rattle.std.specs.FinMap as map
-use Rattle.leader1822.specs.Host.{Host, is_host}
-use Rattle.leader1822.specs.Flow.{flow_cmp}
+use Rattle.interface.specs.Host.{Host, is_host}
+use Rattle.interface.specs.Flow.{flow_cmp}
 use Rattle.leader1822.specs.Boxes.{Boxes, WaitingAnswer, for_host, queued_if, is_rfnm, is_running, offered, inbound_taken, given_up, host_stopped, host_started}
 use Rattle.leader1822.specs.Inside.Named.{IsNamed}
 use Rattle.leader1822.specs.Inside.Soundness.{texts_for, kinds_for, IsSound}
-use Rattle.leader1822.specs.declared.address.Flow.{Flow}
-use Rattle.leader1822.specs.declared.crossing.Answer.{Answer}
-use Rattle.leader1822.specs.declared.crossing.Answer.TheVariants as answer
-use Rattle.leader1822.specs.declared.crossing.Inbound.{Inbound}
-use Rattle.leader1822.specs.declared.crossing.Inbound.TheVariants as inbound
+use Rattle.interface.specs.declared.address.Flow.{Flow}
+use Rattle.interface.specs.declared.crossing.Answer.{Answer}
+use Rattle.interface.specs.declared.crossing.Answer.TheVariants as answer
+use Rattle.interface.specs.declared.crossing.Inbound.{Inbound}
+use Rattle.interface.specs.declared.crossing.Inbound.TheVariants as inbound
 use Rattle.leader1822.specs.declared.flows.Pending.{Pending}
 use Rattle.leader1822.specs.declared.flows.Pending.TheVariants as pending
-use Rattle.leader1822.specs.declared.message.HostMessage.{HostMessage}
+use Rattle.interface.specs.declared.message.HostMessage.{HostMessage}
 
 -- what waits of each flow of which anything waits
 abbrev pub Flows : Type 0

@@ -1,12 +1,12 @@
 -- What the plain boxes keep true: their log is a run, and what waits fits the mailboxes.
 use Rattle.std.specs.Prelude.{◌≡◌, Bool, true, false, List, [], ◌∷◌, ◌++◌, if◌then◌else◌, ◌⊎◌}
-use Rattle.leader1822.specs.Host.{Host}
-use Rattle.leader1822.specs.Mailboxes.{Box, Empty, WaitsWith, Fits, IsRun, box_of, is_up}
-use Rattle.leader1822.specs.Calls.{InOrder}
+use Rattle.interface.specs.Host.{Host}
+use Rattle.interface.specs.Mailboxes.{Box, Empty, WaitsWith, Fits, IsRun, box_of, is_up}
+use Rattle.interface.specs.Calls.{InOrder}
 use Rattle.leader1822.specs.Boxes.{Boxes, WaitingAnswer, for_host, is_of, is_about, is_running, is_to, is_told_to}
-use Rattle.leader1822.specs.declared.address.Flow.{Flow}
-use Rattle.leader1822.specs.declared.crossing.Answer.{Answer}
-use Rattle.leader1822.specs.declared.message.HostMessage.{HostMessage}
+use Rattle.interface.specs.declared.address.Flow.{Flow}
+use Rattle.interface.specs.declared.crossing.Answer.{Answer}
+use Rattle.interface.specs.declared.message.HostMessage.{HostMessage}
 
 -- the texts of a flow's messages that wait, oldest first
 abbrev pub texts_of : Flow → List HostMessage → List (List Bool)

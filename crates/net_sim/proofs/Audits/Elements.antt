@@ -3,7 +3,7 @@ use Rattle.std.proofs.Common.{◌≡◌, ℕ, zero, suc, ◌+◌, ◌<◌, ◌�
 use Rattle.std.specs.List.{list_all, list_any, Contains, slice_get, slice_index_or}
 use Rattle.std.proofs.lemmas.List.{take_all}
 use Rattle.std.proofs.lemmas.List.Folds.{list_all_more, list_any_more}
-use Rattle.leader1822.proofs.lemmas.{and_true}
+use Rattle.interface.proofs.lemmas.{and_true}
 
 -- ---- chains of tests
 

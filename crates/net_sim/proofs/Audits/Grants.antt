@@ -3,8 +3,8 @@ use Rattle.std.proofs.Common.{◌≡◌, ℕ, ◌+◌, true, ◌&&◌, List, len
 use Rattle.std.specs.Prelude.{nat_le}
 use Rattle.std.specs.List.{list_all, Contains}
 use Rattle.std.proofs.lemmas.Bool.{leb-true, le-leb}
-use Rattle.leader1822.specs.declared.crossing.Crossing.{Crossing}
-use Rattle.leader1822.proofs.lemmas.{and_true}
+use Rattle.interface.specs.declared.crossing.Crossing.{Crossing}
+use Rattle.interface.proofs.lemmas.{and_true}
 use Rattle.net_sim.specs.Book.{Life}
 use Rattle.net_sim.specs.Inside.Audit.{asked_at, is_match, is_granted, may_send, has_granted, grants_hold}
 use Rattle.net_sim.specs.Findings.{HaveGranted}

@@ -1,7 +1,7 @@
 -- The answer that the tests give is the one that says what is so.
 use Rattle.std.proofs.Common.{◌≡◌, Bool, true, false, List, refl, subst}
 use Rattle.std.specs.Prelude.{◌↔◌}
-use Rattle.leader1822.specs.declared.crossing.Crossing.{Crossing}
+use Rattle.interface.specs.declared.crossing.Crossing.{Crossing}
 use Rattle.net_sim.specs.Audit.{Says}
 use Rattle.net_sim.specs.Book.{Life}
 use Rattle.net_sim.specs.Inside.Audit.{messages_hold, partners_hold, streams_hold, grants_hold, is_well_formed, answered_by, judged}

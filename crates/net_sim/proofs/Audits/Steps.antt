@@ -10,7 +10,7 @@ use Rattle.std.proofs.Math.Dec.{eqb}
 use Rattle.bit_messages.specs.Octets.{octets_of, bits_of, spare_bits}
 use Rattle.bit_messages.proofs.lemmas.{bits_again}
 use Rattle.net_sim.specs.Inside.Audit.{same_bit, same_bits}
-use Rattle.leader1822.proofs.lemmas.{and_true, both_ways}
+use Rattle.interface.proofs.lemmas.{and_true, both_ways}
 
 -- one crossing more at the end
 pub reverse_more : {X : Type 0} (xs : List X) (i : ℕ) (d : X) → i < length xs → reverse (take (i + 1) xs) ≡ get_or xs i d ∷ reverse (take i xs)

@@ -6,8 +6,8 @@ use Rattle.std.proofs.lemmas.List.{take_all}
 use Rattle.std.proofs.lemmas.List.Folds.{list_all_more}
 use Rattle.net_sim.specs.Findings.{AreFed, AreUnmatched}
 use Rattle.std.proofs.lemmas.Bool.{eqb-true, cases_lt}
-use Rattle.leader1822.specs.declared.crossing.Crossing.{Crossing}
-use Rattle.leader1822.proofs.lemmas.{and_true}
+use Rattle.interface.specs.declared.crossing.Crossing.{Crossing}
+use Rattle.interface.proofs.lemmas.{and_true}
 use Rattle.net_sim.specs.Book.{Life}
 use Rattle.net_sim.specs.Inside.Audit.{asked_at, is_asked, is_partner, is_match, same_bit, same_found, is_prefix, is_source, is_fed, is_handed, handed_at, are_handed, is_unmatched, some_fed, streams_hold, Found}
 use Rattle.net_sim.specs.Safe.{Name, SafePartners, SafeStreams, Match, Source, IsPrefix, AreHanded, own_request, partner_request, receives, sends}

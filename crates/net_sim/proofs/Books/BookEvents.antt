@@ -2,10 +2,10 @@
 use Rattle.std.proofs.Common.{◌≡◌, inl, inr, ℕ, ◌+◌, ◌<◌, ◌≤◌, Bool, true, false, ◌==◌, if◌then◌else◌, List, [], ◌∷◌, ◌++◌, length, refl, ap, sym, subst, ◌∙◌, arith, eq-eqb}
 use Rattle.std.proofs.lemmas.List.{append-nil, append_assoc}
 use Rattle.std.proofs.lemmas.Bool.{eqb-true}
-use Rattle.leader1822.specs.Host.{Host}
-use Rattle.leader1822.specs.Mailboxes as mail
-use Rattle.leader1822.specs.Mailboxes.{same_flow}
-use Rattle.leader1822.specs.declared.crossing.Crossing.{Crossing}
+use Rattle.interface.specs.Host.{Host}
+use Rattle.interface.specs.Mailboxes as mail
+use Rattle.interface.specs.Mailboxes.{same_flow}
+use Rattle.interface.specs.declared.crossing.Crossing.{Crossing}
 use Rattle.sockets.specs.declared.request.Request.{Request}
 use Rattle.reset_law.specs.Boxes.{Box, WaitsWith, Fits, boxes, post_of, posted}
 use Rattle.reset_law.specs.Events.{Event, Contact, Out, In, Told, Down, Up, Idle, is_up, part_of, place, up_after_event}

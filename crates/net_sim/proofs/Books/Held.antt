@@ -2,13 +2,13 @@
 use Rattle.std.proofs.Common.{◌≡◌, ℕ, Bool, true, false, ◌||◌, if◌then◌else◌, List, [], ◌∷◌, map, Option, Some, None, IfSome, All, Result, refl, ap, sym, subst, ◌∙◌}
 use Rattle.std.specs.Bool.{MatchBool}
 use Rattle.std.proofs.lemmas.List.Elements.{All-nil, All-cons, All-head, All-tail}
-use Rattle.leader1822.proofs.lemmas.{host_before_never, host_before_trans}
-use Rattle.leader1822.specs.Calls.{Calls, Seen, InOrder}
-use Rattle.leader1822.specs.Host.{Host, IsAddress, host_before, is_host, same_host}
-use Rattle.leader1822.specs.Mailboxes.{IsRun, is_up}
-use Rattle.leader1822.specs.declared.crossing.Crossing.TheVariants as crossing
-use Rattle.leader1822.specs.declared.crossing.Inbound.{Inbound}
-use Rattle.leader1822.specs.declared.crossing.Inbound.TheVariants as inbound
+use Rattle.interface.proofs.lemmas.{host_before_never, host_before_trans}
+use Rattle.interface.specs.Calls.{Calls, Seen, InOrder}
+use Rattle.interface.specs.Host.{Host, IsAddress, host_before, is_host, same_host}
+use Rattle.interface.specs.Mailboxes.{IsRun, is_up}
+use Rattle.interface.specs.declared.crossing.Crossing.TheVariants as crossing
+use Rattle.interface.specs.declared.crossing.Inbound.{Inbound}
+use Rattle.interface.specs.declared.crossing.Inbound.TheVariants as inbound
 use Rattle.sockets.proofs.lemmas.{same_host-true}
 use Rattle.sockets.specs.Accepting.{accepted, turn_of, after_turn}
 use Rattle.host_pairs.specs.Turn.{message_taken, answered_turn}
@@ -25,7 +25,7 @@ use Rattle.host_pairs.specs.declared.notice.Notice.{Notice}
 use Rattle.sockets.specs.declared.peer.Peer.{Peer}
 use Rattle.sockets.specs.declared.request.Request.{Request}
 use Rattle.sockets.specs.declared.request.Request.TheVariants as request
-use Rattle.leader1822.specs.declared.carrier.CarrierFault.TheVariants as fault
+use Rattle.interface.specs.declared.carrier.CarrierFault.TheVariants as fault
 use Rattle.net_sim.specs.Book.{Kept}
 use Rattle.net_sim.specs.Carriers.{shown}
 use Rattle.net_sim.specs.Clean.{HaveAddresses, IsLawful}

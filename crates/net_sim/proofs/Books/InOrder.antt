@@ -3,10 +3,10 @@ use Rattle.std.proofs.Common.{◌≡◌, ℕ, ◌+◌, Option, List, [], ◌∷�
 use Rattle.std.specs.List.{flat_map}
 use Rattle.std.proofs.lemmas.List.{reverse-append, length-append, length-reverse, append-nil, append_assoc, take_all}
 use Rattle.std.proofs.Math.Seq.{drop-append_seam}
-use Rattle.leader1822.specs.declared.crossing.Crossing.{Crossing}
+use Rattle.interface.specs.declared.crossing.Crossing.{Crossing}
 use Rattle.net_sim.specs.Inside.Seats.{emptied_in_order, turned_in_order}
 use Rattle.host_pairs.specs.declared.notice.Notice.{Notice}
-use Rattle.leader1822.specs.Host.{Host}
+use Rattle.interface.specs.Host.{Host}
 use Rattle.sockets.specs.declared.request.Request.{Request}
 use Rattle.net_sim.specs.Book.{Kept, Told, Called, Reported, crossed, all_crossed, book_told, all_told, asked, all_asked, all_reported, contacts_asked}
 use Rattle.net_sim.specs.Inside.Lives as all

@@ -3,8 +3,8 @@ use Rattle.std.proofs.Common.{◌≡◌, inl, inr, ℕ, ◌<◌, ◌≤◌, ◌&
 use Rattle.std.proofs.lemmas.Bool.{eqb-true}
 use Rattle.std.proofs.lemmas.List.{map-append}
 use Rattle.std.proofs.Math.Seq.{take-append_seam}
-use Rattle.leader1822.specs.Host.{Host, same_host}
-use Rattle.leader1822.proofs.lemmas.{same_host-true}
+use Rattle.interface.specs.Host.{Host, same_host}
+use Rattle.interface.proofs.lemmas.{same_host-true}
 use Rattle.net_sim.specs.Book.{Life, changed_when, where_it, handed_to, lives_at}
 use Rattle.net_sim.specs.Inside.Endings.{Ending, ends}
 use Rattle.net_sim.specs.Inside.Open.{AreKept, AreMarked, Covers, Extends, Holds, IsKept, has_host, has_socket, host_key, marked, places_at, places_of, socket_key}

@@ -2,8 +2,8 @@
 use Rattle.std.proofs.Common.{◌≡◌, ℕ, ◌+◌, Bool, true, false, List, ◌∷◌, drop, Result, refl, sym, subst}
 use Rattle.std.specs.Bool.{MatchBool}
 use Rattle.net_sim.specs.World.{WorldState, WorldFault, Carrier, Event, Refuses, StepGives, Runs, RunGives, stops}
-use Rattle.leader1822.specs.Calls.{Calls}
-use Rattle.leader1822.specs.declared.carrier.CarrierFault.TheVariants as fault
+use Rattle.interface.specs.Calls.{Calls}
+use Rattle.interface.specs.declared.carrier.CarrierFault.TheVariants as fault
 
 module _ {C : Type 0} (calls : Calls C) (events : List Event) (i : ℕ) (e : Event) (is : drop i events ≡ e ∷ drop (i + 1) events) (old mid : WorldState C) (answer : Result (Unit {0}) WorldFault)
     (step : StepGives calls old e answer mid) where

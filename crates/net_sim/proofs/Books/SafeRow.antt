@@ -1,7 +1,7 @@
 -- The book of a connection on which a message was taken is safe.
 use Rattle.std.proofs.Common.{◌≡◌, true, false, [], ◌∷◌, ◌++◌, length, length-append, Some, IsSome, inl, inr, refl, ap, sym, subst, ◌∙◌, arith}
-use Rattle.leader1822.specs.Mailboxes.{IsRun}
-use Rattle.leader1822.proofs.lemmas.{safe_messages}
+use Rattle.interface.specs.Mailboxes.{IsRun}
+use Rattle.interface.proofs.lemmas.{safe_messages}
 use Rattle.sockets.specs.Worked.{first, second}
 use Rattle.net_sim.specs.Book.{Life}
 use Rattle.net_sim.specs.Safe.{Name, SafeBook, SafePartners, SafeStreams, SafeGrants, IsGranted, Source, AreTwo, receives, sends, own_request, partner_request}

@@ -1,7 +1,7 @@
 -- Books that aren't safe though each of their lives has ended.
 use Rattle.std.proofs.Common.{◌≡◌, ◌≤◌, [], ◌∷◌, ◌++◌, Some, IsSome, refl, ap, arith}
-use Rattle.leader1822.specs.declared.crossing.Crossing.TheVariants as crossing
-use Rattle.leader1822.specs.Host.{Host}
+use Rattle.interface.specs.declared.crossing.Crossing.TheVariants as crossing
+use Rattle.interface.specs.Host.{Host}
 use Rattle.sockets.specs.Worked.{first, second, third}
 use Rattle.net_sim.specs.Book.{Life}
 use Rattle.net_sim.specs.Safe.{SafeBook, IsGranted, Source, Match, IsPrefix, sends, own_request, partner_request}

@@ -4,8 +4,8 @@ use Rattle.std.specs.List.{position, position_or_len}
 use Rattle.std.proofs.lemmas.Bool.{ltb-false}
 use Rattle.std.proofs.lemmas.List.{get_or-map, get_or_default, length-map}
 use Rattle.std.proofs.lemmas.List.Folds.{list_any_at}
-use Rattle.leader1822.specs.Host.{Host, same_host, is_host}
-use Rattle.leader1822.proofs.lemmas.{or_false}
+use Rattle.interface.specs.Host.{Host, same_host, is_host}
+use Rattle.interface.proofs.lemmas.{or_false}
 use Rattle.host_pairs.proofs.lemmas.{one_changed, one_found}
 use Rattle.sockets.proofs.lemmas.{same_host-true}
 use Rattle.host_pairs.specs.Entries.{changed_first}

@@ -1,7 +1,7 @@
 -- A host's services are where its seat is.
 use Rattle.std.proofs.Common.{◌≡◌, ℕ, zero, suc, ◌<◌, Bool, true, false, ◌||◌, List, [], ◌∷◌, length, Option, Some, slice_index_or, refl, ap, sym, subst, ◌∙◌, arith}
-use Rattle.leader1822.specs.Host.{Host, same_host, is_host}
-use Rattle.leader1822.proofs.lemmas.{or_false, same_host-refl}
+use Rattle.interface.specs.Host.{Host, same_host, is_host}
+use Rattle.interface.proofs.lemmas.{or_false, same_host-refl}
 use Rattle.sockets.specs.Pairs.{NcpState}
 use Rattle.host_services.specs.Services.{ServicesState}
 use Rattle.net_sim.specs.Inside.Parts.{IsOnce, Serves, Sits, hosts_of, hosts_served}

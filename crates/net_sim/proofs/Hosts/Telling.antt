@@ -1,9 +1,9 @@
 -- What is kept of a world, but for what services report, is what its moments say.
 use Rattle.std.proofs.Common.{◌≡◌, List, [], ◌∷◌, All, refl, ap, sym, ◌∙◌}
 use Rattle.std.proofs.lemmas.List.Elements.{All-head, All-tail}
-use Rattle.leader1822.specs.Host.{Host}
-use Rattle.leader1822.specs.declared.crossing.Crossing.{Crossing}
-use Rattle.leader1822.specs.declared.crossing.Crossing.TheVariants as crossing
+use Rattle.interface.specs.Host.{Host}
+use Rattle.interface.specs.declared.crossing.Crossing.{Crossing}
+use Rattle.interface.specs.declared.crossing.Crossing.TheVariants as crossing
 use Rattle.host_pairs.specs.declared.notice.Notice.{Notice}
 use Rattle.sockets.specs.Pairs.{NcpState}
 use Rattle.sockets.specs.Requests.{served_notices}

@@ -1,14 +1,14 @@
 -- A host that is through a reset takes of its peer only what went out after its last clean point.
 use Rattle.std.proofs.Common.{◌≡◌, ℕ, Bool, true, false, if◌then◌else◌, List, [], ◌∷◌, ◌++◌, length, Result, Some, refl, ap, sym, subst, ◌∙◌}
-use Rattle.leader1822.specs.Calls.{Calls, Seen}
-use Rattle.leader1822.specs.Host.{Host, same_host}
-use Rattle.leader1822.specs.Mailboxes as mail
-use Rattle.leader1822.specs.Mailboxes.{same_flow}
-use Rattle.leader1822.specs.declared.address.Flow.{Flow}
-use Rattle.leader1822.specs.declared.crossing.Crossing.{Crossing}
-use Rattle.leader1822.specs.declared.crossing.Crossing.TheVariants as crossing
-use Rattle.leader1822.specs.declared.message.HostMessage.{HostMessage}
-use Rattle.leader1822.proofs.lemmas.{run_below}
+use Rattle.interface.specs.Calls.{Calls, Seen}
+use Rattle.interface.specs.Host.{Host, same_host}
+use Rattle.interface.specs.Mailboxes as mail
+use Rattle.interface.specs.Mailboxes.{same_flow}
+use Rattle.interface.specs.declared.address.Flow.{Flow}
+use Rattle.interface.specs.declared.crossing.Crossing.{Crossing}
+use Rattle.interface.specs.declared.crossing.Crossing.TheVariants as crossing
+use Rattle.interface.specs.declared.message.HostMessage.{HostMessage}
+use Rattle.interface.proofs.lemmas.{run_below}
 use Rattle.sockets.specs.Pairs.{NcpState, pair_with}
 use Rattle.reset_law.specs.Boxes.{Box, Empty, Waiting, Taken}
 use Rattle.reset_law.specs.Events as reset

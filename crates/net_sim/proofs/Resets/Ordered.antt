@@ -1,11 +1,11 @@
 -- Each call of a host's program keeps its peers in order of their address octets.
 use Rattle.std.proofs.Common.{◌≡◌, ℕ, Bool, true, false, List, [], ◌∷◌, find, Option, Some, None, refl, ap, sym, subst}
-use Rattle.leader1822.specs.Host.{Host, IsAddress, same_host, address_octet}
-use Rattle.leader1822.specs.declared.address.Flow.{Flow}
-use Rattle.leader1822.specs.declared.crossing.Answer.{Answer}
-use Rattle.leader1822.specs.declared.crossing.Inbound.TheVariants as inbound
-use Rattle.leader1822.specs.declared.message.HostMessage.{HostMessage}
-use Rattle.leader1822.proofs.lemmas.{same_host-true}
+use Rattle.interface.specs.Host.{Host, IsAddress, same_host, address_octet}
+use Rattle.interface.specs.declared.address.Flow.{Flow}
+use Rattle.interface.specs.declared.crossing.Answer.{Answer}
+use Rattle.interface.specs.declared.crossing.Inbound.TheVariants as inbound
+use Rattle.interface.specs.declared.message.HostMessage.{HostMessage}
+use Rattle.interface.proofs.lemmas.{same_host-true}
 use Rattle.ncp_control.specs.declared.command.Command.TheVariants as command
 use Rattle.sockets.specs.Accepting.{accepted, accepted_message, accepted_answer, turn_of}
 use Rattle.host_pairs.specs.Turn.{message_taken, answered_turn}

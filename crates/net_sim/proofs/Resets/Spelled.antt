@@ -4,7 +4,7 @@ use Rattle.std.proofs.lemmas.Bool.{eqb-true, ltb-true}
 use Rattle.std.proofs.lemmas.List.{take_all, length-append, length-map}
 use Rattle.bit_messages.specs.Octets.{bits_of, octet, octets_of}
 use Rattle.bit_messages.proofs.lemmas.{length-bits_of, octets_of-append}
-use Rattle.leader1822.proofs.lemmas.{and_true}
+use Rattle.interface.proofs.lemmas.{and_true}
 use Rattle.std.specs.Prelude.{slice_index}
 use Rattle.std.specs.Int.{w16, w32, to_be_bytes}
 use Rattle.ncp_control.specs.Command.{spelling}

@@ -1,12 +1,12 @@
 -- The parts of a calm: what one host does in a round, and one round.
 use Rattle.std.specs.Prelude.{◌≡◌, ℕ, List, Some, None, Result, slice_get}
 use Rattle.std.specs.Bool.{MatchBool}
-use Rattle.leader1822.specs.Host.{Host}
-use Rattle.leader1822.specs.Rest.{Rests}
+use Rattle.interface.specs.Host.{Host}
+use Rattle.interface.specs.Rest.{Rests}
 use Rattle.sockets.specs.Pairs.{NcpState}
 use Rattle.sockets.specs.Sending.{next_out}
 use Rattle.net_sim.specs.World.{Seat, WorldState, WorldFault, Quiet, Offer, Take, StepGives, Repeats, TurnsOf, stops, up_in}
-use Rattle.leader1822.specs.Calls.{Calls}
+use Rattle.interface.specs.Calls.{Calls}
 
 -- a host takes up to 16 times, and then offers up to 32 times
 abbrev pub CalmTurn : {C : Type 0} → Calls C → Host → WorldState C → Result (Unit {0}) WorldFault → WorldState C → Type 0

@@ -1,5 +1,5 @@
 -- A world as every call of it leaves it.
-use Rattle.leader1822.specs.Calls.{Seen, InOrder}
+use Rattle.interface.specs.Calls.{Seen, InOrder}
 use Rattle.net_sim.specs.Clean.{IsLawful}
 use Rattle.net_sim.specs.World.{WorldState}
 

@@ -1,7 +1,7 @@
 -- A world's parts, and where a host sits.
 use Rattle.std.specs.Prelude.{◌≡◌, ◌<◌, ℕ, Bool, true, false, List, [], ◌∷◌, length, map, Option, Some, None, Result, Ok, Err, slice_index_or, slice_set, All, IfSome}
-use Rattle.leader1822.specs.Host.{Host, same_host, is_host}
-use Rattle.leader1822.specs.declared.carrier.CarrierFault.TheVariants as fault
+use Rattle.interface.specs.Host.{Host, same_host, is_host}
+use Rattle.interface.specs.declared.carrier.CarrierFault.TheVariants as fault
 use Rattle.host_services.specs.Services.{ServicesState, ServiceDeskState}
 use Rattle.net_sim.specs.Book.{Kept}
 use Rattle.net_sim.specs.World.{WorldState, WorldFault, Carrier, Seat, ServiceSeat, seat_of, seated, services_of, serviced, done_by, wants_memory}

@@ -1,6 +1,6 @@
 -- The hosts, crossing by crossing.
 use Rattle.std.specs.Prelude.{List, [], ◌∷◌}
-use Rattle.leader1822.specs.declared.crossing.Crossing.{Crossing}
+use Rattle.interface.specs.declared.crossing.Crossing.{Crossing}
 use Rattle.net_sim.specs.World.{Seat, ServiceSeat, seats_turned, emptied}
 
 -- the crossings oldest first

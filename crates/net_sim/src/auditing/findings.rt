@@ -4,7 +4,7 @@ ghost use Rattle.std.specs.Prelude.{◌≡◌, ◌<◌, MatchOption, length, rev
 ghost use Rattle.net_sim.specs.Audit.{IsWellFormed, Says};
 ghost use Rattle.net_sim.specs.Findings.{AreFed, AreStamped, HaveGranted, Shows, ShowsCrossing, ShowsLife, ShowsMalformed, ShowsTwo, WithMatch, first_fed, first_granted};
 ghost use Rattle.net_sim.specs.Safe.{SafePartners};
-ghost use Rattle.leader1822.specs.Messages.{SafeMessages};
+ghost use Rattle.interface.specs.Messages.{SafeMessages};
 ghost use Rattle.net_sim.specs.declared.auditing.said.Audit.TheVariants as answer;
 
 use super::grants::excess_at;
@@ -16,7 +16,7 @@ use super::stamps::unstamped_at;
 use super::streams::unfed_at;
 use crate::bit_log::BitLog;
 use crate::life::Life;
-use leader1822::Crossing;
+use interface::Crossing;
 
 /// Where it shows that a book isn't safe. Places are counted from 0, each in its own list.
 #[derive(Clone, Copy, Debug, PartialEq, Eq)]

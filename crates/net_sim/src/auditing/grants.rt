@@ -7,7 +7,7 @@ ghost use Rattle.net_sim.specs.Inside.Audit.{Found};
 
 use super::requests::{asked_at, is_match, receives};
 use crate::life::Life;
-use leader1822::Crossing;
+use interface::Crossing;
 
 /// Returns whether this much, with what was returned, is no more than what was granted.
 fn is_within(used: u128, returned: u128, granted: u128) -> bool

@@ -5,7 +5,7 @@ ghost use Rattle.net_sim.specs.Inside.Audit as tests;
 ghost use Rattle.net_sim.specs.Inside.Audit.{Found, same_bits, crossing_holds};
 
 use bit_messages::Bits;
-use leader1822::{Answer, Crossing, Flow, HostMessage};
+use interface::{Answer, Crossing, Flow, HostMessage};
 
 /// Returns whether these are the same bits.
 fn same_bits(a: &Bits, b: &Bits) -> bool

@@ -7,7 +7,7 @@ ghost use Rattle.net_sim.specs.Inside.Audit.{Found, FoundTwo};
 
 use super::requests::{are_at_odds, asked_at};
 use crate::life::Life;
-use leader1822::Crossing;
+use interface::Crossing;
 
 /// Returns the place of the first life before a place that is at odds with the one there.
 fn odds_with(log: &[Crossing], lives: &[Life], second: usize, y: &Life) -> Option<usize>

@@ -7,7 +7,7 @@ ghost use Rattle.net_sim.specs.Inside.Audit.{Found};
 ghost use Rattle.net_sim.specs.Safe as safe;
 
 use crate::life::Life;
-use leader1822::{Crossing, Flow, HostAddr, Link};
+use interface::{Crossing, Flow, HostAddr, Link};
 
 /// Returns the flow of requests from one host to another.
 pub(super) fn control_flow(source: HostAddr, destination: HostAddr) -> Flow

@@ -8,7 +8,7 @@ ghost use Rattle.net_sim.specs.Inside.Audit.{Found};
 use super::requests::{asked_at, control_flow};
 use crate::bit_log::BitLog;
 use crate::life::Life;
-use leader1822::{Crossing, Flow};
+use interface::{Crossing, Flow};
 
 /// Returns whether this is a message of this flow that went out.
 fn is_out(crossing: &Crossing, flow: Flow) -> bool

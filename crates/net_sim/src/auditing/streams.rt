@@ -8,7 +8,7 @@ ghost use Rattle.net_sim.specs.Inside.Audit.{Found};
 use super::requests::{asked_at, is_match, receives, sends};
 use crate::bit_log::BitLog;
 use crate::life::Life;
-use leader1822::Crossing;
+use interface::Crossing;
 
 /// Returns whether there are two bits, and they are alike.
 fn same_found(bit: Option<bool>, other: Option<bool>) -> bool

@@ -2,8 +2,8 @@
 use Rattle.std.proofs.Common.{◌≡◌, ℕ, true, false, [], Option, Some, None, IsSome, is_some, ap, sym, ◌∙◌, ◌==◌, inl, inr}
 use Rattle.std.proofs.lemmas.Bool.{cases_Bool}
 use Rattle.std.specs.FinMap.{get, empty, get-empty}
-use Rattle.leader1822.specs.Flow.{flow_cmp}
-use Rattle.leader1822.specs.declared.address.Flow.{Flow}
+use Rattle.interface.specs.Flow.{flow_cmp}
+use Rattle.interface.specs.declared.address.Flow.{Flow}
 use Rattle.link_table.specs.Flows.{Sources, begun, number_in, outstanding_in, has_outstanding_to}
 use Rattle.link_table.specs.Keys.{has_from}
 use Rattle.link_table.specs.declared.destination.Noted.{Noted}

@@ -4,9 +4,9 @@ use Rattle.std.specs.Prelude.{if◌then◌else◌}
 use Rattle.std.specs.List.{range_with_len}
 use Rattle.std.proofs.lemmas.List.{set-get_or, get_or_past}
 use Rattle.std.proofs.lemmas.Bool.Decides.{nat_tests}
-use Rattle.leader1822.specs.declared.event.Direction.{Direction}
-use Rattle.leader1822.specs.declared.event.Direction.TheVariants as way
-use Rattle.leader1822.specs.declared.carrier.CarrierFault.TheVariants as fault
+use Rattle.interface.specs.declared.event.Direction.{Direction}
+use Rattle.interface.specs.declared.event.Direction.TheVariants as way
+use Rattle.interface.specs.declared.carrier.CarrierFault.TheVariants as fault
 use Rattle.imp_channel.specs.declared.frame.Frame.{Frame}
 use Rattle.subnet.specs.Net.{Net, Wire, wire_at, no_wire, frames_on, dropping}
 use Rattle.subnet.specs.Events.{deliver, delivered, drop_frame, frame_refusal, carried}

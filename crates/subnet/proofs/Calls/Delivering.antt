@@ -2,7 +2,7 @@
 use Rattle.std.proofs.Common.{◌≡◌, ℕ, ◌+◌, Bool, true, false, List, [], ◌∷◌, length, nat_lt, slice_get, Option, Some, None, Result, Ok, Err, OnOk, OnErr, ◌||◌, refl, ap, sym, subst, ◌∙◌, add-one, arith}
 use Rattle.std.proofs.lemmas.Bool.{or_right}
 use Rattle.std.proofs.lemmas.Bool.Decides.{nat_tests}
-use Rattle.leader1822.specs.declared.event.Direction.{Direction}
+use Rattle.interface.specs.declared.event.Direction.{Direction}
 use Rattle.imp_node.specs.State.{State, ImpTurn}
 use Rattle.imp_node.specs.Turns.{from_line_grows}
 use Rattle.subnet.specs.Net.{Net, imp_at, wire_at, far_end, frames_on, port_of}

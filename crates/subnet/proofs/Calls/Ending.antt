@@ -1,7 +1,7 @@
 -- How the call of an IMP ends, and what it leaves in the subnet.
 use Rattle.std.proofs.Common.{Bool, Option, Some, Result, Ok, Err, ap}
-use Rattle.leader1822.specs.declared.carrier.CarrierFault.{CarrierFault}
-use Rattle.leader1822.specs.declared.carrier.CarrierFault.TheVariants as fault
+use Rattle.interface.specs.declared.carrier.CarrierFault.{CarrierFault}
+use Rattle.interface.specs.declared.carrier.CarrierFault.TheVariants as fault
 use Rattle.imp_node.specs.State.{State}
 use Rattle.imp_node.specs.Turns.{Turned}
 use Rattle.subnet.specs.Inside.Calling.{CallEnds}

@@ -2,7 +2,7 @@
 use Rattle.std.proofs.Common.{◌≡◌, ℕ, ◌<◌, zero, suc, Bool, false, List, [], ◌∷◌, get_or, set, length, Option, Some, None, Result, Ok, Err, OnOk, refl, ap, sym, subst, ◌∙◌, arith}
 use Rattle.std.proofs.lemmas.List.{set-get_or}
 use Rattle.std.specs.Prelude.{IfSome}
-use Rattle.leader1822.specs.declared.carrier.CarrierFault.{CarrierFault}
+use Rattle.interface.specs.declared.carrier.CarrierFault.{CarrierFault}
 use Rattle.imp_channel.specs.declared.frame.Frame.{Frame}
 use Rattle.imp_node.specs.State.{State, ImpTurn, number}
 use Rattle.imp_node.specs.Taking.{to_host, to_host_refusal}

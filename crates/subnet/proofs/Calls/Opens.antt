@@ -2,7 +2,7 @@
 use Rattle.std.proofs.Common.{◌≡◌, ℕ, ◌+◌, ◌<◌, ◌≤◌, zero, suc, List, [], ◌∷◌, length, map, get_or, count_by, Option, Some, None, refl, ap, sym, subst, ◌∙◌, arith, All}
 use Rattle.std.specs.Prelude.{IfSome}
 use Rattle.std.proofs.lemmas.List.Elements.{All-get_or}
-use Rattle.leader1822.specs.Host.{most_imps}
+use Rattle.interface.specs.Host.{most_imps}
 use Rattle.imp_node.specs.State.{State}
 use Rattle.subnet.specs.Net.{Wire, ends_at, port_of}
 use Rattle.subnet.specs.Opening.{Ends, empty_wire, opened_imp, opened_from}

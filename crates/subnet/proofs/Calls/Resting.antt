@@ -2,10 +2,10 @@
 use Rattle.std.specs.Prelude.{not}
 use Rattle.std.proofs.Common.{◌≡◌, ℕ, Bool, true, false, ◌&&◌, List, set, Option, Some, None, Result, Ok, Err, refl, ap, sym, ◌∙◌}
 use Rattle.std.proofs.lemmas.List.{set-get_or}
-use Rattle.leader1822.specs.Calls.{is_memory}
-use Rattle.leader1822.specs.Host.{Host}
-use Rattle.leader1822.specs.declared.carrier.CarrierFault.{CarrierFault}
-use Rattle.leader1822.specs.declared.crossing.Inbound.{Inbound}
+use Rattle.interface.specs.Calls.{is_memory}
+use Rattle.interface.specs.Host.{Host}
+use Rattle.interface.specs.declared.carrier.CarrierFault.{CarrierFault}
+use Rattle.interface.specs.declared.crossing.Inbound.{Inbound}
 use Rattle.imp_node.specs.State.{State, ImpTurn}
 use Rattle.imp_node.specs.Arrival.{ignored}
 use Rattle.imp_node.specs.Lines.{route, resend}

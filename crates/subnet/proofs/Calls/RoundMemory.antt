@@ -5,9 +5,9 @@ use Rattle.std.specs.List.{list_any}
 use Rattle.std.proofs.lemmas.Bool.Decides.{nat_tests}
 use Rattle.std.proofs.lemmas.Bool.{or_from}
 use Rattle.std.proofs.lemmas.List.{set-get_or}
-use Rattle.leader1822.specs.declared.event.Direction.{Direction}
-use Rattle.leader1822.specs.declared.event.Direction.TheVariants as way
-use Rattle.leader1822.proofs.lemmas.{or_false}
+use Rattle.interface.specs.declared.event.Direction.{Direction}
+use Rattle.interface.specs.declared.event.Direction.TheVariants as way
+use Rattle.interface.proofs.lemmas.{or_false}
 use Rattle.packetiser.specs.PacketFields.{PacketFields}
 use Rattle.routing.specs.RouteTable.{Table, next_of, vector_of}
 use Rattle.imp_channel.specs.Line.{End, submitted}

@@ -7,8 +7,8 @@ use Rattle.std.proofs.lemmas.List.{set-get_or, length-map}
 use Rattle.std.proofs.lemmas.List.Sums.{sum_by-cons}
 use Rattle.std.proofs.lemmas.Bool.{eqb-true}
 use Rattle.std.proofs.lemmas.Bool.Decides.{nat_tests}
-use Rattle.leader1822.specs.declared.event.Direction.{Direction}
-use Rattle.leader1822.specs.declared.event.Direction.TheVariants as way
+use Rattle.interface.specs.declared.event.Direction.{Direction}
+use Rattle.interface.specs.declared.event.Direction.TheVariants as way
 use Rattle.imp_channel.specs.Line.{resent, routes_frame}
 use Rattle.imp_channel.specs.declared.frame.Frame.{Frame}
 use Rattle.routing.specs.RouteTable.{vector_of}

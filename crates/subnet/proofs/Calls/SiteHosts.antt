@@ -4,8 +4,8 @@ use Rattle.std.specs.Prelude.{nat_lt, slice_index_or}
 use Rattle.std.specs.List.{list_any}
 use Rattle.std.proofs.lemmas.Bool.{cases_Bool}
 use Rattle.std.proofs.lemmas.Bool.Decides.{nat_tests}
-use Rattle.leader1822.specs.Host.{Host, same_host, is_host, host_before, InOrder}
-use Rattle.leader1822.proofs.lemmas.{before_from_numbers, both_ways, or_nothing, same_host-refl}
+use Rattle.interface.specs.Host.{Host, same_host, is_host, host_before, InOrder}
+use Rattle.interface.proofs.lemmas.{before_from_numbers, both_ways, or_nothing, same_host-refl}
 use Rattle.subnet.specs.Opening.{host_there, AreHosts, hosts_of_one, hosts_from}
 
 -- ---- tests of numbers

@@ -4,7 +4,7 @@ use Rattle.std.proofs.lemmas.Bool.{cases_Bool}
 use Rattle.std.specs.Prelude.{IfSome}
 use Rattle.std.proofs.lemmas.List.Elements.{All-head, All-tail}
 use Rattle.std.proofs.Math.Seq.{take-length}
-use Rattle.leader1822.specs.Host.{most_imps}
+use Rattle.interface.specs.Host.{most_imps}
 use Rattle.imp_node.specs.State.{State, HostState, number, host_at, no_host, up_host, opening_node}
 use Rattle.imp_node.specs.Queries as queries
 use Rattle.imp_node.specs.Stopping.{host_down}

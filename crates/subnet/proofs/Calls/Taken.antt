@@ -1,8 +1,8 @@
 -- A frame that is taken off its line before it is delivered: once it is dropped there, nothing shows the difference.
 use Rattle.std.specs.Prelude.{if◌then◌else◌}
 use Rattle.std.proofs.Common.{◌≡◌, ℕ, ◌+◌, ◌-◌, ◌<◌, zero, suc, Bool, true, false, List, [], ◌∷◌, ◌++◌, length, nat_lt, set, slice_get, ◌==◌, Option, Some, None, Result, Ok, Err, OnOk, OnErr, refl, ap, sym, subst, ◌∙◌, arith}
-use Rattle.leader1822.specs.declared.event.Direction.{Direction}
-use Rattle.leader1822.specs.declared.event.Direction.TheVariants as way
+use Rattle.interface.specs.declared.event.Direction.{Direction}
+use Rattle.interface.specs.declared.event.Direction.TheVariants as way
 use Rattle.imp_channel.specs.declared.frame.Frame.{Frame}
 use Rattle.imp_node.specs.declared.outgoing.Outgoing.{Outgoing}
 use Rattle.imp_node.specs.State.{State, ImpTurn}

@@ -1,20 +1,20 @@
 -- A subnet as a carrier: what each call keeps, and what it shows.
 use Rattle.std.proofs.Common.{◌≡◌, ℕ, ◌+◌, ◌≤◌, length, Bool, true, false, not, List, [], ◌∷◌, ◌++◌, Option, Some, None, Result, Ok, Err, is_some, is_none, refl, ap, sym, subst, ◌∙◌, if◌then◌else◌, ◌&&◌, ◌==◌}
 use Rattle.std.specs.Prelude.{nat_lt, OnErr, ◌||◌}
-use Rattle.leader1822.specs.Calls.{Seen, InOrder, halted, is_memory, is_halt, step_crossings, crossing_of, ShowsRefusal, ShowsCrossings, ShowsOffer, ShowsTake, ShowsStep, ShowsRound}
-use Rattle.leader1822.specs.Host.{Host, is_host, most_imps}
-use Rattle.leader1822.specs.Mailboxes.{IsRun}
-use Rattle.leader1822.specs.declared.address.Flow.{Flow}
-use Rattle.leader1822.specs.declared.carrier.CarrierFault.{CarrierFault}
-use Rattle.leader1822.specs.declared.carrier.CarrierFault.TheVariants as fault
-use Rattle.leader1822.specs.declared.crossing.Crossing.{Crossing}
-use Rattle.leader1822.specs.declared.crossing.Crossing.TheVariants as crossing
-use Rattle.leader1822.specs.declared.crossing.Inbound.{Inbound}
-use Rattle.leader1822.specs.declared.event.Direction.{Direction}
-use Rattle.leader1822.specs.declared.event.NetEvent.{NetEvent}
-use Rattle.leader1822.specs.declared.event.NetEvent.TheVariants as event
-use Rattle.leader1822.specs.declared.message.HostMessage.{HostMessage}
-use Rattle.leader1822.proofs.lemmas.{guard}
+use Rattle.interface.specs.Calls.{Seen, InOrder, halted, is_memory, is_halt, step_crossings, crossing_of, ShowsRefusal, ShowsCrossings, ShowsOffer, ShowsTake, ShowsStep, ShowsRound}
+use Rattle.interface.specs.Host.{Host, is_host, most_imps}
+use Rattle.interface.specs.Mailboxes.{IsRun}
+use Rattle.interface.specs.declared.address.Flow.{Flow}
+use Rattle.interface.specs.declared.carrier.CarrierFault.{CarrierFault}
+use Rattle.interface.specs.declared.carrier.CarrierFault.TheVariants as fault
+use Rattle.interface.specs.declared.crossing.Crossing.{Crossing}
+use Rattle.interface.specs.declared.crossing.Crossing.TheVariants as crossing
+use Rattle.interface.specs.declared.crossing.Inbound.{Inbound}
+use Rattle.interface.specs.declared.event.Direction.{Direction}
+use Rattle.interface.specs.declared.event.NetEvent.{NetEvent}
+use Rattle.interface.specs.declared.event.NetEvent.TheVariants as event
+use Rattle.interface.specs.declared.message.HostMessage.{HostMessage}
+use Rattle.interface.proofs.lemmas.{guard}
 use Rattle.flow_law.proofs.lemmas.{sound_run}
 use Rattle.link_table.specs.Flows.{has_outstanding}
 use Rattle.packetiser.specs.Slots.{slot_of}

@@ -1,8 +1,8 @@
 -- Only an offer makes a message outstanding: so after moves that begin none, a question about what is outstanding is a packet by
 -- the format if it was before.
 use Rattle.std.proofs.Common.{◌≡◌, ℕ, Bool, true, false, List, [], ◌∷◌, ◌||◌, Some, ap, sym, ◌∙◌}
-use Rattle.leader1822.specs.declared.address.Flow.{Flow}
-use Rattle.leader1822.proofs.lemmas.{or_false}
+use Rattle.interface.specs.declared.address.Flow.{Flow}
+use Rattle.interface.proofs.lemmas.{or_false}
 use Rattle.packetiser.specs.PacketFields.{IsPacket}
 use Rattle.packetiser.specs.declared.packet.PacketKind.TheVariants as kind
 use Rattle.flow_law.specs.View.{View}

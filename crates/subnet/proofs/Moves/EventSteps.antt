@@ -1,7 +1,7 @@
 -- Each event keeps a subnet sound.
 use Rattle.std.proofs.Common.{◌≡◌, None}
-use Rattle.leader1822.specs.declared.event.NetEvent.{NetEvent}
-use Rattle.leader1822.specs.declared.event.NetEvent.TheVariants as event
+use Rattle.interface.specs.declared.event.NetEvent.{NetEvent}
+use Rattle.interface.specs.declared.event.NetEvent.TheVariants as event
 use Rattle.subnet.specs.Net.{Net, port_of}
 use Rattle.subnet.specs.Events.{step_refusal, stepped}
 use Rattle.subnet.specs.Sound.{IsSound}

@@ -1,7 +1,7 @@
 -- The fate of a number at its flow's destination, as the flow's law sees it.
 use Rattle.std.proofs.Common.{◌≡◌, ℕ, Bool, true, false, List, [], ◌∷◌, map, Option, Some, None, refl, ap, ◌∙◌, ◌==◌, if◌then◌else◌}
 use Rattle.std.specs.Option.{option_map}
-use Rattle.leader1822.specs.Mailboxes.{Box}
+use Rattle.interface.specs.Mailboxes.{Box}
 use Rattle.link_table.specs.Flows.{kept_in, fate_in, ended_in}
 use Rattle.link_table.specs.declared.destination.Fate.{Fate}
 use Rattle.link_table.specs.declared.destination.Fate.TheVariants as fate
@@ -14,7 +14,7 @@ use Rattle.imp_node.specs.declared.waiting.Message.{Message}
 use Rattle.imp_node.specs.Moves.{without_first}
 use Rattle.imp_node.specs.Queries as queries
 use Rattle.imp_node.specs.Sides.{Sender, Receiver, messages_of, fated_with}
-use Rattle.leader1822.specs.declared.address.Flow.{Flow}
+use Rattle.interface.specs.declared.address.Flow.{Flow}
 use Rattle.subnet.specs.Flows.{kind_of, queued_of, view_of}
 
 -- data and questions are what travels to the destination

@@ -3,11 +3,11 @@ use Rattle.std.proofs.Common.{◌≡◌, ℕ, Bool, true, false, not, List, [], 
 use Rattle.std.specs.Prelude.{slice_set}
 use Rattle.std.specs.FinMap as finite
 use Rattle.std.proofs.lemmas.List.Elements.{All-contains}
-use Rattle.leader1822.specs.Mailboxes.{Box, box_of}
-use Rattle.leader1822.specs.declared.address.Flow.{Flow}
-use Rattle.leader1822.specs.declared.carrier.CarrierFault.{CarrierFault}
-use Rattle.leader1822.specs.declared.carrier.CarrierFault.TheVariants as fault
-use Rattle.leader1822.proofs.lemmas.{and_true, guard, or_false}
+use Rattle.interface.specs.Mailboxes.{Box, box_of}
+use Rattle.interface.specs.declared.address.Flow.{Flow}
+use Rattle.interface.specs.declared.carrier.CarrierFault.{CarrierFault}
+use Rattle.interface.specs.declared.carrier.CarrierFault.TheVariants as fault
+use Rattle.interface.proofs.lemmas.{and_true, guard, or_false}
 use Rattle.link_table.proofs.lemmas.{outstanding_to_none}
 use Rattle.link_table.specs.Keys.{is_from}
 use Rattle.packetiser.specs.PacketFields.{PacketFields, flow_of}

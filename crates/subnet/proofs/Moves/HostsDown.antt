@@ -6,16 +6,16 @@ use Rattle.std.specs.FinMap as finite
 use Rattle.std.specs.List.{flat_map}
 use Rattle.std.proofs.lemmas.Bool.{cases_Bool}
 use Rattle.std.proofs.lemmas.List.Elements.{All-nil, All-cons, All-head, All-tail, All-append, All-weaker, All-contains, All-contains_itself, Contains-append_right, Contains-append_cases}
-use Rattle.leader1822.specs.Flow.{same_flow}
-use Rattle.leader1822.specs.Host.{Host, same_host, is_host}
-use Rattle.leader1822.specs.Mailboxes.{Box, box_of}
-use Rattle.leader1822.specs.declared.address.Flow.{Flow}
-use Rattle.leader1822.specs.declared.carrier.CarrierFault.{CarrierFault}
-use Rattle.leader1822.specs.declared.carrier.CarrierFault.TheVariants as fault
-use Rattle.leader1822.specs.declared.crossing.Answer.TheVariants as answer
-use Rattle.leader1822.specs.declared.crossing.Crossing.{Crossing}
-use Rattle.leader1822.specs.declared.crossing.Crossing.TheVariants as crossing
-use Rattle.leader1822.proofs.lemmas.{and_true, guard, not_false, same_flow-refl, same_flow-true, same_host-refl, same_host-true}
+use Rattle.interface.specs.Flow.{same_flow}
+use Rattle.interface.specs.Host.{Host, same_host, is_host}
+use Rattle.interface.specs.Mailboxes.{Box, box_of}
+use Rattle.interface.specs.declared.address.Flow.{Flow}
+use Rattle.interface.specs.declared.carrier.CarrierFault.{CarrierFault}
+use Rattle.interface.specs.declared.carrier.CarrierFault.TheVariants as fault
+use Rattle.interface.specs.declared.crossing.Answer.TheVariants as answer
+use Rattle.interface.specs.declared.crossing.Crossing.{Crossing}
+use Rattle.interface.specs.declared.crossing.Crossing.TheVariants as crossing
+use Rattle.interface.proofs.lemmas.{and_true, guard, not_false, same_flow-refl, same_flow-true, same_host-refl, same_host-true}
 use Rattle.link_table.specs.Flows.{release_in, kept_in, fate_in}
 use Rattle.link_table.specs.declared.destination.Fate.TheVariants as fate
 use Rattle.link_table.specs.declared.source.Release.{Release}

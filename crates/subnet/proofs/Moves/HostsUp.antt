@@ -2,13 +2,13 @@
 use Rattle.std.proofs.Common.{◌≡◌, ℕ, ◌<◌, Bool, true, false, not, List, [], ◌∷◌, length, Option, Some, None, refl, ap, sym, subst, ◌∙◌, ◌==◌, if◌then◌else◌, inl, arith, All}
 use Rattle.std.specs.Prelude.{slice_set}
 use Rattle.std.proofs.lemmas.Bool.Decides.{nat_tests}
-use Rattle.leader1822.specs.Host.{Host, same_host, is_host}
-use Rattle.leader1822.specs.Mailboxes.{Box, box_of}
-use Rattle.leader1822.specs.declared.address.Flow.{Flow}
-use Rattle.leader1822.specs.declared.carrier.CarrierFault.{CarrierFault}
-use Rattle.leader1822.specs.declared.carrier.CarrierFault.TheVariants as fault
-use Rattle.leader1822.specs.declared.crossing.Crossing.TheVariants as crossing
-use Rattle.leader1822.proofs.lemmas.{guard, not_false, same_host-true}
+use Rattle.interface.specs.Host.{Host, same_host, is_host}
+use Rattle.interface.specs.Mailboxes.{Box, box_of}
+use Rattle.interface.specs.declared.address.Flow.{Flow}
+use Rattle.interface.specs.declared.carrier.CarrierFault.{CarrierFault}
+use Rattle.interface.specs.declared.carrier.CarrierFault.TheVariants as fault
+use Rattle.interface.specs.declared.crossing.Crossing.TheVariants as crossing
+use Rattle.interface.proofs.lemmas.{guard, not_false, same_host-true}
 use Rattle.link_table.specs.Flows.{has_outstanding}
 use Rattle.link_table.proofs.lemmas.{outstanding_none}
 use Rattle.flow_law.specs.View.{View, Packet}

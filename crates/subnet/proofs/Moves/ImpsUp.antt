@@ -4,12 +4,12 @@ use Rattle.std.specs.Prelude.{slice_set, count_by}
 use Rattle.std.specs.FinMap.{get-empty}
 use Rattle.std.specs.List.{flat_map, list_any}
 use Rattle.std.proofs.lemmas.List.Elements.{All-nil, All-head, All-tail, All-contains}
-use Rattle.leader1822.specs.Flow.{same_flow, flow_cmp}
-use Rattle.leader1822.specs.Mailboxes.{Box, box_of}
-use Rattle.leader1822.specs.declared.address.Flow.{Flow}
-use Rattle.leader1822.specs.declared.carrier.CarrierFault.{CarrierFault}
-use Rattle.leader1822.specs.declared.carrier.CarrierFault.TheVariants as fault
-use Rattle.leader1822.proofs.lemmas.{guard, or_false, same_flow-true}
+use Rattle.interface.specs.Flow.{same_flow, flow_cmp}
+use Rattle.interface.specs.Mailboxes.{Box, box_of}
+use Rattle.interface.specs.declared.address.Flow.{Flow}
+use Rattle.interface.specs.declared.carrier.CarrierFault.{CarrierFault}
+use Rattle.interface.specs.declared.carrier.CarrierFault.TheVariants as fault
+use Rattle.interface.proofs.lemmas.{guard, or_false, same_flow-true}
 use Rattle.link_table.specs.Flows.{last_in, outstanding_in}
 use Rattle.packetiser.specs.PacketFields.{PacketFields}
 use Rattle.flow_law.specs.View.{View, Packet, is_request}

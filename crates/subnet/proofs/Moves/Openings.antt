@@ -5,11 +5,11 @@ use Rattle.std.specs.FinMap.{get-empty}
 use Rattle.std.specs.List.{flat_map}
 use Rattle.std.proofs.lemmas.Bool.Decides.{nat_tests}
 use Rattle.std.proofs.lemmas.List.Elements.{All-nil, All-cons, All-head}
-use Rattle.leader1822.specs.Flow.{flow_cmp}
-use Rattle.leader1822.specs.Host.{Host, is_host}
-use Rattle.leader1822.specs.Mailboxes.{Box, Mail, opening_mail}
-use Rattle.leader1822.specs.declared.address.Flow.{Flow}
-use Rattle.leader1822.proofs.lemmas.{both_ways}
+use Rattle.interface.specs.Flow.{flow_cmp}
+use Rattle.interface.specs.Host.{Host, is_host}
+use Rattle.interface.specs.Mailboxes.{Box, Mail, opening_mail}
+use Rattle.interface.specs.declared.address.Flow.{Flow}
+use Rattle.interface.proofs.lemmas.{both_ways}
 use Rattle.link_table.specs.Flows.{last_in, outstanding_in}
 use Rattle.packetiser.specs.PacketFields.{PacketFields, IsPacket}
 use Rattle.packetiser.specs.declared.packet.PacketKind.TheVariants as kind

@@ -1,8 +1,8 @@
 -- Events that make no packet, move no flow and show nothing.
 use Rattle.std.proofs.Common.{◌≡◌, ℕ, Option, Some, None, refl, sym, subst, All, Contains}
 use Rattle.std.proofs.lemmas.List.Elements.{All-weaker, All-contains}
-use Rattle.leader1822.specs.declared.address.Flow.{Flow}
-use Rattle.leader1822.specs.declared.event.Direction.{Direction}
+use Rattle.interface.specs.declared.address.Flow.{Flow}
+use Rattle.interface.specs.declared.event.Direction.{Direction}
 use Rattle.packetiser.specs.PacketFields.{IsPacket}
 use Rattle.packetiser.specs.declared.packet.PacketKind.TheVariants as kind
 use Rattle.flow_law.proofs.lemmas.{silent_follows}

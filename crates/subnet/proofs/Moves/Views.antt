@@ -3,8 +3,8 @@ use Rattle.std.proofs.Common.{◌≡◌, ℕ, zero, suc, Bool, List, [], ◌∷�
 use Rattle.std.specs.Prelude.{slice_set}
 use Rattle.std.specs.List.{flat_map}
 use Rattle.std.proofs.lemmas.List.Elements.{All-contains}
-use Rattle.leader1822.specs.Mailboxes.{Box, box_of}
-use Rattle.leader1822.specs.declared.address.Flow.{Flow}
+use Rattle.interface.specs.Mailboxes.{Box, box_of}
+use Rattle.interface.specs.declared.address.Flow.{Flow}
 use Rattle.flow_law.specs.View.{Packet}
 use Rattle.imp_node.specs.declared.waiting.Message.{Message}
 use Rattle.imp_node.specs.State.{State, HostState, ImpTurn}

@@ -1,10 +1,10 @@
 -- Whatever happens from the opening on, the subnet is sound, and so its log is a run of the mailboxes.
 use Rattle.std.proofs.Common.{◌≡◌, ℕ, ◌+◌, ◌≤◌, List, [], ◌∷◌, length, Option, Some, None, refl, subst, ◌∙◌}
-use Rattle.leader1822.specs.Host.{Host, most_imps}
-use Rattle.leader1822.specs.Mailboxes.{IsRun}
-use Rattle.leader1822.specs.declared.carrier.CarrierFault.{CarrierFault}
-use Rattle.leader1822.specs.declared.event.NetEvent.{NetEvent}
-use Rattle.leader1822.specs.declared.message.HostMessage.{HostMessage}
+use Rattle.interface.specs.Host.{Host, most_imps}
+use Rattle.interface.specs.Mailboxes.{IsRun}
+use Rattle.interface.specs.declared.carrier.CarrierFault.{CarrierFault}
+use Rattle.interface.specs.declared.event.NetEvent.{NetEvent}
+use Rattle.interface.specs.declared.message.HostMessage.{HostMessage}
 use Rattle.flow_law.proofs.lemmas.{sound_run}
 use Rattle.subnet.specs.Net.{Net}
 use Rattle.subnet.specs.Events.{quiet_round}

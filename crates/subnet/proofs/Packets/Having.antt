@@ -4,7 +4,7 @@ use Rattle.std.proofs.Common.{ℕ, zero, suc, List, [], ◌∷◌, Option, Some,
 use Rattle.std.specs.Prelude.{slice_get}
 use Rattle.std.specs.List.{flat_map}
 use Rattle.std.proofs.lemmas.List.Elements.{All-nil, All-cons, All-head, All-tail, All-append, All-set, All-contains, All-contains_itself}
-use Rattle.leader1822.specs.declared.event.Direction.{Direction}
+use Rattle.interface.specs.declared.event.Direction.{Direction}
 use Rattle.packetiser.specs.PacketFields.{PacketFields}
 use Rattle.packetiser.proofs.lemmas.{All_left, All_right}
 use Rattle.imp_channel.specs.Holding.{carried_by}

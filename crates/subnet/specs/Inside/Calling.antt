@@ -1,12 +1,12 @@
 -- Calls of one IMP as data, and what they leave in the subnet.
 use Rattle.std.specs.Prelude.{◌≡◌, ℕ, ◌≤◌, ◌<◌, Bool, true, false, List, [], ◌∷◌, ◌++◌, ◌+◌, if◌then◌else◌, length, Option, Some, None, Result, Ok, Err, slice_index_or, slice_set, All, IfSome}
-use Rattle.leader1822.specs.Host.{most_imps}
-use Rattle.leader1822.specs.Calls.{is_memory}
-use Rattle.leader1822.specs.declared.carrier.CarrierFault.{CarrierFault}
-use Rattle.leader1822.specs.declared.crossing.Crossing.{Crossing}
-use Rattle.leader1822.specs.declared.crossing.Crossing.TheVariants as crossing
-use Rattle.leader1822.specs.declared.event.NetEvent.{NetEvent}
-use Rattle.leader1822.specs.declared.event.Direction.{Direction}
+use Rattle.interface.specs.Host.{most_imps}
+use Rattle.interface.specs.Calls.{is_memory}
+use Rattle.interface.specs.declared.carrier.CarrierFault.{CarrierFault}
+use Rattle.interface.specs.declared.crossing.Crossing.{Crossing}
+use Rattle.interface.specs.declared.crossing.Crossing.TheVariants as crossing
+use Rattle.interface.specs.declared.event.NetEvent.{NetEvent}
+use Rattle.interface.specs.declared.event.Direction.{Direction}
 use Rattle.imp_channel.specs.declared.frame.Frame.{Frame}
 use Rattle.imp_node.specs.declared.outgoing.Outgoing.{Outgoing}
 use Rattle.imp_node.specs.State.{State, HostState, ImpTurn, number}

@@ -1,6 +1,6 @@
 -- The highest number with which a message was begun: no higher one is alive of a flow whose source's IMP is up.
 use Rattle.std.specs.Prelude.{◌≡◌, ℕ, ◌≤◌, true, List, Option, Some, None, All}
-use Rattle.leader1822.specs.declared.address.Flow.{Flow}
+use Rattle.interface.specs.declared.address.Flow.{Flow}
 use Rattle.packetiser.specs.PacketFields.{PacketFields}
 use Rattle.flow_law.specs.Moves.{next_number}
 use Rattle.imp_node.specs.Queries.{last, outstanding}

@@ -1,7 +1,7 @@
 -- What a subnet remembers beside its parts: whether it rests, and the highest number that a message was begun with.
 use Rattle.std.specs.Prelude.{◌≡◌, ℕ, Bool, true, false, not, Result, Ok, Err}
-use Rattle.leader1822.specs.Calls.{is_memory}
-use Rattle.leader1822.specs.declared.carrier.CarrierFault.{CarrierFault}
+use Rattle.interface.specs.Calls.{is_memory}
+use Rattle.interface.specs.declared.carrier.CarrierFault.{CarrierFault}
 use Rattle.subnet.specs.Calls.{Kept}
 use Rattle.subnet.specs.Events.{quiet_round}
 use Rattle.subnet.specs.Working.{IsWorking}

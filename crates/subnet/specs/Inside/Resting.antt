@@ -1,8 +1,8 @@
 -- Hosts whose takings give nothing and change nothing.
 use Rattle.std.specs.Prelude.{◌≡◌, ◌⊎◌, ℕ, Bool, true, false, not, Option, Some, None, slice_get}
-use Rattle.leader1822.specs.Calls.{is_halt, is_memory}
-use Rattle.leader1822.specs.Host.{Host}
-use Rattle.leader1822.specs.declared.carrier.CarrierFault.{CarrierFault}
+use Rattle.interface.specs.Calls.{is_halt, is_memory}
+use Rattle.interface.specs.Host.{Host}
+use Rattle.interface.specs.declared.carrier.CarrierFault.{CarrierFault}
 use Rattle.imp_node.specs.State.{State, is_up}
 use Rattle.subnet.specs.Net.{Net}
 use Rattle.subnet.specs.Events.{take_refusal, taken_by_host, take_in}

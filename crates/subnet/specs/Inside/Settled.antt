@@ -2,8 +2,8 @@
 -- are up, each IMP heard last what the other would announce, and no packet waits for its acknowledgement. What is sent again then goes to ends
 -- that are down, and is lost.
 use Rattle.std.specs.Prelude.{◌≡◌, ℕ, ◌<◌, ◌==◌, ◌&&◌, Bool, true, [], length, Option, Some, None, IfSome, slice_index_or}
-use Rattle.leader1822.specs.declared.event.Direction.{Direction}
-use Rattle.leader1822.specs.declared.event.Direction.TheVariants as way
+use Rattle.interface.specs.declared.event.Direction.{Direction}
+use Rattle.interface.specs.declared.event.Direction.TheVariants as way
 use Rattle.routing.specs.RouteTable.{vector_of}
 use Rattle.imp_channel.specs.Holding.{packets_in}
 use Rattle.imp_node.specs.State.{State, port_at}

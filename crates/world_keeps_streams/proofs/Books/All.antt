@@ -1,9 +1,9 @@
 -- What a safe book asks of all lives of a world: what was taken has a source, and what was sent is granted.
 use Rattle.std.proofs.Common.{◌≡◌, true, List, [], length}
 use Rattle.std.specs.List.{Contains}
-use Rattle.leader1822.specs.Calls.{Seen}
-use Rattle.leader1822.specs.Host.{Host}
-use Rattle.leader1822.specs.Mailboxes as mail
+use Rattle.interface.specs.Calls.{Seen}
+use Rattle.interface.specs.Host.{Host}
+use Rattle.interface.specs.Mailboxes as mail
 use Rattle.net_sim.specs.Clean.{HaveAddresses, IsLawful}
 use Rattle.net_sim.specs.Safe.{IsGranted, Match, Source, receives}
 use Rattle.net_sim.specs.Story.{Moment}

@@ -1,9 +1,9 @@
 -- The clauses of a safe book that are about two hosts: what was taken has a source, and what was sent is granted.
 use Rattle.std.proofs.Common.{◌≡◌, ◌⊎◌, inl, inr, ℕ, ◌+◌, ◌≤◌, Bool, true, List, [], length, take, drop, Option, Some, None, refl, ap, sym, subst, ◌∙◌, arith}
 use Rattle.std.specs.List.{Contains}
-use Rattle.leader1822.specs.Calls.{Seen}
-use Rattle.leader1822.specs.Host.{Host}
-use Rattle.leader1822.specs.declared.crossing.Crossing.{Crossing}
+use Rattle.interface.specs.Calls.{Seen}
+use Rattle.interface.specs.Host.{Host}
+use Rattle.interface.specs.declared.crossing.Crossing.{Crossing}
 use Rattle.net_sim.specs.Clean.{IsLawful}
 use Rattle.net_sim.specs.Safe.{IsGranted, Match, Name, SafePartners, Source, own_request, receives}
 use Rattle.net_sim.specs.Story.{Moment}

@@ -1,6 +1,6 @@
 -- Of all lives of a book: what was taken has a source, and what was sent is granted.
 use Rattle.std.proofs.Common.{◌≡◌, ◌⊎◌, inl, inr, ℕ, ◌≤◌, Bool, true, false, List, [], ◌∷◌, length, map, take, refl, ap, sym, subst, ◌∙◌, arith}
-use Rattle.leader1822.specs.Host.{Host}
+use Rattle.interface.specs.Host.{Host}
 use Rattle.ncp_control.specs.Numbers.{is_receive_socket, is_send_socket}
 use Rattle.pairing_law.proofs.lemmas.{Fresh, begins_fresh}
 use Rattle.reset_law.specs.Stays as stay

@@ -2,10 +2,10 @@
 use Rattle.std.proofs.Common.{◌≡◌, ◌⊎◌, inl, inr, ℕ, suc, ◌+◌, ◌≤◌, ◌==◌, Bool, true, false, List, [], ◌∷◌, ◌++◌, length, filter, Some, refl, ap, sym, subst, ◌∙◌, append-nil, arith}
 use Rattle.std.proofs.lemmas.Bool.{eqb-true, ne_eqb}
 use Rattle.std.specs.List.{Contains}
-use Rattle.leader1822.specs.Calls.{Seen}
-use Rattle.leader1822.specs.Host.{Host}
-use Rattle.leader1822.specs.Mailboxes as mail
-use Rattle.leader1822.specs.Mailboxes.{box_of}
+use Rattle.interface.specs.Calls.{Seen}
+use Rattle.interface.specs.Host.{Host}
+use Rattle.interface.specs.Mailboxes as mail
+use Rattle.interface.specs.Mailboxes.{box_of}
 use Rattle.stream_law.specs.Receivers.{Receiver}
 use Rattle.stream_law.specs.Streams.{Box, Empty, Waiting, Taken}
 use Rattle.stream_law.specs.Within.{IsSafe, waiting_in}

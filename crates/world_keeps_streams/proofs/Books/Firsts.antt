@@ -1,8 +1,8 @@
 -- The messages of each life are the first on its link: what two programs do together to make them so.
 use Rattle.std.proofs.Common.{◌≡◌, inl, inr, ℕ, ◌==◌, true, false, List, [], ◌∷◌, drop, filter, sym, ◌∙◌}
 use Rattle.std.specs.List.{Contains}
-use Rattle.leader1822.specs.Calls.{Seen}
-use Rattle.leader1822.specs.Host.{Host}
+use Rattle.interface.specs.Calls.{Seen}
+use Rattle.interface.specs.Host.{Host}
 use Rattle.stream_law.specs.Senders.{Sender}
 use Rattle.host_pairs.specs.Entries.{is_open, sends_on}
 use Rattle.host_pairs.specs.declared.entry.Entry.{Entry}

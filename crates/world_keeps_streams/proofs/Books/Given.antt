@@ -1,7 +1,7 @@
 -- What a safe book asks of two hosts, but for their lives: requests and streams.
 use Rattle.std.proofs.Common.{◌≡◌, ℕ, suc, ◌==◌, ◌≤◌, true, false, List, [], ◌∷◌, refl}
 use Rattle.std.proofs.lemmas.Bool.{ne_eqb}
-use Rattle.leader1822.specs.Host.{Host}
+use Rattle.interface.specs.Host.{Host}
 use Rattle.host_keeps_streams.specs.Histories.{numbered, receiver_now, sender_now}
 use Rattle.host_keeps_streams.proofs.lemmas.{numbered_tells}
 use Rattle.reset_law.specs.Stays as stay

@@ -1,6 +1,6 @@
 -- What follows for lives since both met: what was taken has a source, and what was sent is granted.
 use Rattle.std.proofs.Common.{◌≡◌, ◌⊎◌, inl, inr, ℕ, suc, ◌+◌, ◌≤◌, Bool, true, List, [], ◌∷◌, length, refl, ap, sym, subst, ◌∙◌, arith}
-use Rattle.leader1822.specs.Host.{Host}
+use Rattle.interface.specs.Host.{Host}
 use Rattle.ncp_control.specs.declared.allocation.Allocation.{Allocation}
 use Rattle.stream_law.specs.Within.{IsSafe, message_bits}
 use Rattle.stream_law.proofs.lemmas.{safe_inv}

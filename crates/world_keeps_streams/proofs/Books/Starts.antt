@@ -1,6 +1,6 @@
 -- Two hosts and their streams before anything happened.
 use Rattle.std.proofs.Common.{◌≡◌, ℕ, suc, [], refl}
-use Rattle.leader1822.specs.Host.{Host}
+use Rattle.interface.specs.Host.{Host}
 use Rattle.stream_law.specs.Streams.{opening_stream}
 use Rattle.host_keeps_streams.specs.Histories.{numbered}
 use Rattle.host_keeps_streams.proofs.lemmas.{numbered_tells}

@@ -1,7 +1,7 @@
 -- What may be said of each call of a world's programs, as the steps of two programs on a link need it.
 use Rattle.std.proofs.Common.{List, [], ◌∷◌}
-use Rattle.leader1822.specs.Host.{Host}
-use Rattle.leader1822.specs.Mailboxes as mail
+use Rattle.interface.specs.Host.{Host}
+use Rattle.interface.specs.Mailboxes as mail
 use Rattle.ncp_control.specs.declared.command.Command.{Command}
 use Rattle.ncp_control.specs.declared.command.Command.TheVariants as command
 use Rattle.host_pairs.specs.Pair.{PairState}

@@ -1,11 +1,11 @@
 -- Each call of a host's program, for one peer: the calls of streams that it is lead from the ends before it to those after it.
 use Rattle.std.proofs.Common.{◌≡◌, ℕ, Bool, true, false, not, if◌then◌else◌, cond, List, [], ◌∷◌, find, Option, Some, None, refl, ap, sym, subst, ◌∙◌}
-use Rattle.leader1822.specs.Host.{Host, same_host}
-use Rattle.leader1822.specs.declared.address.Flow.{Flow}
-use Rattle.leader1822.specs.declared.crossing.Answer.{Answer}
-use Rattle.leader1822.specs.declared.crossing.Inbound.TheVariants as inbound
-use Rattle.leader1822.specs.declared.message.HostMessage.{HostMessage}
-use Rattle.leader1822.proofs.lemmas.{not_false, same_host-true}
+use Rattle.interface.specs.Host.{Host, same_host}
+use Rattle.interface.specs.declared.address.Flow.{Flow}
+use Rattle.interface.specs.declared.crossing.Answer.{Answer}
+use Rattle.interface.specs.declared.crossing.Inbound.TheVariants as inbound
+use Rattle.interface.specs.declared.message.HostMessage.{HostMessage}
+use Rattle.interface.proofs.lemmas.{not_false, same_host-true}
 use Rattle.ncp_control.specs.declared.command.Command.TheVariants as command
 use Rattle.host_pairs.specs.Asked.{closed_end, commanded, contacted, interrupt_of, receiver_requested, requested, with_end, with_more_bits}
 use Rattle.host_pairs.specs.Commands.{granted}

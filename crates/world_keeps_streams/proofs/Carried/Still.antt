@@ -1,6 +1,6 @@
 -- A moment at which a host makes no call with its peer leaves the lives of the two carried as they were.
 use Rattle.std.proofs.Common.{◌≡◌, ℕ, true, List, [], ◌∷◌, ◌++◌, drop, sym, subst}
-use Rattle.leader1822.specs.Host.{Host}
+use Rattle.interface.specs.Host.{Host}
 use Rattle.host_pairs.specs.declared.entry.Entry.{Entry}
 use Rattle.host_keeps_streams.specs.Histories as calls
 use Rattle.host_keeps_streams.specs.Histories.{gone_now, receiver_now, sender_now}

@@ -1,10 +1,10 @@
 -- The lives of a host's book with each peer are carried by its calls, at all lawful moments of a world.
 use Rattle.std.proofs.Common.{◌≡◌, ℕ, ◌==◌, ◌&&◌, Bool, true, false, if◌then◌else◌, List, [], ◌∷◌, Option, Some, refl, ap, sym, subst}
-use Rattle.leader1822.specs.Host.{Host, same_host}
-use Rattle.leader1822.specs.Mailboxes as mail
-use Rattle.leader1822.specs.declared.crossing.Crossing.TheVariants as crossing
-use Rattle.leader1822.specs.declared.message.HostMessage.{HostMessage}
-use Rattle.leader1822.proofs.lemmas.{same_host-true}
+use Rattle.interface.specs.Host.{Host, same_host}
+use Rattle.interface.specs.Mailboxes as mail
+use Rattle.interface.specs.declared.crossing.Crossing.TheVariants as crossing
+use Rattle.interface.specs.declared.message.HostMessage.{HostMessage}
+use Rattle.interface.proofs.lemmas.{same_host-true}
 use Rattle.host_pairs.specs.Parcels.{Parcel}
 use Rattle.host_pairs.specs.declared.listener.Listener.{Listener}
 use Rattle.host_keeps_streams.specs.Histories as calls

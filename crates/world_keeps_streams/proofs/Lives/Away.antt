@@ -1,6 +1,6 @@
 -- A host that leaves, or has left: its lives with the peer end, where they do nothing else and no new one begins.
 use Rattle.std.proofs.Common.{◌≡◌, ◌⊎◌, inl, inr, Bool, true, false, List, ◌∷◌, map, ap, sym, subst, ◌∙◌}
-use Rattle.leader1822.specs.Host.{Host}
+use Rattle.interface.specs.Host.{Host}
 use Rattle.reset_law.specs.Stays as stay
 use Rattle.net_sim.specs.Book.{life_ended}
 use Rattle.net_sim.specs.Story.{Moment, events_of}

@@ -1,7 +1,7 @@
 -- The lives of two hosts that stay, as a safe book asks for them.
 use Rattle.std.proofs.Common.{◌≡◌, inl, inr, ℕ, zero, suc, ◌≤◌, ◌==◌, true, false, List, [], ◌∷◌, drop, refl, sym, subst, arith}
 use Rattle.std.proofs.lemmas.Bool.{ne_eqb}
-use Rattle.leader1822.specs.Host.{Host}
+use Rattle.interface.specs.Host.{Host}
 use Rattle.ncp_control.specs.Numbers.{is_receive_socket}
 use Rattle.host_keeps_streams.specs.Histories.{AreAllowed, gone_now, numbered, receiver_now, sender_now}
 use Rattle.pairing_law.specs.Links.{Receiver, Sender, Sockets, Who}

@@ -1,6 +1,6 @@
 -- The lives of a host that stays: those since it dropped its ends last are those since both met.
 use Rattle.std.proofs.Common.{◌≡◌, inl, inr, ℕ, zero, suc, ◌≤◌, ◌&&◌, ◌||◌, not, Bool, true, false, if◌then◌else◌, List, [], ◌∷◌, ◌++◌, length, map, drop, refl, ap, sym, subst, ◌∙◌, arith}
-use Rattle.leader1822.specs.Host.{Host}
+use Rattle.interface.specs.Host.{Host}
 use Rattle.host_pairs.proofs.lemmas.{both}
 use Rattle.pairing_law.proofs.lemmas.{Fresh, begins_fresh}
 use Rattle.reset_law.specs.Events.{Contact, Down, Event, Idle, In, Other, Out, Reply, Reset, Told, Up}

@@ -1,9 +1,9 @@
 -- The lives of a host with one peer are carried by its calls at a moment at which its user asks for something.
 use Rattle.std.proofs.Common.{◌≡◌, ℕ, ◌==◌, ◌&&◌, not, Bool, true, false, if◌then◌else◌, List, [], ◌∷◌, map, filter, find, Option, Some, None, refl, ap, sym, subst, ◌∙◌, append-nil}
 use Rattle.std.proofs.lemmas.Bool.{eqb-true}
-use Rattle.leader1822.specs.Host.{Host, same_host}
-use Rattle.leader1822.specs.Mailboxes as mail
-use Rattle.leader1822.proofs.lemmas.{same_host-refl, same_host-true}
+use Rattle.interface.specs.Host.{Host, same_host}
+use Rattle.interface.specs.Mailboxes as mail
+use Rattle.interface.proofs.lemmas.{same_host-refl, same_host-true}
 use Rattle.ncp_control.specs.Numbers.{is_receive_socket}
 use Rattle.host_pairs.specs.Asked.{contact_notices}
 use Rattle.host_pairs.specs.Desk.{listens_on}

@@ -1,8 +1,8 @@
 -- The lives of a host with one peer are carried by its calls at a moment at which some host stops or starts.
 use Rattle.std.proofs.Common.{◌≡◌, ℕ, ◌==◌, ◌&&◌, not, Bool, true, false, List, ◌∷◌, refl, ap, ◌∙◌}
-use Rattle.leader1822.specs.Host.{Host, same_host}
-use Rattle.leader1822.specs.Mailboxes as mail
-use Rattle.leader1822.specs.declared.crossing.Crossing.TheVariants as crossing
+use Rattle.interface.specs.Host.{Host, same_host}
+use Rattle.interface.specs.Mailboxes as mail
+use Rattle.interface.specs.declared.crossing.Crossing.TheVariants as crossing
 use Rattle.reset_law.specs.Pairs.{pair}
 use Rattle.host_keeps_streams.specs.Histories.{AreAllowed, IsTelling}
 use Rattle.net_sim.specs.declared.life.Life.{Life}

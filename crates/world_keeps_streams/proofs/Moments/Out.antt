@@ -1,10 +1,10 @@
 -- The lives of a host with one peer are carried by its calls at a moment at which a message goes out to the peer.
 use Rattle.std.proofs.Common.{◌≡◌, ℕ, ◌==◌, Bool, true, false, ◌&&◌, List, [], ◌∷◌, ◌++◌, take, drop, Some, refl, ap, sym, subst, ◌∙◌}
-use Rattle.leader1822.specs.Host.{Host, same_host}
-use Rattle.leader1822.specs.Mailboxes as mail
-use Rattle.leader1822.specs.declared.crossing.Crossing.TheVariants as crossing
-use Rattle.leader1822.specs.declared.message.HostMessage.{HostMessage}
-use Rattle.leader1822.proofs.lemmas.{same_host-true}
+use Rattle.interface.specs.Host.{Host, same_host}
+use Rattle.interface.specs.Mailboxes as mail
+use Rattle.interface.specs.declared.crossing.Crossing.TheVariants as crossing
+use Rattle.interface.specs.declared.message.HostMessage.{HostMessage}
+use Rattle.interface.proofs.lemmas.{same_host-true}
 use Rattle.ncp_control.specs.declared.command.Command.{Command}
 use Rattle.host_pairs.specs.Desk.{DeskState, desk_of}
 use Rattle.host_pairs.specs.Pair.{PairState}

@@ -1,8 +1,8 @@
 -- A life's partner's request stays the same while more crosses; and two lives of one connection match.
 use Rattle.std.proofs.Common.{◌≡◌, ℕ, suc, true, false, List, [], ◌++◌, Option, Some, None, IsSome, refl, ap, sym, subst, ◌∙◌}
 use Rattle.std.specs.List.{Contains}
-use Rattle.leader1822.specs.Host.{Host}
-use Rattle.leader1822.specs.declared.crossing.Crossing.{Crossing}
+use Rattle.interface.specs.Host.{Host}
+use Rattle.interface.specs.declared.crossing.Crossing.{Crossing}
 use Rattle.pairing_law.specs.Links.{events_at}
 use Rattle.pairing_law.specs.Partners.{IsIn, OwnOnce}
 use Rattle.pairing_law.specs.Sides.{Life}

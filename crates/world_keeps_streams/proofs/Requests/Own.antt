@@ -1,7 +1,7 @@
 -- The own request of a receiving life: it is that of the connection whose partner's request its host took.
 use Rattle.std.proofs.Common.{◌≡◌, inl, inr, ℕ, ◌<◌, ◌≤◌, ◌&&◌, Bool, true, if◌then◌else◌, List, [], ap, sym, subst, ◌∙◌, arith}
 use Rattle.std.specs.List.{Contains}
-use Rattle.leader1822.specs.Host.{Host}
+use Rattle.interface.specs.Host.{Host}
 use Rattle.ncp_control.specs.Numbers.{is_receive_socket, is_send_socket}
 use Rattle.pairing_law.specs.Links.{receiver, sender}
 use Rattle.pairing_law.specs.Marks.{Asks}

@@ -1,6 +1,6 @@
 -- Requests by the places where they went out, connection by connection: what the clauses of a safe book ask of them.
 use Rattle.std.proofs.Common.{◌≡◌, ℕ, true, false, List, [], ◌∷◌, Option, Some, None, refl, ap, subst}
-use Rattle.leader1822.specs.Host.{Host}
+use Rattle.interface.specs.Host.{Host}
 use Rattle.reset_law.specs.Stays as stay
 use Rattle.net_sim.specs.Safe.{Match, receives}
 use Rattle.net_sim.specs.Story.{Moment, Crossed, Asked, event_in, events_of}

@@ -1,7 +1,7 @@
 -- Requests of two hosts beside the law of pairing: each is where this many connections of its sockets were closed before it.
 use Rattle.std.proofs.Common.{◌≡◌, inr, ℕ, ◌&&◌, not, Bool, true, false, List, [], ◌∷◌, if◌then◌else◌, refl, ap, sym, subst, ◌∙◌}
-use Rattle.leader1822.specs.Host.{Host}
-use Rattle.leader1822.specs.Mailboxes as mail
+use Rattle.interface.specs.Host.{Host}
+use Rattle.interface.specs.Mailboxes as mail
 use Rattle.pairing_law.specs.Links.{Sockets, Receiver, Sender, events_at, receiver, sender}
 use Rattle.pairing_law.specs.Marks.{Mark, Ask, Close, Asks}
 use Rattle.pairing_law.specs.Places.{placed, placed_event}

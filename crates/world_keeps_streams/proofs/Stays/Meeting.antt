@@ -1,6 +1,6 @@
 -- Where two hosts meet: what each did by itself is the law's beginning of both streams.
 use Rattle.std.proofs.Common.{◌≡◌, ℕ, ◌==◌, Bool, true, false, List, [], ◌++◌, refl, ap, sym, subst, ◌∙◌}
-use Rattle.leader1822.specs.Host.{Host}
+use Rattle.interface.specs.Host.{Host}
 use Rattle.ncp_control.specs.declared.command.Command.{Command}
 use Rattle.stream_law.specs.Streams.{opening_stream}
 use Rattle.host_keeps_streams.specs.Histories.{ends_now, gone_now, numbered}

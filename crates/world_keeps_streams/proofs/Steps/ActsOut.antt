@@ -1,10 +1,10 @@
 -- A message goes out of a host.
 use Rattle.std.proofs.Common.{◌≡◌, ℕ, ◌==◌, Bool, true, false, not, ◌&&◌, if◌then◌else◌, List, [], ◌∷◌, ◌++◌, Some, refl, ap, sym, subst, ◌∙◌}
 use Rattle.std.proofs.lemmas.Bool.{eqb-true}
-use Rattle.leader1822.specs.Host.{Host, same_host}
-use Rattle.leader1822.specs.declared.crossing.Crossing.TheVariants as crossing
-use Rattle.leader1822.specs.declared.message.HostMessage.{HostMessage}
-use Rattle.leader1822.proofs.lemmas.{same_host-true}
+use Rattle.interface.specs.Host.{Host, same_host}
+use Rattle.interface.specs.declared.crossing.Crossing.TheVariants as crossing
+use Rattle.interface.specs.declared.message.HostMessage.{HostMessage}
+use Rattle.interface.proofs.lemmas.{same_host-true}
 use Rattle.ncp_control.specs.declared.command.Command.{Command}
 use Rattle.stream_law.specs.Streams.{Stream}
 use Rattle.host_pairs.specs.Desk.{desk_of}

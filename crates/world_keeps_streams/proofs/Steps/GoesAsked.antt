@@ -1,7 +1,7 @@
 -- What a user asks for keeps two streams of a link beside the program.
 use Rattle.std.proofs.Common.{◌≡◌, ℕ, Bool, true, false, cond, List, [], ◌∷◌, ◌++◌, Option, Some, None, refl, ap, sym, subst, ◌∙◌, if◌then◌else◌}
-use Rattle.leader1822.specs.Host.{Host, same_host}
-use Rattle.leader1822.proofs.lemmas.{same_host-true}
+use Rattle.interface.specs.Host.{Host, same_host}
+use Rattle.interface.proofs.lemmas.{same_host-true}
 use Rattle.ncp_control.specs.declared.command.Command.{Command}
 use Rattle.ncp_control.specs.declared.command.Command.TheVariants as command
 use Rattle.stream_law.specs.Senders.{Sender}

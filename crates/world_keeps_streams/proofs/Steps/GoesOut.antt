@@ -1,6 +1,6 @@
 -- What a host that doesn't stay leaves in its boxes; and what a host that stays knows of them.
 use Rattle.std.proofs.Common.{◌≡◌, ◌⊎◌, inl, inr, ℕ, Bool, true, false, ◌&&◌, List, ◌++◌, refl, ap, sym, subst, ◌∙◌}
-use Rattle.leader1822.specs.Host.{Host}
+use Rattle.interface.specs.Host.{Host}
 use Rattle.ncp_control.specs.declared.command.Command.{Command}
 use Rattle.stream_law.specs.Streams.{Stream}
 use Rattle.host_pairs.specs.Entries.{is_busy}

@@ -1,7 +1,7 @@
 -- One host that stays, beside one peer: its calls one after another, upon two streams of a link.
 use Rattle.std.proofs.Common.{◌≡◌, ℕ, ◌==◌, ◌*◌, Bool, true, false, List, [], ◌∷◌, ◌++◌, take, Some, refl, ap, sym, subst, ◌∙◌}
 use Rattle.std.proofs.lemmas.List.{append_assoc}
-use Rattle.leader1822.specs.Host.{Host}
+use Rattle.interface.specs.Host.{Host}
 use Rattle.ncp_control.specs.Command.{IsCommand}
 use Rattle.ncp_control.specs.DataHeader.{IsHeader}
 use Rattle.ncp_control.specs.declared.command.Command.{Command}

@@ -1,6 +1,6 @@
 -- The two programs of a pair of hosts of a world on one link, beside two runs of the law of streams.
 use Rattle.std.proofs.Common.{◌≡◌, ℕ, Bool, true, false, List, [], ◌∷◌, ◌++◌}
-use Rattle.leader1822.specs.Host.{Host}
+use Rattle.interface.specs.Host.{Host}
 use Rattle.ncp_control.specs.declared.command.Command.{Command}
 use Rattle.reset_law.specs.Boxes as reset
 use Rattle.reset_law.specs.Boxes.{boxes}

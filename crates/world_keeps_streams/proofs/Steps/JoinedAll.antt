@@ -1,7 +1,7 @@
 -- Two programs of a world are beside two streams of each link at all lawful moments.
 use Rattle.std.proofs.Common.{◌≡◌, ℕ, ◌==◌, false, List, [], ◌∷◌, refl}
-use Rattle.leader1822.specs.Host.{Host}
-use Rattle.leader1822.specs.Mailboxes as mail
+use Rattle.interface.specs.Host.{Host}
+use Rattle.interface.specs.Mailboxes as mail
 use Rattle.stream_law.specs.Streams.{opening_stream}
 use Rattle.host_keeps_streams.specs.Histories.{numbered}
 use Rattle.host_keeps_streams.proofs.lemmas.{numbered_tells}

@@ -1,6 +1,6 @@
 -- The two halves of a moment, one after the other: what each of two hosts does by it.
 use Rattle.std.proofs.Common.{ℕ, List, ◌∷◌, ◌++◌, ap, sym, subst, ◌∙◌}
-use Rattle.leader1822.specs.Host.{Host}
+use Rattle.interface.specs.Host.{Host}
 use Rattle.ncp_control.specs.declared.command.Command.{Command}
 use Rattle.stream_law.specs.Receivers.{Receiver}
 use Rattle.stream_law.specs.Senders.{Sender}

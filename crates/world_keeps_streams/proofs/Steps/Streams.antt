@@ -1,7 +1,7 @@
 -- What two programs of a world that stay together have of each link, as the law of streams has it.
 use Rattle.std.proofs.Common.{◌≡◌, ℕ, ◌==◌, Bool, true, false, List, refl, ap, sym, subst, ◌∙◌}
-use Rattle.leader1822.specs.Host.{Host}
-use Rattle.leader1822.specs.Mailboxes as mail
+use Rattle.interface.specs.Host.{Host}
+use Rattle.interface.specs.Mailboxes as mail
 use Rattle.host_pairs.specs.declared.entry.Entry.{Entry}
 use Rattle.host_keeps_streams.specs.Ends.{HasReceiver}
 use Rattle.host_keeps_streams.specs.Histories.{AreAllowed, HasClosed, gone_now, name_now, numbered, receiver_now, sender_now}

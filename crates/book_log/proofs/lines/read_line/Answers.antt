@@ -1,5 +1,5 @@
 use Rattle.std.proofs.Common.{◌≡◌, ◌∙◌, codes, rules, sym}
-use Rattle.leader1822.specs.declared.crossing.Crossing.TheVariants as crossing
+use Rattle.interface.specs.declared.crossing.Crossing.TheVariants as crossing
 use Rattle.script.proofs.lemmas.{differs}
 use Rattle.book_log.specs.Steps.{words_left}
 use Rattle.book_log.specs.declared.lines.Line.TheVariants as line

@@ -1,6 +1,6 @@
 use Rattle.std.proofs.Common.{Err, ap, inr, ◌∙◌}
 use Rattle.net_sim.specs.Book.{Kept}
-use Rattle.leader1822.specs.Calls.{Calls}
+use Rattle.interface.specs.Calls.{Calls}
 use Rattle.command_line.proofs.Faults.{told_memory, told_write}
 use Rattle.command_line.proofs.Written.{world_writes_all, world_writes_part}
 use Rattle.command_line.proofs.carriers.replay_world.Goals as goal

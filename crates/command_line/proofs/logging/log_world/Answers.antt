@@ -1,4 +1,4 @@
-use Rattle.leader1822.specs.Calls.{Calls}
+use Rattle.interface.specs.Calls.{Calls}
 use Rattle.net_sim.specs.Book.{Kept}
 use Rattle.replay.specs.declared.print.Detail.TheVariants.{Sizes}
 use Rattle.std.proofs.Common.{None, ap, ◌∙◌, reverse}

@@ -1,5 +1,5 @@
 use Rattle.host_pairs.specs.Turn.{answered_turn}
-use Rattle.leader1822.specs.declared.crossing.Answer.TheVariants as answer
+use Rattle.interface.specs.declared.crossing.Answer.TheVariants as answer
 use Rattle.std.proofs.Common.{◌++◌}
 use Rattle.host_pairs.specs.Turn.{freed}
 use Rattle.host_pairs.specs.Desk.{desk_of}

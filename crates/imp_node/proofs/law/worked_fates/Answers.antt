@@ -1,7 +1,7 @@
 use Rattle.std.proofs.Common.{◌≡◌, ℕ, Some, refl, ap, ◌∙◌}
 use Rattle.std.specs.Option.{option_map}
 use Rattle.std.specs.FinMap as finite
-use Rattle.leader1822.specs.Flow.{flow_cmp}
+use Rattle.interface.specs.Flow.{flow_cmp}
 use Rattle.imp_channel.specs.Line.{submitted}
 use Rattle.link_table.specs.Flows.{begun, flow_answered, handed, noted, ended_in}
 use Rattle.link_table.specs.Numbers.{modulus, window, is_new}

@@ -2,9 +2,9 @@ use Rattle.std.proofs.Common.{◌≡◌, ℕ, Bool, true, false, Option, Some, N
 use Rattle.std.proofs.lemmas.Bool.{cases_Bool, eqb-true, ne_eqb}
 use Rattle.std.specs.FinMap.{get, empty, get-empty}
 use Rattle.std.specs.Option.{option_map}
-use Rattle.leader1822.specs.Flow.{flow_cmp, same_flow}
-use Rattle.leader1822.specs.Host.{Host, same_host}
-use Rattle.leader1822.specs.declared.address.Flow.{Flow}
+use Rattle.interface.specs.Flow.{flow_cmp, same_flow}
+use Rattle.interface.specs.Host.{Host, same_host}
+use Rattle.interface.specs.declared.address.Flow.{Flow}
 use Rattle.imp_channel.specs.Line.{submitted}
 use Rattle.link_table.specs.Flows.{Sources, begun, given_up, handed, outstanding_in, has_outstanding, number_in, given_up_in}
 use Rattle.link_table.specs.declared.source.Standing.{Standing}

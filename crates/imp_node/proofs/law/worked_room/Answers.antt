@@ -1,6 +1,6 @@
 use Rattle.std.proofs.Common.{refl}
 use Rattle.std.specs.FinMap.{get-empty}
-use Rattle.leader1822.specs.Flow.{flow_cmp}
+use Rattle.interface.specs.Flow.{flow_cmp}
 use Rattle.imp_node.specs.Examples.{host, flow}
 use Rattle.imp_channel.specs.Line.{submitted}
 use Rattle.routing.specs.RouteTable.{next_of, distance_to, vector_of}

@@ -1,6 +1,6 @@
 use Rattle.std.proofs.Common.{rules, [], ◌∷◌, ap, ◌-◌, take, drop, length, sym, ◌∙◌}
-use Rattle.leader1822.specs.Calls.{Calls, Seen}
-use Rattle.leader1822.specs.declared.crossing.Crossing.TheVariants as crossing
+use Rattle.interface.specs.Calls.{Calls, Seen}
+use Rattle.interface.specs.declared.crossing.Crossing.TheVariants as crossing
 use Rattle.net_sim.specs.Carriers.{shown}
 use Rattle.net_sim.specs.Inside.Parts.{Serves}
 use Rattle.net_sim.specs.World.{services_of}

@@ -1,5 +1,5 @@
 use Rattle.std.proofs.Common.{rules, [], ◌∷◌, ◌-◌, take, drop, length}
-use Rattle.leader1822.specs.Calls.{Calls, crossing_of}
+use Rattle.interface.specs.Calls.{Calls, crossing_of}
 use Rattle.net_sim.specs.Carriers.{shown}
 use Rattle.net_sim.specs.Inside.Parts.{Serves}
 use Rattle.net_sim.specs.World.{services_of}

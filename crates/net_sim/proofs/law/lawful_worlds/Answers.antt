@@ -1,4 +1,4 @@
-use Rattle.leader1822.specs.Calls.{Calls}
+use Rattle.interface.specs.Calls.{Calls}
 use Rattle.net_sim.proofs.Resets.Clean.{opening_lawful, step_lawful, run_lawful, calm_lawful}
 use Rattle.net_sim.proofs.law.lawful_worlds.Goals as goal
 

@@ -1,4 +1,4 @@
-use Rattle.leader1822.specs.Calls.{Calls}
+use Rattle.interface.specs.Calls.{Calls}
 use Rattle.net_sim.proofs.Books.Whole.{opening_whole, step_whole, run_whole, calm_whole}
 use Rattle.net_sim.proofs.law.worlds.Goals as goal
 

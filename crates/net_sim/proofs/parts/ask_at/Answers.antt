@@ -1,7 +1,7 @@
 use Rattle.std.proofs.Common.{length, Err, ap}
 use Rattle.sockets.specs.Requests.{served, served_notices}
 use Rattle.sockets.specs.Pairs.{NcpState}
-use Rattle.leader1822.specs.Host.{Host}
+use Rattle.interface.specs.Host.{Host}
 use Rattle.host_services.specs.Services.{ServicesState}
 use Rattle.net_sim.specs.Book.{all_told, asked}
 use Rattle.net_sim.specs.World.{Seat, Program, turn_of}

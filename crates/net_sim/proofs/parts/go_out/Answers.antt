@@ -1,5 +1,5 @@
 use Rattle.std.proofs.Common.{rules, length, reverse}
-use Rattle.leader1822.specs.Host.{Host}
+use Rattle.interface.specs.Host.{Host}
 use Rattle.sockets.specs.Pairs.{NcpState}
 use Rattle.host_services.specs.Services.{ServicesState}
 use Rattle.sockets.specs.Sending.{offered}

@@ -1,5 +1,5 @@
 use Rattle.std.proofs.Common.{rules}
-use Rattle.leader1822.specs.Host.{same_host}
+use Rattle.interface.specs.Host.{same_host}
 use Rattle.host_services.specs.Services.{no_services}
 use Rattle.net_sim.specs.World.{ServiceSeat, with_services}
 use Rattle.net_sim.proofs.Books.LifeLoops.{one_changed}

@@ -1,5 +1,5 @@
 use Rattle.std.proofs.Common.{rules, Some}
-use Rattle.leader1822.specs.Host.{same_host}
+use Rattle.interface.specs.Host.{same_host}
 use Rattle.net_sim.specs.World.{Seat, with_program}
 use Rattle.net_sim.proofs.Books.LifeLoops.{one_changed}
 use Rattle.sockets.specs.Pairs.{opening_state}

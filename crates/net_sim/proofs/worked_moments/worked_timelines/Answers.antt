@@ -6,7 +6,7 @@ use Rattle.host_pairs.specs.Control.{orders_of}
 use Rattle.sockets.specs.Accepting.{accepted}
 use Rattle.sockets.specs.Requests.{refusal, served, served_notices}
 use Rattle.sockets.specs.Sending.{next_out, offered}
-use Rattle.leader1822.specs.Host.{IsAddress}
+use Rattle.interface.specs.Host.{IsAddress}
 use Rattle.sockets.specs.Worked.{first, second}
 use Rattle.net_sim.specs.Timeline.{IsTimeline}
 use Rattle.net_sim.specs.WorkedMoments.{connected, contacted}

@@ -1,6 +1,6 @@
 use Rattle.std.proofs.Common.{◌≡◌, ℕ, ◌<◌, [], ◌∷◌, Option, Some, None, refl, ap, arith}
 use Rattle.bit_messages.specs.Octets.{octets_of}
-use Rattle.leader1822.specs.declared.crossing.Crossing.TheVariants as crossing
+use Rattle.interface.specs.declared.crossing.Crossing.TheVariants as crossing
 use Rattle.ncp_control.specs.Reading.{command_of, read_of}
 use Rattle.host_pairs.specs.Control.{orders_of}
 use Rattle.sockets.specs.Worked.{first, second}

@@ -1,5 +1,5 @@
 use Rattle.std.proofs.Common.{◌≡◌, false}
-use Rattle.leader1822.specs.Calls.{Calls}
+use Rattle.interface.specs.Calls.{Calls}
 use Rattle.replay.proofs.Passing.{Passed}
 use Rattle.replay.proofs.calm.replay_calm.Given as goal
 

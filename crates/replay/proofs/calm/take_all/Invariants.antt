@@ -1,4 +1,4 @@
-use Rattle.leader1822.specs.Calls.{Calls}
+use Rattle.interface.specs.Calls.{Calls}
 use Rattle.replay.proofs.Passing.{Took}
 use Rattle.replay.proofs.calm.take_all.Given as goal
 

@@ -1,4 +1,4 @@
-use Rattle.leader1822.proofs.lemmas.{safe_messages}
+use Rattle.interface.proofs.lemmas.{safe_messages}
 use Rattle.replay.proofs.events.replay_events.Goals as goal
 
 pub returns-clause-messages : goal.returns-clause-messages

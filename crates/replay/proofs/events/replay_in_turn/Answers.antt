@@ -2,7 +2,7 @@ use Rattle.std.proofs.Common.{rules, ◌≡◌, ◌+◌, ◌++◌, Err, List, dr
 use Rattle.std.proofs.lemmas.List.{take_all}
 use Rattle.replay.specs.Output.{Shown, Writes, shown_text}
 use Rattle.replay.specs.Replay.{Happens, MayDo, Replays, StopsIn}
-use Rattle.leader1822.specs.Calls.{Calls}
+use Rattle.interface.specs.Calls.{Calls}
 use Rattle.replay.specs.Steps.{EventEnds}
 use Rattle.script.specs.declared.event.RawEvent.{RawEvent}
 use Rattle.replay.proofs.InTurn.{cut_at, last_shown, last_written, nothing_written, one_more, one_written}

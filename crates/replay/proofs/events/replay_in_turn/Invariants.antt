@@ -1,7 +1,7 @@
 use Rattle.std.proofs.Common.{◌≡◌, false, take}
 use Rattle.replay.specs.Output.{Writes}
 use Rattle.replay.specs.Replay.{Replays}
-use Rattle.leader1822.specs.Calls.{Calls}
+use Rattle.interface.specs.Calls.{Calls}
 use Rattle.replay.proofs.events.replay_in_turn.Given as goal
 
 -- the events so far are replayed, and what they showed is written; no write has failed

@@ -1,5 +1,5 @@
 use Rattle.std.proofs.Common.{refl}
-use Rattle.leader1822.specs.Calls.{Calls}
+use Rattle.interface.specs.Calls.{Calls}
 use Rattle.script.specs.declared.event.RawEvent.TheVariants as event
 use Rattle.replay.proofs.Shown.{call_ends, grew_step, refused_step}
 use Rattle.replay.proofs.events.replay_step.Goals as goal

@@ -1,4 +1,4 @@
-use Rattle.leader1822.specs.Calls.{Calls}
+use Rattle.interface.specs.Calls.{Calls}
 use Rattle.replay.proofs.Settled.{first_part, replays_once}
 use Rattle.replay.proofs.law.one_replay.Goals as goal
 

@@ -1,6 +1,6 @@
 use Rattle.std.proofs.Common.{◌≡◌, ℕ, ◌+◌, ◌≤◌, arith, refl, ap, ◌∙◌, sym, subst, get_or, drop, min, Option, List}
 use Rattle.std.proofs.lemmas.List.{get_or-replicate}
-use Rattle.leader1822.specs.Host.{most_imps}
+use Rattle.interface.specs.Host.{most_imps}
 use Rattle.routing.specs.Vector.{infinite}
 use Rattle.routing.specs.RouteTable.{heard_distance, least_heard}
 use Rattle.routing.proofs.Tables.{least_heard-le, distance_at, distance_past, heard_next}

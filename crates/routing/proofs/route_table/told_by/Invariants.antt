@@ -1,5 +1,5 @@
 use Rattle.std.proofs.Common.{◌≡◌, ℕ, ◌+◌, ◌<◌, ◌≤◌, get_or, length, All}
-use Rattle.leader1822.specs.Host.{most_imps}
+use Rattle.interface.specs.Host.{most_imps}
 use Rattle.routing.specs.Vector.{infinite}
 use Rattle.routing.specs.RouteTable.{distance_to}
 use Rattle.routing.proofs.route_table.told_by.Given as goal

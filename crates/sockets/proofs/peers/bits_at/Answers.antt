@@ -1,5 +1,5 @@
 use Rattle.std.proofs.Common.{rules}
-use Rattle.leader1822.specs.Host.{IsAddress}
+use Rattle.interface.specs.Host.{IsAddress}
 use Rattle.sockets.proofs.DueLemmas.{set_due}
 use Rattle.sockets.proofs.PeerLemmas.{order_placed}
 use Rattle.sockets.proofs.peers.bits_at.Goals as goal

@@ -1,6 +1,6 @@
 use Rattle.std.proofs.Common.{rules, nat_lt}
 use Rattle.std.proofs.lemmas.List.Sorted.{IsPartitionPoint-from_clause}
-use Rattle.leader1822.specs.Host.{address_octet}
+use Rattle.interface.specs.Host.{address_octet}
 use Rattle.sockets.specs.declared.peer.Peer.{Peer}
 use Rattle.sockets.proofs.PeerLemmas.{partitioned}
 use Rattle.sockets.proofs.peers.first_from.Goals as goal

@@ -1,5 +1,5 @@
 use Rattle.std.proofs.Common.{rules}
-use Rattle.leader1822.specs.Host.{IsAddress}
+use Rattle.interface.specs.Host.{IsAddress}
 use Rattle.host_pairs.specs.Pair.{opening_pair}
 use Rattle.sockets.proofs.PeerLemmas.{StandsAt, stands_at, IsMissing, is_missing}
 use Rattle.sockets.proofs.peers.place.Goals as goal

@@ -1,6 +1,6 @@
 use Rattle.std.proofs.Common.{refl}
 use Rattle.std.specs.FinMap.{get-empty}
-use Rattle.leader1822.specs.Flow.{flow_cmp}
+use Rattle.interface.specs.Flow.{flow_cmp}
 use Rattle.subnet.specs.Examples.{ours}
 use Rattle.imp_channel.specs.Line.{submitted}
 use Rattle.link_table.specs.Numbers.{is_new, oldest, modulus, window}

@@ -1,6 +1,6 @@
 use Rattle.std.proofs.Common.{◌≡◌, ℕ, Some, refl}
 use Rattle.std.specs.FinMap.{get, insert, empty, get-empty}
-use Rattle.leader1822.specs.Flow.{flow_cmp}
+use Rattle.interface.specs.Flow.{flow_cmp}
 use Rattle.link_table.specs.declared.destination.Fate.TheVariants as fate
 use Rattle.link_table.specs.declared.destination.Noted.{Noted}
 use Rattle.link_table.specs.declared.source.Standing.{Standing}

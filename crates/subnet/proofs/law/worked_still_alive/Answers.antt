@@ -1,7 +1,7 @@
 use Rattle.std.proofs.Common.{◌≡◌, ℕ, Bool, true, false, [], ◌∷◌, Some, None, refl, ap, sym, ◌∙◌, if◌then◌else◌}
 use Rattle.std.specs.FinMap.{get, insert, empty, get-empty}
-use Rattle.leader1822.specs.Flow.{flow_cmp, same_flow}
-use Rattle.leader1822.specs.declared.address.Flow.{Flow}
+use Rattle.interface.specs.Flow.{flow_cmp, same_flow}
+use Rattle.interface.specs.declared.address.Flow.{Flow}
 use Rattle.link_table.specs.Flows.{begun, outstanding_in, has_outstanding_to}
 use Rattle.link_table.specs.Keys.{has_from, drop_from}
 use Rattle.link_table.specs.declared.destination.Fate.TheVariants as fate

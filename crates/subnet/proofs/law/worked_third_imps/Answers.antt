@@ -1,9 +1,9 @@
 use Rattle.std.proofs.Common.{◌≡◌, Bool, true, false, [], ◌∷◌, Option, Some, None, IsSome, is_some, refl, ap, sym, ◌∙◌, ◌==◌, ◌&&◌, eqb, arith, inl, inr}
 use Rattle.std.proofs.lemmas.Bool.{cases_Bool, eqb-true, ne_eqb}
 use Rattle.std.specs.FinMap.{get, insert, empty, get-empty}
-use Rattle.leader1822.specs.Flow.{flow_cmp, same_flow}
-use Rattle.leader1822.specs.Host.{same_host}
-use Rattle.leader1822.specs.declared.address.Flow.{Flow}
+use Rattle.interface.specs.Flow.{flow_cmp, same_flow}
+use Rattle.interface.specs.Host.{same_host}
+use Rattle.interface.specs.declared.address.Flow.{Flow}
 use Rattle.link_table.specs.Flows.{begun, number_in, outstanding_in, has_outstanding_to}
 use Rattle.link_table.specs.Keys.{has_from}
 use Rattle.link_table.specs.declared.destination.Fate.TheVariants as fate

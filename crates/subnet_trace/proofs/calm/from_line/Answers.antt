@@ -1,5 +1,5 @@
 use Rattle.std.proofs.Common.{◌≡◌, ◌<◌, ◌≤◌, ℕ, Some, None, length, arith, sym, ◌∙◌}
-use Rattle.leader1822.specs.declared.event.Direction.TheVariants as way
+use Rattle.interface.specs.declared.event.Direction.TheVariants as way
 use Rattle.subnet.specs.Net.{Net}
 use Rattle.subnet_trace.specs.Steps.{turn_begun}
 use Rattle.subnet_trace.proofs.Stages.{back_first, forward_next, line_passed, lines_over, next_as}

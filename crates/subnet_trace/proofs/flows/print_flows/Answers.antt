@@ -1,6 +1,6 @@
 use Rattle.std.proofs.Common.{ℕ, List, subst, ◌∙◌}
 use Rattle.std.specs.Io.KnownBytes.{Appends}
-use Rattle.leader1822.specs.declared.address.Flow.{Flow}
+use Rattle.interface.specs.declared.address.Flow.{Flow}
 use Rattle.replay.proofs.lemmas.{on_ok}
 use Rattle.subnet_trace.specs.Texts.{flow_object}
 use Rattle.trace.proofs.lemmas.{Remains}

@@ -1,5 +1,5 @@
 use Rattle.std.specs.Fmt.{decimal}
-use Rattle.leader1822.specs.Printed.{host_text}
+use Rattle.interface.specs.Printed.{host_text}
 use Rattle.replay.proofs.lemmas.{on_ok}
 use Rattle.subnet_trace.proofs.Printing.{known_printed}
 use Rattle.subnet_trace.proofs.flows.print_known.Goals as goal

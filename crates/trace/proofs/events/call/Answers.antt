@@ -1,6 +1,6 @@
 use Rattle.std.proofs.Common.{◌≡◌, Ok, IfOk, ap, rules, subst, sym, ◌∙◌}
 use Rattle.replay.specs.Replay.{outcome_of}
-use Rattle.leader1822.specs.Calls.{Calls}
+use Rattle.interface.specs.Calls.{Calls}
 use Rattle.script.specs.declared.event.RawEvent.{RawEvent}
 use Rattle.script.specs.declared.event.RawEvent.TheVariants as event
 use Rattle.trace.specs.Steps.{Called}

@@ -1,5 +1,5 @@
 use Rattle.std.proofs.Common.{◌≡◌, ◌≤◌, ◌+◌, ℕ, Err, arith, drop, length, refl, rules, slice_index_or, subst}
-use Rattle.leader1822.specs.Calls.{Calls}
+use Rattle.interface.specs.Calls.{Calls}
 use Rattle.replay.specs.declared.events.ReplayFault.TheVariants as fault
 use Rattle.trace.specs.Steps.{EventEnds}
 use Rattle.trace.specs.Traces.{EndsEvent, Inside, MayTell, StopsElement, TellsEvent, numbered_from}

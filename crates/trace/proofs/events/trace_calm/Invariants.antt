@@ -1,5 +1,5 @@
 use Rattle.std.proofs.Common.{◌≡◌, false, length}
-use Rattle.leader1822.specs.Calls.{Calls}
+use Rattle.interface.specs.Calls.{Calls}
 use Rattle.trace.specs.Traces.{Inside, TellsElement}
 use Rattle.trace.proofs.Telling.{SoFar}
 use Rattle.trace.proofs.events.trace_calm.Given as goal

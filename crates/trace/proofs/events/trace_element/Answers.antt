@@ -1,8 +1,8 @@
 use Rattle.std.proofs.Common.{◌++◌, List, Option, drop, length, subst}
 use Rattle.std.specs.Io.KnownBytes.{Appends}
-use Rattle.leader1822.specs.declared.crossing.Crossing.{Crossing}
+use Rattle.interface.specs.declared.crossing.Crossing.{Crossing}
 use Rattle.replay.specs.Output.{shown_crossings, shown_refusal}
-use Rattle.leader1822.specs.Calls.{Calls}
+use Rattle.interface.specs.Calls.{Calls}
 use Rattle.script.specs.Input.{ended_line}
 use Rattle.trace.specs.Texts.{trace_line}
 use Rattle.trace.specs.Traces.{Inside}

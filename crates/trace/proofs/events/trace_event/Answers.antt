@@ -1,6 +1,6 @@
 use Rattle.std.proofs.Common.{rules}
 use Rattle.replay.specs.Replay.{IsOneCall}
-use Rattle.leader1822.specs.Calls.{Calls}
+use Rattle.interface.specs.Calls.{Calls}
 use Rattle.trace.specs.Traces.{Inside}
 use Rattle.trace.proofs.Telling.{one_element, one_ends}
 use Rattle.trace.proofs.events.trace_event.Goals as goal

@@ -1,5 +1,5 @@
 use Rattle.std.proofs.Common.{Err}
-use Rattle.leader1822.specs.Calls.{Calls}
+use Rattle.interface.specs.Calls.{Calls}
 use Rattle.replay.proofs.lemmas.{on_ok}
 use Rattle.trace.specs.Traces.{Inside, StopsElement, TraceEnds, Traces}
 use Rattle.trace.proofs.Telling.{opened}

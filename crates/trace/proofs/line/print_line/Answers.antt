@@ -1,6 +1,6 @@
 use Rattle.std.proofs.Common.{List, ℕ, ap, map, subst}
 use Rattle.std.specs.Io.KnownBytes.{Appends}
-use Rattle.leader1822.specs.declared.crossing.Crossing.{Crossing}
+use Rattle.interface.specs.declared.crossing.Crossing.{Crossing}
 use Rattle.replay.specs.Output.{shown_crossings, shown_refusal, shown_text}
 use Rattle.replay.specs.declared.print.Detail.TheVariants.{Sizes}
 use Rattle.replay.proofs.lemmas.{crossings_shown, on_ok}

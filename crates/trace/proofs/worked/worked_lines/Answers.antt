@@ -3,7 +3,7 @@ use Rattle.std.specs.Fmt.{digits}
 use Rattle.hex.specs.Hex.{encode_with}
 use Rattle.bit_messages.specs.Octets.{octets_of}
 use Rattle.leader1822.specs.Boxes.{WaitingAnswer}
-use Rattle.leader1822.specs.declared.message.HostMessage.{HostMessage}
+use Rattle.interface.specs.declared.message.HostMessage.{HostMessage}
 use Rattle.trace.specs.Worked.{first, third}
 use Rattle.trace.proofs.Queues.{none_for}
 use Rattle.trace.proofs.worked.worked_lines.Goals as goal

@@ -1,7 +1,7 @@
 use Rattle.std.proofs.Common.{◌≡◌, ◌∷◌, [], ◌++◌, Err, rules, ap, sym, subst, ◌∙◌}
 use Rattle.std.proofs.lemmas.List.{append_assoc}
 use Rattle.net_sim.specs.Carriers.{shown}
-use Rattle.leader1822.specs.Calls.{Calls}
+use Rattle.interface.specs.Calls.{Calls}
 use Rattle.replay.proofs.lemmas.{last_shown, last_written, one_written}
 use Rattle.replay.specs.declared.events.ReplayFault.TheVariants as fault
 use Rattle.world_replay.specs.Output.{shown_text}

@@ -2,7 +2,7 @@ use Rattle.std.proofs.Common.{◌≡◌, ◌≤◌, length, ap, subst, ◌∙◌
 use Rattle.std.proofs.lemmas.List.{length-reverse}
 use Rattle.net_sim.specs.Book.{Kept}
 use Rattle.net_sim.specs.Carriers.{shown}
-use Rattle.leader1822.specs.Calls.{Calls}
+use Rattle.interface.specs.Calls.{Calls}
 use Rattle.world_replay.specs.Gains.{Gains}
 use Rattle.world_replay.proofs.Grown.{longer, more_notices, more_reports}
 use Rattle.world_replay.proofs.Replays.{News, event_ends, event_gains}

@@ -1,4 +1,4 @@
-use Rattle.leader1822.specs.Calls.{Calls}
+use Rattle.interface.specs.Calls.{Calls}
 use Rattle.world_replay.proofs.Replays.{first_part, one_replay}
 use Rattle.world_replay.proofs.law.one_replay.Goals as goal
 

@@ -1,6 +1,6 @@
 use Rattle.std.proofs.Common.{◌≡◌, ◌++◌, false, codes, map, take}
 use Rattle.std.specs.Io.KnownBytes.{Appends}
-use Rattle.leader1822.specs.Printed.{host_text}
+use Rattle.interface.specs.Printed.{host_text}
 use Rattle.world_replay.specs.Printed.{shown_octet}
 use Rattle.world_replay.proofs.print.print_line.Given as goal
 

@@ -1,6 +1,6 @@
 use Rattle.std.proofs.Common.{◌≡◌, ◌+◌, ◌-◌, Err, arith, inl, inr, rules, subst, sym}
 use Rattle.net_sim.specs.Carriers.{shown}
-use Rattle.leader1822.specs.Calls.{Calls}
+use Rattle.interface.specs.Calls.{Calls}
 use Rattle.world_script.specs.declared.event.WorldEvent.TheVariants as event
 use Rattle.world_trace.specs.Steps.{EventEnds}
 use Rattle.world_trace.proofs.Telling.{calm_early, calm_passed, none_passed, one_passed}

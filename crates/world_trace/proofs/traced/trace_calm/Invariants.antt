@@ -1,6 +1,6 @@
 use Rattle.std.proofs.Common.{◌≡◌, ◌≤◌, false}
 use Rattle.net_sim.specs.Carriers.{shown}
-use Rattle.leader1822.specs.Calls.{Calls}
+use Rattle.interface.specs.Calls.{Calls}
 use Rattle.world_trace.proofs.Telling.{Passed}
 use Rattle.world_trace.proofs.traced.trace_calm.Given as goal
 

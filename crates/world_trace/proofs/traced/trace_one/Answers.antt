@@ -2,7 +2,7 @@ use Rattle.std.proofs.Common.{List, ℕ, ap, length, reverse, subst, sym, ◌∙
 use Rattle.std.proofs.lemmas.List.{length-reverse}
 use Rattle.net_sim.specs.Book.{Kept}
 use Rattle.net_sim.specs.Carriers.{shown}
-use Rattle.leader1822.specs.Calls.{Calls}
+use Rattle.interface.specs.Calls.{Calls}
 use Rattle.world_trace.specs.Steps.{Shows}
 use Rattle.world_trace.proofs.Telling.{tells}
 use Rattle.world_trace.proofs.traced.trace_one.Goals as goal

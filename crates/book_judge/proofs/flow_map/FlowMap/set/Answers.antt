@@ -1,6 +1,6 @@
 use Rattle.std.proofs.Common.{ap, ◌∙◌}
 use Rattle.std.specs.FinMap as map
-use Rattle.leader1822.proofs.lemmas.{one_set}
+use Rattle.interface.proofs.lemmas.{one_set}
 use Rattle.book_judge.proofs.flow_map.FlowMap.set.Goals as goal
 
 pub returns : goal.returns

@@ -1,6 +1,6 @@
 use Rattle.std.proofs.Common.{ap, sym, ◌∙◌}
 use Rattle.std.specs.FinMap as map
-use Rattle.leader1822.proofs.FlowMap.{get_flow}
+use Rattle.interface.proofs.lemmas.{get_flow}
 use Rattle.leader1822.proofs.flows.Flows.get.Goals as goal
 
 pub returns : goal.returns

@@ -1,6 +1,6 @@
 use Rattle.std.proofs.Common.{ap, ◌∙◌}
 use Rattle.std.specs.FinMap as map
-use Rattle.leader1822.proofs.FlowMap.{one_removed}
+use Rattle.interface.proofs.lemmas.{one_removed}
 use Rattle.leader1822.proofs.flows.Flows.remove.Goals as goal
 
 pub returns : goal.returns

@@ -1,6 +1,6 @@
 use Rattle.std.proofs.Common.{◌≡◌, None, rules, ap, sym, ◌∙◌}
 use Rattle.std.specs.FinMap as map
-use Rattle.leader1822.proofs.FlowMap.{get_flow, one_set}
+use Rattle.interface.proofs.lemmas.{get_flow, one_set}
 use Rattle.leader1822.proofs.flows.Flows.set.Goals as goal
 
 pub returns-in_err-insert-clause-fresh : goal.returns-in_err-insert-clause-fresh

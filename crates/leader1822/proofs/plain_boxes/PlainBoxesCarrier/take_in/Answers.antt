@@ -1,6 +1,6 @@
 use Rattle.std.proofs.Common.{◌≡◌, None, Ok, rules, subst, sym, ap, ◌∙◌}
 use Rattle.leader1822.specs.Boxes.{Boxes, host_refusal, next_for, inbound_taken, seen_of}
-use Rattle.leader1822.specs.Calls.{ShowsTake}
+use Rattle.interface.specs.Calls.{ShowsTake}
 use Rattle.leader1822.specs.Inside.Held.{Held, IsKept}
 use Rattle.leader1822.proofs.SoundCalls.{shows_taking}
 use Rattle.leader1822.proofs.Index.{taken_kept, same_boxes}

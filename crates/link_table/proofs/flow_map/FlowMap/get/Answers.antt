@@ -1,6 +1,6 @@
 use Rattle.std.proofs.Common.{ap, sym, ◌∙◌}
 use Rattle.std.specs.FinMap as map
-use Rattle.leader1822.proofs.lemmas.{get_flow}
+use Rattle.interface.proofs.lemmas.{get_flow}
 use Rattle.link_table.proofs.flow_map.FlowMap.get.Goals as goal
 
 pub returns : goal.returns

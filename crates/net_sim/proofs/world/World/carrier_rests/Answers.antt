@@ -2,7 +2,7 @@ use Rattle.std.proofs.Common.{subst}
 use Rattle.net_sim.specs.Carriers.{shown}
 use Rattle.net_sim.specs.Inside.Calm.{CarrierRests}
 use Rattle.net_sim.specs.World.{WorldState}
-use Rattle.leader1822.specs.Calls.{Calls}
+use Rattle.interface.specs.Calls.{Calls}
 use Rattle.net_sim.proofs.Hosts.Resting.{rest_shown}
 use Rattle.net_sim.proofs.world.World.carrier_rests.Goals as goal
 

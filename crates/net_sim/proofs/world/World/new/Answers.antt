@@ -1,6 +1,6 @@
 use Rattle.std.proofs.Common.{rules, ◌≡◌, List, subst}
-use Rattle.leader1822.specs.Calls.{Calls, InOrder}
-use Rattle.leader1822.specs.Host.{Host, IsAddress}
+use Rattle.interface.specs.Calls.{Calls, InOrder}
+use Rattle.interface.specs.Host.{Host, IsAddress}
 use Rattle.std.specs.List.{All}
 use Rattle.net_sim.specs.Book.{opening_kept}
 use Rattle.net_sim.specs.World.{opening_seats, opening_services}

@@ -1,6 +1,6 @@
 use Rattle.net_sim.specs.Carriers.{shown}
 use Rattle.net_sim.specs.World.{Offer}
-use Rattle.leader1822.specs.Calls.{Calls}
+use Rattle.interface.specs.Calls.{Calls}
 use Rattle.net_sim.proofs.Hosts.Calming.{Repeated}
 use Rattle.net_sim.proofs.world.World.offer_all.Given as goal
 

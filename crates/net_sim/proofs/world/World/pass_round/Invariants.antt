@@ -1,5 +1,5 @@
 use Rattle.net_sim.specs.Carriers.{shown}
-use Rattle.leader1822.specs.Calls.{Calls}
+use Rattle.interface.specs.Calls.{Calls}
 use Rattle.net_sim.proofs.Hosts.Calming.{Turned}
 use Rattle.net_sim.proofs.world.World.pass_round.Given as goal
 

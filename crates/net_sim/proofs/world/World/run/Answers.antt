@@ -2,7 +2,7 @@ use Rattle.std.proofs.Common.{rules, ◌≡◌, ◌+◌, ◌∷◌, drop, true, 
 use Rattle.std.proofs.lemmas.List.{drop_more}
 use Rattle.net_sim.specs.Carriers.{shown}
 use Rattle.net_sim.specs.World.{Event, stops}
-use Rattle.leader1822.specs.Calls.{Calls}
+use Rattle.interface.specs.Calls.{Calls}
 use Rattle.net_sim.proofs.Books.RunLoop.{run_more, run_stops, runs_on}
 use Rattle.net_sim.proofs.world.World.run.Goals as goal
 

@@ -2,7 +2,7 @@ use Rattle.std.proofs.Common.{drop}
 use Rattle.std.specs.Prelude.{Result}
 use Rattle.net_sim.specs.Carriers.{shown}
 use Rattle.net_sim.specs.World.{Runs, WorldFault, WorldState}
-use Rattle.leader1822.specs.Calls.{Calls}
+use Rattle.interface.specs.Calls.{Calls}
 use Rattle.net_sim.proofs.world.World.run.Given as goal
 
 -- what comes of the events that are left comes of all

@@ -4,7 +4,7 @@ use Rattle.net_sim.specs.Carriers.{shown}
 use Rattle.net_sim.specs.Inside.Held.{IsHeld}
 use Rattle.net_sim.specs.Inside.Parts.{AreLive, IsOnce, world_ended, hosts_of, hosts_served, running, runs_out}
 use Rattle.net_sim.specs.World.{EventGives, ServiceSeat, Seat, Take}
-use Rattle.leader1822.specs.Calls.{Calls}
+use Rattle.interface.specs.Calls.{Calls}
 use Rattle.net_sim.proofs.Books.Held.{followed_held, held_live, held_once, held_order}
 use Rattle.net_sim.proofs.world.World.take_near.Goals as goal
 

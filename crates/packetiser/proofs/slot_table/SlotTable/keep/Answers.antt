@@ -1,7 +1,7 @@
 use Rattle.std.proofs.Common.{sym, ◌∙◌, ◌≡◌, subst, None}
 use Rattle.std.specs.List.{position}
-use Rattle.leader1822.specs.Flow.{same_flow}
-use Rattle.leader1822.specs.declared.address.Flow.{Flow}
+use Rattle.interface.specs.Flow.{same_flow}
+use Rattle.interface.specs.declared.address.Flow.{Flow}
 use Rattle.packetiser.specs.PacketFields.{flow_of}
 use Rattle.packetiser.specs.Slots.{SlotState}
 use Rattle.packetiser.proofs.Table.{room_free}

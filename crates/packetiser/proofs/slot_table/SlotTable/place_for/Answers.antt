@@ -1,6 +1,6 @@
 use Rattle.std.proofs.Common.{◌≡◌, ◌∙◌, ap, ℕ, List, not, length, Option, unwrap_or}
 use Rattle.std.specs.List.{position, position_or_len}
-use Rattle.leader1822.specs.Flow.{flow_before}
+use Rattle.interface.specs.Flow.{flow_before}
 use Rattle.slab.specs.Slab.{get}
 use Rattle.packetiser.specs.Inside.{is_there_and}
 use Rattle.packetiser.specs.Slots.{SlotState}

@@ -1,6 +1,6 @@
 use Rattle.std.proofs.Common.{◌∙◌, ap, ℕ, List}
 use Rattle.std.specs.List.{position}
-use Rattle.leader1822.specs.Flow.{same_flow}
+use Rattle.interface.specs.Flow.{same_flow}
 use Rattle.slab.specs.Slab.{get}
 use Rattle.packetiser.specs.Inside.{is_there_and}
 use Rattle.packetiser.specs.Slots.{SlotState}

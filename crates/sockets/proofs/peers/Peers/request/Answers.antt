@@ -1,5 +1,5 @@
 use Rattle.std.proofs.Common.{◌≡◌, ◌<◌, List, find, length, Some, OnOk, slice_index_or, rules, subst}
-use Rattle.leader1822.specs.Host.{same_host}
+use Rattle.interface.specs.Host.{same_host}
 use Rattle.host_pairs.specs.Asked.{requested}
 use Rattle.sockets.specs.Pairs.{pair_with, with_pair}
 use Rattle.sockets.specs.declared.peer.Peer.{Peer}

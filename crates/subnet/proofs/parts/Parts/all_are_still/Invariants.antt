@@ -1,5 +1,5 @@
 use Rattle.std.proofs.Common.{ℕ, ◌<◌}
-use Rattle.leader1822.specs.declared.event.Direction.{Direction}
+use Rattle.interface.specs.declared.event.Direction.{Direction}
 use Rattle.subnet.specs.Inside.Settled.{IsStillOn}
 use Rattle.subnet.proofs.parts.Parts.all_are_still.Given as goal
 

@@ -1,5 +1,5 @@
 use Rattle.std.proofs.Common.{◌≡◌, true, false, subst, rules}
-use Rattle.leader1822.specs.Rest.{Rests}
+use Rattle.interface.specs.Rest.{Rests}
 use Rattle.subnet.specs.Calls.{Kept}
 use Rattle.subnet.specs.Working.{SubnetRound, SubnetTake}
 use Rattle.subnet.proofs.Calls.Restful.{subnet_rests}

@@ -3,7 +3,7 @@ use Rattle.std.specs.Fmt.{decimal}
 use Rattle.std.specs.Io.KnownBytes.{Appends}
 use Rattle.hex.specs.Hex.{encode_upper}
 use Rattle.bit_messages.specs.Octets.{octets_of}
-use Rattle.leader1822.specs.Printed.{host_text}
+use Rattle.interface.specs.Printed.{host_text}
 use Rattle.replay.proofs.lemmas.{on_ok}
 use Rattle.trace.specs.Texts.{quoted}
 use Rattle.subnet_trace.proofs.Members.{message_front, message_printed}

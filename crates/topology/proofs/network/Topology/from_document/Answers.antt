@@ -1,5 +1,5 @@
 use Rattle.std.proofs.Common.{◌+◌, sym, subst, rules}
-use Rattle.leader1822.specs.Host.{most_imps}
+use Rattle.interface.specs.Host.{most_imps}
 use Rattle.topology.specs.Topology.{IsRising}
 use Rattle.topology.proofs.Order.{numbered_rising}
 use Rattle.topology.proofs.network.Topology.from_document.Goals as goal

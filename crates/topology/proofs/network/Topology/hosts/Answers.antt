@@ -1,6 +1,6 @@
 use Rattle.std.proofs.Common.{◌≡◌, ◌<◌, true, sym, ap, ◌∙◌, subst, ◌++◌, ◌+◌, ◌*◌, ◌/◌, ◌%◌}
-use Rattle.leader1822.specs.Host.{Host, most_imps}
-use Rattle.leader1822.specs.Calls.{InOrder}
+use Rattle.interface.specs.Host.{Host, most_imps}
+use Rattle.interface.specs.Calls.{InOrder}
 use Rattle.topology.specs.Topology.{TopologyFields, most_hosts, hosts_below, host_if, has_host}
 use Rattle.topology.proofs.Order.{hosts_ordered, hosts_next, hosts_none}
 use Rattle.topology.proofs.Hosts.{if_err, some_host}

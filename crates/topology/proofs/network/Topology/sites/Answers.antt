@@ -1,6 +1,6 @@
 use Rattle.std.proofs.Common.{◌≡◌, ◌≤◌, ◌<◌, ◌+◌, ◌++◌, ◌∷◌, [], List, Option, ℕ, sym, ap, ◌∙◌, subst, map, arith}
 use Rattle.std.specs.List.{range_with_len}
-use Rattle.leader1822.specs.Host.{most_imps}
+use Rattle.interface.specs.Host.{most_imps}
 use Rattle.topology.specs.Topology.{AreSites, TopologyFields, hosts_from, hosts_of, site_of, sites_of}
 use Rattle.topology.specs.declared.network.ImpHosts.{ImpHosts}
 use Rattle.topology.proofs.Sites.{hosts_listed, sites_kept, sites_more}

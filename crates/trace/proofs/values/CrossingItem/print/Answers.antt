@@ -1,6 +1,6 @@
 use Rattle.std.proofs.Common.{ap, subst, sym, ◌∙◌}
 use Rattle.std.specs.Io.KnownBytes.{Appends}
-use Rattle.leader1822.specs.Printed.{host_text}
+use Rattle.interface.specs.Printed.{host_text}
 use Rattle.replay.proofs.lemmas.{on_ok}
 use Rattle.trace.specs.Texts.{crossing_object}
 use Rattle.trace.proofs.Printed.{down_is, up_is}

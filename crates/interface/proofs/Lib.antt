@@ -1,0 +1,9 @@
+pub mod FlowByFlow
+pub mod Lists
+pub mod Order
+pub mod MessageLaw
+pub mod NotTaken
+pub mod FlowMap
+pub mod WorkedBoxes
+pub mod UnsafeLogs
+pub mod lemmas

@@ -1,0 +1,2 @@
+-- What a value of this crate keeps true of itself. No public clause cites it, so a caller need not read it.
+pub mod Table

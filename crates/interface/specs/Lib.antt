@@ -1,0 +1,9 @@
+pub mod Calls
+pub mod Codes
+pub mod Flow
+pub mod Host
+pub mod Inside
+pub mod Mailboxes
+pub mod Messages
+pub mod Printed
+pub mod Rest

@@ -1,0 +1,23 @@
+-- When a network rests.
+use Rattle.std.specs.Prelude.{◌≡◌, false, Option, Some, None, Result, Ok, Err}
+use Rattle.interface.specs.Host.{Host}
+use Rattle.interface.specs.Calls.{is_halt, is_memory}
+use Rattle.interface.specs.declared.carrier.CarrierFault.{CarrierFault}
+use Rattle.interface.specs.declared.crossing.Inbound.{Inbound}
+
+-- what a taking answers that brings nothing: nothing waits for the host, or the taking is refused, though memory lasts
+abbrev pub BringsNothing : Result (Option Inbound) CarrierFault → Type 0
+BringsNothing (Ok None) = Unit {0}
+BringsNothing (Ok (Some i)) = ⊥
+BringsNothing (Err e) = (is_halt e ≡ false) × (is_memory e ≡ false)
+
+-- a taking of this host may bring nothing and leave the carrier as it is
+pub record TakesNothing {C : Type 0} (takes : C → Host → Result (Option Inbound) CarrierFault → C → Type 0) (c : C) (h : Host) : Type 0 where
+  pub answer : Result (Option Inbound) CarrierFault
+  pub nothing : BringsNothing answer
+  pub unchanged : takes c h answer c
+
+-- a carrier rests: a quiet round leaves it as it is, and so does a taking of any host, which brings nothing
+pub record Rests {C : Type 0} (rounds : C → Result (Unit {0}) CarrierFault → C → Type 0) (takes : C → Host → Result (Option Inbound) CarrierFault → C → Type 0) (c : C) : Type 0 where
+  pub round : rounds c (Ok tt) c
+  pub takings : (h : Host) → TakesNothing takes c h

@@ -1,6 +1,0 @@
--- The lemmas of this crate that others may use: the proofs of command_line, flow_law, host_keeps_pairing, host_keeps_ranges, host_keeps_streams, icp, imp_node, link_table, net_sim, packetiser, pair_keeps_streams, replay, reset_law, sockets, subnet, topology, world_keeps_connections, world_keeps_lives, world_keeps_pairing and world_keeps_streams do. All others in proofs/ are its own.
-pub use Rattle.leader1822.proofs.FlowByFlow.{each_is_run, mail_is}
-pub use Rattle.leader1822.proofs.FlowMap.{get_flow, one_set}
-pub use Rattle.leader1822.proofs.Lists.{and_true, both_ways, guard, not_false, or_false, or_nothing, same_flow-refl, same_flow-true, same_host-refl, same_host-true, waits_with}
-pub use Rattle.leader1822.proofs.MessageLaw.{run_below, safe_messages}
-pub use Rattle.leader1822.proofs.Order.{before_from_numbers, exact_flows, flow_before_else, flow_before_never, flow_before_trans, flows_total, host_before_never, host_before_trans}
