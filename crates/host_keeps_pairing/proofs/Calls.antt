@@ -18,7 +18,7 @@ use Rattle.host_pairs.specs.Pair.{PairState}
 use Rattle.sockets.specs.Pairs.{NcpState, opening_state, pair_with, with_pair}
 use Rattle.host_pairs.specs.Desk.{desk_of}
 use Rattle.sockets.specs.Peers.{AreInOrder}
-use Rattle.host_pairs.specs.Phases.{is_ready}
+use Rattle.ncp_control.specs.Phases.{is_ready}
 use Rattle.host_pairs.specs.Parcels.{Parcel, pair_after, parcel_gone}
 use Rattle.sockets.specs.Sending.{next_in, offered}
 use Rattle.sockets.specs.declared.peer.Peer.{Peer}

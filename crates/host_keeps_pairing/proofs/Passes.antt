@@ -10,8 +10,8 @@ use Rattle.host_pairs.specs.Entries.{changed_first, changed_at}
 use Rattle.host_pairs.specs.Pair.{PairState}
 use Rattle.host_pairs.specs.Allowed.{MayGo, commands_of}
 use Rattle.host_pairs.specs.Desk.{DeskState, desk_of}
-use Rattle.host_pairs.specs.Phases.{is_ready}
-use Rattle.host_pairs.specs.declared.phase.Phase.TheVariants as phase
+use Rattle.ncp_control.specs.Phases.{is_ready}
+use Rattle.ncp_control.specs.declared.phase.Phase.TheVariants as phase
 use Rattle.host_pairs.specs.Parcels as parcel
 use Rattle.host_pairs.specs.Parcels.{Parcel, asked_at, bits_gone, cls_sent, command_gone, commands_gone, link_of, may_send_on, pair_after, parcel_gone, request_gone}
 use Rattle.host_pairs.specs.declared.entry.Entry.{Entry}

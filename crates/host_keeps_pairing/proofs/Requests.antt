@@ -12,7 +12,7 @@ use Rattle.host_pairs.specs.Entries.{called_off, changed_first, close_due, entry
 use Rattle.host_pairs.specs.Pair.{PairState}
 use Rattle.sockets.specs.Pairs.{NcpState, owner_of, pair_with, with_pair}
 use Rattle.host_pairs.specs.Desk.{desk_of, listens_on}
-use Rattle.host_pairs.specs.Phases.{is_ready}
+use Rattle.ncp_control.specs.Phases.{is_ready}
 use Rattle.sockets.specs.Requests.{at_owner, closed_socket, is_taken, is_used, open_receive_refusal, open_send_refusal, refusal, served}
 use Rattle.host_pairs.specs.Asked.{closed_end, commanded, contacted, interrupt_of, receiver_requested, requested, with_end, with_more_bits}
 use Rattle.host_pairs.specs.Parcels.{link_of}

@@ -9,7 +9,7 @@ use Rattle.host_pairs.specs.Control.{orders_of}
 use Rattle.sockets.specs.Dialogue.{state_of}
 use Rattle.host_pairs.specs.Pair.{PairState}
 use Rattle.sockets.specs.Pairs.{pair_with}
-use Rattle.host_pairs.specs.Phases.{is_ready}
+use Rattle.ncp_control.specs.Phases.{is_ready}
 use Rattle.sockets.specs.Requests.{refusal, served, served_notices}
 use Rattle.sockets.specs.Sending.{next_out, offered}
 use Rattle.sockets.specs.Worked.{first, second, talk, reset, opening_connection, closing}

@@ -14,9 +14,9 @@ use Rattle.host_pairs.specs.Control.{Order, Legal, Wrong, error}
 use Rattle.host_pairs.specs.Data.{data_taken}
 use Rattle.host_pairs.specs.Pair.{PairState}
 use Rattle.host_pairs.specs.Desk.{DeskState, desk_of, command_queued}
-use Rattle.host_pairs.specs.Phases.{is_ready, reply_phase, taken_phase}
-use Rattle.host_pairs.specs.declared.phase.Phase.{Phase}
-use Rattle.host_pairs.specs.declared.phase.Phase.TheVariants as phase
+use Rattle.ncp_control.specs.Phases.{is_ready, reply_phase, taken_phase}
+use Rattle.ncp_control.specs.declared.phase.Phase.{Phase}
+use Rattle.ncp_control.specs.declared.phase.Phase.TheVariants as phase
 use Rattle.host_keeps_pairing.specs.Words.{AllFit, all_taken, mark_in, mark_of, marks_in}
 use Rattle.host_keeps_pairing.specs.Ends.{AreEnd, HasEnd, kept_in}
 use Rattle.host_keeps_pairing.specs.Hearing.{AreFree, AreJoint, IsFreeIn, IsJoint}

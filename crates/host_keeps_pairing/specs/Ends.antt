@@ -5,7 +5,7 @@ use Rattle.pairing_law.specs.Ends.{End, nothing}
 use Rattle.pairing_law.specs.Marks.{Mark, Ask, Close}
 use Rattle.host_pairs.specs.Entries.{has_cls, is_at, is_sent}
 use Rattle.host_pairs.specs.Pair.{PairState}
-use Rattle.host_pairs.specs.Phases.{is_ready}
+use Rattle.ncp_control.specs.Phases.{is_ready}
 use Rattle.host_pairs.specs.declared.entry.Closing.{Closing}
 use Rattle.host_pairs.specs.declared.entry.Closing.TheVariants as closing
 use Rattle.host_pairs.specs.declared.entry.Entry.{Entry}

@@ -22,12 +22,12 @@ use Rattle.host_pairs.specs.Entries.{changed_first, is_at, is_busy}
 use Rattle.host_pairs.specs.Pair.{PairState, is_opening}
 use Rattle.host_pairs.specs.Parcels as parcel
 use Rattle.host_pairs.specs.Parcels.{Parcel, asked_at, bits_gone, cls_sent, command_gone, commands_gone, link_of, next_of, pair_after, parcel_gone, text_for}
-use Rattle.host_pairs.specs.Phases.{is_ready}
+use Rattle.ncp_control.specs.Phases.{is_ready}
 use Rattle.host_pairs.specs.Turn.{TurnState, answered_turn, command_taken, failed, failed_by, freed, if_ready, is_gone, message_taken, order_taken, orders_taken, settled_turn, with_desk}
 use Rattle.host_pairs.specs.declared.entry.Entry.{Entry}
 use Rattle.host_pairs.specs.declared.listener.Listener.{Listener}
-use Rattle.host_pairs.specs.declared.phase.Phase.{Phase}
-use Rattle.host_pairs.specs.declared.phase.Phase.TheVariants as phase
+use Rattle.ncp_control.specs.declared.phase.Phase.{Phase}
+use Rattle.ncp_control.specs.declared.phase.Phase.TheVariants as phase
 use Rattle.host_pairs.proofs.lemmas.{control_again, signal_again, what_goes}
 use Rattle.sockets.specs.Accepting.{accepted, turn_of, after_turn}
 use Rattle.sockets.specs.Pairs.{NcpState, pair_with, placed, with_pair, without_peer}

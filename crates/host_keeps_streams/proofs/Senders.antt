@@ -17,7 +17,7 @@ use Rattle.host_pairs.specs.Control.{error, NOT_CONNECTED}
 use Rattle.host_pairs.specs.Desk.{DeskState, desk_of}
 use Rattle.host_pairs.specs.Entries.{changed_first, has_cls, is_busy, is_link, is_open, is_receiving, sends_on}
 use Rattle.host_pairs.specs.Pair.{PairState}
-use Rattle.host_pairs.specs.Phases.{is_want, is_ready}
+use Rattle.ncp_control.specs.Phases.{is_want, is_ready}
 use Rattle.host_pairs.specs.Parcels.{Parcel, Reset, Reply, Commands, Bytes, bits_gone, bytes_by, bytes_of, bytes_on, if_silent, link_of, lowest_link, may_send, may_send_on, next_bytes, next_of, next_of_ready, parcel_gone}
 use Rattle.host_pairs.specs.declared.entry.Entry.{Entry}
 use Rattle.host_pairs.specs.declared.listener.Listener.{Listener}

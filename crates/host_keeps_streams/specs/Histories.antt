@@ -20,7 +20,7 @@ use Rattle.host_pairs.specs.Parcels.{Bytes, asked_at, command_gone, next_of, par
 use Rattle.host_pairs.specs.Turn.{freed}
 use Rattle.host_pairs.specs.declared.entry.Closing.TheVariants as closing
 use Rattle.host_pairs.specs.declared.entry.Entry.{Entry}
-use Rattle.host_pairs.specs.declared.phase.Phase.TheVariants as phase
+use Rattle.ncp_control.specs.declared.phase.Phase.TheVariants as phase
 use Rattle.host_pairs.specs.declared.listener.Listener.{Listener}
 use Rattle.host_keeps_streams.specs.Closings.{all_received, MayAllReceive, all_sent, MayAllSend}
 use Rattle.host_keeps_streams.specs.Formed.{FindsFree, HasSaid}

@@ -15,14 +15,14 @@ use Rattle.host_pairs.specs.Data.{is_acceptable, arrived, arrived_if, text_fault
 use Rattle.host_pairs.specs.Entries.{is_at, entry_at, changed_at, sends_on, receives_on, is_ending, is_over, opening_by, opening_notices, ending, closed_by_partner, free_link}
 use Rattle.host_pairs.specs.About.{AreAbout}
 use Rattle.host_pairs.specs.Desk.{DeskState, command_queued, desk_told, settled, swept, desk_of, listener_on}
-use Rattle.host_pairs.specs.Phases.{is_ready}
+use Rattle.ncp_control.specs.Phases.{is_ready}
 use Rattle.host_pairs.specs.Parcels.{Parcel, Reset, Reply, Commands, Bytes, request_gone, command_gone, commands_gone, parcel_gone, asked_at, cls_sent}
 use Rattle.host_pairs.specs.declared.entry.Entry.{Entry}
 use Rattle.host_pairs.specs.declared.listener.Listener.{Listener}
 use Rattle.host_pairs.specs.declared.notice.Notice.{Notice}
 use Rattle.host_pairs.specs.declared.notice.Notice.TheVariants as notice
-use Rattle.host_pairs.specs.declared.phase.Phase.{Phase}
-use Rattle.host_pairs.specs.declared.phase.Phase.TheVariants as phase
+use Rattle.ncp_control.specs.declared.phase.Phase.{Phase}
+use Rattle.ncp_control.specs.declared.phase.Phase.TheVariants as phase
 
 -- ---- lists of notices
 

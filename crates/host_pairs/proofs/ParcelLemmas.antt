@@ -8,11 +8,11 @@ use Rattle.ncp_control.specs.declared.allocation.Allocation.{Allocation}
 use Rattle.host_pairs.specs.Entries.{is_receiving, is_open, is_answered, is_busy}
 use Rattle.host_pairs.specs.Allowed.{MaySpeak, MaySend, MayGo}
 use Rattle.host_pairs.specs.Pair.{PairState}
-use Rattle.host_pairs.specs.Phases.{is_want, is_ready}
+use Rattle.ncp_control.specs.Phases.{is_want, is_ready}
 use Rattle.host_pairs.specs.Parcels.{Parcel, Reset, Reply, Commands, Bytes, sendable, sendable_by, may_send, may_send_on, link_of, lowest_link, bytes_by, bytes_of, bytes_on, next_bytes, if_silent, next_of_ready, next_of}
 use Rattle.host_pairs.specs.declared.entry.Entry.{Entry}
-use Rattle.host_pairs.specs.declared.phase.Phase.{Phase}
-use Rattle.host_pairs.specs.declared.phase.Phase.TheVariants as phase
+use Rattle.ncp_control.specs.declared.phase.Phase.{Phase}
+use Rattle.ncp_control.specs.declared.phase.Phase.TheVariants as phase
 use Rattle.host_pairs.proofs.OpeningLemmas.{none_of, both, not_is}
 
 want_is : (p : Phase) → is_want p ≡ true → p ≡ phase.Want

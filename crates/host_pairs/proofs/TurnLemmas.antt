@@ -6,13 +6,13 @@ use Rattle.ncp_control.specs.declared.command.Command.{Command}
 use Rattle.interface.specs.Host.{Host}
 use Rattle.interface.specs.declared.crossing.Answer.TheVariants as answer
 use Rattle.host_pairs.specs.Entries.{is_due, must_close, closed_when, cls_of}
-use Rattle.host_pairs.specs.Phases.{is_ready, rfnm_phase}
+use Rattle.ncp_control.specs.Phases.{is_ready, rfnm_phase}
 use Rattle.host_pairs.specs.Desk.{command_queued, desk_of}
 use Rattle.host_pairs.specs.Turn.{TurnState, answered_turn, freed, is_quiet, settled_turn, with_desk}
 use Rattle.host_pairs.specs.declared.entry.Entry.{Entry}
 use Rattle.host_pairs.specs.declared.notice.Notice.{Notice}
-use Rattle.host_pairs.specs.declared.phase.Phase.{Phase}
-use Rattle.host_pairs.specs.declared.phase.Phase.TheVariants as phase
+use Rattle.ncp_control.specs.declared.phase.Phase.{Phase}
+use Rattle.ncp_control.specs.declared.phase.Phase.TheVariants as phase
 use Rattle.host_pairs.proofs.OpeningLemmas.{both, none_of, not_is}
 
 -- what is reported first is all that is reported

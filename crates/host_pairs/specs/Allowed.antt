@@ -6,11 +6,11 @@ use Rattle.ncp_control.specs.declared.command.Command.TheVariants as command
 use Rattle.host_pairs.specs.Control.{Legal, orders_of}
 use Rattle.host_pairs.specs.Entries.{is_receiving, is_open, is_answered, is_busy}
 use Rattle.host_pairs.specs.Pair.{PairState}
-use Rattle.host_pairs.specs.Phases.{is_want}
+use Rattle.ncp_control.specs.Phases.{is_want}
 use Rattle.host_pairs.specs.Queue.{are_joint}
 use Rattle.host_pairs.specs.Parcels.{Parcel, Reset, Reply, Commands, Bytes}
 use Rattle.host_pairs.specs.declared.entry.Entry.{Entry}
-use Rattle.host_pairs.specs.declared.phase.Phase.TheVariants as phase
+use Rattle.ncp_control.specs.declared.phase.Phase.TheVariants as phase
 
 -- ---- what may go out of a pair
 

@@ -1,4 +1,3 @@
-pub mod Phases
 pub mod Entries
 pub mod Queue
 pub mod Pair

@@ -1,10 +1,10 @@
 -- What a host knows of one other host.
 use Rattle.std.specs.Prelude.{ℕ, Bool, false, not, ◌==◌, ◌&&◌, List, [], length}
 use Rattle.ncp_control.specs.declared.command.Command.{Command}
-use Rattle.host_pairs.specs.Phases.{is_closed}
+use Rattle.ncp_control.specs.Phases.{is_closed}
 use Rattle.host_pairs.specs.declared.entry.Entry.{Entry}
-use Rattle.host_pairs.specs.declared.phase.Phase.{Phase}
-use Rattle.host_pairs.specs.declared.phase.Phase.TheVariants as phase
+use Rattle.ncp_control.specs.declared.phase.Phase.{Phase}
+use Rattle.ncp_control.specs.declared.phase.Phase.TheVariants as phase
 
 -- this host and one peer: how far the reset has come, whether an RRP is owed, the links on which a message has no answer yet,
 -- the ends of their connections, oldest first, and the commands that wait to go out

@@ -12,11 +12,11 @@ use Rattle.host_pairs.specs.Data.{data_text}
 use Rattle.host_pairs.specs.Entries.{is_at, is_receiving, is_open, is_answered, is_busy, entry_at, changed_at, opening_notices}
 use Rattle.host_pairs.specs.Pair.{PairState}
 use Rattle.host_pairs.specs.Desk.{DeskState, desk_told, swept}
-use Rattle.host_pairs.specs.Phases.{is_want, is_ready}
+use Rattle.ncp_control.specs.Phases.{is_want, is_ready}
 use Rattle.host_pairs.specs.declared.entry.Closing.TheVariants as closing
 use Rattle.host_pairs.specs.declared.entry.Entry.{Entry}
 use Rattle.host_pairs.specs.declared.notice.Notice.TheVariants as notice
-use Rattle.host_pairs.specs.declared.phase.Phase.TheVariants as phase
+use Rattle.ncp_control.specs.declared.phase.Phase.TheVariants as phase
 
 -- what goes out in one message: an RST, an RRP, this many of the commands that wait, or this many bytes of an end
 pub data Parcel : Type 0 where

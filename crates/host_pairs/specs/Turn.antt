@@ -13,11 +13,11 @@ use Rattle.host_pairs.specs.Entries.{is_due}
 use Rattle.host_pairs.specs.Pair.{PairState}
 use Rattle.host_pairs.specs.Desk.{DeskState, desk_of, command_queued, settled}
 use Rattle.host_pairs.specs.declared.listener.Listener.{Listener}
-use Rattle.host_pairs.specs.Phases.{is_ready, reset_phase, reply_phase, rfnm_phase}
+use Rattle.ncp_control.specs.Phases.{is_ready, reset_phase, reply_phase, rfnm_phase}
 use Rattle.host_pairs.specs.declared.notice.Notice.{Notice}
 use Rattle.host_pairs.specs.declared.notice.Notice.TheVariants as notice
-use Rattle.host_pairs.specs.declared.phase.Phase.{Phase}
-use Rattle.host_pairs.specs.declared.phase.Phase.TheVariants as phase
+use Rattle.ncp_control.specs.declared.phase.Phase.{Phase}
+use Rattle.ncp_control.specs.declared.phase.Phase.TheVariants as phase
 
 -- a pair, what listens, and what was reported
 pub record TurnState : Type 0 where

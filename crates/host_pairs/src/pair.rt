@@ -4,8 +4,8 @@ ghost use Rattle.std.specs.Prelude.{◌≡◌};
 ghost use Rattle.host_pairs.specs.Pair.{opening_pair, is_opening};
 
 use crate::entry::Entry;
-use crate::phase::Phase;
 use crate::queue::Queue;
+use ncp_control::Phase;
 use std::alloc::Global;
 use std::marker::Model;
 

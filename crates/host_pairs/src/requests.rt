@@ -11,10 +11,9 @@ ghost use Rattle.host_pairs.specs.Parcels.{link_of};
 use crate::ends::{close, own_place, place, queue_closings};
 use crate::entry::Entry;
 use crate::pair::Pair;
-use crate::phase::Phase;
 use crate::queue::Queue;
 use bit_messages::Bits;
-use ncp_control::{Allocation, Command};
+use ncp_control::{Allocation, Command, Phase};
 use std::alloc::{AllocError, Global};
 
 // ---- this host's own end on a socket

@@ -6,9 +6,9 @@ ghost use Rattle.host_pairs.specs.Outgoing.{IsThere, end_at, parcel_of};
 ghost use Rattle.host_pairs.specs.Parcels as parcels;
 
 use crate::outgoing::Outgoing;
-use crate::phase::Phase;
 use crate::turn::Turn;
 use interface::HostAddr;
+use ncp_control::Phase;
 use std::alloc::{AllocError, Global};
 
 impl Turn {

@@ -1,13 +1,14 @@
-//! The control commands of the Host/Host Protocol and the counters of its allocation.
+//! The control commands of the Host/Host Protocol, the counters of its allocation and the phases of its reset.
 //!
 //! Two hosts open, feed and close their connections by fourteen commands that they send each other on
 //! link 0 (NIC 8246, Host/Host Protocol for the ARPA Network). Here live the commands as values and as
 //! octets, the packing of commands into one control message, the 40 bits that precede every message's
-//! data, and the two counters by which a receiver grants and a sender spends.
+//! data, the two counters by which a receiver grants and a sender spends, and how far a host's reset with a peer has
+//! come.
 //!
 //! The layer above relies on each command having one spelling and one reading, on faults that say what
 //! an ERR quotes, and on nothing being spent or given back that was not granted. Nothing here knows of
-//! hosts, of open connections or of what a command does to them.
+//! open connections or of what a command does to them.
 #![tactic(auto)]
 
 mod allocation;
@@ -18,6 +19,7 @@ mod data_header;
 mod fault;
 pub mod law;
 mod packing;
+mod phase;
 mod reading;
 mod receive_socket;
 mod send_socket;
@@ -30,6 +32,7 @@ pub use connection_link::ConnectionLink;
 pub use data_header::{DataHeader, HEADER_BITS};
 pub use fault::ControlFault;
 pub use packing::{MAX_CONTROL_OCTETS, pack, packed_count};
+pub use phase::Phase;
 pub use reading::read_one;
 pub use receive_socket::ReceiveSocket;
 pub use send_socket::SendSocket;

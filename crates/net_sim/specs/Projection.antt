@@ -10,15 +10,12 @@ use Rattle.ncp_control.specs.declared.command.Command.TheVariants as command
 use Rattle.host_pairs.specs.Control.{Order, Legal, Wrong, orders_of}
 use Rattle.host_pairs.specs.Pair.{PairState}
 use Rattle.host_pairs.specs.Entries.{is_busy}
-use Rattle.host_pairs.specs.Phases as program
+use Rattle.ncp_control.specs.Phases as program
 use Rattle.host_pairs.specs.declared.entry.Entry.{Entry}
-use Rattle.host_pairs.specs.declared.phase.Phase as host
-use Rattle.host_pairs.specs.declared.phase.Phase.TheVariants as phase
 use Rattle.sockets.specs.declared.request.Request.{Request}
 use Rattle.sockets.specs.declared.request.Request.TheVariants as request
 use Rattle.reset_law.specs.Events.{Message, Reset, Reply, Other, Event, Contact, Out, In, Told, Down, Up, Idle}
 use Rattle.reset_law.specs.Pairs.{Pair}
-use Rattle.reset_law.specs.Phases as law
 
 -- ---- what a text is for a reset
 
@@ -58,13 +55,6 @@ event_by h r = Idle
 
 -- ---- a pair
 
-abbrev pub phase_of : host.Phase → law.Phase
-phase_of phase.Closed = law.Closed
-phase_of phase.Want = law.Want
-phase_of (phase.Gone early) = law.Gone early
-phase_of phase.Heard = law.Heard
-phase_of phase.Ready = law.Ready
-
 -- a request of this host went out for one of these ends
 abbrev pub has_asked : List Entry → Bool
 has_asked entries = list_any (λ e. is_some e.asked) entries
@@ -97,7 +87,7 @@ ArePlain (c ∷ cs) = IsQueued c × ArePlain cs
 
 -- a host's program is, for one peer, where the law of resets has it
 pub record Agrees (q : PairState) (p : Pair) : Type 0 where
-  pub phase : p.phase ≡ phase_of q.phase
+  pub phase : p.phase ≡ q.phase
   pub owed : p.owed ≡ q.owed
   pub busy : (link : ℕ) → is_some (p.out link) ≡ is_busy q.busy link
   -- an end whose request went out is in a pair that is ready, and something was said since its connections were dropped last

@@ -28,7 +28,7 @@ ghost use Rattle.reset_law.specs.Stays.{IsPrefix, heard_in_stay, said_in_stay};
 ghost use Rattle.sockets.specs.Accepting.{accepted};
 ghost use Rattle.sockets.specs.Pairs.{NcpState, opening_state, pair_with};
 ghost use Rattle.sockets.specs.Peers.{AreInOrder};
-ghost use Rattle.host_pairs.specs.Phases.{is_ready};
+ghost use Rattle.ncp_control.specs.Phases.{is_ready};
 ghost use Rattle.sockets.specs.Requests.{served};
 ghost use Rattle.host_pairs.specs.Parcels.{Parcel, link_for, text_for};
 ghost use Rattle.sockets.specs.Sending.{message_for, next_in, offered};

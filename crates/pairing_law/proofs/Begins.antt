@@ -4,14 +4,17 @@ use Rattle.std.proofs.lemmas.Bool.{eqb-true}
 use Rattle.interface.specs.Host.{Host, same_host}
 use Rattle.interface.specs.declared.crossing.Answer.{Answer}
 use Rattle.interface.specs.declared.crossing.Answer.TheVariants as answer
-use Rattle.reset_law.specs.Phases.{Phase, Closed, Want, Gone, Heard, Ready, reset_phase, reply_phase, taken_phase, failed_phase}
+use Rattle.ncp_control.specs.Phases.{reset_phase, reply_phase, taken_phase, failed_phase}
+use Rattle.ncp_control.specs.declared.phase.Phase.{Phase}
+use Rattle.ncp_control.specs.declared.phase.Phase.TheVariants.{Closed, Want, Gone, Heard, Ready}
 use Rattle.reset_law.specs.Events.{Message, Reset, Reply, Other, Event, Contact, Out, In, Told, Down, Up, Idle, Call, Send, Take, Hear, Begin, when, are, place, is_up}
 use Rattle.reset_law.specs.Boxes.{Box, Empty, Waiting, Taken, WaitsWith, Fits, Put, Fetch, Clear, ClearAll, fetched, posted, at_link, boxes}
 use Rattle.reset_law.specs.Pairs.{Rst, Rrp, Pair, MaySend, kind_of, pair_moved, pair}
 use Rattle.reset_law.specs.Monitor.{monitor}
 use Rattle.reset_law.specs.Invariant.{kind_in, is_signal, InGone, InHeard, Shape, Sound}
 use Rattle.reset_law.specs.Runs.{IsRun}
-use Rattle.reset_law.specs.Stays.{is_ready, ready, joint, begins, takes_reset, stays}
+use Rattle.ncp_control.specs.Phases.{is_ready}
+use Rattle.reset_law.specs.Stays.{ready, joint, begins, takes_reset, stays}
 use Rattle.reset_law.proofs.lemmas.{at, carry, contradicts, down_pair, ready_phase, ready_taken, ready_up, reply_from, reset_unready, sound_run, stays_ready, still_ready, turned_about, unready_phase}
 
 -- ---- an RST that was taken

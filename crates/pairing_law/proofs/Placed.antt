@@ -7,7 +7,8 @@ use Rattle.reset_law.specs.Events.{Message, Reset, Reply, Other, Event, Contact,
 use Rattle.reset_law.specs.Boxes.{Box, Empty, Waiting, Taken, WaitsWith, Fits, Put, Fetch, Clear, ClearAll, fetched, posted, boxes}
 use Rattle.reset_law.specs.Pairs.{Pair, MaySend, pair_moved, pair}
 use Rattle.reset_law.specs.Runs.{IsRun}
-use Rattle.reset_law.specs.Stays.{is_ready, ready, takes_reset, stays, heard_in_stay, said_in_stay, IsPrefix}
+use Rattle.ncp_control.specs.Phases.{is_ready}
+use Rattle.reset_law.specs.Stays.{ready, takes_reset, stays, heard_in_stay, said_in_stay, IsPrefix}
 use Rattle.reset_law.proofs.lemmas.{heard_front}
 use Rattle.pairing_law.specs.Places.{tagged, with_place, with_box, placed_event, placed}
 

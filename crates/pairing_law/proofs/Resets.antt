@@ -1,7 +1,7 @@
 -- What the law of resets gives: a host that is through a reset takes a text only in a stay.
 use Rattle.std.proofs.Common.{◌≡◌, ℕ, Bool, true, false, ◌&&◌, List, [], ◌∷◌, Some, refl, ap, sym, subst, ◌∙◌, inl, inr}
 use Rattle.interface.specs.Host.{Host, same_host}
-use Rattle.reset_law.specs.Phases.{Ready}
+use Rattle.ncp_control.specs.declared.phase.Phase.TheVariants.{Ready}
 use Rattle.reset_law.specs.Events.{Message, Reset, Reply, Other, Event, Contact, Out, In, Told, Down, Up, Idle, Call, Send, Hear, Begin, when, are, place}
 use Rattle.reset_law.specs.Boxes.{Box, Empty, Waiting, Taken, WaitsWith, Post, Put, Fetch, Clear, ClearAll, fetched, posted, at_link, boxes}
 use Rattle.reset_law.specs.Pairs.{Pair, MaySend, kind_of, pair_moved, pair}

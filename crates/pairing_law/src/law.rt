@@ -4,7 +4,7 @@ ghost use Rattle.std.specs.Prelude.{◌≡◌, ℕ, Bool, true, false, List, [],
 ghost use Rattle.interface.specs.Host.{Host};
 ghost use Rattle.interface.specs.declared.crossing.Answer.TheVariants as answer;
 ghost use Rattle.reset_law.specs.Events as reset;
-ghost use Rattle.reset_law.specs.Phases.{Ready};
+ghost use Rattle.ncp_control.specs.declared.phase.Phase.TheVariants.{Ready};
 ghost use Rattle.reset_law.specs.Pairs.{pair};
 ghost use Rattle.reset_law.specs.Runs as reset_run;
 ghost use Rattle.reset_law.specs.Stays as stay;

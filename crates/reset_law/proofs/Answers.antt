@@ -3,7 +3,9 @@ use Rattle.std.proofs.Common.{◌≡◌, ◌≢◌, ◌⊎◌, ℕ, Bool, true, 
 use Rattle.std.specs.Prelude.{is_some}
 use Rattle.interface.specs.declared.crossing.Answer.{Answer}
 use Rattle.interface.specs.declared.crossing.Answer.TheVariants as answer
-use Rattle.reset_law.specs.Phases.{Phase, Closed, Want, Gone, Heard, Ready, rfnm_phase, failed_phase}
+use Rattle.ncp_control.specs.Phases.{rfnm_phase, failed_phase}
+use Rattle.ncp_control.specs.declared.phase.Phase.{Phase}
+use Rattle.ncp_control.specs.declared.phase.Phase.TheVariants.{Closed, Want, Gone, Heard, Ready}
 use Rattle.reset_law.specs.Boxes.{Box, Empty, Waiting, Taken, Fits, at_link}
 use Rattle.reset_law.specs.Pairs.{Kind, Rst, Rrp, Plain, Pair, IsFreePair, pair_answered}
 use Rattle.reset_law.specs.Monitor.{Monitor, OnItsWay, Received, monitor_told, monitor_failed}

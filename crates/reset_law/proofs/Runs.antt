@@ -2,7 +2,7 @@
 use Rattle.std.proofs.Common.{◌≡◌, ◌≢◌, ℕ, Bool, true, false, List, [], ◌∷◌, Some, None, refl, ap, sym, subst, ◌∙◌, inl, inr, if◌then◌else◌}
 use Rattle.interface.specs.Host.{Host, same_host}
 use Rattle.interface.proofs.lemmas.{and_true, same_host-true}
-use Rattle.reset_law.specs.Phases.{Closed, Ready}
+use Rattle.ncp_control.specs.declared.phase.Phase.TheVariants.{Closed, Ready}
 use Rattle.reset_law.specs.Events.{Message, Reset, Reply, Other, Event, Contact, Out, In, Told, Down, Up, Idle, Part, Call, Send, Take, Hear, Begin, when, are, place, is_up}
 use Rattle.reset_law.specs.Boxes.{Box, Empty, Waiting, Taken, Post, Put, Fetch, Clear, ClearAll, Fits, fetched, posted, at_link, boxes}
 use Rattle.reset_law.specs.Pairs.{Pair, MaySend, opening_pair, pair_moved, pair}

@@ -5,14 +5,17 @@ use Rattle.interface.specs.Host.{Host, same_host}
 use Rattle.interface.specs.declared.crossing.Answer.{Answer}
 use Rattle.interface.specs.declared.crossing.Answer.TheVariants as answer
 use Rattle.interface.proofs.lemmas.{and_true}
-use Rattle.reset_law.specs.Phases.{Phase, Closed, Want, Gone, Heard, Ready, reply_phase, failed_phase}
+use Rattle.ncp_control.specs.Phases.{reply_phase, failed_phase}
+use Rattle.ncp_control.specs.declared.phase.Phase.{Phase}
+use Rattle.ncp_control.specs.declared.phase.Phase.TheVariants.{Closed, Want, Gone, Heard, Ready}
 use Rattle.reset_law.specs.Events.{Message, Reset, Reply, Other, Event, Contact, Out, In, Told, Down, Up, Idle, Call, Send, Take, Hear, Begin, when, are, place, is_up}
 use Rattle.reset_law.specs.Boxes.{Box, Empty, Waiting, Taken, WaitsWith, Fits, Put, Fetch, Clear, ClearAll, fetched, posted, at_link, boxes}
 use Rattle.reset_law.specs.Pairs.{Pair, MaySend, pair_moved, pair}
 use Rattle.reset_law.specs.Monitor.{monitor}
 use Rattle.reset_law.specs.Invariant.{InHeard, Shape, Sound}
 use Rattle.reset_law.specs.Runs.{IsRun}
-use Rattle.reset_law.specs.Stays.{is_ready, ready, joint, begins, takes_reset, stays, said_by, heard_by, said_in_stay, heard_in_stay, waits_in, IsPrefix}
+use Rattle.ncp_control.specs.Phases.{is_ready}
+use Rattle.reset_law.specs.Stays.{ready, joint, begins, takes_reset, stays, said_by, heard_by, said_in_stay, heard_in_stay, waits_in, IsPrefix}
 use Rattle.reset_law.proofs.Links.{at}
 use Rattle.reset_law.proofs.Runs.{carry, sound_run, alone_run, ready_up}
 use Rattle.reset_law.proofs.Fresh.{turned_about, still_ready, ready_taken}

@@ -1,6 +1,7 @@
 -- What holds of a host that is up and one peer of it, and of the boxes of its messages for that peer.
 use Rattle.std.specs.Prelude.{◌≡◌, ◌≢◌, ◌⊎◌, ℕ, Bool, true, false, Option, Some, None, is_some}
-use Rattle.reset_law.specs.Phases.{Phase, Closed, Want, Gone, Heard, Ready}
+use Rattle.ncp_control.specs.declared.phase.Phase.{Phase}
+use Rattle.ncp_control.specs.declared.phase.Phase.TheVariants.{Closed, Want, Gone, Heard, Ready}
 use Rattle.reset_law.specs.Boxes.{Box, Empty, Waiting, Taken}
 use Rattle.reset_law.specs.Pairs.{Kind, Rst, Rrp, Plain, kind_of, Pair, IsFreePair}
 use Rattle.reset_law.specs.Monitor.{Monitor, Unsent, OnItsWay, Received}

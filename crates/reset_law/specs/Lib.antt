@@ -1,6 +1,5 @@
 pub mod Events
 pub mod Boxes
-pub mod Phases
 pub mod Pairs
 pub mod Monitor
 pub mod Runs

@@ -3,7 +3,9 @@ use Rattle.std.specs.Prelude.{◌≡◌, ◌≢◌, ◌⊎◌, ℕ, Bool, true, 
 use Rattle.interface.specs.Host.{Host}
 use Rattle.interface.specs.declared.crossing.Answer.{Answer}
 use Rattle.interface.specs.declared.crossing.Answer.TheVariants as answer
-use Rattle.reset_law.specs.Phases.{Phase, Closed, Want, Gone, Ready, reset_phase, reply_phase, rfnm_phase, failed_phase}
+use Rattle.ncp_control.specs.Phases.{reset_phase, reply_phase, rfnm_phase, failed_phase}
+use Rattle.ncp_control.specs.declared.phase.Phase.{Phase}
+use Rattle.ncp_control.specs.declared.phase.Phase.TheVariants.{Closed, Want, Gone, Ready}
 use Rattle.reset_law.specs.Events.{Message, Reset, Reply, Other, Event, Part, Call, Send, Take, Hear, Begin, part_of}
 use Rattle.reset_law.specs.Boxes.{at_link}
 

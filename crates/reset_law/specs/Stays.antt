@@ -2,14 +2,10 @@
 -- them leaves (NIC 8246, RST: it closes all connections between two hosts).
 use Rattle.std.specs.Prelude.{◌≡◌, ℕ, Bool, true, false, not, ◌&&◌, ◌||◌, ◌==◌, List, [], ◌∷◌, ◌++◌, if◌then◌else◌}
 use Rattle.interface.specs.Host.{Host}
-use Rattle.reset_law.specs.Phases.{Phase, Ready}
+use Rattle.ncp_control.specs.Phases.{is_ready}
 use Rattle.reset_law.specs.Events.{Reset, Other, Event, In, Out, are}
 use Rattle.reset_law.specs.Boxes.{Box, Waiting}
 use Rattle.reset_law.specs.Pairs.{pair}
-
-abbrev pub is_ready : Phase → Bool
-is_ready Ready = true
-is_ready ph = false
 
 -- host `a` is through a reset with `b`
 abbrev pub ready : Host → Host → List Event → Bool

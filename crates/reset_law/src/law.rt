@@ -9,7 +9,7 @@ ghost use Rattle.reset_law.specs.Example.{one, two, reset, message, early_reply,
 ghost use Rattle.reset_law.specs.Invariant.{kind_in, is_signal, Sound};
 ghost use Rattle.reset_law.specs.Monitor.{monitor};
 ghost use Rattle.reset_law.specs.Pairs.{pair, opening_pair, MaySend};
-ghost use Rattle.reset_law.specs.Phases.{Closed, Want, Gone, Heard, Ready};
+ghost use Rattle.ncp_control.specs.declared.phase.Phase.TheVariants.{Closed, Want, Gone, Heard, Ready};
 ghost use Rattle.reset_law.specs.Runs.{IsRun, WaitsAfterClean};
 ghost use Rattle.reset_law.specs.Stays.{ready, joint, begins, stays, said_in_stay, heard_in_stay, waits_in, IsPrefix};
 

@@ -11,7 +11,7 @@ use Rattle.host_pairs.specs.Entries.{is_busy}
 use Rattle.host_pairs.specs.About.{AreAbout}
 use Rattle.sockets.specs.Pairs.{NcpState, pair_with}
 use Rattle.host_pairs.specs.Desk.{desk_of}
-use Rattle.host_pairs.specs.Phases.{is_ready}
+use Rattle.ncp_control.specs.Phases.{is_ready}
 use Rattle.sockets.specs.Requests.{served_notices}
 use Rattle.host_pairs.specs.Parcels.{Parcel}
 use Rattle.sockets.specs.Sending.{next_in, offered}

@@ -12,10 +12,10 @@ use Rattle.ncp_control.specs.declared.command.Command.{Command}
 use Rattle.host_pairs.specs.Asked.{commanded, requested, with_end, with_more_bits}
 use Rattle.host_pairs.specs.Commands.{granted}
 use Rattle.host_pairs.specs.Pair.{PairState, is_opening}
-use Rattle.host_pairs.specs.Phases.{is_closed, is_ready}
+use Rattle.ncp_control.specs.Phases.{is_closed, is_ready}
 use Rattle.host_pairs.specs.Turn.{freed, is_quiet}
-use Rattle.host_pairs.specs.declared.phase.Phase.{Phase}
-use Rattle.host_pairs.specs.declared.phase.Phase.TheVariants as phase
+use Rattle.ncp_control.specs.declared.phase.Phase.{Phase}
+use Rattle.ncp_control.specs.declared.phase.Phase.TheVariants as phase
 use Rattle.host_pairs.specs.Entries.{changed_first, is_mine_on}
 use Rattle.host_pairs.specs.declared.entry.Entry.{Entry}
 use Rattle.sockets.specs.Memory.{newly_known}

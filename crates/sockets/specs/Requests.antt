@@ -8,7 +8,7 @@ use Rattle.host_pairs.specs.Entries.{entry_at, sending_end, was_closed, is_open,
 use Rattle.host_pairs.specs.Pair.{PairState}
 use Rattle.sockets.specs.Pairs.{NcpState, pair_with, with_pair, owner_of}
 use Rattle.host_pairs.specs.Desk.{listens_on, without_listener}
-use Rattle.host_pairs.specs.Phases.{is_ready}
+use Rattle.ncp_control.specs.Phases.{is_ready}
 use Rattle.host_pairs.specs.Parcels.{link_of}
 use Rattle.host_pairs.specs.declared.entry.Entry.{Entry}
 use Rattle.sockets.specs.declared.fault.NcpFault.{NcpFault}

@@ -5,7 +5,7 @@ ghost use Rattle.std.specs.Prelude.{◌≡◌, ◌+◌, ◌<◌, ◌++◌, ◌�
 ghost use Rattle.ncp_control.specs.Command.{is_alone};
 ghost use Rattle.sockets.specs.Calls.{IsRefused, IsServed};
 ghost use Rattle.host_pairs.specs.Commands.{granted};
-ghost use Rattle.host_pairs.specs.Phases.{is_ready};
+ghost use Rattle.ncp_control.specs.Phases.{is_ready};
 ghost use Rattle.sockets.specs.Memory.{newly_kept, newly_known, queued_by_closing};
 ghost use Rattle.sockets.specs.Others.{owner_host};
 ghost use Rattle.sockets.specs.Pairs.{owner_of, pair_with};

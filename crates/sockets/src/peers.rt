@@ -10,7 +10,7 @@ ghost use Rattle.host_pairs.specs.Asked.{commanded, requested, with_end, with_mo
 ghost use Rattle.host_pairs.specs.Commands.{granted};
 ghost use Rattle.host_pairs.specs.Outgoing.{HasRoom, IsThere, parcel_of};
 ghost use Rattle.host_pairs.specs.Pair.{PairState, opening_pair};
-ghost use Rattle.host_pairs.specs.Phases.{is_ready};
+ghost use Rattle.ncp_control.specs.Phases.{is_ready};
 ghost use Rattle.host_pairs.specs.Turn.{freed, is_quiet};
 ghost use Rattle.sockets.specs.Owned.{AreKnown, AreKnownBut, some_own};
 ghost use Rattle.sockets.specs.Pairs.{owner_of, pair_with, with_pair, placed, without_peer};

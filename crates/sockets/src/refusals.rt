@@ -4,7 +4,7 @@ ghost use Rattle.std.specs.Prelude.{◌≡◌, MatchResult, Option, Some, None, 
 ghost use Rattle.sockets.specs.Others.{owner_host};
 ghost use Rattle.sockets.specs.Pairs.{pair_with, owner_of};
 ghost use Rattle.sockets.specs.Peers.{AreInOrder};
-ghost use Rattle.host_pairs.specs.Phases.{is_ready};
+ghost use Rattle.ncp_control.specs.Phases.{is_ready};
 ghost use Rattle.sockets.specs.Requests as requests;
 ghost use Rattle.sockets.specs.Requests.{at_owner, with_peer};
 ghost use Rattle.host_pairs.specs.Asked.{interrupt_of};

@@ -11,7 +11,7 @@ use Rattle.host_pairs.specs.Allowed.{commands_of}
 use Rattle.host_pairs.specs.Control.{orders_of}
 use Rattle.host_pairs.specs.Pair.{PairState}
 use Rattle.host_pairs.specs.Parcels.{Parcel}
-use Rattle.host_pairs.specs.Phases.{is_ready}
+use Rattle.ncp_control.specs.Phases.{is_ready}
 use Rattle.host_pairs.specs.declared.notice.Notice.{Notice}
 use Rattle.sockets.specs.Accepting.{accepted, turn_of}
 use Rattle.sockets.specs.Pairs.{NcpState, pair_with}

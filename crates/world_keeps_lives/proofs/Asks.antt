@@ -14,7 +14,7 @@ use Rattle.host_pairs.specs.Desk.{listens_on, without_listener}
 use Rattle.host_pairs.specs.Entries.{called_off, changed_first, closed_when, entry_at, free_link, is_mine_on, is_open, must_close, receiving_end, sending_end, was_closed}
 use Rattle.host_pairs.specs.Pair.{PairState}
 use Rattle.host_pairs.specs.Parcels.{link_of}
-use Rattle.host_pairs.specs.Phases.{is_ready}
+use Rattle.ncp_control.specs.Phases.{is_ready}
 use Rattle.host_pairs.specs.declared.entry.Entry.{Entry}
 use Rattle.host_pairs.specs.declared.listener.Listener.{Listener}
 use Rattle.host_pairs.specs.declared.notice.Notice.TheVariants as notice

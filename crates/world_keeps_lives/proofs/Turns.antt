@@ -10,7 +10,7 @@ use Rattle.host_pairs.specs.Commands.{desk_taken}
 use Rattle.host_pairs.specs.Control.{Legal, Order, Wrong, error, orders_of}
 use Rattle.host_pairs.specs.Data.{data_taken}
 use Rattle.host_pairs.specs.Desk.{DeskState, desk_of, listens_on, command_queued, settled}
-use Rattle.host_pairs.specs.Phases.{is_ready, taken_phase}
+use Rattle.ncp_control.specs.Phases.{is_ready, taken_phase}
 use Rattle.host_pairs.specs.Turn.{TurnState, answered_turn, closed, command_taken, failed, failed_by, freed, if_ready, is_gone, message_taken, order_taken, orders_taken, reply_notices, reply_taken, reset_notices, reset_taken, settled_turn, with_desk}
 use Rattle.host_pairs.specs.Entries.{closed_when, must_close}
 use Rattle.host_pairs.specs.declared.entry.Entry.{Entry}
@@ -18,8 +18,8 @@ use Rattle.host_pairs.specs.declared.listener.Listener.{Listener}
 use Rattle.host_pairs.proofs.lemmas.{both}
 use Rattle.host_pairs.specs.declared.notice.Notice.{Notice}
 use Rattle.host_pairs.specs.declared.notice.Notice.TheVariants as notice
-use Rattle.host_pairs.specs.declared.phase.Phase.{Phase}
-use Rattle.host_pairs.specs.declared.phase.Phase.TheVariants as phase
+use Rattle.ncp_control.specs.declared.phase.Phase.{Phase}
+use Rattle.ncp_control.specs.declared.phase.Phase.TheVariants as phase
 use Rattle.host_keeps_pairing.proofs.lemmas.{reply_idle, rfnm_idle}
 use Rattle.net_sim.specs.declared.life.Life.{Life}
 use Rattle.net_sim.specs.Book.{Kept, all_told, lives_with}

@@ -5,7 +5,7 @@ use Rattle.host_pairs.specs.Entries.{receiving_end}
 use Rattle.host_pairs.specs.Pair.{opening_pair}
 use Rattle.host_pairs.specs.Parcels.{asked_at}
 use Rattle.host_pairs.specs.declared.entry.Entry.{Entry}
-use Rattle.host_pairs.specs.declared.phase.Phase.TheVariants as phase
+use Rattle.ncp_control.specs.declared.phase.Phase.TheVariants as phase
 use Rattle.sockets.specs.Pairs.{NcpState, opening_state}
 use Rattle.sockets.specs.Worked.{first, second}
 

@@ -6,7 +6,7 @@ use Rattle.interface.specs.declared.crossing.Crossing.TheVariants as crossing
 use Rattle.host_pairs.specs.About.{AreAbout, IsAbout}
 use Rattle.host_pairs.specs.declared.notice.Notice.{Notice}
 use Rattle.host_pairs.specs.declared.notice.Notice.TheVariants as notice
-use Rattle.host_pairs.specs.Phases.{is_ready}
+use Rattle.ncp_control.specs.Phases.{is_ready}
 use Rattle.sockets.specs.Pairs.{NcpState, pair_with}
 use Rattle.sockets.specs.Requests.{served_notices}
 use Rattle.sockets.specs.declared.request.Request.{Request}

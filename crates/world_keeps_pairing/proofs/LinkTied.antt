@@ -10,7 +10,7 @@ use Rattle.host_pairs.specs.Data.{data_taken}
 use Rattle.host_pairs.specs.Desk.{desk_of}
 use Rattle.host_pairs.specs.Pair.{PairState}
 use Rattle.host_pairs.specs.Parcels.{Parcel, link_for, pair_after, parcel_gone, text_for}
-use Rattle.host_pairs.specs.Phases as phases
+use Rattle.ncp_control.specs.Phases as phases
 use Rattle.host_pairs.specs.Turn.{TurnState, if_ready, message_taken, orders_taken, with_desk}
 use Rattle.host_keeps_ranges.specs.Ranges.{IsRanged}
 use Rattle.host_keeps_ranges.specs.Ranges as ranges
@@ -29,36 +29,31 @@ use Rattle.pairing_law.specs.Sides.{Side}
 use Rattle.pairing_law.specs.Links.{AreSteps, Receiver, Sender, Sockets, Step, Word, receiver, said_words}
 use Rattle.pairing_law.specs.Places.{placed_event, tagged, with_place}
 use Rattle.pairing_law.proofs.lemmas.Seen as words
-use Rattle.reset_law.specs.Events.{Event, Message, Other, Out, Reply, Reset, are, place}
+use Rattle.reset_law.specs.Events.{Event, Message, Other, Out, Reply, Reset, are, place, In}
 use Rattle.reset_law.specs.Pairs.{pair}
 use Rattle.reset_law.specs.Runs.{IsRun}
 use Rattle.reset_law.specs.Stays as stay
-use Rattle.net_sim.specs.Projection.{Agrees, event_of, message_on}
+use Rattle.net_sim.specs.Projection.{Agrees, event_of, message_on, IsApart}
 use Rattle.net_sim.specs.Story.{Crossed, IsNext, IsStory, Moment, events_of, places, program}
 use Rattle.net_sim.proofs.lemmas.{program_own, story_agrees}
 use Rattle.world_keeps_pairing.specs.Free.{NameFree, TakesFreeAt, law_events}
 use Rattle.world_keeps_pairing.specs.Steps.{all_heard, all_said, heard_in, onto, steps, words_by, words_of}
 use Rattle.reset_law.specs.Boxes.{Waiting, boxes}
-use Rattle.reset_law.specs.Events.{In}
-use Rattle.net_sim.specs.Projection.{IsApart}
 use Rattle.world_keeps_pairing.proofs.LinkDesks.{linked_data}
 use Rattle.world_keeps_pairing.proofs.LinkTurns.{orders_links}
-use Rattle.world_keeps_pairing.proofs.LinkGone.{words_tagged}
-use Rattle.world_keeps_pairing.proofs.LinkAll.{heard_nothing}
+use Rattle.world_keeps_pairing.proofs.LinkGone.{words_tagged, parcel_links, read_words, words_said}
+use Rattle.world_keeps_pairing.proofs.LinkAll.{heard_nothing, Linked}
 use Rattle.world_keeps_pairing.proofs.Local.{Links, all_claims}
 use Rattle.world_keeps_pairing.proofs.Messages.{are_same, boxed, boxed_is, heard_off, place_in, stays_as}
 use Rattle.world_keeps_pairing.proofs.Programs.{AnRrp, AnRst, AText, Sort, plain_joint, sort_of}
-use Rattle.world_keeps_pairing.proofs.Tied.{IsOrigin, heard_all, steps_turn, taken_steps, under_heard_in}
+use Rattle.world_keeps_pairing.proofs.Tied.{IsOrigin, heard_all, steps_turn, taken_steps, under_heard_in, Tied, may_turn}
 use Rattle.world_keeps_pairing.proofs.Claims.{Claim, heard_claims, said_claims}
-use Rattle.world_keeps_pairing.proofs.LinkAll.{Linked}
 use Rattle.world_keeps_pairing.proofs.LinkCalls.{LinksOf}
-use Rattle.world_keeps_pairing.proofs.LinkGone.{parcel_links, read_words, words_said}
 use Rattle.world_keeps_pairing.proofs.LinkMoments.{heard_next, said_next, sender_said}
 use Rattle.world_keeps_pairing.proofs.Marks.{AllPairs, IsPair, texts_pairs}
 use Rattle.world_keeps_pairing.proofs.Moments.{Side_of, place_is}
 use Rattle.world_keeps_pairing.proofs.Moves.{sender_speaks}
 use Rattle.world_keeps_pairing.proofs.Sides.{receiver_half, receiver_waits, sender_half}
-use Rattle.world_keeps_pairing.proofs.Tied.{Tied, may_turn}
 use Rattle.world_keeps_pairing.proofs.Views.{View, same_view, sender_says}
 
 -- ---- all that was said is of a receiving socket and a sending one

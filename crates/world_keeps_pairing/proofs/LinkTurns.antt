@@ -10,7 +10,7 @@ use Rattle.host_pairs.specs.Commands.{desk_taken}
 use Rattle.host_pairs.specs.Control.{Legal, Order, Wrong}
 use Rattle.host_pairs.specs.Desk.{desk_of}
 use Rattle.host_pairs.specs.Entries.{entry_at, is_at, is_link, sends_on}
-use Rattle.host_pairs.specs.Phases.{is_ready}
+use Rattle.ncp_control.specs.Phases.{is_ready}
 use Rattle.host_pairs.specs.Turn.{TurnState, order_taken, orders_taken, with_desk}
 use Rattle.host_pairs.specs.declared.entry.Entry.{Entry}
 use Rattle.host_pairs.proofs.lemmas.{both}

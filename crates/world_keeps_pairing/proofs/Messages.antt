@@ -7,7 +7,7 @@ use Rattle.interface.specs.declared.message.HostMessage.{HostMessage}
 use Rattle.interface.proofs.lemmas.{same_host-refl, same_host-true}
 use Rattle.host_pairs.specs.Control.{orders_of}
 use Rattle.host_pairs.specs.Pair.{PairState}
-use Rattle.host_pairs.specs.Phases as program_phases
+use Rattle.ncp_control.specs.Phases as program_phases
 use Rattle.sockets.specs.Accepting.{accepted, turn_of}
 use Rattle.sockets.specs.Pairs.{NcpState, pair_with}
 use Rattle.host_keeps_pairing.specs.Words.{AllFit, all_taken, marks_in}
@@ -23,7 +23,8 @@ use Rattle.pairing_law.proofs.lemmas.{placed_run, takes_in_stay}
 use Rattle.reset_law.specs.Boxes.{Box, Waiting, boxes}
 use Rattle.reset_law.specs.Events.{Event, Message, Reset, Reply, Other, In, are}
 use Rattle.reset_law.specs.Pairs.{pair}
-use Rattle.reset_law.specs.Phases as law
+use Rattle.ncp_control.specs.declared.phase.Phase as host
+use Rattle.ncp_control.specs.declared.phase.Phase.TheVariants as phase
 use Rattle.reset_law.specs.Runs.{IsRun}
 use Rattle.reset_law.specs.Stays as stay
 use Rattle.reset_law.proofs.lemmas.{stays_ready}
@@ -38,12 +39,12 @@ use Rattle.world_keeps_pairing.proofs.Programs.{AnRrp, AnRst, AText, Has, Sort, 
 use Rattle.world_keeps_pairing.proofs.Turns.{IsQuiet, heard_is, other, ready_is, tie_by, tie_quiet, tie_reset}
 use Rattle.world_keeps_pairing.proofs.Moments.{Side_of, Tie, in_away, waiting}
 
-ready_phase : (ph : law.Phase) → stay.is_ready ph ≡ true → ph ≡ law.Ready
-ready_phase law.Closed e = absurd (let both : false ≡ true = e in cc)
-ready_phase law.Want e = absurd (let both : false ≡ true = e in cc)
-ready_phase (law.Gone early) e = absurd (let both : false ≡ true = e in cc)
-ready_phase law.Heard e = absurd (let both : false ≡ true = e in cc)
-ready_phase law.Ready e = refl
+ready_phase : (ph : host.Phase) → program_phases.is_ready ph ≡ true → ph ≡ phase.Ready
+ready_phase phase.Closed e = absurd (let both : false ≡ true = e in cc)
+ready_phase phase.Want e = absurd (let both : false ≡ true = e in cc)
+ready_phase (phase.Gone early) e = absurd (let both : false ≡ true = e in cc)
+ready_phase phase.Heard e = absurd (let both : false ≡ true = e in cc)
+ready_phase phase.Ready e = refl
 
 pub are_same : (x y : Host) → are x y x y ≡ true
 are_same x y = ap (λ (b : Bool). b && same_host y y) (same_host-refl x) ∙ same_host-refl y

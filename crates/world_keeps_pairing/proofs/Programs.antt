@@ -13,7 +13,7 @@ use Rattle.host_pairs.specs.Control.{Order, Legal, Wrong, orders_of}
 use Rattle.host_pairs.specs.Pair.{PairState}
 use Rattle.host_pairs.specs.Parcels as parcel
 use Rattle.host_pairs.specs.Parcels.{Parcel, link_for, text_for, next_of}
-use Rattle.host_pairs.specs.Phases.{is_ready}
+use Rattle.ncp_control.specs.Phases.{is_ready}
 use Rattle.host_pairs.proofs.lemmas.{what_goes}
 use Rattle.sockets.specs.Accepting.{accepted, turn_of}
 use Rattle.sockets.specs.Pairs.{NcpState, pair_with}

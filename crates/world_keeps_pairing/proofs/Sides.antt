@@ -5,9 +5,11 @@ use Rattle.interface.specs.declared.crossing.Answer.{Answer}
 use Rattle.interface.specs.declared.crossing.Answer.TheVariants as answer
 use Rattle.reset_law.specs.Events.{Event, Message, Reset, Reply, Other, Contact, Out, In, Told, Down, Up, Idle, Call, Send, Take, Hear, Begin, are, when}
 use Rattle.reset_law.specs.Pairs.{Pair, pair_moved, pair}
-use Rattle.reset_law.specs.Phases.{Phase, Closed, Want, Gone, Heard, Ready, failed_phase}
+use Rattle.ncp_control.specs.Phases.{failed_phase}
+use Rattle.ncp_control.specs.declared.phase.Phase.{Phase}
+use Rattle.ncp_control.specs.declared.phase.Phase.TheVariants.{Closed, Want, Gone, Heard, Ready}
 use Rattle.reset_law.specs.Stays as stay
-use Rattle.reset_law.specs.Stays.{is_ready}
+use Rattle.ncp_control.specs.Phases.{is_ready}
 use Rattle.reset_law.proofs.lemmas.{begins_either}
 use Rattle.pairing_law.specs.Ends.{End, nothing, fits, gone, mark_taken}
 use Rattle.pairing_law.specs.Marks.{Mark, Ask, Close}

@@ -3,9 +3,7 @@ use Rattle.std.proofs.Common.{◌≡◌, ℕ, ◌==◌, Bool, true, false, not, 
 use Rattle.interface.specs.Host.{Host, same_host}
 use Rattle.host_pairs.specs.Control.{Order, orders_of}
 use Rattle.host_pairs.specs.Pair.{PairState}
-use Rattle.host_pairs.specs.Phases as program_phases
-use Rattle.host_pairs.specs.declared.phase.Phase as host
-use Rattle.host_pairs.specs.declared.phase.Phase.TheVariants as phase
+use Rattle.ncp_control.specs.Phases as program_phases
 use Rattle.sockets.specs.Pairs.{pair_with}
 use Rattle.host_keeps_pairing.specs.Words.{marks_in}
 use Rattle.host_keeps_pairing.specs.Ends.{HasEnd, kept_in}
@@ -19,7 +17,7 @@ use Rattle.pairing_law.proofs.lemmas.{pair_same}
 use Rattle.reset_law.specs.Events.{Event, Message, Out, place}
 use Rattle.reset_law.specs.Pairs.{Pair, pair}
 use Rattle.reset_law.specs.Stays as stay
-use Rattle.net_sim.specs.Projection.{Agrees, message_on, phase_of}
+use Rattle.net_sim.specs.Projection.{Agrees, message_on}
 use Rattle.net_sim.specs.Story.{Moment, IsStory, events_of, program}
 use Rattle.net_sim.proofs.lemmas.{story_agrees}
 use Rattle.world_keeps_pairing.specs.Steps.{keeps}
@@ -32,19 +30,10 @@ abbrev pub other : Who → Who
 other Receiver = Sender
 other Sender = Receiver
 
--- ---- phases
-
-pub phases_same : (ph : host.Phase) → stay.is_ready (phase_of ph) ≡ program_phases.is_ready ph
-phases_same phase.Closed = refl
-phases_same phase.Want = refl
-phases_same (phase.Gone early) = refl
-phases_same phase.Heard = refl
-phases_same phase.Ready = refl
-
 pub ready_is : (h p : Host) (moments : List Moment) → IsStory moments → stay.ready h p (law_events moments) ≡ program_phases.is_ready (pair_with p (program h moments).peers).phase
 ready_is h p moments story =
     let a : Agrees (pair_with p (program h moments).peers) (pair h p (events_of moments)) = story_agrees moments h p story in
-    ap (λ (q : Pair). stay.is_ready q.phase) (pair_same h p (events_of moments)) ∙ ap stay.is_ready a.phase ∙ phases_same (pair_with p (program h moments).peers).phase
+    ap (λ (q : Pair). program_phases.is_ready q.phase) (pair_same h p (events_of moments)) ∙ ap program_phases.is_ready a.phase
 
 -- ---- what a text says
 

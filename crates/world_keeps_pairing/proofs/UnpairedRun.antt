@@ -11,7 +11,7 @@ use Rattle.host_pairs.specs.Allowed.{commands_of}
 use Rattle.host_pairs.specs.Control.{Order, orders_of}
 use Rattle.host_pairs.specs.Pair.{PairState}
 use Rattle.host_pairs.specs.Parcels.{link_for, text_for}
-use Rattle.host_pairs.specs.Phases.{is_ready}
+use Rattle.ncp_control.specs.Phases.{is_ready}
 use Rattle.sockets.specs.Accepting.{accepted}
 use Rattle.sockets.specs.Pairs.{NcpState, opening_state, pair_with}
 use Rattle.sockets.specs.Requests.{refusal, served}

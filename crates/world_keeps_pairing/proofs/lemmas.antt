@@ -14,7 +14,7 @@ pub use Rattle.world_keeps_pairing.proofs.Programs.{AText, AnRrp, AnRst, Sort, p
 pub use Rattle.world_keeps_pairing.proofs.Served.{AreServed, served_in}
 pub use Rattle.world_keeps_pairing.proofs.Sides.{Unheard, all_hears, all_says, at_texts, before, half, hears_if, left_if, met_if, receiver_half, sender_half, unheard}
 pub use Rattle.world_keeps_pairing.proofs.Tied.{AreOrigins, IsOrigin, programs_ranged, receiver_hears, sender_hears}
-pub use Rattle.world_keeps_pairing.proofs.Turns.{heard_is, other, phases_same, ready_is}
+pub use Rattle.world_keeps_pairing.proofs.Turns.{heard_is, other, ready_is}
 pub use Rattle.world_keeps_pairing.proofs.Unpaired.{IsSilent, IsUnpaired, unpaired_turned, waiting_silent}
 pub use Rattle.world_keeps_pairing.proofs.UnpairedMoments.{AllBare, all_bare, mail_below}
 pub use Rattle.world_keeps_pairing.proofs.Worlds.{book_lives, book_run, world_alone, world_partners}

@@ -4,7 +4,7 @@ use Rattle.interface.specs.Host.{Host}
 use Rattle.interface.specs.declared.crossing.Crossing.{Crossing}
 use Rattle.interface.specs.declared.crossing.Crossing.TheVariants as crossing
 use Rattle.host_pairs.specs.Control.{orders_of}
-use Rattle.host_pairs.specs.Phases.{is_ready}
+use Rattle.ncp_control.specs.Phases.{is_ready}
 use Rattle.sockets.specs.Accepting.{turn_of}
 use Rattle.sockets.specs.Pairs.{pair_with}
 use Rattle.host_keeps_pairing.specs.Hearing.{AreFree}

@@ -8,7 +8,7 @@ use Rattle.host_pairs.specs.Desk.{desk_of, listens_on}
 use Rattle.host_pairs.specs.Entries.{is_busy}
 use Rattle.host_pairs.specs.Pair.{PairState}
 use Rattle.host_pairs.specs.Parcels.{Parcel, Reset, Reply, Commands, Bytes, command_gone, with_connections}
-use Rattle.host_pairs.specs.Phases.{is_ready}
+use Rattle.ncp_control.specs.Phases.{is_ready}
 use Rattle.host_pairs.specs.Turn.{TurnState, order_taken}
 use Rattle.host_pairs.specs.declared.entry.Entry.{Entry}
 use Rattle.host_pairs.specs.declared.listener.Listener.{Listener}

@@ -7,8 +7,8 @@ use Rattle.host_pairs.specs.declared.entry.Closing.{Closing}
 use Rattle.host_pairs.specs.declared.entry.Closing.TheVariants as closing
 use Rattle.host_pairs.specs.declared.entry.Entry.{Entry}
 use Rattle.host_pairs.specs.declared.listener.Listener.{Listener}
-use Rattle.host_pairs.specs.declared.phase.Phase.{Phase}
-use Rattle.host_pairs.specs.declared.phase.Phase.TheVariants as phase
+use Rattle.ncp_control.specs.declared.phase.Phase.{Phase}
+use Rattle.ncp_control.specs.declared.phase.Phase.TheVariants as phase
 use Rattle.host_services.specs.Services.{ServicesState}
 use Rattle.host_services.specs.declared.service.Service.{Service}
 use Rattle.host_services.specs.declared.service.Service.TheVariants as service

@@ -4,7 +4,7 @@
 ghost use Rattle.std.specs.Prelude.{◌≡◌, ℕ, List, [], ◌∷◌, None, Some, codes, true, false};
 ghost use Rattle.host_pairs.specs.Entries.{receiving_end, refused_end};
 ghost use Rattle.host_pairs.specs.Pair.{opening_pair};
-ghost use Rattle.host_pairs.specs.declared.phase.Phase.TheVariants as phase;
+ghost use Rattle.ncp_control.specs.declared.phase.Phase.TheVariants as phase;
 ghost use Rattle.host_services.specs.declared.service.Service.TheVariants as service;
 ghost use Rattle.host_services.specs.Services.{no_services};
 ghost use Rattle.icp.specs.Server.{opening_server};

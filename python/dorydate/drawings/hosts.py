@@ -130,7 +130,7 @@ def book() -> Drawing:
 
 def phase_faults() -> list[str]:
     """The phases that the picture and the code don't share."""
-    path = f"{ROOT}/crates/host_pairs/src/phase.rt"
+    path = f"{ROOT}/crates/ncp_control/src/phase.rt"
     with open(path, encoding="utf-8") as file:
         found = re.search(r"pub enum Phase \{(.*?)\n\}", file.read(), re.DOTALL)
     names = set(re.findall(r"^\s+([A-Z]\w+)", found[1], re.MULTILINE)) if found else set()

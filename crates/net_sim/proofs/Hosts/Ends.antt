@@ -11,7 +11,7 @@ use Rattle.interface.specs.declared.message.HostMessage.{HostMessage}
 use Rattle.sockets.specs.Accepting.{accepted}
 use Rattle.sockets.specs.Pairs.{NcpState, owner_of, pair_with}
 use Rattle.host_pairs.specs.Desk.{listens_on}
-use Rattle.host_pairs.specs.Phases.{is_ready}
+use Rattle.ncp_control.specs.Phases.{is_ready}
 use Rattle.host_pairs.specs.declared.entry.Entry.{Entry}
 use Rattle.ncp_control.specs.Numbers.{is_byte_size, is_send_socket, is_receive_socket}
 use Rattle.host_pairs.specs.Entries.{was_closed, is_open, free_link}

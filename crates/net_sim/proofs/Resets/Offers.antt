@@ -16,23 +16,22 @@ use Rattle.host_pairs.specs.Pair.{PairState}
 use Rattle.host_pairs.specs.Desk.{DeskState, desk_of}
 use Rattle.sockets.specs.Pairs.{NcpState, pair_with}
 use Rattle.sockets.specs.Peers.{AreInOrder}
-use Rattle.host_pairs.specs.Phases as program
+use Rattle.ncp_control.specs.Phases as program
 use Rattle.host_pairs.specs.Parcels as parcel
 use Rattle.host_pairs.specs.Parcels.{Parcel, next_of, next_of_ready, next_bytes, bytes_on, bytes_of, bytes_by, lowest_link, may_send, may_send_on, link_of, link_for, text_for, if_silent, pair_after, parcel_gone, commands_gone, command_gone, request_gone, asked_at, cls_sent, bits_gone}
 use Rattle.sockets.specs.Sending.{next_in, message_for, offered}
 use Rattle.host_pairs.specs.declared.entry.Entry.{Entry}
 use Rattle.host_pairs.specs.declared.listener.Listener.{Listener}
 use Rattle.sockets.specs.declared.peer.Peer.{Peer}
-use Rattle.host_pairs.specs.declared.phase.Phase as host
-use Rattle.host_pairs.specs.declared.phase.Phase.TheVariants as phase
+use Rattle.ncp_control.specs.declared.phase.Phase as host
+use Rattle.ncp_control.specs.declared.phase.Phase.TheVariants as phase
 use Rattle.sockets.proofs.lemmas.{next_is, next_pair}
 use Rattle.host_pairs.proofs.lemmas.{all_gone_queue, both, what_goes}
 use Rattle.reset_law.specs.Boxes.{at_link}
 use Rattle.reset_law.specs.Events.{Message, Reset, Reply, Other, Send, part_of}
 use Rattle.reset_law.specs.Pairs.{Pair, Kind, IsFreePair, pair_moved, pair_sent}
 use Rattle.reset_law.specs.Pairs as resets
-use Rattle.reset_law.specs.Phases as law
-use Rattle.net_sim.specs.Projection.{is_rst, is_rrp, is_alone, message_on, phase_of, has_asked, event_of, IsApart, ArePlain, AllPlain, Agrees, has_control, on_control}
+use Rattle.net_sim.specs.Projection.{is_rst, is_rrp, is_alone, message_on, has_asked, event_of, IsApart, ArePlain, AllPlain, Agrees, has_control, on_control}
 use Rattle.std.specs.List.{list_any}
 use Rattle.net_sim.proofs.Resets.Kept.{any_changed, over_less, plain_drop, strays}
 use Rattle.net_sim.proofs.Resets.Spelled.{packed_plain}
@@ -249,7 +248,7 @@ pub record Goes (q : PairState) (p : Pair) (x : Parcel) (new : PairState) : Type
   pub may : resets.MaySend p (link_for x) (message_on (link_for x) (text_for q x))
   pub agrees : Agrees new (pair_sent (link_for x) (message_on (link_for x) (text_for q x)) p)
 
-not_want : (ph : host.Phase) → program.is_want ph ≡ false → phase_of ph ≢ law.Want
+not_want : (ph : host.Phase) → program.is_want ph ≡ false → ph ≢ phase.Want
 not_want phase.Closed e = λ h. absurd (cc)
 not_want phase.Want e = absurd (cc)
 not_want (phase.Gone early) e = λ h. absurd (cc)
@@ -261,7 +260,7 @@ reset_goes peer stamp listening q p a m =
     let P : Message → Type 0 = λ x. resets.MaySend p 0 x × Agrees (after peer stamp listening parcel.Reset q) (pair_sent 0 x p) in
     let no : has_asked q.entries ≡ true → ⊥ = λ h. (let r : program.is_ready phase.Want ≡ true = ap program.is_ready (sym m.wanted) ∙ a.ready h in cc) in
     let goes : P Reset = (
-      (refl, a.phase ∙ ap phase_of m.wanted, all_free q p a m.silent),
+      (refl, a.phase ∙ m.wanted, all_free q p a m.silent),
       record { phase = refl; owed = a.owed; busy = busier q p a 0 resets.Rst; ready = λ h. absurd (no h); begun = a.begun; plain = a.plain; linked = a.linked },
     ) in
     let said : P (message_on 0 (text_for q parcel.Reset)) = subst P (sym (says_reset q)) goes in
@@ -282,9 +281,9 @@ said_goes : (q new : PairState) (p : Pair) (l : ℕ) (text : List Bool) → Agre
     → new.phase ≡ q.phase → new.owed ≡ q.owed → new.busy ≡ l ∷ q.busy → ArePlain new.queue → has_control new.entries ≡ false
     → resets.MaySend p l (Other text) × Agrees new (pair_sent l (Other text) p)
 said_goes q new p l text a m free begun ph ow bu plain linked = (
-  (a.phase ∙ ap phase_of m.ready, a.owed ∙ m.owes, free, begun),
+  (a.phase ∙ m.ready, a.owed ∙ m.owes, free, begun),
   record {
-    phase = a.phase ∙ ap phase_of (sym ph);
+    phase = a.phase ∙ sym ph;
     owed = a.owed ∙ sym ow;
     busy = λ k. busier q p a l resets.Plain k ∙ ap (λ (busy : List ℕ). is_busy busy k) (sym bu);
     ready = λ h. ap program.is_ready (ph ∙ m.ready);

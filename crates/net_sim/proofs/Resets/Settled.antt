@@ -8,20 +8,18 @@ use Rattle.interface.specs.declared.crossing.Crossing.TheVariants as crossing
 use Rattle.interface.specs.declared.crossing.Inbound.TheVariants as inbound
 use Rattle.interface.specs.declared.message.HostMessage.{HostMessage}
 use Rattle.interface.proofs.lemmas.{run_below}
-use Rattle.host_pairs.specs.Phases as program
-use Rattle.host_pairs.specs.declared.phase.Phase as host
-use Rattle.host_pairs.specs.declared.phase.Phase.TheVariants as phase
+use Rattle.ncp_control.specs.Phases as program
 use Rattle.sockets.specs.Accepting.{accepted}
 use Rattle.sockets.specs.Pairs.{pair_with}
 use Rattle.reset_law.specs.Events as reset
 use Rattle.reset_law.specs.Events.{Message, Other, In}
 use Rattle.reset_law.specs.Pairs.{Pair, pair}
 use Rattle.reset_law.specs.Runs.{IsRun, WaitsAfterClean}
-use Rattle.reset_law.specs.Stays.{is_ready}
+use Rattle.ncp_control.specs.Phases.{is_ready}
 use Rattle.reset_law.proofs.lemmas.{clean_run, ready_phase}
 use Rattle.net_sim.specs.Clean.{HaveAddresses, IsFresh, IsLawful, IsText, IsUnheard, is_through}
 use Rattle.net_sim.specs.World.{WorldState}
-use Rattle.net_sim.specs.Projection.{Agrees, event_of, phase_of}
+use Rattle.net_sim.specs.Projection.{Agrees, event_of}
 use Rattle.net_sim.specs.Story.{Crossed, Asked, Moment, events_of, places}
 use Rattle.net_sim.specs.Story as story
 use Rattle.net_sim.specs.Timeline.{IsTimeline, contacts_of, crossings_of, events_in}
@@ -30,13 +28,6 @@ use Rattle.net_sim.proofs.Resets.Clean.{seen_waiting, waiting_out}
 use Rattle.net_sim.proofs.Resets.Coupled.{Coupled, coupled}
 use Rattle.net_sim.proofs.Resets.StoryLemmas.{story_agrees}
 use Rattle.net_sim.proofs.Resets.Unheard.{unheard}
-
-same_ready : (p : host.Phase) → is_ready (phase_of p) ≡ program.is_ready p
-same_ready phase.Closed = refl
-same_ready phase.Want = refl
-same_ready (phase.Gone early) = refl
-same_ready phase.Heard = refl
-same_ready phase.Ready = refl
 
 -- what a host takes now
 abbrev Settles : HostMessage → List Moment → Type 0
@@ -66,7 +57,7 @@ module _ (hosts : List Host) (addresses : HaveAddresses hosts) where
         ap (λ (es : List reset.Event). pair m.flow.destination m.flow.source es) (same_events older) ∙ pair_told m.flow.destination m.flow.source older in
         let agrees : Agrees (pair_with m.flow.source (story.program m.flow.destination older).peers) (pair m.flow.destination m.flow.source (events_of older)) = story_agrees older m.flow.destination m.flow.source c.story.1 in
         let idle : program.is_ready (pair_with m.flow.source (story.program m.flow.destination older).peers).phase ≡ false =
-        sym (same_ready (pair_with m.flow.source (story.program m.flow.destination older).peers).phase) ∙ ap is_ready (sym agrees.phase) ∙ ap (λ (p : Pair). is_ready p.phase) (sym same) ∙ away in
+        ap is_ready (sym agrees.phase) ∙ ap (λ (p : Pair). is_ready p.phase) (sym same) ∙ away in
         inr (unheard (story.program m.flow.destination older) m (places older) c.story.0 plain idle)
 
   pub settled : (newer older : List Moment) (m : HostMessage) → mail.IsRun hosts (crossings_of (newer ++ Crossed (crossing.In m) ∷ older)) → IsTimeline hosts (newer ++ Crossed (crossing.In m) ∷ older) → IsText m → Settles m older

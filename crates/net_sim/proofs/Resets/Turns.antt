@@ -13,46 +13,19 @@ use Rattle.host_pairs.specs.Data.{data_taken}
 use Rattle.host_pairs.specs.Entries.{is_busy}
 use Rattle.host_pairs.specs.Pair.{PairState}
 use Rattle.host_pairs.specs.Desk.{DeskState, desk_of, command_queued}
-use Rattle.host_pairs.specs.Phases as program
+use Rattle.ncp_control.specs.Phases as program
 use Rattle.host_pairs.specs.declared.entry.Entry.{Entry}
 use Rattle.host_pairs.specs.declared.listener.Listener.{Listener}
 use Rattle.host_pairs.specs.declared.notice.Notice.{Notice}
-use Rattle.host_pairs.specs.declared.phase.Phase as host
-use Rattle.host_pairs.specs.declared.phase.Phase.TheVariants as phase
+use Rattle.ncp_control.specs.declared.phase.Phase as host
+use Rattle.ncp_control.specs.declared.phase.Phase.TheVariants as phase
 use Rattle.reset_law.specs.Boxes.{at_link}
 use Rattle.reset_law.specs.Events.{Message, Reset, Reply, Other}
 use Rattle.reset_law.specs.Pairs.{Pair, Kind, took, pair_answered}
-use Rattle.reset_law.specs.Phases as law
-use Rattle.net_sim.specs.Projection.{has_control, is_rst, is_rrp, names_control, is_alone, control_message, message_on, phase_of, Agrees, IsPlain, AllPlain, IsApart}
+use Rattle.net_sim.specs.Projection.{has_control, is_rst, is_rrp, names_control, is_alone, control_message, message_on, Agrees, IsPlain, AllPlain, IsApart}
 use Rattle.net_sim.proofs.Resets.Kept.{Kept, kept_taken, kept_data, kept_error, kept_settled}
 
 -- ---- phases
-
-reset_same : (ph : host.Phase) → law.reset_phase (phase_of ph) ≡ phase_of (program.reset_phase ph)
-reset_same phase.Closed = refl
-reset_same phase.Want = refl
-reset_same (phase.Gone early) = refl
-reset_same phase.Heard = refl
-reset_same phase.Ready = refl
-
-reply_same : (ph : host.Phase) → law.reply_phase (phase_of ph) ≡ phase_of (program.reply_phase ph)
-reply_same phase.Closed = refl
-reply_same phase.Want = refl
-reply_same (phase.Gone early) = refl
-reply_same phase.Heard = refl
-reply_same phase.Ready = refl
-
-taken_same : (ph : host.Phase) → law.taken_phase (phase_of ph) ≡ phase_of (program.taken_phase ph)
-taken_same phase.Closed = refl
-taken_same phase.Want = refl
-taken_same (phase.Gone true) = refl
-taken_same (phase.Gone false) = refl
-taken_same phase.Heard = refl
-taken_same phase.Ready = refl
-
-rfnm_by : (zero : Bool) (ph : host.Phase) → (if zero then law.taken_phase (phase_of ph) else phase_of ph) ≡ phase_of (if zero then program.taken_phase ph else ph)
-rfnm_by true ph = taken_same ph
-rfnm_by false ph = refl
 
 -- a pair that is ready stays so by an RRP and by an RFNM
 reply_ready : (ph : host.Phase) → program.is_ready ph ≡ true → program.is_ready (program.reply_phase ph) ≡ true
@@ -94,7 +67,7 @@ agrees_if work t p k a = ready_by work t p k a (program.is_ready t.pair.phase) r
 
 agrees_reset : (peer : Host) (t : TurnState) (p : Pair) → Agrees t.pair p → Agrees (reset_taken peer t).pair (took Reset p)
 agrees_reset peer t p a = record {
-  phase = ap law.reset_phase a.phase ∙ reset_same t.pair.phase;
+  phase = ap program.reset_phase a.phase;
   owed = refl;
   busy = a.busy;
   ready = λ h. absurd (cc);
@@ -105,7 +78,7 @@ agrees_reset peer t p a = record {
 
 agrees_reply : (peer : Host) (t : TurnState) (p : Pair) → Agrees t.pair p → Agrees (reply_taken peer t).pair (took Reply p)
 agrees_reply peer t p a = record {
-  phase = ap law.reply_phase a.phase ∙ reply_same t.pair.phase;
+  phase = ap program.reply_phase a.phase;
   owed = a.owed;
   busy = a.busy;
   ready = λ h. reply_ready t.pair.phase (a.ready h);
@@ -248,33 +221,33 @@ agrees_freed q p link a = record { phase = a.phase; owed = a.owed; busy = freed_
 agrees_settled : (t : TurnState) (p : Pair) → Agrees t.pair p → Agrees (settled_turn t).pair p
 agrees_settled t p a = agrees_desk t p _ a (kept_settled t.pair.busy (desk_of t.pair t.listening))
 
-agrees_rfnm : (link : ℕ) (t : TurnState) (p : Pair) → Agrees t.pair p → Agrees (rfnm_taken link t).pair (record p { phase = law.rfnm_phase link p.phase })
+agrees_rfnm : (link : ℕ) (t : TurnState) (p : Pair) → Agrees t.pair p → Agrees (rfnm_taken link t).pair (record p { phase = program.rfnm_phase link p.phase })
 agrees_rfnm link t p a =
-    let ph : law.rfnm_phase link p.phase ≡ phase_of (program.rfnm_phase link t.pair.phase) = ap (law.rfnm_phase link) a.phase ∙ rfnm_by (link == 0) t.pair.phase in
-    agrees_settled (record t { pair = record t.pair { phase = program.rfnm_phase link t.pair.phase } }) (record p { phase = law.rfnm_phase link p.phase })
+    let ph : program.rfnm_phase link p.phase ≡ program.rfnm_phase link t.pair.phase = ap (program.rfnm_phase link) a.phase in
+    agrees_settled (record t { pair = record t.pair { phase = program.rfnm_phase link t.pair.phase } }) (record p { phase = program.rfnm_phase link p.phase })
     (record { phase = ph; owed = a.owed; busy = a.busy; ready = λ h. rfnm_ready (link == 0) t.pair.phase (a.ready h); begun = a.begun; plain = a.plain; linked = a.linked })
 
 -- what becomes of a pair when a message of it fails
 abbrev unsaid : Pair → Pair
-unsaid p = record p { phase = law.failed_phase p.phase p.owed; begun = if p.owed then p.begun else false }
+unsaid p = record p { phase = program.failed_phase p.phase p.owed; begun = if p.owed then p.begun else false }
 
 abbrev turn_by : host.Phase → Bool → List ℕ → List Entry → List Command → List Listener → List Notice → TurnState
 turn_by ph owed busy entries queue listening notices =
     record { pair = record { phase = ph; owed = owed; busy = busy; entries = entries; queue = queue }; listening = listening; notices = notices }
 
-fails_to : (p : Pair) (ph : host.Phase) (owed : Bool) → p.phase ≡ phase_of ph → p.owed ≡ owed → law.failed_phase p.phase p.owed ≡ law.failed_phase (phase_of ph) owed
+fails_to : (p : Pair) (ph : host.Phase) (owed : Bool) → p.phase ≡ ph → p.owed ≡ owed → program.failed_phase p.phase p.owed ≡ program.failed_phase ph owed
 fails_to p ph owed e f = rw (e, f) refl
 
 -- it is closed, or owes an RRP and stays
-dropped : (p : Pair) (q : PairState) → law.failed_phase p.phase p.owed ≡ law.Closed → Agrees q p → Agrees (record q { phase = phase.Closed; entries = []; queue = [] }) (unsaid p)
+dropped : (p : Pair) (q : PairState) → program.failed_phase p.phase p.owed ≡ phase.Closed → Agrees q p → Agrees (record q { phase = phase.Closed; entries = []; queue = [] }) (unsaid p)
 dropped p q to a = record { phase = to; owed = a.owed; busy = a.busy; ready = λ h. absurd (cc); begun = λ h. absurd (cc); plain = tt; linked = refl }
 
-stayed : (p : Pair) (q : PairState) → law.failed_phase p.phase p.owed ≡ phase_of q.phase → q.owed ≡ true → Agrees q p → Agrees q (unsaid p)
+stayed : (p : Pair) (q : PairState) → program.failed_phase p.phase p.owed ≡ q.phase → q.owed ≡ true → Agrees q p → Agrees q (unsaid p)
 stayed p q to owing a =
     let o : p.owed ≡ true = a.owed ∙ owing in
     record { phase = to; owed = a.owed; busy = a.busy; ready = a.ready; begun = λ h. rw o (a.begun h); plain = a.plain; linked = a.linked }
 
-silent : (p : Pair) (q : PairState) → law.failed_phase p.phase p.owed ≡ phase_of q.phase → program.is_ready q.phase ≡ false → Agrees q p → Agrees q (unsaid p)
+silent : (p : Pair) (q : PairState) → program.failed_phase p.phase p.owed ≡ q.phase → program.is_ready q.phase ≡ false → Agrees q p → Agrees q (unsaid p)
 silent p q to quiet a =
     record { phase = to; owed = a.owed; busy = a.busy; ready = a.ready; begun = λ h. absurd (let r : true ≡ false = sym (a.ready h) ∙ quiet in cc); plain = a.plain; linked = a.linked }
 

@@ -12,7 +12,7 @@ use Rattle.host_pairs.specs.Control.{Order, Legal, Wrong, orders_of}
 use Rattle.host_pairs.specs.Data.{data_taken}
 use Rattle.host_pairs.specs.Desk.{DeskState}
 use Rattle.sockets.specs.Pairs.{NcpState, pair_with, with_pair}
-use Rattle.host_pairs.specs.Phases as program
+use Rattle.ncp_control.specs.Phases as program
 use Rattle.sockets.specs.declared.peer.Peer.{Peer}
 use Rattle.sockets.proofs.lemmas.{pair_changed}
 use Rattle.reset_law.specs.Events.{Message}

@@ -22,7 +22,7 @@ use Rattle.host_pairs.specs.Commands.{Found, found_in}
 use Rattle.host_pairs.specs.Data.{arrived_if, data_found, data_of, data_taken, is_acceptable}
 use Rattle.host_pairs.specs.Desk.{DeskState, desk_of}
 use Rattle.host_pairs.specs.Entries.{is_link, is_mine_on, is_open, receives_on}
-use Rattle.host_pairs.specs.Phases as phases
+use Rattle.ncp_control.specs.Phases as phases
 use Rattle.host_pairs.specs.Turn.{message_taken}
 use Rattle.host_pairs.specs.declared.entry.Entry.{Entry}
 use Rattle.host_pairs.specs.declared.notice.Notice.TheVariants as notice

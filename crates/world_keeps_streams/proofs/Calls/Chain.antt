@@ -9,7 +9,7 @@ use Rattle.interface.specs.declared.crossing.Inbound.TheVariants as inbound
 use Rattle.interface.specs.declared.message.HostMessage.{HostMessage}
 use Rattle.interface.proofs.lemmas.{same_host-true}
 use Rattle.host_pairs.specs.Pair.{PairState}
-use Rattle.host_pairs.specs.Phases.{is_ready}
+use Rattle.ncp_control.specs.Phases.{is_ready}
 use Rattle.host_keeps_streams.specs.Histories.{IsHistory, ends_now}
 use Rattle.pairing_law.proofs.lemmas.{pair_same}
 use Rattle.reset_law.specs.Events.{In, Message, Reset, Reply, Other}
@@ -123,7 +123,7 @@ module _ (a b : Host) where
 
 -- a host is through a reset by its program where it is by the law
 pub ready_both : (a b : Host) (moments : List Moment) → IsStory moments → stay.ready a b (events_of moments) ≡ is_ready (pair_with b (program a moments).peers).phase
-ready_both a b moments story = ap (λ (p : Pair). stay.is_ready p.phase) (sym (pair_same a b (events_of moments))) ∙ ready_is a b moments story
+ready_both a b moments story = ap (λ (p : Pair). is_ready p.phase) (sym (pair_same a b (events_of moments))) ∙ ready_is a b moments story
 
 pub idle : (hosts : List Host) → HaveAddresses hosts → (moments : List Moment) → mail.IsRun hosts (crossings_of moments) → IsTimeline hosts moments → (a b : Host)
     → is_ready (pair_with b (program a moments).peers).phase ≡ false → ((pair_with b (program a moments).peers).entries ≡ []) × ((pair_with b (program a moments).peers).queue ≡ [])

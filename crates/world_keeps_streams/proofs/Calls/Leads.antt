@@ -13,12 +13,12 @@ use Rattle.host_pairs.specs.Desk.{DeskState, desk_of, command_queued, settled}
 use Rattle.host_pairs.specs.Pair.{PairState}
 use Rattle.host_pairs.specs.Parcels as parcel
 use Rattle.host_pairs.specs.Parcels.{Parcel, command_gone, commands_gone, pair_after, parcel_gone, with_connections}
-use Rattle.host_pairs.specs.Phases.{is_ready, rfnm_phase}
+use Rattle.ncp_control.specs.Phases.{is_ready, rfnm_phase}
 use Rattle.host_pairs.specs.Turn.{TurnState, answered_turn, failed_by, freed, is_gone, message_taken, order_taken, orders_taken, settled_turn, with_desk}
 use Rattle.host_pairs.specs.declared.entry.Entry.{Entry}
 use Rattle.host_pairs.specs.declared.listener.Listener.{Listener}
-use Rattle.host_pairs.specs.declared.phase.Phase.{Phase}
-use Rattle.host_pairs.specs.declared.phase.Phase.TheVariants as phase
+use Rattle.ncp_control.specs.declared.phase.Phase.{Phase}
+use Rattle.ncp_control.specs.declared.phase.Phase.TheVariants as phase
 use Rattle.host_keeps_pairing.specs.Hearing.{AreJoint}
 use Rattle.host_keeps_pairing.proofs.lemmas.{orders_idle, ready_when, reply_idle, rfnm_idle, work_of}
 use Rattle.host_keeps_streams.specs.Histories as calls

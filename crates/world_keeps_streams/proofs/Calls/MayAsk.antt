@@ -11,7 +11,7 @@ use Rattle.host_pairs.specs.Entries.{entry_at, is_mine_on, is_open, was_closed}
 use Rattle.host_pairs.specs.Pair.{PairState}
 use Rattle.host_pairs.specs.Parcels as parcel
 use Rattle.host_pairs.specs.Parcels.{Parcel, link_of, may_send_on, next_of}
-use Rattle.host_pairs.specs.Phases.{is_ready}
+use Rattle.ncp_control.specs.Phases.{is_ready}
 use Rattle.host_pairs.specs.declared.entry.Entry.{Entry}
 use Rattle.host_pairs.specs.declared.listener.Listener.{Listener}
 use Rattle.host_pairs.proofs.lemmas.{both, what_goes}

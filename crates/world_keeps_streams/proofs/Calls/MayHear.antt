@@ -7,7 +7,7 @@ use Rattle.interface.specs.declared.message.HostMessage.{HostMessage}
 use Rattle.interface.proofs.lemmas.{same_host-refl, waits_with}
 use Rattle.ncp_control.specs.Numbers.{is_receive_socket, is_send_socket}
 use Rattle.host_pairs.specs.Control.{Order, orders_of}
-use Rattle.host_pairs.specs.Phases.{is_ready}
+use Rattle.ncp_control.specs.Phases.{is_ready}
 use Rattle.host_pairs.proofs.lemmas.{both}
 use Rattle.host_keeps_ranges.proofs.lemmas.{text_good}
 use Rattle.host_keeps_pairing.specs.Ends.{HasEnd}

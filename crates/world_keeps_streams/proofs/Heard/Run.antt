@@ -7,7 +7,7 @@ use Rattle.interface.proofs.lemmas.{same_host-true}
 use Rattle.ncp_control.specs.declared.command.Command.{Command}
 use Rattle.host_pairs.specs.Control.{Order, orders_of}
 use Rattle.host_pairs.specs.Pair.{PairState}
-use Rattle.host_pairs.specs.Phases as program_phases
+use Rattle.ncp_control.specs.Phases as program_phases
 use Rattle.host_keeps_pairing.proofs.lemmas.{eqb-sym}
 use Rattle.host_keeps_pairing.specs.Words.{marks_in}
 use Rattle.host_keeps_streams.specs.Histories as calls

@@ -6,7 +6,7 @@ use Rattle.interface.specs.declared.message.HostMessage.{HostMessage}
 use Rattle.interface.proofs.lemmas.{same_host-true}
 use Rattle.ncp_control.specs.Numbers.{is_receive_socket, is_send_socket}
 use Rattle.host_pairs.specs.Entries.{is_at}
-use Rattle.host_pairs.specs.Phases.{is_ready}
+use Rattle.ncp_control.specs.Phases.{is_ready}
 use Rattle.host_pairs.specs.declared.entry.Entry.{Entry}
 use Rattle.host_pairs.proofs.lemmas.{both}
 use Rattle.host_keeps_pairing.specs.Ends.{HasEnd, at, end_of, is_past, standing}
@@ -15,7 +15,7 @@ use Rattle.pairing_law.specs.Ends.{End, nothing}
 use Rattle.pairing_law.proofs.lemmas.{takes_in_stay}
 use Rattle.reset_law.specs.Events.{Event, Idle, In, Message, Other, Out, Reply, Reset, Send, Take, are, when}
 use Rattle.reset_law.specs.Pairs.{MaySend, pair_moved, pair}
-use Rattle.reset_law.specs.Phases as law
+use Rattle.ncp_control.specs.declared.phase.Phase.TheVariants as phase
 use Rattle.reset_law.specs.Runs.{IsRun}
 use Rattle.reset_law.specs.Stays as stay
 use Rattle.reset_law.proofs.lemmas.{ready_phase, stays_ready}
@@ -83,21 +83,21 @@ module _ (h p : Host) (events : List Event) (ready : stay.ready h p events ≡ t
 
   keeps_text : (x y : Host) (l : ℕ) (text : List Bool) → keeps h p (In x y l (Other text)) events ≡ true
   keeps_text x y l text = still (In x y l (Other text)) (by (are h p y x)) refl where
-    by : (v : Bool) → stay.is_ready (pair_moved (when v (Take (Other text))) (pair h p events)).phase ≡ true
+    by : (v : Bool) → is_ready (pair_moved (when v (Take (Other text))) (pair h p events)).phase ≡ true
     by true = ready
     by false = ready
 
   -- its next RST waits for a contact
   keeps_out : (hosts : List Host) (y : Host) (l : ℕ) (m : Message) → IsRun hosts (Out h y l m ∷ events) → keeps h p (Out h y l m) events ≡ true
   keeps_out hosts y l m run = still (Out h y l m) (by (are h p h y) refl m run.1) refl where
-    by : (v : Bool) → are h p h y ≡ v → (n : Message) → MaySend (pair h y events) l n → stay.is_ready (pair_moved (when v (Send l n)) (pair h p events)).phase ≡ true
+    by : (v : Bool) → are h p h y ≡ v → (n : Message) → MaySend (pair h y events) l n → is_ready (pair_moved (when v (Send l n)) (pair h p events)).phase ≡ true
     by false e n may = ready
     by true e Reply may = ready
     by true e (Other text) may = ready
     by true e Reset may =
         let peer : p ≡ y = same_host-true p y (both (same_host h h) (same_host p y) e).1 in
-        let want : (pair h p events).phase ≡ law.Want = ap (λ (x : Host). (pair h x events).phase) peer ∙ may.1 in
-        clash _ (stay.is_ready (pair h p events).phase) ready (ap stay.is_ready want)
+        let want : (pair h p events).phase ≡ phase.Want = ap (λ (x : Host). (pair h x events).phase) peer ∙ may.1 in
+        clash _ (is_ready (pair h p events).phase) ready (ap is_ready want)
 
 -- ---- what the host of a moment is notified of by it, where it doesn't stay with a peer after it
 

@@ -17,13 +17,13 @@ use Rattle.host_pairs.specs.Desk.{DeskState, desk_of, swept}
 use Rattle.host_pairs.specs.Entries.{changed_at, changed_first, ending, entry_at, is_at, is_busy, is_over, opening_notices, opening_by}
 use Rattle.host_pairs.specs.Parcels as parcel
 use Rattle.host_pairs.specs.Parcels.{Parcel, asked_at, cls_sent, command_gone, commands_gone, parcel_gone}
-use Rattle.host_pairs.specs.Phases.{is_ready}
+use Rattle.ncp_control.specs.Phases.{is_ready}
 use Rattle.host_pairs.specs.Turn.{TurnState, answered_turn, failed_by, freed, is_gone, message_taken, order_taken, orders_taken, reply_notices, reset_notices, settled_turn}
 use Rattle.host_pairs.specs.declared.entry.Entry.{Entry}
 use Rattle.host_pairs.specs.declared.notice.Notice.{Notice}
 use Rattle.host_pairs.specs.declared.notice.Notice.TheVariants as notice
-use Rattle.host_pairs.specs.declared.phase.Phase.{Phase}
-use Rattle.host_pairs.specs.declared.phase.Phase.TheVariants as phase
+use Rattle.ncp_control.specs.declared.phase.Phase.{Phase}
+use Rattle.ncp_control.specs.declared.phase.Phase.TheVariants as phase
 use Rattle.sockets.specs.Accepting.{accepted, turn_of, after_turn}
 use Rattle.sockets.specs.Pairs.{NcpState, pair_with}
 use Rattle.sockets.specs.Peers.{AreInOrder}

@@ -10,11 +10,11 @@ use Rattle.interface.specs.declared.crossing.Inbound.TheVariants as inbound
 use Rattle.interface.proofs.lemmas.{same_host-true}
 use Rattle.host_pairs.specs.Entries.{is_busy}
 use Rattle.host_pairs.specs.Pair.{PairState}
-use Rattle.host_pairs.specs.Phases as program_phases
+use Rattle.ncp_control.specs.Phases as program_phases
 use Rattle.host_pairs.specs.Turn.{TurnState, answered_turn, failed, failed_by, freed, is_gone, settled_turn}
 use Rattle.host_pairs.specs.declared.notice.Notice.{Notice}
-use Rattle.host_pairs.specs.declared.phase.Phase.{Phase}
-use Rattle.host_pairs.specs.declared.phase.Phase.TheVariants as phase
+use Rattle.ncp_control.specs.declared.phase.Phase.{Phase}
+use Rattle.ncp_control.specs.declared.phase.Phase.TheVariants as phase
 use Rattle.host_keeps_pairing.proofs.lemmas.{put}
 use Rattle.host_keeps_streams.specs.Histories as calls
 use Rattle.host_keeps_streams.specs.Histories.{Answered, AreAllowed, IsTelling, ends_after, ends_now}

@@ -9,7 +9,7 @@ use Rattle.host_pairs.specs.Asked.{contact_notices}
 use Rattle.host_pairs.specs.Desk.{listens_on}
 use Rattle.host_pairs.specs.Entries.{is_mine_on}
 use Rattle.host_pairs.specs.Pair.{PairState}
-use Rattle.host_pairs.specs.Phases.{is_ready}
+use Rattle.ncp_control.specs.Phases.{is_ready}
 use Rattle.host_pairs.specs.declared.entry.Entry.{Entry}
 use Rattle.host_pairs.specs.declared.notice.Notice.{Notice}
 use Rattle.host_pairs.specs.declared.notice.Notice.TheVariants as notice

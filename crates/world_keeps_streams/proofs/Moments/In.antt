@@ -11,12 +11,12 @@ use Rattle.host_pairs.specs.Control.{Legal, Order, Wrong, orders_of}
 use Rattle.host_pairs.specs.Data.{data_taken}
 use Rattle.host_pairs.specs.Desk.{desk_of}
 use Rattle.host_pairs.specs.Pair.{PairState}
-use Rattle.host_pairs.specs.Phases as phases
+use Rattle.ncp_control.specs.Phases as phases
 use Rattle.host_pairs.specs.Turn.{TurnState, message_taken, orders_taken, reply_notices, with_desk}
 use Rattle.host_pairs.specs.declared.entry.Entry.{Entry}
 use Rattle.host_pairs.specs.declared.notice.Notice.{Notice}
-use Rattle.host_pairs.specs.declared.phase.Phase.{Phase}
-use Rattle.host_pairs.specs.declared.phase.Phase.TheVariants as phase
+use Rattle.ncp_control.specs.declared.phase.Phase.{Phase}
+use Rattle.ncp_control.specs.declared.phase.Phase.TheVariants as phase
 use Rattle.host_keeps_pairing.specs.Hearing.{AreJoint, IsJoint}
 use Rattle.host_keeps_pairing.proofs.lemmas.{orders_idle}
 use Rattle.host_keeps_streams.specs.Histories as calls

@@ -20,12 +20,12 @@ use Rattle.host_pairs.specs.Entries.{changed_at, ending, entry_at, is_busy, is_e
 use Rattle.host_pairs.specs.Pair.{PairState}
 use Rattle.host_pairs.specs.Parcels as parcel
 use Rattle.host_pairs.specs.Parcels.{Parcel, asked_at, cls_sent, command_gone, commands_gone, link_of, may_send_on, next_of, parcel_gone}
-use Rattle.host_pairs.specs.Phases.{is_ready}
+use Rattle.ncp_control.specs.Phases.{is_ready}
 use Rattle.host_pairs.specs.Turn.{answered_turn, message_taken}
 use Rattle.host_pairs.specs.declared.entry.Entry.{Entry}
 use Rattle.host_pairs.specs.declared.notice.Notice.{Notice}
 use Rattle.host_pairs.specs.declared.notice.Notice.TheVariants as notice
-use Rattle.host_pairs.specs.declared.phase.Phase.{Phase}
+use Rattle.ncp_control.specs.declared.phase.Phase.{Phase}
 use Rattle.host_pairs.proofs.lemmas.{both, what_goes}
 use Rattle.host_keeps_streams.proofs.lemmas.Senders as senders
 use Rattle.sockets.specs.Accepting.{accepted, turn_of, after_turn}

@@ -15,13 +15,13 @@ use Rattle.host_pairs.specs.Data.{data_of, data_taken, is_acceptable}
 use Rattle.host_pairs.specs.Desk.{DeskState, desk_of, listens_on, command_queued}
 use Rattle.host_pairs.specs.Entries.{changed_at, entry_at, is_ending, is_mine_on, is_open, receives_on, sends_on}
 use Rattle.host_pairs.specs.Pair.{PairState}
-use Rattle.host_pairs.specs.Phases.{is_ready}
+use Rattle.ncp_control.specs.Phases.{is_ready}
 use Rattle.host_pairs.specs.Turn.{TurnState, answered_turn, command_taken, failed, failed_by, freed, if_ready, is_gone, message_taken, order_taken, orders_taken, reply_notices, reply_taken, reset_notices, reset_taken, settled_turn, with_desk}
 use Rattle.host_pairs.specs.declared.entry.Entry.{Entry}
 use Rattle.host_pairs.specs.declared.notice.Notice.{Notice}
 use Rattle.host_pairs.specs.declared.notice.Notice.TheVariants as notice
-use Rattle.host_pairs.specs.declared.phase.Phase.{Phase}
-use Rattle.host_pairs.specs.declared.phase.Phase.TheVariants as phase
+use Rattle.ncp_control.specs.declared.phase.Phase.{Phase}
+use Rattle.ncp_control.specs.declared.phase.Phase.TheVariants as phase
 use Rattle.host_keeps_pairing.proofs.lemmas.{reply_idle}
 use Rattle.host_keeps_streams.specs.Histories.{Call, Hears, Takes}
 use Rattle.net_sim.specs.declared.life.Life.{Life}

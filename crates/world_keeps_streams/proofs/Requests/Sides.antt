@@ -9,6 +9,7 @@ use Rattle.pairing_law.specs.Sides.{Side, hears, says}
 use Rattle.pairing_law.proofs.lemmas.{Joined, asks_said, joined_run, pair_same, run_at}
 use Rattle.reset_law.specs.Events.{Event}
 use Rattle.reset_law.specs.Pairs.{Pair}
+use Rattle.ncp_control.specs.Phases as phases
 use Rattle.reset_law.specs.Stays as stay
 use Rattle.reset_law.proofs.lemmas.{begins_either}
 use Rattle.net_sim.specs.Clean.{HaveAddresses}
@@ -99,7 +100,7 @@ module _ (h p : Host) (spoken heard : List (List Bool) → List Mark) (k n : ℕ
 -- ---- the law of resets sees the same where texts carry places
 
 ready_same : (a b : Host) (events : List Event) → stay.ready a b (placed events) ≡ stay.ready a b events
-ready_same a b events = ap (λ (p : Pair). stay.is_ready p.phase) (pair_same a b events)
+ready_same a b events = ap (λ (p : Pair). phases.is_ready p.phase) (pair_same a b events)
 
 pub begins_same : (a b : Host) (e : Event) (events : List Event) → stay.begins a b (placed_event e events) (placed events) ≡ stay.begins a b e events
 begins_same a b e events =

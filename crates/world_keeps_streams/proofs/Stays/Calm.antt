@@ -18,12 +18,12 @@ use Rattle.host_pairs.specs.Entries.{free_link, is_busy, is_receiving, sending_e
 use Rattle.host_pairs.specs.Pair.{PairState}
 use Rattle.host_pairs.specs.Parcels as parcel
 use Rattle.host_pairs.specs.Parcels.{Parcel, link_of, pair_after, parcel_gone}
-use Rattle.host_pairs.specs.Phases.{is_ready, rfnm_phase}
+use Rattle.ncp_control.specs.Phases.{is_ready, rfnm_phase}
 use Rattle.host_pairs.specs.Turn.{TurnState, answered_turn, failed_by, freed, is_gone, message_taken, orders_taken, settled_turn, with_desk}
 use Rattle.host_pairs.specs.declared.entry.Entry.{Entry}
 use Rattle.host_pairs.specs.declared.listener.Listener.{Listener}
-use Rattle.host_pairs.specs.declared.phase.Phase.{Phase}
-use Rattle.host_pairs.specs.declared.phase.Phase.TheVariants as phase
+use Rattle.ncp_control.specs.declared.phase.Phase.{Phase}
+use Rattle.ncp_control.specs.declared.phase.Phase.TheVariants as phase
 use Rattle.host_pairs.proofs.lemmas.{what_goes}
 use Rattle.host_keeps_pairing.proofs.lemmas.{put}
 use Rattle.host_keeps_streams.specs.Histories as calls

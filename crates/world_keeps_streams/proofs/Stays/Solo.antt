@@ -10,14 +10,17 @@ use Rattle.interface.specs.declared.message.HostMessage.{HostMessage}
 use Rattle.interface.proofs.lemmas.{same_host-true}
 use Rattle.host_pairs.specs.Pair.{PairState}
 use Rattle.host_pairs.specs.Parcels.{Parcel}
-use Rattle.host_pairs.specs.Phases as program_phases
-use Rattle.reset_law.specs.Phases.{Phase, Closed, Want, Gone, Heard, Ready, failed_phase}
+use Rattle.ncp_control.specs.Phases as program_phases
+use Rattle.ncp_control.specs.Phases.{failed_phase}
+use Rattle.ncp_control.specs.declared.phase.Phase.{Phase}
+use Rattle.ncp_control.specs.declared.phase.Phase.TheVariants.{Closed, Want, Gone, Heard, Ready}
 use Rattle.reset_law.specs.Events.{Message, Reset, Reply, Other, Event, Contact, Out, In, Told, Down, Up, Idle, Call, Send, Take, Hear, Begin, when, are}
 use Rattle.reset_law.specs.Boxes.{Box, Empty, Waiting, Taken, WaitsWith, boxes}
 use Rattle.reset_law.specs.Pairs.{MaySend, pair_moved, pair}
 use Rattle.reset_law.specs.Pairs as law
 use Rattle.reset_law.specs.Runs.{IsRun}
-use Rattle.reset_law.specs.Stays.{is_ready, ready, takes_reset, stays}
+use Rattle.ncp_control.specs.Phases.{is_ready}
+use Rattle.reset_law.specs.Stays.{ready, takes_reset, stays}
 use Rattle.reset_law.proofs.lemmas.{carry, contradicts, ready_phase}
 use Rattle.pairing_law.proofs.lemmas.{waits_in_stay}
 use Rattle.sockets.specs.Accepting.{accepted, turn_of}

@@ -13,9 +13,9 @@ use Rattle.stream_law.specs.Streams.{Stream}
 use Rattle.host_pairs.specs.Desk.{desk_of, settled}
 use Rattle.host_pairs.specs.Entries.{is_busy}
 use Rattle.host_pairs.specs.Pair.{PairState}
-use Rattle.host_pairs.specs.Phases as program_phases
+use Rattle.ncp_control.specs.Phases as program_phases
 use Rattle.host_pairs.specs.Turn.{TurnState, answered_turn, failed, freed, settled_turn}
-use Rattle.host_pairs.specs.declared.phase.Phase.TheVariants as phase
+use Rattle.ncp_control.specs.declared.phase.Phase.TheVariants as phase
 use Rattle.host_keeps_pairing.proofs.lemmas.{eqb-sym, put}
 use Rattle.host_keeps_streams.specs.Histories as calls
 use Rattle.host_keeps_streams.specs.Histories.{Answered, IsTelling, is_out}
@@ -40,7 +40,7 @@ use Rattle.world_keeps_streams.proofs.Steps.Held.{Acted, Held, HereIn, act_by}
 use Rattle.world_keeps_streams.proofs.Steps.Joined.{commands_in, post_in}
 use Rattle.world_keeps_streams.proofs.Stays.Owing.{told_rfnm}
 
-kept_start : (t : Bool) (q : Pair) → (stay.is_ready (pair_moved (when t Begin) q).phase && not false) ≡ true → t ≡ false
+kept_start : (t : Bool) (q : Pair) → (program_phases.is_ready (pair_moved (when t Begin) q).phase && not false) ≡ true → t ≡ false
 kept_start true q k = absurd (let no : false ≡ true = k in cc)
 kept_start false q k = refl
 

@@ -9,6 +9,7 @@ use Rattle.host_keeps_streams.specs.Histories.{IsTelling}
 use Rattle.pair_keeps_streams.proofs.lemmas.{Free, Party, Post, Steps}
 use Rattle.reset_law.specs.Events.{Event, Contact, Call, Begin, when}
 use Rattle.reset_law.specs.Pairs.{Pair, pair_moved, pair}
+use Rattle.ncp_control.specs.Phases as phases
 use Rattle.reset_law.specs.Stays as stay
 use Rattle.sockets.specs.Pairs.{pair_with, opening_state}
 use Rattle.sockets.specs.Requests.{served}
@@ -24,7 +25,7 @@ use Rattle.world_keeps_streams.proofs.Steps.Held.{Acted, Held, HereIn, act}
 use Rattle.world_keeps_streams.proofs.Calls.MayCalls.{MayCalls}
 
 -- a host that keeps its ends doesn't contact this peer
-kept_contact : (t u : Bool) (q : Pair) → (stay.is_ready (pair_moved (when (t && u) Call) q).phase && not false) ≡ true → t ≡ true → u ≡ false
+kept_contact : (t u : Bool) (q : Pair) → (phases.is_ready (pair_moved (when (t && u) Call) q).phase && not false) ≡ true → t ≡ true → u ≡ false
 kept_contact true true q k e = absurd (let no : false ≡ true = k in cc)
 kept_contact true false q k e = refl
 kept_contact false u q k e = absurd (let no : false ≡ true = e in cc)
@@ -34,7 +35,7 @@ no_contact h p g r events k e peer is =
     let kept : keeps h p (Contact g peer) events ≡ true = subst (λ (y : Request). keeps h p (event_by g y) events ≡ true) is k in
     kept_contact (same_host h g) (same_host p peer) (pair h p events) kept e
 
-pub kept_stop : (t : Bool) (q : Pair) → (stay.is_ready (pair_moved (when t Begin) q).phase && not false) ≡ true → t ≡ false
+pub kept_stop : (t : Bool) (q : Pair) → (phases.is_ready (pair_moved (when t Begin) q).phase && not false) ≡ true → t ≡ false
 kept_stop true q k = absurd (let no : false ≡ true = k in cc)
 kept_stop false q k = refl
 

@@ -19,7 +19,7 @@ use Rattle.host_pairs.specs.Data.{data_taken}
 use Rattle.host_pairs.specs.Desk.{desk_of}
 use Rattle.host_pairs.specs.Entries.{is_busy}
 use Rattle.host_pairs.specs.Pair.{PairState}
-use Rattle.host_pairs.specs.Phases as program_phases
+use Rattle.ncp_control.specs.Phases as program_phases
 use Rattle.host_pairs.specs.Turn.{TurnState, message_taken, orders_taken, with_desk}
 use Rattle.host_keeps_pairing.specs.Hearing.{AreJoint}
 use Rattle.host_keeps_pairing.proofs.lemmas.{eqb-sym}

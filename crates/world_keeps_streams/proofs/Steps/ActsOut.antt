@@ -10,7 +10,7 @@ use Rattle.stream_law.specs.Streams.{Stream}
 use Rattle.host_pairs.specs.Desk.{desk_of}
 use Rattle.host_pairs.specs.Pair.{PairState}
 use Rattle.host_pairs.specs.Parcels.{link_for, next_of, pair_after, parcel_gone, text_for}
-use Rattle.host_pairs.specs.declared.phase.Phase.TheVariants as phase
+use Rattle.ncp_control.specs.declared.phase.Phase.TheVariants as phase
 use Rattle.host_keeps_pairing.proofs.lemmas.{eqb-sym}
 use Rattle.host_keeps_ranges.specs.Ranges.{IsRanged, IsReadBack}
 use Rattle.host_keeps_ranges.proofs.lemmas.{offer_read}
@@ -20,6 +20,7 @@ use Rattle.reset_law.specs.Boxes.{Box, Empty, Waiting, Put, posted, boxes}
 use Rattle.reset_law.specs.Events.{Message, Reset, Reply, Other, Out, Send, are, place, when}
 use Rattle.reset_law.specs.Pairs.{Pair, pair_moved, pair}
 use Rattle.reset_law.specs.Runs.{IsRun}
+use Rattle.ncp_control.specs.Phases as phases
 use Rattle.reset_law.specs.Stays as stay
 use Rattle.reset_law.proofs.lemmas.{stays_ready}
 use Rattle.sockets.specs.Pairs.{NcpState, pair_with}
@@ -43,7 +44,7 @@ clash : (P : Type 0) (t : Bool) → t ≡ true → t ≡ false → P
 clash P true e f = absurd (let no : true ≡ false = f in cc)
 clash P false e f = absurd (let no : false ≡ true = e in cc)
 
-kept_text : (t : Bool) (k : ℕ) (text : List Bool) (q : Pair) → stay.is_ready q.phase ≡ true → (stay.is_ready (pair_moved (when t (Send k (Other text))) q).phase && not false) ≡ true
+kept_text : (t : Bool) (k : ℕ) (text : List Bool) (q : Pair) → phases.is_ready q.phase ≡ true → (phases.is_ready (pair_moved (when t (Send k (Other text))) q).phase && not false) ≡ true
 kept_text true k text q e = rw e refl
 kept_text false k text q e = rw e refl
 

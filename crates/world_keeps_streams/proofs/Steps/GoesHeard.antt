@@ -9,7 +9,7 @@ use Rattle.host_pairs.specs.Control.{Order, Legal, Wrong, error}
 use Rattle.host_pairs.specs.Desk.{desk_of, command_queued}
 use Rattle.host_pairs.specs.Entries.{is_busy}
 use Rattle.host_pairs.specs.Pair.{PairState}
-use Rattle.host_pairs.specs.Phases.{is_ready}
+use Rattle.ncp_control.specs.Phases.{is_ready}
 use Rattle.host_pairs.specs.Turn.{TurnState, order_taken, orders_taken, with_desk}
 use Rattle.host_keeps_pairing.specs.Hearing.{AreJoint}
 use Rattle.host_keeps_pairing.proofs.lemmas.{ready_when}

@@ -4,9 +4,9 @@ use Rattle.interface.specs.Host.{Host}
 use Rattle.ncp_control.specs.declared.command.Command.{Command}
 use Rattle.stream_law.specs.Streams.{Stream}
 use Rattle.host_pairs.specs.Entries.{is_busy}
-use Rattle.host_pairs.specs.Phases as program_phases
-use Rattle.host_pairs.specs.declared.phase.Phase as host
-use Rattle.host_pairs.specs.declared.phase.Phase.TheVariants as phase
+use Rattle.ncp_control.specs.Phases as program_phases
+use Rattle.ncp_control.specs.declared.phase.Phase as host
+use Rattle.ncp_control.specs.declared.phase.Phase.TheVariants as phase
 use Rattle.host_keeps_streams.specs.Histories.{IsTelling}
 use Rattle.reset_law.specs.Boxes.{Box, Empty, boxes}
 use Rattle.reset_law.specs.Pairs.{pair}
@@ -18,7 +18,6 @@ use Rattle.net_sim.specs.Projection.{Agrees}
 use Rattle.net_sim.specs.Story.{Moment, IsStory, events_of, program}
 use Rattle.net_sim.proofs.lemmas.{story_agrees}
 use Rattle.pair_keeps_streams.proofs.lemmas.{Free, Joint, Lies, Party, Post, Steps}
-use Rattle.world_keeps_pairing.proofs.lemmas.{phases_same}
 use Rattle.world_keeps_streams.proofs.Steps.Held.{Acted, acted_out, side}
 use Rattle.world_keeps_streams.proofs.Steps.Joined.{commands_in, post_in}
 use Rattle.world_keeps_streams.proofs.Stays.Resets.{box_busy, up_ready}
@@ -28,7 +27,7 @@ use Rattle.world_keeps_streams.proofs.Stays.Resets.{box_busy, up_ready}
 pub ready_as : (h p : Host) (moments : List Moment) → IsStory moments → stay.ready h p (events_of moments) ≡ program_phases.is_ready (pair_with p (program h moments).peers).phase
 ready_as h p moments story =
     let a : Agrees (pair_with p (program h moments).peers) (pair h p (events_of moments)) = story_agrees moments h p story in
-    ap stay.is_ready a.phase ∙ phases_same (pair_with p (program h moments).peers).phase
+    ap program_phases.is_ready a.phase
 
 pub ready_phase : (ph : host.Phase) → program_phases.is_ready ph ≡ true → ph ≡ phase.Ready
 ready_phase phase.Ready e = refl

@@ -13,8 +13,8 @@ use Rattle.host_pairs.specs.Parcels as parcel
 use Rattle.host_pairs.specs.Parcels.{Parcel, command_gone, commands_gone, link_for, link_of, next_of, pair_after, parcel_gone, text_for, with_connections}
 use Rattle.host_pairs.specs.declared.entry.Entry.{Entry}
 use Rattle.host_pairs.specs.declared.listener.Listener.{Listener}
-use Rattle.host_pairs.specs.declared.phase.Phase.{Phase}
-use Rattle.host_pairs.specs.declared.phase.Phase.TheVariants as phase
+use Rattle.ncp_control.specs.declared.phase.Phase.{Phase}
+use Rattle.ncp_control.specs.declared.phase.Phase.TheVariants as phase
 use Rattle.host_pairs.proofs.lemmas.{what_goes}
 use Rattle.host_keeps_ranges.specs.Ranges.{IsReadBack}
 use Rattle.host_keeps_streams.specs.Histories as calls

@@ -1,7 +1,7 @@
 //! How far the reset of a pair of hosts has come, as one of the two sees it.
 
 ghost use Rattle.std.specs.Prelude.{◌≡◌};
-ghost use Rattle.host_pairs.specs.Phases as phases;
+ghost use Rattle.ncp_control.specs.Phases as phases;
 
 /// How far this host's reset with a peer has come (NIC 8246, RST and RRP).
 #[derive(Clone, Copy, Debug, PartialEq, Eq)]
@@ -30,14 +30,14 @@ impl Phase {
     }
 
     /// Returns whether an RST waits to go out.
-    pub(crate) fn is_want(self) -> bool
+    pub fn is_want(self) -> bool
         ensures { result ≡ phases.is_want self }
     {
         matches!(self, Phase::Want)
     }
 
     /// Returns the phase after an RST of the peer.
-    pub(crate) fn after_reset(self) -> Phase
+    pub fn after_reset(self) -> Phase
         ensures { result ≡ phases.reset_phase self }
     {
         match self {
@@ -47,7 +47,7 @@ impl Phase {
     }
 
     /// Returns the phase after an RRP of the peer.
-    pub(crate) fn after_reply(self) -> Phase
+    pub fn after_reply(self) -> Phase
         ensures { result ≡ phases.reply_phase self }
     {
         match self {
@@ -58,7 +58,7 @@ impl Phase {
     }
 
     /// Returns the phase after an RFNM on a link. The RST went out on link 0.
-    pub(crate) fn after_rfnm(self, link: u8) -> Phase
+    pub fn after_rfnm(self, link: u8) -> Phase
         ensures { result ≡ phases.rfnm_phase link self }
     {
         match self {

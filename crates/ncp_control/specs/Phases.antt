@@ -1,17 +1,19 @@
--- How far a reset has come, as one of its two hosts sees it (NIC 8246, RST and RRP).
+-- How far the reset of a pair of hosts has come, as one of the two sees it (NIC 8246, RST and RRP).
 use Rattle.std.specs.Prelude.{ℕ, Bool, true, false, ◌==◌, if◌then◌else◌}
+pub use Rattle.ncp_control.specs.declared.phase.Phase.{Phase}
+pub use Rattle.ncp_control.specs.declared.phase.Phase.TheVariants.{Closed, Want, Gone, Heard, Ready}
 
-pub data Phase : Type 0 where
-  -- nothing is asked for
-  Closed : Phase
-  -- a contact is asked for, and its RST hasn't gone out
-  Want : Phase
-  -- the RST is in transit; an RRP that came in the meantime is remembered
-  Gone : (early : Bool) → Phase
-  -- the peer has taken the RST, and its RRP is awaited
-  Heard : Phase
-  -- the two hosts may speak of connections
-  Ready : Phase
+abbrev pub is_closed : Phase → Bool
+is_closed Closed = true
+is_closed p = false
+
+abbrev pub is_want : Phase → Bool
+is_want Want = true
+is_want p = false
+
+abbrev pub is_ready : Phase → Bool
+is_ready Ready = true
+is_ready p = false
 
 -- an RST of the peer opens a closed pair; any other phase stays
 abbrev pub reset_phase : Phase → Phase
