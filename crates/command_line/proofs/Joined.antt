@@ -3,7 +3,7 @@ use Rattle.std.proofs.Common.{◌≡◌, ℕ, ◌+◌, Bool, List, [], reverse, 
 use Rattle.std.proofs.lemmas.List.{reverse-reverse}
 use Rattle.book_log.specs.Log.{Book}
 use Rattle.book_log.proofs.lemmas.{book_once}
-use Rattle.headline.proofs.lemmas.{kept_promise}
+use Rattle.headline.proofs.lemmas.{kept_promise, parted, world_run}
 use Rattle.interface.specs.Host.{Host}
 use Rattle.interface.specs.Mailboxes.{IsRun}
 use Rattle.interface.specs.Messages.{SafeMessages}
@@ -28,7 +28,7 @@ use Rattle.command_line.specs.Events.{Asked, Raw, World}
 use Rattle.command_line.specs.Logs.{Logged, LogsFrom, LogsOver, raw_book, world_book}
 use Rattle.command_line.specs.declared.auditing.AuditFault.{AuditFault}
 use Rattle.command_line.specs.declared.auditing.AuditFault.TheVariants as fault
-use Rattle.command_line.proofs.Printed.{none_there, safe_alone, world_run}
+use Rattle.command_line.proofs.Printed.{none_there, safe_alone}
 
 -- ---- the log is kept
 
@@ -55,8 +55,8 @@ kept_from calls opening (World events) octets h = record {
   book = world_book h.last.kept;
   log = record { spelled = h.written; valid = h.valid };
   says = record {
-    run = run_twice (calls.seen h.last.carrier).hosts h.last.kept.book.crossings (world_run calls.seen h.last h.promise);
-    book = turned audit.Kept h.last.kept.book.crossings h.last.kept.book.lives h.last.kept.handed (kept_promise calls.seen h.last h.promise);
+    run = run_twice (calls.seen h.last.carrier).hosts h.last.kept.book.crossings (world_run calls.seen h.last h.promise.lawful);
+    book = turned audit.Kept h.last.kept.book.crossings h.last.kept.book.lives h.last.kept.handed (kept_promise (calls.seen h.last.carrier).hosts h.last.kept.book h.last.kept.handed (parted calls.seen h.last h.promise).0);
   };
 }
 

@@ -3,6 +3,7 @@ use Rattle.std.proofs.Common.{arith, ◌≡◌, ◌+◌, ◌⊎◌, inl, inr, �
 use Rattle.std.proofs.lemmas.List.{length-append}
 use Rattle.std.specs.Io.KnownBytes.{Appends}
 use Rattle.std.specs.List.{Contains}
+use Rattle.headline.proofs.lemmas.{world_run}
 use Rattle.headline.specs.Promise.{KeepsPromise}
 use Rattle.leader1822.specs.Boxes.{Boxes, plain_calls}
 use Rattle.interface.specs.Calls.{Calls, Seen}
@@ -146,16 +147,6 @@ joined_as b other crossings reports lives joined = λ server user s u a e c d h.
       user_speaks = is_end other b (sym lives) user (u + 3) server s d h.user_speaks;
     }))
 
--- what is left of a run without its newest crossings is one
-pub older_run : (hosts : List Host) (more log : List Crossing) → IsRun hosts (more ++ log) → IsRun hosts log
-older_run hosts [] log run = run
-older_run hosts (c ∷ more) log run = older_run hosts more log run.1
-
--- the book of a world is a run, even if memory ran out in an event of which something crossed
-pub world_run : {C : Type 0} (seen : C → Seen) (last : WorldState C) → KeepsPromise seen last → IsRun (seen last.carrier).hosts last.kept.book.crossings
-world_run seen last promise =
-    older_run (seen last.carrier).hosts promise.lawful.booked.unbooked last.kept.book.crossings (subst (IsRun (seen last.carrier).hosts) promise.lawful.booked.book promise.lawful.run)
-
 world_book : {C : Type 0} (seen : C → Seen) (last : WorldState C) (shows : List lines.Shown) → ShowsBook last.kept.book shows → KeepsPromise seen last → AreOneBook shows last.kept.book.lives
 world_book seen last shows booked promise = record {
   handed = last.kept.handed;
@@ -164,7 +155,7 @@ world_book seen last shows booked promise = record {
   told = inr (subst (λ (told : List Told). FormedNotices (log_of shows) told) booked.told (subst (λ (log : List Crossing). FormedNotices log last.kept.book.notices) booked.crossed promise.told));
   safe = subst (λ log. SafeBook log last.kept.book.lives last.kept.handed) booked.crossed promise.safe;
   joined = joined_as last.kept.book (shown_book shows last.kept.book.lives) booked.crossed booked.said refl promise.joined;
-  run = subst (IsRun (seen last.carrier).hosts) booked.crossed (world_run seen last promise);
+  run = subst (IsRun (seen last.carrier).hosts) booked.crossed (world_run seen last promise.lawful);
   lived = subst (λ (told : List Told). AreLived (log_of shows) told last.kept.book.lives) booked.told
       (subst (λ (log : List Crossing). AreLived log last.kept.book.notices last.kept.book.lives) booked.crossed (lived promise.lawful.whole.moments last.kept promise.lawful.whole.kept));
 }

@@ -2,10 +2,10 @@
 use Rattle.std.proofs.Common.{◌≡◌, ℕ, Bool, List, [], ◌∷◌, length, refl, ap, sym, arith, Option, Some, None}
 use Rattle.std.specs.Prelude.{IsSome}
 use Rattle.interface.specs.declared.crossing.Crossing.{Crossing}
-use Rattle.headline.specs.Promise.{KeepsPromise}
-use Rattle.interface.specs.Calls.{Seen}
+use Rattle.interface.specs.Host.{Host}
 use Rattle.net_sim.specs.Audit.{IsWellFormed, Says}
-use Rattle.net_sim.specs.World.{WorldState}
+use Rattle.net_sim.specs.Book.{Book}
+use Rattle.headline.specs.Promised.{Promised}
 use Rattle.net_sim.specs.declared.auditing.said.Audit.TheVariants as said
 use Rattle.net_sim.specs.declared.life.Life.{Life}
 use Rattle.net_sim.specs.Formed.{FormedBook}
@@ -32,5 +32,5 @@ well_formed log lives handed f s = record {
       });
 }
 
-pub kept_promise : {C : Type 0} (seen : C → Seen) (w : WorldState C) → KeepsPromise seen w → Says said.Kept w.kept.book.crossings w.kept.book.lives w.kept.handed
-kept_promise seen w p = (well_formed w.kept.book.crossings w.kept.book.lives w.kept.handed p.formed p.safe, p.safe)
+pub kept_promise : (hosts : List Host) (book : Book) (handed : List (List Bool)) → Promised hosts book handed → Says said.Kept book.crossings book.lives handed
+kept_promise hosts book handed p = (well_formed book.crossings book.lives handed p.formed p.safe, p.safe)

@@ -1,16 +1,32 @@
--- The promise of a book, put together from its parts.
+-- The promise of a book, put together from its parts, and what else is so of its world.
+use Rattle.std.proofs.Common.{◌≡◌, List, [], ◌∷◌, ◌++◌, subst}
 use Rattle.interface.specs.Calls.{Seen}
+use Rattle.interface.specs.Host.{Host}
+use Rattle.interface.specs.Mailboxes.{IsRun}
+use Rattle.interface.specs.declared.crossing.Crossing.{Crossing}
+use Rattle.net_sim.specs.Book.{Kept}
 use Rattle.net_sim.specs.Clean.{IsLawful}
 use Rattle.net_sim.specs.World.{WorldState}
 use Rattle.net_sim.proofs.lemmas.{booked_messages}
-use Rattle.headline.specs.Promise.{KeepsPromise}
+use Rattle.headline.specs.Promised.{Promised}
+use Rattle.headline.specs.Promise.{IsExact, KeepsPromise}
 use Rattle.world_keeps_connections.proofs.lemmas.{world_joined}
 use Rattle.world_keeps_lives.proofs.lemmas.{world_formed, world_handed, world_taken, world_told}
 use Rattle.world_keeps_pairing.proofs.lemmas.{world_alone, world_partners}
 use Rattle.world_keeps_streams.proofs.lemmas.{world_arrives, world_closes, world_firsts, world_rests, world_sent, world_source}
 
-pub promise : {C : Type 0} (seen : C → Seen) (w : WorldState C) → IsLawful seen (seen w.carrier).hosts w → KeepsPromise seen w
-promise seen w lawful = record {
+-- what is left of a run without its newest crossings is one
+older_run : (hosts : List Host) (more log : List Crossing) → IsRun hosts (more ++ log) → IsRun hosts log
+older_run hosts [] log run = run
+older_run hosts (c ∷ more) log run = older_run hosts more log run.1
+
+-- the book of a world is a run, even if memory ran out in an event of which something crossed
+pub world_run : {C : Type 0} (seen : C → Seen) (w : WorldState C) → IsLawful seen (seen w.carrier).hosts w → IsRun (seen w.carrier).hosts w.kept.book.crossings
+world_run seen w lawful = older_run (seen w.carrier).hosts lawful.booked.unbooked w.kept.book.crossings (subst (IsRun (seen w.carrier).hosts) lawful.booked.book lawful.run)
+
+pub promised : {C : Type 0} (seen : C → Seen) (w : WorldState C) → IsLawful seen (seen w.carrier).hosts w → Promised (seen w.carrier).hosts w.kept.book w.kept.handed
+promised seen w lawful = record {
+  run = world_run seen w lawful;
   formed = world_formed seen (seen w.carrier).hosts w lawful;
   told = world_told seen (seen w.carrier).hosts w lawful;
   safe = record {
@@ -27,9 +43,25 @@ promise seen w lawful = record {
     };
   };
   joined = world_joined seen (seen w.carrier).hosts w lawful;
+}
+
+pub exact : {C : Type 0} (seen : C → Seen) (w : WorldState C) → IsLawful seen (seen w.carrier).hosts w → IsExact seen w
+exact seen w lawful = record {
   lawful = lawful;
   arrives = world_arrives seen (seen w.carrier).hosts w lawful;
   closes = world_closes seen (seen w.carrier).hosts w lawful;
   rests = world_rests seen (seen w.carrier).hosts w lawful;
   firsts = world_firsts seen (seen w.carrier).hosts w lawful;
 }
+
+-- both together are what one record says
+pub both : {C : Type 0} (seen : C → Seen) (w : WorldState C) → Promised (seen w.carrier).hosts w.kept.book w.kept.handed → IsExact seen w → KeepsPromise seen w
+both seen w p e = record { formed = p.formed; told = p.told; safe = p.safe; joined = p.joined; lawful = e.lawful; arrives = e.arrives; closes = e.closes; rests = e.rests; firsts = e.firsts }
+
+pub parted : {C : Type 0} (seen : C → Seen) (w : WorldState C) → KeepsPromise seen w → Promised (seen w.carrier).hosts w.kept.book w.kept.handed × IsExact seen w
+parted seen w k =
+    (record { run = world_run seen w k.lawful; formed = k.formed; told = k.told; safe = k.safe; joined = k.joined }, record { lawful = k.lawful; arrives = k.arrives; closes = k.closes; rests = k.rests; firsts = k.firsts })
+
+-- so where a call promises it of the book that it gives
+pub given : {C : Type 0} (seen : C → Seen) (w : WorldState C) (k : Kept) → k ≡ w.kept → Promised (seen w.carrier).hosts k.book k.handed → IsExact seen w → KeepsPromise seen w
+given seen w k is p e = both seen w (subst (λ (j : Kept). Promised (seen w.carrier).hosts j.book j.handed) is p) e

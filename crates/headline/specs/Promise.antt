@@ -1,4 +1,4 @@
--- What the book of a world promises.
+-- What the book of a world promises, and what ties it to the programs of all hosts.
 use Rattle.interface.specs.Calls.{Seen}
 use Rattle.net_sim.specs.Clean.{IsLawful}
 use Rattle.net_sim.specs.Formed.{FormedBook}
@@ -22,6 +22,15 @@ pub record KeepsPromise {C : Type 0} (seen : C → Seen) (w : WorldState C) : Ty
   pub told : FormedNotices w.kept.book.crossings w.kept.book.notices
   pub safe : SafeBook w.kept.book.crossings w.kept.book.lives w.kept.handed
   pub joined : JoinedBook w.kept.book
+  pub lawful : IsLawful seen (seen w.carrier).hosts w
+  pub arrives : AllArrive lawful.whole.moments
+  pub closes : AllClose lawful.whole.moments
+  pub rests : AllRest lawful.whole.moments
+  pub firsts : FirstBook w.kept.book.crossings w.kept.book.lives
+
+-- what `Promised` leaves: the world is lawful, in its moments data arrive, and lives agree where their ends close and where they rest; and the crossings
+-- determine the bits of all lives
+pub record IsExact {C : Type 0} (seen : C → Seen) (w : WorldState C) : Type 0 where
   pub lawful : IsLawful seen (seen w.carrier).hosts w
   pub arrives : AllArrive lawful.whole.moments
   pub closes : AllClose lawful.whole.moments
