@@ -16,10 +16,11 @@ import { tmpdir } from "node:os";
  * @typedef {object} Browser
  * @property {string} name
  * @property {(address: string) => Promise<void>} open opens a page, and waits until it is loaded
- * @property {(body: string) => Promise<any>} evaluate runs the body of an async function in the page, and gives what it returns
+ * @property {(body: string) => Promise<any>} evaluate runs the body of an async function in the page, and gives what it
+ *     returns
  * @property {(width: number, height: number) => Promise<void>} resize sets the size of the page, in CSS pixels
- * @property {(how: {paper?: boolean, dark?: boolean}) => Promise<boolean>} look shows the page as on paper or in the dark,
- *     and answers whether the browser can: only Chromium does
+ * @property {(how: {paper?: boolean, dark?: boolean}) => Promise<boolean>} look shows the page as on paper or in the
+ *     dark, and answers whether the browser can: only Chromium does
  * @property {(file: string) => Promise<void>} shoot writes a picture of the page
  * @property {(file: string) => Promise<void>} print writes what is printed of the page, as PDF
  * @property {() => string[]} requests the addresses that the page has asked for; only Chromium tells
@@ -203,7 +204,8 @@ export async function firefox(program) {
             await ask("WebDriver:Navigate", { url });
         },
         async evaluate(body) {
-            const script = `const done = arguments[0]; (async () => {${body}})().then((it) => done({ it }), (why) => done({ why: String(why) }))`;
+            const script = `const done = arguments[0];
+                (async () => {${body}})().then((it) => done({ it }), (why) => done({ why: String(why) }))`;
             const { value } = await ask("WebDriver:ExecuteAsyncScript", { script, args: [] });
             if (value.why) throw new Error(value.why);
             return value.it;

@@ -35,18 +35,16 @@ for (const file of files) {
         const isPrefix = Buffer.compare(stdout, whole.subarray(0, stdout.length)) === 0;
         isWhole = status === 0 && stderr === "" && isPrefix && stdout.length === whole.length;
         if (!isWhole && !(status === 3 && stderr === "arpasim: stopped\n" && isPrefix)) {
-            fail(
-                `${file} with ${limits[at]}: status ${status}, ${stdout.length} octets${isPrefix ? "" : " that are no prefix"}, ${stderr}`,
-            );
+            const octets = `${stdout.length} octets${isPrefix ? "" : " that are no prefix"}`;
+            fail(`${file} with ${limits[at]}: status ${status}, ${octets}, ${stderr}`);
         }
         stopped += isWhole ? 0 : 1;
         partly += !isWhole && stdout.length > 0 ? 1 : 0;
     }
 }
 if (partly === 0) fail("no run ran out of memory after some output");
-console.log(
-    `memory: ${stopped} runs of ${files.length} inputs ran out of memory and said so, ${partly} of them after some output`,
-);
+const runs = `${stopped} runs of ${files.length} inputs ran out of memory and said so`;
+console.log(`memory: ${runs}, ${partly} of them after some output`);
 
 /** @param {string} why */
 function fail(why) {

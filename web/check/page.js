@@ -21,7 +21,13 @@ const ENDINGS = [".args", ".stdout", ".stderr", ".status", ".rows", ".md"];
 const HELPERS = `
 const part = (id) => document.getElementById(id);
 const pause = (time) => new Promise((go) => setTimeout(go, time));
-const ended = async () => { for (let at = 0; at < 4000; at++) { if (!part("run").disabled && part("said").textContent !== "Running …") return; await pause(10); } throw new Error("a run never ends"); };
+const ended = async () => {
+    for (let at = 0; at < 4000; at++) {
+        if (!part("run").disabled && part("said").textContent !== "Running …") return;
+        await pause(10);
+    }
+    throw new Error("a run never ends");
+};
 const run = async (text, task = "", checks = []) => {
     await ended();
     part("script").value = text;
@@ -101,7 +107,8 @@ async function tryFaults(browser, example) {
     );
     want(marked === "tak 0/2", `a bad line: ${marked} is marked`);
     const drawn = await browser.evaluate(
-        `${HELPERS} return (await run(${JSON.stringify(example)})).isDrawn && document.querySelectorAll("#drawing line.arrow").length;`,
+        `${HELPERS} const { isDrawn } = await run(${JSON.stringify(example)});
+        return isDrawn && document.querySelectorAll("#drawing line.arrow").length;`,
     );
     want(drawn === 2, `first-message has ${drawn} arrows`);
 }
@@ -139,7 +146,8 @@ async function tryWidths(browser, page, shots) {
             const cut = [...document.querySelectorAll("button, select, textarea, pre, label, p, h1, h2")].filter(
                 (it) => it.getBoundingClientRect().right > innerWidth + 1,
             );
-            return [document.documentElement.scrollWidth, innerWidth, cut.map((it) => it.id || it.textContent).join()];`);
+            const { scrollWidth } = document.documentElement;
+            return [scrollWidth, innerWidth, cut.map((it) => it.id || it.textContent).join()];`);
         want(whole <= seen && cut === "", `at ${width} the page is ${whole} wide, ${seen} are seen, cut: ${cut}`);
         if (shots) await browser.shoot(`${shots}/${browser.name}-${width}.png`);
     }
@@ -163,9 +171,8 @@ async function tryPage(browser, page, examples, shots) {
     await tryWidths(browser, page, shots);
     const asked = browser.requests().filter((it) => !/^(?:file|blob|about|data):/.test(it));
     want(asked.length === 0, `the page asked for ${asked.join(", ")}`);
-    console.log(
-        `${browser.name}: ${count} examples end as stored, faults, limits and widths are as they should be; the first result after ${first} ms`,
-    );
+    const told = `${count} examples end as stored, faults, limits and widths are as they should be`;
+    console.log(`${browser.name}: ${told}; the first result after ${first} ms`);
 }
 
 const [page, examples, shots] = process.argv.slice(2);

@@ -245,6 +245,5 @@ for (let seed = 1; seed <= SEEDS; seed++) assert(tryHeap(small, seed) > 0, "the 
 for (let seed = 1; seed <= SEEDS; seed++) {
     assert.equal(tryHeap(shims, seed), 0, "the heap refused a call though there is memory");
 }
-console.log(
-    `shims: ${2 * SEEDS * CALLS} calls of the heap, 80000 products, shifts and quotients, reads, writes and words: as the models`,
-);
+const calls = `${2 * SEEDS * CALLS} calls of the heap, 80000 products, shifts and quotients`;
+console.log(`shims: ${calls}, reads, writes and words: as the models`);

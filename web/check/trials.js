@@ -126,6 +126,7 @@ export function measured({ $, all, want, wrong }) {
         "neither the script nor a table has room",
     );
     want($("map").getBoundingClientRect().height > 100, "the map has no room");
+    want($("pane").scrollWidth <= $("pane").clientWidth + 1, "the table is " + $("pane").scrollWidth + " wide");
     for (const it of all("#head button, #foot button, #tabs button")) {
         const box = it.getBoundingClientRect();
         if (box.width && !it.closest("#rare:not(.open)")) {
@@ -165,6 +166,7 @@ export function measured({ $, all, want, wrong }) {
     overlap(boxes(".chart .mark:not(.gone) text:not(.plate)"), "chart");
     overlap(boxes("#sheet .row:not([hidden]) .text"), "rows");
     overlap(boxes("#sheet .head"), "heads");
+    overlap(boxes(".holds dt, .holds dd, .holds h4"), "hosts");
 }
 
 /**
@@ -189,7 +191,7 @@ export function contrast({ all, want }) {
         return [255, 255, 255];
     };
     const read = ["#label", "#sentence", ".row .text", ".row .number", ".row .steps", ".head", ".soft", "#count"];
-    const more = ["#legend span", ".wait p", ".wait h3", "th", "td", "#tabs button"];
+    const more = ["#legend span", ".wait p", ".wait h3", "th", "td", "#tabs button", ".holds dt", ".holds dd"];
     for (const it of all([...read, ...more].join())) {
         if (!it.textContent.trim() || !it.getBoundingClientRect().width) continue;
         const back = ground(it);
@@ -307,6 +309,42 @@ export async function tapped({ $, one, all, pause, changed, press, load, want, w
         count() === shared.count && script() === shared.script && $("sentence").textContent === shared.sentence,
         "the address brings another script or step",
     );
+}
+
+/**
+ * The table of hosts has what programs hold as of the step, and never what is still to come; what a step changed is
+ * framed, and nothing else.
+ *
+ * @param {Page} page
+ */
+export async function holding({ $, all, press, load, want }) {
+    await load("lo-of-login");
+    press("tab-hosts");
+    const name = (/** @type {any} */ it) => it.getAttribute("data-key");
+    const cells = () => new Map(
+        all("#pane .holds dl > div").map((it) => [
+            [it.closest(".host-row"), it.closest(".holds"), it].map(name).join(" | "),
+            { text: it.children[1].textContent, isFramed: it.classList.contains("changed") },
+        ]),
+    );
+    want(cells().size === 0, "something is held before the first step");
+    const seen = { sent: [""], taken: [""] };
+    let before = cells();
+    for (let at = 0; at < Number($("slider").max); at += 1) {
+        press("next");
+        const now = cells();
+        for (const [key, { text, isFramed }] of now) {
+            const isOther = before.get(key)?.text !== text;
+            want(isOther === isFramed, `step ${at + 1}: ${key} is ${isFramed ? "framed" : "not framed"}: ${text}`);
+            const kind = /0\/1 .* sent$/.test(key) ? seen.sent : /0\/2 .* taken$/.test(key) ? seen.taken : [text];
+            if (kind[kind.length - 1] !== text) kind.push(text);
+        }
+        before = now;
+    }
+    const told = "0 bits in 0 messages, 8 bits in 1 message, 16 bits in 2 messages";
+    want(seen.sent.join(", ").startsWith(`, ${told}, 24 bits in 3 messages, 0 bits`), "sent: " + seen.sent.join(", "));
+    want(seen.taken.join(", ").startsWith(`, ${told}, 0 bits`), "taken: " + seen.taken.join(", "));
+    press("tab-waits");
 }
 
 /**

@@ -6,7 +6,8 @@
  * It ends with status 1 where something is wrong, and says what.
  */
 
-import { readFileSync, writeFileSync } from "node:fs";
+import { mkdtempSync, readFileSync, rmSync, writeFileSync } from "node:fs";
+import { tmpdir } from "node:os";
 
 import { chromium, firefox } from "./browser.js";
 import * as trials from "./trials.js";
@@ -24,6 +25,8 @@ const SHOWN = [
     "rerouted-over-a-triangle",
     "from-a-terminal-to-a-server",
 ];
+
+const WITH_PROGRAMS = ["lo-of-login", "from-a-terminal-to-a-server", "resets-in-step"];
 
 /** @typedef {import("./trials.js").Page} Page */
 /** @typedef {(page: Page, given: any) => void | Promise<void>} Trial a function that runs in the page, given a value */
@@ -53,6 +56,12 @@ const openAt = async ({ $, load, slide, pause }, [name, part]) => {
     await load(name);
     slide(Math.floor(part * Number($("slider").max)));
     await pause(150);
+};
+
+/** @type {Trial} opens a table */
+const table = async ({ press, pause }, name) => {
+    press(`tab-${name}`);
+    await pause(100);
 };
 
 /** @type {Trial} */
@@ -127,6 +136,20 @@ const PLANTED = /** @type {Planted[]} */ ([
         words: "a row of the future",
     },
     {
+        what: "cells that a step changed are not framed",
+        from: 'were !== null && old.get(name) !== text',
+        to: "false",
+        by: "holding",
+        words: "is not framed",
+    },
+    {
+        what: "counters as they are in the end",
+        from: "const talk = this.talk.goTo(position);",
+        to: "const talk = this.talk.goTo(history.length);",
+        by: "holding",
+        words: "sent: ",
+    },
+    {
         what: "the map as it was shows what is now",
         from: "const place = placeBeside(was.replay, history.replay, position);",
         to: "const place = was.length;",
@@ -191,15 +214,18 @@ async function whole(browser, address) {
     await browser.open(address);
     wrong.push(...(await trial(browser)));
     const first = await browser.evaluate("return Math.round(performance.now());");
-    const names = await browser.evaluate('return [...document.querySelectorAll("#lesson option")].map((it) => it.value);');
+    const options = 'document.querySelectorAll("#lesson option")';
+    const names = await browser.evaluate(`return [...${options}].map((it) => it.value);`);
     let steps = 0;
     for (const name of names) {
         if (/a-bad-line|an-unknown-event/.test(name)) continue;
         wrong.push(...(await trial(browser, [open, name], [trials.stepped, name])));
         steps += await browser.evaluate('return Number(document.getElementById("slider").max);');
     }
-    const { keys, tapped, compared, printed, hidden, typed, measured, contrast } = trials;
-    for (const body of [keys, tapped, compared, printed, hidden, typed]) wrong.push(...(await trial(browser, [body])));
+    const { keys, tapped, holding, compared, printed, hidden, typed, measured, contrast } = trials;
+    for (const body of [keys, tapped, holding, compared, printed, hidden, typed]) {
+        wrong.push(...(await trial(browser, [body])));
+    }
     let places = 0;
     for (const [width, height] of SIZES) {
         await browser.resize(width, height);
@@ -209,6 +235,12 @@ async function whole(browser, address) {
                 wrong.push(...found.map((it) => `${name} at ${width} by ${height}: ${it}`));
                 places += 1;
             }
+        }
+        for (const name of WITH_PROGRAMS) {
+            const found = await trial(browser, [openAt, [name, 0.6]], [table, "hosts"], [measured], [contrast]);
+            wrong.push(...found.map((it) => `${name}, its hosts, at ${width} by ${height}: ${it}`));
+            await trial(browser, [table, "waits"]);
+            places += 1;
         }
     }
     for (const [width, height] of LARGER) {
@@ -257,12 +289,15 @@ async function main() {
             for (const it of wrong.slice(0, 40)) console.log(`${browser.name}: ${it}`);
             const others = browser.requests().filter((it) => !/^(?:file|blob|data):/.test(it));
             if (others.length) console.log(`${browser.name}: the page asks for ${others[0]}`);
-            const missed = await planted(browser, readFileSync(page, "utf8"), `${page}.planted.html`);
+            const room = mkdtempSync(`${tmpdir()}/workbench-`);
+            const missed = await planted(browser, readFileSync(page, "utf8"), `${room}/planted.html`);
+            rmSync(room, { recursive: true, force: true });
             for (const it of missed) console.log(`${browser.name}: a planted fault was not found: ${it}`);
             failed ||= wrong.length + missed.length + others.length > 0;
             const found = `${PLANTED.length - missed.length} planted faults found, ${wrong.length} things wrong`;
-            const tried = `${lessons} lessons with ${steps} steps forth and back, ${places} places at ${SIZES.length} sizes`;
-            console.log(`${browser.name}: ready after ${first} ms, ${tried}, ${found}`);
+            const tried = `${lessons} lessons with ${steps} steps forth and back`;
+            const measured = `${places} places at ${SIZES.length} sizes`;
+            console.log(`${browser.name}: ready after ${first} ms, ${tried}, ${measured}, ${found}`);
         } finally {
             await browser.close();
         }

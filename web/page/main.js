@@ -112,7 +112,8 @@ function tell(/** @type {Note} */ note) {
         ? "This is the proved program."
         : "NOT PROVED: this page holds a program that was built without proofs.";
     proved.classList.toggle("fault", !note.proved);
-    part("note", HTMLElement).textContent = `Sources ${note.sources}, ${note.toolchain}; mark of the compiler: ${note.mark}.`;
+    const { sources, toolchain, mark } = note;
+    part("note", HTMLElement).textContent = `Sources ${sources}, ${toolchain}; mark of the compiler: ${mark}.`;
 }
 
 /** Puts an example into the box. */
@@ -125,8 +126,8 @@ async function start() {
     /** @type {Example[]} */
     const examples = await examplesInPage();
     list.append(...examples.map((it) => new Option(it.title, it.name)));
-    const first = examples.find((it) => it.name === location.hash.slice(1)) ?? examples.find((it) => it.name === "first-message") ?? examples[0];
-    take(first);
+    const named = (/** @type {string} */ name) => examples.find((it) => it.name === name);
+    take(named(location.hash.slice(1)) ?? named("first-message") ?? examples[0]);
     const { runner, note } = await embedded();
     tell(note);
     const go = () => {

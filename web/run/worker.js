@@ -8,7 +8,8 @@ import { Full, runModule } from "./program.js";
 
 /** @param {Said} said */
 function say(said, /** @type {Transferable[]} */ moved = []) {
-    /** @type {{postMessage: (message: Said, moved: Transferable[]) => void}} */ (/** @type {unknown} */ (globalThis)).postMessage(said, moved);
+    const worker = /** @type {Pick<Worker, "postMessage">} */ (/** @type {unknown} */ (globalThis));
+    worker.postMessage(said, moved);
 }
 
 /** @param {{module: WebAssembly.Module, words: string[], input: Uint8Array, octets: number}} task */

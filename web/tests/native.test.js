@@ -10,12 +10,15 @@ const text = (/** @type {Uint8Array} */ array) => new TextDecoder().decode(array
 test("the words and the input reach the program, and its output and status come back", async () => {
     const script = 'read line; echo "$0 $1 $line"; echo oops >&2; exit 3';
     const outcome = await nativeRunner("/bin/sh").run(["-c", script, "a", "b c"], octets("in\n"), LIMITS);
-    assert.deepEqual({ ...outcome, stdout: text(outcome.stdout) }, { status: 3, stdout: "a b c in\n", stderr: "oops\n", ended: "exit" });
+    const wanted = { status: 3, stdout: "a b c in\n", stderr: "oops\n", ended: "exit" };
+    assert.deepEqual({ ...outcome, stdout: text(outcome.stdout) }, wanted);
 });
 
 test("a run is ended after its seconds, and what it wrote before is kept", async () => {
-    const outcome = await nativeRunner("/bin/sh").run(["-c", "echo first; exec sleep 60"], octets(""), { ...LIMITS, seconds: 0.5 });
-    assert.deepEqual({ ...outcome, stdout: text(outcome.stdout) }, { status: -1, stdout: "first\n", stderr: "", ended: "time" });
+    const words = ["-c", "echo first; exec sleep 60"];
+    const outcome = await nativeRunner("/bin/sh").run(words, octets(""), { ...LIMITS, seconds: 0.5 });
+    const wanted = { status: -1, stdout: "first\n", stderr: "", ended: "time" };
+    assert.deepEqual({ ...outcome, stdout: text(outcome.stdout) }, wanted);
 });
 
 test("a run is ended at its limit of octets, and has exactly those", async () => {

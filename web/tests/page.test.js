@@ -7,7 +7,8 @@ import { lineOfFault, rangeOf, summary } from "../page/faults.js";
 const octets = new Uint8Array();
 
 test("a message goes from the row where it is sent to the row where it is taken", () => {
-    const chart = chartOf(["out 0/1 0/2 5 24", "refused Blocked", "in 0/1 0/2 5 24", "answer rfnm 0/1 0/2 5", "end", ""]);
+    const printed = ["out 0/1 0/2 5 24", "refused Blocked", "in 0/1 0/2 5 24", "answer rfnm 0/1 0/2 5", "end", ""];
+    const chart = chartOf(printed);
     assert.deepEqual(chart, {
         hosts: ["0/1", "0/2"],
         arrows: [
@@ -55,9 +56,11 @@ test("a bad line of the script is counted after the marker, and one of a log fro
 
 test("what is said of a run names its fault, its status, or the limit that it met", () => {
     const given = { text: "%\nx", seconds: 2, octets: 9 };
-    const outcome = { status: 2, stdout: octets, stderr: "arpasim: bad script line 1\n", ended: /** @type {"exit"} */ ("exit") };
+    const ended = /** @type {"exit"} */ ("exit");
+    const outcome = { status: 2, stdout: octets, stderr: "arpasim: bad script line 1\n", ended };
     assert.equal(summary(outcome, given), "arpasim: bad script line 1 (line 2 of the box), status 2.");
     assert.equal(summary({ ...outcome, status: 0, stderr: "" }, given), "Ended, status 0.");
-    assert.equal(summary({ ...outcome, ended: "time" }, given), "Ended after 2 s, the limit of time. What it had printed until then is shown.");
-    assert.equal(summary({ ...outcome, ended: "output" }, given), "Ended after 9 octets, the limit of output. What it had printed until then is shown.");
+    const rest = "What it had printed until then is shown.";
+    assert.equal(summary({ ...outcome, ended: "time" }, given), `Ended after 2 s, the limit of time. ${rest}`);
+    assert.equal(summary({ ...outcome, ended: "output" }, given), `Ended after 9 octets, the limit of output. ${rest}`);
 });

@@ -35,7 +35,8 @@ test("a run hands over its task, joins what is written, and ends its worker", as
     const run = makeRunner(module, spawn).run(["--texts"], octets("in"), LIMITS);
     const [worker] = started;
     assert.deepEqual(worker.task, { module, words: ["--texts"], input: octets("in"), octets: 100 });
-    for (const [descriptor, text] of /** @type {[number, string][]} */ ([[1, "a"], [2, "x"], [1, "bc"], [2, "é"]])) worker.onmessage({ data: { descriptor, octets: octets(text) } });
+    const written = /** @type {[number, string][]} */ ([[1, "a"], [2, "x"], [1, "bc"], [2, "é"]]);
+    for (const [descriptor, text] of written) worker.onmessage({ data: { descriptor, octets: octets(text) } });
     worker.onmessage({ data: { status: 3 } });
     assert.deepEqual(await run, { status: 3, stdout: octets("abc"), stderr: "xé", ended: "exit" });
     assert(worker.isEnded);
@@ -73,7 +74,8 @@ test("stop ends the runs that are under way, and no later one", async () => {
     const runner = makeRunner(module, spawn);
     const runs = [runner.run([], octets(""), LIMITS), runner.run([], octets(""), LIMITS)];
     runner.stop();
-    for (const run of runs) assert.deepEqual(await run, { status: -1, stdout: octets(""), stderr: "", ended: "stopped" });
+    const stopped = { status: -1, stdout: octets(""), stderr: "", ended: "stopped" };
+    for (const run of runs) assert.deepEqual(await run, stopped);
     const later = runner.run([], octets(""), LIMITS);
     started[2].onmessage({ data: { status: 0 } });
     assert.equal((await later).ended, "exit");

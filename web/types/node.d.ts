@@ -57,5 +57,11 @@ declare module "node:os" {
     export function tmpdir(): string;
 }
 
-declare const process: { cpuUsage(since?: { user: number; system: number }): { user: number; system: number }; exitCode?: number; env: { [name: string]: string | undefined }; argv: string[]; exit(status: number): never };
+declare const process: {
+    cpuUsage(since?: { user: number; system: number }): { user: number; system: number };
+    exitCode?: number;
+    env: { [name: string]: string | undefined };
+    argv: string[];
+    exit(status: number): never;
+};
 declare const Buffer: { compare(one: Uint8Array, other: Uint8Array): number };

@@ -4,7 +4,8 @@
 const MOST = 1_200;
 
 /**
- * Two lists of lines in pairs of places: alike lines together, and each other one by itself, with -1 in place of the other.
+ * Two lists of lines in pairs of places: alike lines together, and each other one by itself, with -1 in place of the
+ * other.
  *
  * @param {string[]} before
  * @param {string[]} after
@@ -24,7 +25,8 @@ export function inPairs(before, after) {
         ...middle.map(([a, b]) => /** @type {[number, number]} */ ([shifted(a), shifted(b)])),
         ...before
             .slice(before.length - end)
-            .map((_, place) => /** @type {[number, number]} */ ([before.length - end + place, after.length - end + place])),
+            .map((_, place) => place - end)
+            .map((back) => /** @type {[number, number]} */ ([before.length + back, after.length + back])),
     ];
 }
 

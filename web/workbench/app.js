@@ -47,6 +47,8 @@ export class Workbench {
     history = null;
     /** @type {Talk | null} */
     talk = null;
+    /** @type {Talk | null} what the lines say before the last step */
+    earlier = null;
     /** @type {import("./chart.js").Chart | null} */
     chart = null;
     /** @type {Stop[]} */
@@ -347,6 +349,7 @@ export class Workbench {
         }
         if (!network.sites.some((site) => site.number === this.to)) this.to = 0;
         this.talk = new Talk(this.history.replay);
+        this.earlier = new Talk(this.history.replay);
         this.chart = chartOf(this.history);
         this.setStops();
         this.editor.show(this.text);
@@ -607,22 +610,23 @@ export class Workbench {
         const at = this.at();
         const state = history.at(position);
         const talk = this.talk.goTo(position);
-        const { inside } = history.replay;
-        const waits = waitsOf(state, talk, inside);
+        const waits = waitsOf(state, talk);
         const { notes, asking, asked } = this;
         const next = () => this.step(1);
         drawSentence({ history, stops, at, notes, asking, asked, hidden, title: this.title(), next });
         drawFoot(stops, at, hidden, { undo: this.past.done.length > 0, redo: this.past.undone.length > 0 });
-        this.map?.draw({ state, talk, inside, to });
+        this.map?.draw({ state, talk, to });
         const name = this.shownTab();
         drawTabs(name, waits.length, waits.some((it) => it.bad));
         this.showRegions(name);
         this.sheet.draw(position, hidden);
-        const before = at ? history.at(stops[at - 1].from) : null;
+        const from = at ? stops[at - 1].from : 0;
+        const before = at ? history.at(from) : null;
         if (name === "printed") this.printed.draw(byId("pane"), this.text, hidden);
         else if (name === "compare") this.compare.draw(byId("pane"), this.origin, { history, position, to, hidden });
         else if (name !== "script") {
-            this.panes.draw(name, { history, position, state, before, talk, waits, to, hidden });
+            const earlier = before && name === "hosts" ? (this.earlier?.goTo(from) ?? null) : null;
+            this.panes.draw(name, { history, position, state, before, talk, earlier, waits, to, hidden });
         }
         this.compare.showMap(name === "compare");
         document.title = `${this.title()} – Dorydate`;

@@ -3,7 +3,6 @@
  * between moments.
  */
 
-import { answerKind, textOf } from "./sentences.js";
 import { saying } from "./texts.js";
 import { ANSWERS } from "./waits.js";
 
@@ -29,7 +28,7 @@ import { ANSWERS } from "./waits.js";
  * @property {number} failed of a message that was not taken the moment of its answer, otherwise -1
  */
 
-/** @typedef {{lane: number, from: number, to: number}} Down a host is down between these moments; `to` is -1 where it stays so */
+/** @typedef {{lane: number, from: number, to: number}} Down a host is down between these moments; -1: it stays so */
 
 /**
  * @typedef {object} Chart
@@ -99,12 +98,7 @@ class Drawing {
         const { network } = this.history;
         const moment = this.history.replay.moments[at];
         const flow = words.slice(0, 3).join(" ");
-        const said = () => {
-            const text = textOf(moment, this.history.at(at), words);
-            return text === null
-                ? `${words[3]} bits`
-                : saying(network.raw, Number(words[2]), Number(words[3]), text) || "empty";
-        };
+        const said = () => saying(network.raw, Number(words[2]), Number(words[3]), words[4]) || "empty";
         switch (kind) {
             case "out": {
                 const arrow = {
@@ -124,7 +118,7 @@ class Drawing {
                 this.mark(at, words[1], "in", this.sent.has(flow) ? "takes" : `takes ${said()}`);
                 return this.take(flow, at);
             case "answer":
-                return this.answer(at, words);
+                return this.answer(at, words, moment.kinds[place]);
             case "down":
                 this.mark(at, words[0], "bad", "stops");
                 if (this.lane(words[0]) >= 0) this.down.push({ lane: this.lane(words[0]), from: at, to: -1 });
@@ -177,11 +171,11 @@ class Drawing {
     /**
      * @param {number} at
      * @param {string[]} words
+     * @param {string} kind
      */
-    answer(at, words) {
-        const kind = answerKind(this.history.at(at), words);
-        const sort = kind === "nottaken" ? "incomplete" : kind;
-        this.mark(at, words[1], sort, ANSWERS[kind]);
+    answer(at, words, kind) {
+        const sort = /** @type {"rfnm" | "dead" | "incomplete"} */ (words[0]);
+        this.mark(at, words[1], sort, ANSWERS[/** @type {keyof typeof ANSWERS} */ (kind)]);
         const flow = words.slice(1, 4).join(" ");
         const sent = this.sent.get(flow);
         if (!sent) return;

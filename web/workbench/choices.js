@@ -46,7 +46,8 @@ export function partTitle(state, part) {
                 const told = network.sites.filter(({ number }) => frame.routes?.[number] !== undefined).map(
                     ({ number }) => `${siteName(network, number)} ${frame.routes?.[number]}`,
                 );
-                return `Distances of ${siteName(network, wayOf(network, part.line, part.way)[0])}: ${told.join(", ") || "none"}`;
+                const [from] = wayOf(network, part.line, part.way);
+                return `Distances of ${siteName(network, from)}: ${told.join(", ") || "none"}`;
             }
             return `${capital(frameName(network, frame))}${where}`;
         }

@@ -35,7 +35,8 @@ export function short(octets, at) {
 }
 
 /**
- * The requests of receivers and the counts in a message on link 0. A message that isn't whole has those before its fault.
+ * The requests of receivers and the counts in a message on link 0. A message that isn't whole has those before its
+ * fault.
  *
  * @param {number[]} message its octets
  * @returns {(Rts | Counts)[]}
@@ -48,7 +49,9 @@ export function countsIn(message) {
         const command = COMMANDS[octets[at]];
         if (!command || octets.length - at < command.length) break;
         const { name } = command;
-        if (name === "RTS") found.push({ name, own: wide(octets, at + 1), foreign: wide(octets, at + 5), link: octets[at + 9] });
+        if (name === "RTS") {
+            found.push({ name, own: wide(octets, at + 1), foreign: wide(octets, at + 5), link: octets[at + 9] });
+        }
         if (name === "ALL" || name === "RET") {
             found.push({ name, link: octets[at + 1], messages: short(octets, at + 2), bits: wide(octets, at + 4) });
         }

@@ -2,7 +2,7 @@
 
 import { inPairs } from "./alike.js";
 import { addedLines, announced } from "./edits.js";
-import { siteName } from "./topology.js";
+import { hostName, siteName } from "./topology.js";
 
 /** @typedef {import("./runs.js").Replay} Replay */
 /** @typedef {import("./state.js").State} State */
@@ -38,7 +38,8 @@ export function printedBy({ moments, input }) {
  */
 export function beside(before, after) {
     const texts = (/** @type {Printed[]} */ lines) => lines.map((it) => it.text);
-    return inPairs(texts(before), texts(after)).map(([a, b]) => ({ before: before[a] ?? null, after: after[b] ?? null }));
+    const pairs = inPairs(texts(before), texts(after));
+    return pairs.map(([a, b]) => ({ before: before[a] ?? null, after: after[b] ?? null }));
 }
 
 /**
@@ -147,5 +148,6 @@ export function differingParts(a, b) {
 export function partWords(network, name) {
     const [kind, what] = name.split(" ");
     if (kind === "imp") return siteName(network, Number(what));
+    if (kind === "program" || kind === "services") return `${kind} of ${hostName(network, what)}`;
     return kind === "down" ? "hosts that are down" : name;
 }

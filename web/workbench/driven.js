@@ -1,22 +1,24 @@
 /**
- * What happens inside a network whose hosts have programs, by a raw script that their crossings drive.
+ * What happens within the rounds of a network whose hosts have programs, by a raw script that their crossings drive.
  *
- * No trace has the events within its rounds. But each `out` that `--texts` prints is a line of a raw script. So a raw
- * script over the same topology does inside what the programs did: each crossing in its order, each inner event of the
- * script as it is, and of each round in which a host sends the network's part of it, event by event. Its trace is taken,
- * and used only if it prints exactly the crossings of the real replay.
+ * The trace of such a network has its state after each event and each round, but no events within rounds, and not what
+ * becomes of a frame. But each `out` that crosses is a line of a raw script. So a raw script over the same topology
+ * does inside what the programs did: each crossing in its order, each inner event of the script as it is, and of each
+ * round in which a host sends the network's part of it, event by event. Its trace is used only if it prints exactly the
+ * crossings of the real one, and leaves exactly the network that the real one has after each event and each round.
  */
 
+import { areAlike, between } from "./between.js";
 import { octetsOf, textOf } from "./octets.js";
-import { readTrace } from "./trace.js";
+import { isOfHost, readTrace } from "./trace.js";
 
 /** @typedef {import("../run/runner.js").Runner} Runner */
 /** @typedef {import("./topology.js").Network} Network */
 /** @typedef {import("./script.js").Input} Input */
 /** @typedef {import("./runs.js").Moment} Moment */
-/** @typedef {import("./runs.js").Step} Step */
 /** @typedef {import("./trace.js").Record} Record */
 /** @typedef {import("./trace.js").Trace} Trace */
+/** @typedef {import("./between.js").Traced} Traced */
 /** @typedef {{seconds: number, octets: number}} Limits */
 
 /** A line of a raw script, the step that it belongs to, and whether it is of the network's part of a round. */
@@ -44,24 +46,23 @@ const INNER = [
 ];
 
 /**
- * The moments of a replay with what is inside, and the parts at its opening; or null where that can't be had.
+ * The moments of a replay, event by event within its rounds; null where they can't be had.
  *
  * @param {Runner["run"]} run
  * @param {Input} input
  * @param {Network} network
- * @param {{part: Step, printed: string[]}[]} told what each step printed
- * @param {Moment[]} moments
+ * @param {Traced} traced
  * @param {Limits} limits
- * @returns {Promise<{moments: Moment[], opening: Trace["opening"]} | null>}
+ * @returns {Promise<Moment[] | null>}
  */
-export async function driven(run, input, network, told, moments, limits) {
+export async function driven(run, input, network, traced, limits) {
     const head = rawHead(input);
-    const frames = await framesOfRounds(run, head, network, told, limits);
+    const frames = await framesOfRounds(run, head, network, traced.steps, limits);
     if (!frames) return null;
-    const lines = rawScript(network, told, frames);
+    const lines = rawScript(network, traced.steps, frames);
     const trace = await traceOf(run, head, lines, limits);
-    const joined = trace && joinedMoments(lines, trace.records, moments);
-    return joined && { moments: joined, opening: trace.opening };
+    const moments = trace && joinedMoments(lines, trace.records, traced);
+    return moments && between(run, input, traced, moments, limits);
 }
 
 /**
@@ -80,12 +81,12 @@ function isOut(line) {
 }
 
 /**
- * Whether in a step that is a round some host sends.
+ * Whether a step is a round in which some host sends.
  *
- * @param {{part: Step, printed: string[]}} step
+ * @param {Moment} step
  */
-function isSending({ part, printed }) {
-    return part.words[0] === "calm" && printed.some(isOut);
+function isSending({ round, printed }) {
+    return round > 0 && printed.some(isOut);
 }
 
 /**
@@ -106,17 +107,17 @@ function crossings(printed) {
  * then `-`.
  *
  * @param {Network} network
- * @param {{part: Step, printed: string[]}[]} told
+ * @param {Moment[]} steps
  * @param {Map<number, number[]>} frames
  * @returns {Line[]}
  */
-function rawScript(network, told, frames) {
-    return told.flatMap((it, step) => {
+function rawScript(network, steps, frames) {
+    return steps.flatMap((it, step) => {
         if (isSending(it)) {
             const quiet = quietRound(network, frames.get(step) ?? []).map((text) => ({ text, step, quiet: true }));
             return [...quiet, ...crossings(it.printed).map((text) => ({ text, step, quiet: false }))];
         }
-        const { words } = it.part;
+        const { words } = it;
         if (words[0] === "calm") return [{ text: words.join(" "), step, quiet: false }];
         if (words[0] === "offer") return it.printed.filter(isOut).map((text) => ({ text, step, quiet: false }));
         return INNER.includes(words[0]) ? [{ text: words.join(" "), step, quiet: false }] : [];
@@ -146,15 +147,15 @@ function quietRound(network, frames) {
  * @param {Runner["run"]} run
  * @param {string[]} head
  * @param {Network} network
- * @param {{part: Step, printed: string[]}[]} told
+ * @param {Moment[]} steps
  * @param {Limits} limits
  * @returns {Promise<Map<number, number[]> | null>}
  */
-async function framesOfRounds(run, head, network, told, limits) {
-    const sending = told.flatMap((it, step) => (isSending(it) ? [step] : []));
+async function framesOfRounds(run, head, network, steps, limits) {
+    const sending = steps.flatMap((it, step) => (isSending(it) ? [step] : []));
     if (network.plain || sending.length === 0) return new Map();
     for (let most = 8; most <= 256; most *= 2) {
-        const padded = paddedScript(network, told, most);
+        const padded = paddedScript(network, steps, most);
         const text = [...head, ...padded, ""].join("\n");
         if (text.length > MOST_OCTETS) return null;
         const outcome = await run([], octetsOf(text), limits);
@@ -190,12 +191,12 @@ function beginning(network) {
  * The raw script with `most` deliveries for each direction of a line, and a mark after each direction.
  *
  * @param {Network} network
- * @param {{part: Step, printed: string[]}[]} told
+ * @param {Moment[]} steps
  * @param {number} most
  */
-function paddedScript(network, told, most) {
+function paddedScript(network, steps, most) {
     const empty = network.lines.flatMap(() => [0, 0]);
-    return told.flatMap((it, step) => {
+    return steps.flatMap((it) => {
         if (!isSending(it)) return rawScript(network, [it], new Map()).map((line) => line.text);
         const lines = [...quietRound(network, empty), ...beginning(network)];
         empty.forEach((_, place) => {
@@ -250,68 +251,91 @@ async function traceOf(run, head, lines, limits) {
 }
 
 /**
- * The lines that tell of crossings, without the octets of texts.
- *
- * @param {string[]} printed
- */
-function crossed(printed) {
-    return printed.filter((line) => /^(?:out|in|answer|down|up|refused) /.test(line)).map(
-        (line) => (/^(?:out|in) /.test(line) ? line.split(" ").slice(0, 5).join(" ") : line),
-    );
-}
-
-/**
- * The moments of the real replay, joined with the records of the raw script; null where one crossing differs.
+ * The moments of the real replay, joined with the records of the raw script; null where a crossing or a part differs.
  *
  * @param {Line[]} lines
  * @param {Record[]} records
- * @param {Moment[]} moments
+ * @param {Traced} traced
  * @returns {Moment[] | null}
  */
-export function joinedMoments(lines, records, moments) {
+export function joinedMoments(lines, records, { opening, steps }) {
+    const ofStep = recordsOfSteps(lines, records);
+    const [inside, real] = [{ ...opening }, { ...opening }];
     /** @type {Moment[]} */
     const found = [];
-    /** @type {Map<number, Record[]>} */
-    const ofStep = new Map();
-    for (const record of records) {
-        const line = lines[record.event];
-        if (line.quiet && record.printed.length) continue;
-        ofStep.set(line.step, [...(ofStep.get(line.step) ?? []), record]);
+    for (const [place, step] of steps.entries()) {
+        const moments = momentsOfStep(step, ofStep.get(place) ?? []);
+        if (!moments) return null;
+        const ofNetwork = step.parts.filter(([name]) => !isOfHost(name));
+        if (!areAlike(inside, moments.flatMap((it) => it.parts), real, ofNetwork)) return null;
+        found.push(...moments);
     }
-    let step = -1;
-    /** @type {Record[]} */
-    let left = [];
-    /** @type {Moment | null} */
-    let before = null;
-    for (const moment of moments) {
-        if (!before || before.event !== moment.event || before.round !== moment.round) {
-            if (left.length) return null;
-            step += 1;
-            left = ofStep.get(step) ?? [];
-        }
-        before = moment;
-        const wanted = crossed(moment.printed);
-        while (left.length && left[0].printed.length === 0 && moment.round) {
-            found.push(withInside({ ...moment, printed: [] }, left.shift()));
+    return found;
+}
+
+/**
+ * The records of each step. Of the network's part of a round that is spelled out, what was refused is left out.
+ *
+ * @param {Line[]} lines
+ * @param {Record[]} records
+ */
+function recordsOfSteps(lines, records) {
+    /** @type {Map<number, Record[]>} */
+    const found = new Map();
+    for (const record of records) {
+        const { quiet, step } = lines[record.event];
+        if (quiet && record.printed.length) continue;
+        found.set(step, [...(found.get(step) ?? []), record]);
+    }
+    return found;
+}
+
+/**
+ * The moments of a step, with the parts of the network that each left; null where a crossing differs.
+ *
+ * @param {Moment} step
+ * @param {Record[]} left
+ * @returns {Moment[] | null}
+ */
+function momentsOfStep(step, left) {
+    /** @type {Moment[]} */
+    const found = [];
+    for (const moment of crossingMoments(step)) {
+        const wanted = moment.printed.filter((line) => /^(?:out|in|answer|down|up|refused) /.test(line));
+        for (let it = left[0]; it && it.printed.length === 0 && step.round; it = left[0]) {
+            const { words, fate, parts } = it;
+            found.push({ ...moment, words, fate, parts, printed: [], kinds: [] });
+            left.shift();
         }
         const record = isOfNetwork(moment) ? left.shift() : undefined;
         if (record && JSON.stringify(record.printed) !== JSON.stringify(wanted)) return null;
         if (!record && wanted.some((line) => !line.startsWith("refused "))) return null;
-        if (moment.words[0] !== "calm") found.push(withInside(moment, record && { ...record, words: moment.words }));
+        if (moment.words[0] === "calm" && found.length) continue;
+        found.push({ ...moment, fate: record?.fate ?? "", parts: record?.parts ?? [] });
     }
     return left.length ? null : found;
 }
 
 /**
- * A moment with the event, the fate and the parts of a record.
+ * The moments of a step: in a round each crossing is one, with the notices to users and services about it.
  *
- * @param {Moment} moment
- * @param {Record | undefined} record
- * @returns {Moment}
+ * @param {Moment} step
+ * @returns {Moment[]}
  */
-function withInside(moment, record) {
-    if (!record) return { ...moment, parts: [] };
-    return { ...moment, words: record.words, fate: record.fate, parts: record.parts };
+function crossingMoments(step) {
+    if (step.round === 0 || step.printed.length === 0) return [{ ...step, parts: [] }];
+    /** @type {Moment[]} */
+    const found = [];
+    step.printed.forEach((line, place) => {
+        const [kind, first, second] = line.split(" ");
+        const deed = kind === "out" ? ["offer", first] : kind === "in" || kind === "answer" ? ["take", second] : null;
+        if (deed || found.length === 0) {
+            found.push({ ...step, words: deed ?? step.words, printed: [], kinds: [], parts: [] });
+        }
+        found[found.length - 1].printed.push(line);
+        found[found.length - 1].kinds.push(step.kinds[place]);
+    });
+    return found;
 }
 
 /**

@@ -31,33 +31,16 @@ import { withScript } from "./script.js";
 export function goOn(history, position, lines, cutOff = false) {
     const { input } = history.replay;
     const script = input.lines.map((it) => it.text);
-    const from = wholeRounds(history, position);
-    const place = placeOf(history, from);
+    const place = placeOf(history, position);
     const before = script.slice(0, place.line);
     const left = cutOff ? [] : [...place.after, ...script.slice(place.next)];
     const begun = [...before, ...place.before];
     return {
         text: withScript(input, [...begun, ...lines, ...left]),
-        position: from,
+        position,
         added: lines.length,
         line: begun.length + 1,
     };
-}
-
-/**
- * A position from which a script can be continued: where nothing is known of the inside, the end of the round.
- *
- * @param {History} history
- * @param {number} position
- */
-function wholeRounds(history, position) {
-    const { moments, inside } = history.replay;
-    if (inside || position === 0) return position;
-    const isWithin = (/** @type {import("./runs.js").Moment | undefined} */ it, /** @type {number} */ at) =>
-        it && it.round > 0 && it.round === moments[at - 1].round && it.event === moments[at - 1].event;
-    let at = position;
-    while (isWithin(moments[at], at)) at += 1;
-    return at;
 }
 
 /**

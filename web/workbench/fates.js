@@ -15,7 +15,7 @@ import { farEnd, wayOf } from "./topology.js";
 /** @typedef {import("./fold.js").Accepted} Accepted */
 
 /**
- * What became of a frame that was delivered:
+ * What became of a frame that was delivered, null where a trace doesn't say it:
  * - `fresh`: a packet that the IMP took in or passed on,
  * - `repeat`: a packet that it had accepted before,
  * - `lost`: a packet that it never accepted, thrown away for its channel bit,
@@ -35,7 +35,8 @@ import { farEnd, wayOf } from "./topology.js";
  * @property {number} from the IMP from which the frame came
  * @property {number} to the IMP to which it came
  * @property {Packet[]} freed the packets that its acknowledgement bits freed
- * @property {{frame: Frame, line: number, to: number}[]} sent the frames that the moment put on lines, without bare acknowledgements
+ * @property {{frame: Frame, line: number, to: number}[]} sent the frames that the moment put on lines, without bare
+ *   acknowledgements; none of a whole round
  * @property {0 | 1 | 2} weight 2: it printed something; 1: something new happened; 0: the rest
  */
 
@@ -75,7 +76,7 @@ function frameNote({ words: [kind, number, way, place], fate }, before, after, a
     const frame = before.line(line)[way === "+" ? "+" : "-"][Number(place)] ?? null;
     const note = { ...NOTHING, frame, line, from, to };
     if (kind === "drop" || !frame) return note;
-    note.fate = fateOf(fate, frame, line, to, before, after, accepted);
+    note.fate = fate ? fateOf(fate, frame, line, to, before, after, accepted) : null;
     note.freed = freedBy(line, to, before, after);
     return note;
 }
@@ -143,7 +144,7 @@ function freedBy(line, imp, before, after) {
  * @param {State} after
  */
 function sentBy(moment, before, after) {
-    if (before.network.plain || moment.words[0] === "drop") return [];
+    if (before.network.plain || moment.words[0] === "drop" || moment.words[0] === "calm") return [];
     return moment.parts.flatMap(([name]) => {
         if (!name.startsWith("line ")) return [];
         const line = Number(name.slice(5));

@@ -2,7 +2,7 @@
 
 import { TABLE } from "../../python/dorydate/sentences/table.mjs";
 import { readDocument, tables, Unreadable } from "./topology.js";
-import { filled } from "./words.js";
+import { filled, joinedWords } from "./words.js";
 
 /** @typedef {import("./runs.js").Refusal} Refusal */
 /** @typedef {import("./script.js").Input} Input */
@@ -116,7 +116,8 @@ function knownMistake(words, line) {
     if (words[0] !== "out" && words[0] !== "send") return null;
     const quoted = /"([^"]*)"/.exec(line);
     if (quoted) {
-        const octets = [...quoted[1]].map((letter) => letter.charCodeAt(0).toString(16).toUpperCase().padStart(2, "0")).join("");
+        const digits = (/** @type {string} */ letter) => letter.charCodeAt(0).toString(16).padStart(2, "0");
+        const octets = [...quoted[1]].map(digits).join("").toUpperCase();
         return filled(FAULTS.text, { text: quoted[0], spelled: `${4 * octets.length} ${octets || "-"}` });
     }
     const last = words[words.length - 1];
@@ -133,7 +134,8 @@ function unknownEvent(word, raw, events) {
     if (raw && word in OF_PROGRAMS) return filled(FAULTS["of programs"], { word });
     if (!raw && word === "out") return FAULTS["of raw"];
     const meant = nearest(word.toLowerCase(), events);
-    return `${filled(FAULTS.unknown, { word: word.slice(0, 40) })} ${meant ? filled(FAULTS.meant, { meant }) : filled(FAULTS.events, { events: events.join(", ") })}`;
+    const help = meant ? filled(FAULTS.meant, { meant }) : filled(FAULTS.events, { events: events.join(", ") });
+    return `${filled(FAULTS.unknown, { word: word.slice(0, 40) })} ${help}`;
 }
 
 /**
@@ -276,12 +278,15 @@ function wrongTopology(input) {
  */
 function wrongNetwork(document) {
     const { values, places } = document;
-    const at = (/** @type {object} */ table, /** @type {string} */ key) => places.get(table)?.get(key) ?? places.get(table)?.get("") ?? 0;
+    const at = (/** @type {object} */ table, /** @type {string} */ key) => (
+        places.get(table)?.get(key) ?? places.get(table)?.get("") ?? 0
+    );
     const keys = ["carrier", "raw", "imp", "line"];
     const further = Object.keys(values).find((key) => !keys.includes(key));
     if (further) {
+        const meant = nearest(further, keys);
         return {
-            text: `${filled(TOPOLOGIES.key, { key: further })}${nearest(further, keys) ? ` ${filled(FAULTS.meant, { meant: nearest(further, keys) })}` : ""}`,
+            text: joinedWords([filled(TOPOLOGIES.key, { key: further }), meant && filled(FAULTS.meant, { meant })]),
             line: at(values, further),
         };
     }

@@ -1,11 +1,14 @@
 /**
  * The states of a replay, folded from its moments: what holds at each position, and what each moment did.
  *
- * A position is the number of moments that are done. Every 32nd state is kept; a state is at most 31 moments away from one.
+ * A position is the number of moments that are done. Every 32nd state is kept; a state is at most 31 moments away from
+ * one.
  */
 
 import { noteOf } from "./fates.js";
 import { State } from "./state.js";
+import { impOf } from "./topology.js";
+import { isOfHost } from "./trace.js";
 
 /** @typedef {import("./runs.js").Replay} Replay */
 /** @typedef {import("./runs.js").Moment} Moment */
@@ -42,7 +45,7 @@ export class History {
         this.kept.push(parts);
         for (const moment of moments) {
             const before = new State(this.network, parts);
-            if (this.replay.inside && isIdle(moment, before)) continue;
+            if (isIdle(moment, before)) continue;
             const after = new State(this.network, withParts(parts, moment));
             this.notes.push(noteOf(moment, before, after, accepted));
             left.push(moment);
@@ -77,14 +80,15 @@ function withParts(parts, moment) {
 }
 
 /**
- * Whether a moment of a calm is none of the elementary events that docs/trace.md names: a raw script that crossings drive has more.
+ * Whether a moment of a calm is none of the elementary events that docs/trace.md names: a raw script that crossings
+ * drive has more.
  *
  * @param {Moment} moment
  * @param {State} before
  */
 function isIdle(moment, before) {
     const [kind, what] = moment.words;
-    if (moment.round === 0 || moment.printed.length) return false;
+    if (moment.round === 0 || moment.printed.length || moment.parts.some(([name]) => isOfHost(name))) return false;
     if (kind === "resend") {
         const imp = before.imp(Number(what));
         return !imp || (imp.store.length === 0 && imp.ports.every((port) => port.sending.every((it) => !it.packet)));
@@ -121,15 +125,16 @@ export class Accepted {
     }
 
     /**
-     * An IMP starts: it knows nothing, and no packet of a flow from it or to it is alive. So each that comes from now on is another one,
-     * whatever its number.
+     * An IMP starts: it knows nothing, and no packet of a flow from it or to it is alive. So each that comes from now
+     * on is another one, whatever its number.
      *
      * @param {number} imp
      */
     start(imp) {
+        const isOfImp = (/** @type {string} */ key) => key.split(" ").slice(1, 3).some((host) => impOf(host) === imp);
         for (const [end, keys] of this.ends) {
             if (Number(end.split(" ")[0]) === imp) this.ends.delete(end);
-            else for (const key of keys) if (key.split(" ").slice(1, 3).some((host) => Number(host.split("/")[1]) === imp)) keys.delete(key);
+            else for (const key of keys) if (isOfImp(key)) keys.delete(key);
         }
     }
 }

@@ -141,7 +141,8 @@ function blocked(state, words) {
     );
     const answer = state.box(source)?.answers.find((it) => it.flow === flow);
     if (answer) {
-        return `${rule} ${filled(REFUSED["answer waits"], { answer: ANSWERS[answer.kind], host: hostName(state.network, source), word: source })}`;
+        const holes = { answer: ANSWERS[answer.kind], host: hostName(state.network, source), word: source };
+        return `${rule} ${filled(REFUSED["answer waits"], holes)}`;
     }
     return `${rule} ${settling(state, flow)}`;
 }
@@ -172,7 +173,8 @@ function settling(state, flow) {
  * @param {string} flow
  */
 function outstandingNumber(state, flow) {
-    return state.imp(impOf(flow.split(" ")[0]))?.sources.find((it) => it.flow === flow && it.state === "outstanding")?.number ?? -1;
+    const sources = state.imp(impOf(flow.split(" ")[0]))?.sources ?? [];
+    return sources.find((it) => it.flow === flow && it.state === "outstanding")?.number ?? -1;
 }
 
 /**
@@ -194,11 +196,12 @@ function places(state, alive) {
 export function placeName(state, held) {
     const { network } = state;
     const { imp, line, way, place, channel } = held.place;
+    const far = () => siteName(network, farEnd(network, line, imp));
     switch (held.place.at) {
         case "line":
-            return `in a frame from ${siteName(network, imp)} to ${siteName(network, farEnd(network, line, imp))} (\`drop ${line} ${way} ${place}\`)`;
+            return `in a frame from ${siteName(network, imp)} to ${far()} (\`drop ${line} ${way} ${place}\`)`;
         case "channel":
-            return `in channel ${channel} of ${impName(network, imp)} to ${siteName(network, farEnd(network, line, imp))}`;
+            return `in channel ${channel} of ${impName(network, imp)} to ${far()}`;
         case "store":
             return `in the store of ${impName(network, imp)}`;
         case "slot":
@@ -218,7 +221,8 @@ function unsettled(state, host) {
             (it) => it.state === "outstanding" && it.flow.startsWith(`${host} `),
         );
     const message = flows.length ? messageName(state.network, flows[0].flow) : "a message that it sent";
-    return `${filled(REFUSED.stopped, { host: hostName(state.network, host), message })} ${flows.length ? settling(state, flows[0].flow) : REFUSED.settle}`;
+    const stopped = filled(REFUSED.stopped, { host: hostName(state.network, host), message });
+    return `${stopped} ${flows.length ? settling(state, flows[0].flow) : REFUSED.settle}`;
 }
 
 /**
@@ -235,7 +239,9 @@ function notOutstanding(state, words) {
             { answer: ANSWERS[answer.kind], host: hostName(state.network, source), word: source },
         );
     }
-    return `No message is outstanding on link ${words[3]}: ${messageName(state.network, flow)} has been answered or given up, or there was none.`;
+    const message = messageName(state.network, flow);
+    const why = `${message} has been answered or given up, or there was none`;
+    return `No message is outstanding on link ${words[3]}: ${why}.`;
 }
 
 /**
@@ -269,9 +275,9 @@ function stillAlive(state, words) {
                 && impOf(it.flow.split(" ")[0]) === Number(other)
                 && impOf(it.flow.split(" ")[1]) === Number(what),
         );
-        return alive.length
-            ? filled(REFUSED["still alive"], { places: places(state, alive) })
-            : `A message from ${siteName(network, Number(other))} is outstanding: it has to be answered or given up first.`;
+        if (alive.length) return filled(REFUSED["still alive"], { places: places(state, alive) });
+        const from = siteName(network, Number(other));
+        return `A message from ${from} is outstanding: it has to be answered or given up first.`;
     }
     const flow = flowOf(words);
     const number = outstandingNumber(state, flow);
@@ -291,5 +297,6 @@ function noRoom(state, words) {
     const held = (it?.store.length ?? 0) + (
         it?.ports.reduce((sum, port) => sum + port.sending.filter((channel) => channel.packet).length, 0) ?? 0
     );
-    return `${capital(impName(state.network, imp))} has no room: it holds ${count(held, "packet")} in its store and channels, 32 at most, and 16 messages may wait for a host.`;
+    return `${capital(impName(state.network, imp))} has no room: it holds ${count(held, "packet")} in its store and `
+        + "channels, 32 at most, and 16 messages may wait for a host.";
 }

@@ -5,6 +5,7 @@ import { cureOf, isReachable } from "./fates.js";
 import { why } from "./refusals.js";
 import { saying } from "./texts.js";
 import { farEnd, hostName, impName, impOf, siteName } from "./topology.js";
+import { isOfHost } from "./trace.js";
 import { ANSWERS, messageName } from "./waits.js";
 import { capital, count, filled, joinedWords, listed } from "./words.js";
 
@@ -53,7 +54,7 @@ export function sentenceOf(history, at) {
     const it = new Telling(history, at);
     const { printed, words } = it.moment;
     if (printed.length === 0) return silent(it);
-    const told = printed.map((line) => printedSentence(it, line.split(" ")));
+    const told = printed.map((line, place) => printedSentence(it, line.split(" "), it.moment.kinds[place]));
     return joinedWords([...told, words[0] === "take" || words[0] === "out" || words[0] === "offer" ? inner(it) : ""]);
 }
 
@@ -73,52 +74,23 @@ export function quietSentence(history, stop) {
 /**
  * @param {Telling} it
  * @param {string[]} line
+ * @param {string} crossed
  */
-function printedSentence(it, line) {
-    const [kind, ...words] = line;
+function printedSentence(it, [kind, ...words], crossed) {
     if (kind === "refused") return `Refused: ${why(it.before, words[0], it.moment.words)}`;
-    if (kind === "answer") return lineSentence(it.network, answerKind(it.before, words), words.slice(1));
-    return lineSentence(it.network, kind, words, kind === "out" || kind === "in" ? { text: says(it, words) } : {});
+    if (kind === "answer") return lineSentence(it.network, crossed, words.slice(1));
+    if (kind !== "out" && kind !== "in") return lineSentence(it.network, kind, words);
+    return lineSentence(it.network, kind, words, { text: says(it.network, words) });
 }
 
 /**
  * What a message says, or how long it is.
  *
- * @param {Telling} it
- * @param {string[]} words
+ * @param {Network} network
+ * @param {string[]} words source, destination, link, bits and octets
  */
-function says(it, words) {
-    const text = textOf(it.moment, it.before, words);
-    return (text === null ? "" : saying(it.network.raw, Number(words[2]), Number(words[3]), text))
-        || count(Number(words[3]), "bit");
-}
-
-/**
- * The octets of the message that a printed line is about, null where they aren't known.
- *
- * @param {Moment} moment
- * @param {State} before
- * @param {string[]} words source, destination, link, bits and perhaps octets
- * @returns {string | null}
- */
-export function textOf(moment, before, words) {
-    if (words.length > 4) return words[4];
-    if (moment.words[0] === "out") return moment.words[5] ?? null;
-    return before.box(words[1])?.messages[0]?.octets ?? null;
-}
-
-/**
- * The answer that crosses: two are printed alike, and the state knows which it is.
- *
- * @param {State} before
- * @param {string[]} words the answer as it is printed, and its flow
- * @returns {"rfnm" | "dead" | "incomplete" | "nottaken"}
- */
-export function answerKind(before, words) {
-    const waiting = before.box(words[1])?.answers[0];
-    const flow = words.slice(1, 4).join(" ");
-    if (words[0] === "incomplete" && waiting?.flow === flow) return waiting.kind;
-    return /** @type {"rfnm" | "dead" | "incomplete"} */ (words[0]);
+function says(network, words) {
+    return saying(network.raw, Number(words[2]), Number(words[3]), words[4]) || count(Number(words[3]), "bit");
 }
 
 /** What each printed line has after its first word, and its sentence. */
@@ -231,7 +203,7 @@ function sendings(it, imp, how = "sends") {
  */
 function inner(it) {
     const { network, moment, after } = it;
-    if (network.plain || !it.history.replay.inside || moment.printed[0]?.startsWith("refused")) return "";
+    if (network.plain || moment.printed[0]?.startsWith("refused")) return "";
     const [kind, ...words] = moment.printed[0].split(" ");
     if (kind === "in" && !it.note.sent.length && impOf(words[0]) !== impOf(words[1])) {
         const way = after.way(impOf(words[1]), impOf(words[0]));
@@ -245,9 +217,8 @@ function inner(it) {
     if (after.box(words[0])?.answers.some((answer) => answer.kind === "dead" && answer.flow === flow)) {
         return deadAtOnce(it, imp, words[1]);
     }
-    const pieces = [...(after.imp(imp)?.store ?? []), ...it.note.sent.flatMap((sent) => sent.frame.packet ?? [])].filter(
-        (packet) => packet.flow === flow && packet.kind === "data",
-    );
+    const packets = [...(after.imp(imp)?.store ?? []), ...it.note.sent.flatMap((sent) => sent.frame.packet ?? [])];
+    const pieces = packets.filter((packet) => packet.flow === flow && packet.kind === "data");
     const waiting = after.imp(imp)?.store.filter((packet) => packet.flow === flow).length ?? 0;
     if (impOf(words[1]) === imp) return filled(INSIDE["one imp"], { imp: it.imp(imp), host: it.host(words[1]) });
     const parts = pieces.length > 1 ? `It is cut into ${pieces.length} packets.` : "";
@@ -312,7 +283,7 @@ function silent(it) {
             ? SILENT["no round"]
             : filled(SILENT.round, { round: it.moment.round || 1 });
     }
-    if (!parts.length && !it.network.plain) return outside(it);
+    if (!it.network.plain && !parts.some(([name]) => !isOfHost(name))) return outside(it);
     return (INNER[kind] ?? outside)(it);
 }
 
@@ -320,7 +291,7 @@ const SILENT = TABLE.silent;
 const INSIDE = TABLE.inside;
 
 /**
- * What an event does, where its inside isn't known.
+ * What an event does that leaves no part of the network.
  *
  * @param {Telling} it
  */
@@ -348,7 +319,8 @@ const INNER = {
         || filled(INSIDE["nothing to send"], { imp: it.imp(it.moment.words[1]) }),
     enddown: (it) => {
         const [, imp, line] = it.moment.words;
-        const held = it.before.port(Number(imp), Number(line))?.sending.flatMap((channel) => channel.packet ?? []) ?? [];
+        const sending = it.before.port(Number(imp), Number(line))?.sending ?? [];
+        const held = sending.flatMap((channel) => channel.packet ?? []);
         const left = new Set(it.after.heldBy(Number(imp)).map((held) => held.packet?.key));
         const gone = held.filter((packet) => !left.has(packet.key)).map((packet) => packetName(it.network, packet));
         return joinedWords([
@@ -365,11 +337,26 @@ const INNER = {
     },
     impdown: (it) => {
         const held = it.before.heldBy(Number(it.moment.words[1])).length;
-        return `${filled(INSIDE.stops, { imp: it.imp(it.moment.words[1]) })} ${held ? `It held ${count(held, "packet")}. ` : ""}Its neighbours don't see it until their ends of its lines go down.`;
+        return joinedWords([
+            filled(INSIDE.stops, { imp: it.imp(it.moment.words[1]) }),
+            held ? `It held ${count(held, "packet")}.` : "",
+            "Its neighbours don't see it until their ends of its lines go down.",
+        ]);
     },
-    impup: (it) => `${filled(INSIDE.starts, { imp: it.imp(it.moment.words[1]) })} Its neighbours' ends have to be reset, too, or the first packets over them may be lost.`,
-    forget: (it) => `${capital(it.imp(it.moment.words[1]))} forgets the last numbers of flows from ${it.imp(it.moment.words[2])}.`,
-    giveup: (it) => `${filled(INSIDE["given up"], { message: messageName(it.network, it.moment.words.slice(1, 4).join(" ")), imp: it.imp(impOf(it.moment.words[1])) })} ${answerWaits(it, "incomplete", it.moment.words[1])}`,
+    impup: (it) => joinedWords([
+        filled(INSIDE.starts, { imp: it.imp(it.moment.words[1]) }),
+        "Its neighbours' ends have to be reset, too, or the first packets over them may be lost.",
+    ]),
+    forget: (it) => {
+        const [, imp, other] = it.moment.words;
+        return `${capital(it.imp(imp))} forgets the last numbers of flows from ${it.imp(other)}.`;
+    },
+    giveup: (it) => {
+        const [source, destination, link] = it.moment.words.slice(1, 4);
+        const message = messageName(it.network, `${source} ${destination} ${link}`);
+        const given = filled(INSIDE["given up"], { message, imp: it.imp(impOf(source)) });
+        return `${given} ${answerWaits(it, "incomplete", source)}`;
+    },
     ask: (it) => {
         const flow = it.moment.words.slice(1, 4);
         const [near, far] = [impOf(flow[0]), impOf(flow[1])];
@@ -513,7 +500,8 @@ function answerTaken(it, packet) {
  */
 function dataTaken(it, packet, before, after) {
     const host = it.host(packet.destination);
-    if ((after.box(packet.destination)?.messages.length ?? 0) > (before.box(packet.destination)?.messages.length ?? 0)) {
+    const waiting = (/** @type {State} */ state) => state.box(packet.destination)?.messages.length ?? 0;
+    if (waiting(after) > waiting(before)) {
         return filled(INSIDE.whole, { host });
     }
     const kept = after.imp(it.note.to)?.kept.find((note) => note.flow === packet.flow);
@@ -538,5 +526,6 @@ function dropped(it) {
     if (!note.frame.packet) return start;
     const { packet, channel } = note.frame;
     const held = it.after.port(note.from, note.line)?.sending[channel]?.packet?.key === packet.key;
-    return `${start} ${filled(INSIDE[held ? "still held" : "held no longer"], { imp: it.imp(note.from), number: note.from })}`;
+    const ends = { imp: it.imp(note.from), number: note.from };
+    return `${start} ${filled(INSIDE[held ? "still held" : "held no longer"], ends)}`;
 }

@@ -11,6 +11,8 @@ import { impOf, linesOf, wayOf } from "./topology.js";
 /** @typedef {import("./trace.js").Imp} Imp */
 /** @typedef {import("./trace.js").Line} Line */
 /** @typedef {import("./trace.js").Box} Box */
+/** @typedef {import("./trace.js").Program} Program */
+/** @typedef {import("./trace.js").Services} Services */
 /** @typedef {import("./trace.js").Packet} Packet */
 
 /** The distance that stands for no way. */
@@ -58,9 +60,27 @@ export class State {
         return this.imp(impOf(host))?.hosts[Number(host.split("/")[0])] ?? null;
     }
 
+    /**
+     * What a host's program keeps, null where the host is down or has none.
+     *
+     * @param {string} host
+     */
+    program(host) {
+        return /** @type {Program | null} */ (this.parts[`program ${host}`] ?? null);
+    }
+
+    /**
+     * What runs on a host, null where it has no services.
+     *
+     * @param {string} host
+     */
+    services(host) {
+        return /** @type {Services | null} */ (this.parts[`services ${host}`] ?? null);
+    }
+
     /** @param {string} host */
     isUp(host) {
-        if (this.network.plain) return !(/** @type {string[]} */ (this.parts.down).includes(host));
+        if (this.network.plain) return !(/** @type {string[]} */ (this.parts.down ?? []).includes(host));
         return this.box(host)?.up ?? false;
     }
 
@@ -109,8 +129,9 @@ export class State {
         for (const { number } of this.network.sites) found.push(...this.heldBy(number));
         this.network.lines.forEach((_, line) => {
             for (const way of /** @type {const} */ (["+", "-"])) {
-                this.line(line)[way].forEach((frame, place) => {
-                    if (frame.packet) found.push(heldPacket(frame.packet, { at: "line", imp: wayOf(this.network, line, way)[0], line, way, place, channel: frame.channel }));
+                const [imp] = wayOf(this.network, line, way);
+                this.line(line)[way].forEach(({ packet, channel }, place) => {
+                    if (packet) found.push(heldPacket(packet, { at: "line", imp, line, way, place, channel }));
                 });
             }
         });
@@ -129,15 +150,20 @@ export class State {
         const imp = this.imp(number);
         if (!imp) return found;
         const lines = linesOf(this.network, number);
-        for (const packet of imp.store) found.push(heldPacket(packet, { ...NOWHERE, at: "store", imp: number }));
+        const here = { ...NOWHERE, imp: number };
+        for (const packet of imp.store) found.push(heldPacket(packet, { ...here, at: "store" }));
         imp.ports.forEach((port, place) => {
             port.sending.forEach(({ packet }, channel) => {
-                if (packet) found.push(heldPacket(packet, { ...NOWHERE, at: "channel", imp: number, line: lines[place], channel }));
+                if (packet) found.push(heldPacket(packet, { ...here, at: "channel", line: lines[place], channel }));
             });
         });
-        for (const slot of imp.slots) for (const packet of slot) found.push(heldPacket(packet, { ...NOWHERE, at: "slot", imp: number, place: slot.length }));
+        for (const slot of imp.slots) {
+            for (const packet of slot) found.push(heldPacket(packet, { ...here, at: "slot", place: slot.length }));
+        }
         imp.hosts.forEach((box, host) => {
-            for (const it of box.messages) found.push({ kind: "data", flow: it.flow, number: it.number, packet: null, place: { ...NOWHERE, at: "host", imp: number, place: host } });
+            for (const { flow, number } of box.messages) {
+                found.push({ kind: "data", flow, number, packet: null, place: { ...here, at: "host", place: host } });
+            }
         });
         return found;
     }

@@ -2,8 +2,8 @@
  * Stops: the moments through which a reader goes in one step, by three grains.
  *
  * - `event`: each moment is a stop.
- * - `arrival`: what printed or is new is a stop. What is left of a round joins the stop before it, and rounds in a row in which nothing
- *   is new are one stop.
+ * - `arrival`: what printed or is new is a stop. What is left of a round joins the stop before it, and rounds in a row
+ *   in which nothing is new are one stop.
  * - `round`: what printed, each event of the script, and the end of each round.
  */
 

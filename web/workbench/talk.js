@@ -47,7 +47,7 @@ import { impOf } from "./topology.js";
 
 /** @typedef {{host: string, peer: string, state: "asked" | "ready" | "failed"}} Contact */
 
-/** @typedef {{host: string, peer: string, socket: number}} User a user, and the server's host and socket that it asks */
+/** @typedef {{host: string, peer: string, socket: number}} User a user, and the server's host and socket */
 
 /** The bits of the number that a server sends its first user: the base of its two sockets. */
 const BASE = 32;

@@ -9,6 +9,8 @@ import { TABLE } from "../../python/dorydate/sentences/table.mjs";
 import { COMMANDS, short, wide } from "./commands.js";
 import { filled } from "./words.js";
 
+/** @typedef {import("./trace.js").Command} Command */
+
 const TEXTS = TABLE.texts;
 
 const ERRORS = ["", ...Object.values(TABLE["error codes"])];
@@ -86,36 +88,70 @@ function commands(octets) {
         if (octets.length - at < command.length) {
             return [...found, filled(TEXTS.cut, { name: command.name, octets: octets.length - at })];
         }
-        found.push(commandInWords(octets.slice(at, at + command.length)));
+        found.push(commandWords(commandIn(octets.slice(at, at + command.length))));
         at += command.length;
     }
     return found;
 }
 
-/** @param {number[]} command */
-function commandInWords(command) {
-    const { name } = COMMANDS[command[0]];
-    const sockets = { own: wide(command, 1), foreign: wide(command, 5) };
+/**
+ * A command by its octets, with the fields that a trace has.
+ *
+ * @param {number[]} octets
+ * @returns {Command}
+ */
+function commandIn(octets) {
+    const kind = COMMANDS[octets[0]].name.toLowerCase();
+    const [first, second, link] = [wide(octets, 1), wide(octets, 5), octets[1]];
+    switch (kind) {
+        case "rts":
+            return { kind, receive: first, send: second, link: octets[9] };
+        case "str":
+            return { kind, send: first, receive: second, size: octets[9] };
+        case "cls":
+            return { kind, own: first, foreign: second };
+        case "all":
+        case "ret":
+            return { kind, link, messages: short(octets, 2), bits: wide(octets, 4) };
+        case "gvb":
+            return { kind, link, messages: octets[2], bits: octets[3] };
+        case "eco":
+        case "erp":
+            return { kind, octet: octets[1] };
+        case "err":
+            return { kind, code: octets[1] };
+    }
+    return { kind, link };
+}
+
+/**
+ * A command in words.
+ *
+ * @param {Command} command
+ */
+export function commandWords({ kind, ...fields }) {
+    const name = kind.toUpperCase();
     switch (name) {
         case "RTS":
-            return filled(TEXTS.RTS, { ...sockets, link: command[9] });
+            return filled(TEXTS.RTS, { ...fields, own: fields.receive, foreign: fields.send });
         case "STR":
-            return filled(TEXTS.STR, { ...sockets, size: command[9] });
+            return filled(TEXTS.STR, { ...fields, own: fields.send, foreign: fields.receive });
         case "CLS":
-            return filled(TEXTS.CLS, sockets);
+        case "GVB":
+            return filled(TEXTS[name], fields);
         case "ALL":
         case "RET":
-            return filled(TEXTS.ALL, { name, messages: short(command, 2), bits: wide(command, 4), link: command[1] });
-        case "GVB":
-            return filled(TEXTS.GVB, { messages: command[2], bits: command[3], link: command[1] });
+            return filled(TEXTS.ALL, { name, ...fields });
         case "INR":
         case "INS":
-            return filled(TEXTS.INR, { name, link: command[1] });
+            return filled(TEXTS.INR, { name, ...fields });
         case "ECO":
         case "ERP":
-            return `${name} ${command[1]}`;
-        case "ERR":
-            return `ERR ${command[1]}${ERRORS[command[1]] ? ` (${ERRORS[command[1]]})` : ""}`;
+            return `${name} ${fields.octet}`;
+        case "ERR": {
+            const error = ERRORS[Number(fields.code)];
+            return `ERR ${fields.code}${error ? ` (${error})` : ""}`;
+        }
     }
     return name;
 }

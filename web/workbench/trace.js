@@ -1,6 +1,6 @@
 /**
- * Reads the program's trace (docs/trace.md): the parts of a raw network at its opening, its elementary events, what
- * each printed, and the parts that it left.
+ * Reads the program's trace (docs/trace.md): the parts of a network at its opening, its events, what each printed, and
+ * the parts that it left. The program and the services of a host are parts, too: `program H` and `services H`.
  *
  * Packets, frames and flows get the form here in which the page asks for them, so that no other module knows that of a
  * trace.
@@ -74,14 +74,51 @@ const FORMAT = 2;
 
 /** @typedef {{"+": Frame[], "-": Frame[]}} Line */
 
-/** @typedef {Imp | null | Line | Box | string[]} Part an IMP, a line, a plain host's box, or the plain hosts that are down */
+/** @typedef {{messages: number, bits: number}} Allocation what may still be sent, or come */
+
+/**
+ * @typedef {object} HostEnd an end of a connection, as its host's program holds it
+ * @property {number} socket
+ * @property {number} foreign the peer's socket
+ * @property {"receive" | "send"} kind
+ * @property {boolean} mine `false` only for a request that is refused
+ * @property {{own: number | null, peer: number | null}} requests which of them there were
+ * @property {{own: "no" | "due" | "queued" | "sent", peer: boolean}} closing
+ * @property {number | null} link
+ * @property {number | null} size
+ * @property {Allocation} allocation
+ * @property {{bits: number, octets: string}} waiting
+ */
+
+/** @typedef {{kind: string, [field: string]: string | number}} Command a command that waits */
+
+/**
+ * @typedef {object} Peer what a host's program keeps about another host
+ * @property {string} peer
+ * @property {"closed" | "want" | "gone" | "early" | "heard" | "ready"} phase
+ * @property {boolean} owed whether an RRP is owed
+ * @property {number[]} busy the links on which a message has no answer yet
+ * @property {HostEnd[]} ends
+ * @property {Command[]} commands
+ */
+
+/** @typedef {{pairs: Peer[], listening: {socket: number, size: number}[]}} Program */
+
+/** @typedef {{typing: number | null, running: {kind: string, [field: string]: any}[]}} Services */
+
+/**
+ * An IMP, a line, a plain host's box, the plain hosts that are down, or the program or the services of a host.
+ *
+ * @typedef {Imp | null | Line | Box | string[] | Program | Services} Part
+ */
 
 /**
  * @typedef {object} Record
  * @property {number} event which event of the script it belongs to, from 0
  * @property {number} round 0 in no calm
- * @property {string[]} words the elementary event
- * @property {string[]} printed
+ * @property {string[]} words the event
+ * @property {string[]} printed with the octets of messages
+ * @property {string[]} kinds of each printed line what crossed; "" of a notice
  * @property {string} fate of a frame that was delivered, as the program judged it; "" of any other event
  * @property {[string, Part][]} parts
  */
@@ -116,7 +153,8 @@ function packetIn(told) {
  */
 function frameIn(told) {
     const packet = told.packet === undefined ? null : packetIn(told.packet);
-    return { acks: told.acks, packet, channel: packet ? told.channel : -1, bit: packet ? told.bit : 0, routes: told.routes ?? null };
+    const [channel, bit] = packet ? [told.channel, told.bit] : [-1, 0];
+    return { acks: told.acks, packet, channel, bit, routes: told.routes ?? null };
 }
 
 /**
@@ -170,7 +208,9 @@ function impIn(told) {
     if (told === null) return null;
     return {
         hosts: told.hosts.map(boxIn),
-        ports: told.ports.map((/** @type {any} */ it) => ({ up: it.up, sending: it.sending.map(channelIn), expected: it.expected })),
+        ports: told.ports.map(
+            (/** @type {any} */ it) => ({ up: it.up, sending: it.sending.map(channelIn), expected: it.expected }),
+        ),
         routes: told.routes,
         store: told.store.map(packetIn),
         slots: told.slots.map((/** @type {any[]} */ it) => it.map(packetIn)),
@@ -187,45 +227,100 @@ function impIn(told) {
  * @returns {Part}
  */
 export function partIn(name, told) {
-    if (name === "down") return told;
+    if (name === "down" || isOfHost(name)) return told;
     if (name.startsWith("host ")) return boxIn(told);
     if (name.startsWith("line ")) return { "+": told["+"].map(frameIn), "-": told["-"].map(frameIn) };
     return impIn(told);
 }
 
 /**
- * @param {any} told
- * @returns {[string, Part][]}
+ * Whether a part is the program or the services of a host.
+ *
+ * @param {string} name
  */
-function partsIn(told) {
-    return Object.keys(told).map((name) => [name, partIn(name, told[name])]);
+export function isOfHost(name) {
+    return name.startsWith("program ") || name.startsWith("services ");
 }
 
 /**
- * A trace: the parts at the opening, and the records. A last line that was cut off is left out.
+ * All parts of a line of a trace, as they are written there.
+ *
+ * @param {any} told
+ * @returns {[string, any][]}
+ */
+function partsOf({ parts, programs, services }) {
+    return [
+        ...Object.entries(parts),
+        ...Object.entries(programs ?? {}).map(([host, it]) => /** @type {[string, any]} */ ([`program ${host}`, it])),
+        ...Object.entries(services ?? {}).map(([host, it]) => /** @type {[string, any]} */ ([`services ${host}`, it])),
+    ];
+}
+
+/**
+ * Whether a printed line tells of a crossing.
+ *
+ * @param {string} line
+ */
+export function isCrossing(line) {
+    return /^(?:out|in|answer|down|up) /.test(line);
+}
+
+/**
+ * The printed lines of an event with the octets of messages, and what crossed in each.
+ *
+ * @param {string[]} printed
+ * @param {any[]} crossed
+ */
+function linesIn(printed, crossed) {
+    let at = 0;
+    const told = printed.map((line) => (isCrossing(line) ? crossed[at++] : null));
+    const withOctets = (/** @type {string} */ line, /** @type {any} */ it) => `${line} ${it.octets || "-"}`;
+    return {
+        printed: printed.map((line, place) => (/^(?:out|in) /.test(line) ? withOctets(line, told[place]) : line)),
+        kinds: told.map((it) => it?.kind ?? ""),
+    };
+}
+
+/**
+ * A trace: the parts at the opening, and the records. A last line that was cut off is left out. In a network with host
+ * programs each line has all parts; a record has those that its event changed.
  *
  * @param {string} text what `--trace` printed, with its first line whole
+ * @param {number} [most] how many lines are read
+ * @param {(name: string) => boolean} [isWanted] which parts records have
  * @returns {Trace}
  */
-export function readTrace(text) {
+export function readTrace(text, most = Infinity, isWanted = () => true) {
     const end = text.indexOf("\n");
     const first = JSON.parse(text.slice(0, end));
     if (first.trace !== FORMAT) {
         throw new Error(`The trace is not of format ${FORMAT}: the page and its program are of different sources.`);
     }
+    const opening = Object.fromEntries(partsOf(first).map(([name, it]) => [name, partIn(name, it)]));
+    /** @type {Map<string, string>} the text of each part of a network with host programs */
+    const texts = new Map(first.raw ? [] : partsOf(first).map(([name, it]) => [name, JSON.stringify(it)]));
+    const isNew = (/** @type {[string, any]} */ [name, it]) => {
+        if (first.raw) return true;
+        const told = JSON.stringify(it);
+        const isOld = texts.get(name) === told;
+        texts.set(name, told);
+        return !isOld;
+    };
     /** @type {Record[]} */
     const records = [];
     for (const line of text.slice(end + 1, text.lastIndexOf("\n")).split("\n")) {
         if (line === "") continue;
-        const { number, round, event, printed, fate, parts } = JSON.parse(line);
+        if (records.length === most) break;
+        const it = JSON.parse(line);
+        const parts = partsOf(it).filter(([name]) => isWanted(name)).filter(isNew);
         records.push({
-            event: number - 1,
-            round,
-            words: event.split(" "),
-            printed,
-            fate: fate ?? "",
-            parts: partsIn(parts),
+            event: it.number - 1,
+            round: it.round,
+            words: it.event.split(" "),
+            ...linesIn(it.printed, it.crossed),
+            fate: it.fate ?? "",
+            parts: parts.map(([name, part]) => [name, partIn(name, part)]),
         });
     }
-    return { opening: Object.fromEntries(partsIn(first.parts)), records };
+    return { opening, records };
 }

@@ -29,37 +29,18 @@ import { count, listed, possessive } from "./words.js";
  *
  * @param {State} state
  * @param {Talk} talk as of the same position
- * @param {boolean} inside whether the state tells where messages are
  * @returns {Wait[]}
  */
-export function waitsOf(state, talk, inside) {
-    return [
-        ...messageWaits(state, talk, inside),
-        ...connectionWaits(state, talk),
-        ...(inside ? deadNeighbours(state) : []),
-    ];
+export function waitsOf(state, talk) {
+    return [...messageWaits(state), ...connectionWaits(state, talk), ...deadNeighbours(state)];
 }
 
 /**
  * @param {State} state
- * @param {Talk} talk
- * @param {boolean} inside
  * @returns {Wait[]}
  */
-function messageWaits(state, talk, inside) {
+function messageWaits(state) {
     const { network } = state;
-    if (!inside) {
-        return [...talk.messages.values()].map(
-            (it) => (
-                {
-                    ...wait(messageName(network, it.flow)),
-                    where: it.taken ? "taken" : "in the network",
-                    for: "its answer",
-                    flow: it.flow,
-                }
-            ),
-        );
-    }
     if (network.plain) return plainWaits(state);
     const everything = state.everything();
     /** @type {Wait[]} */
@@ -171,9 +152,8 @@ function outstanding(state, flow, number, everything) {
     }
     const best = furthest(state, copies);
     const held = copies.filter((it) => it.place.at !== "line").length;
-    const others = copies.length > 1
-        ? `(${listed([...(held ? [`${held} held`] : []), ...(copies.length > held ? [`${copies.length - held} on lines`] : [])])})`
-        : "";
+    const places = [held ? `${held} held` : "", copies.length > held ? `${copies.length - held} on lines` : ""];
+    const others = copies.length > 1 ? `(${listed(places.filter(Boolean))})` : "";
     return { ...told, ...placeOf(state, best), copies: others };
 }
 
@@ -333,7 +313,8 @@ function endWaits(network, talk, end) {
         return [
             {
                 ...wait(`The request from ${at}`),
-                for: `${hostName(network, end.peer)} to ask for the same connection, or to listen on socket ${end.foreign}`,
+                for: `${hostName(network, end.peer)} to ask for the same connection, or to listen on socket `
+                    + end.foreign,
             },
         ];
     }
@@ -438,7 +419,8 @@ export function grouped(network, waits) {
         const [source, destination] = first.flow.split(" ");
         const links = listed(group.map((it) => it.flow.split(" ")[2]), 16);
         const start = first.what.startsWith("The answer") ? `The answers to ${group.length}` : String(group.length);
-        const what = `${start} messages from ${hostName(network, source)} to ${hostName(network, destination)}, links ${links}`;
+        const ends = `from ${hostName(network, source)} to ${hostName(network, destination)}`;
+        const what = `${start} messages ${ends}, links ${links}`;
         const where = first.where.replace(/channel \d+/, "channels");
         return {
             ...first,

@@ -45,8 +45,8 @@ export function joinedWords(parts) {
 }
 
 /**
- * A sentence of the table (python/dorydate/sentences/table.mjs) with its holes filled. `{Name}` begins with a capital, `{name's}` is possessive,
- * `{name bit}` is a number with its noun.
+ * A sentence of the table (python/dorydate/sentences/table.mjs) with its holes filled. `{Name}` begins with a capital,
+ * `{name's}` is possessive, `{name bit}` is a number with its noun.
  *
  * @param {string} sentence
  * @param {{[name: string]: string | number}} holes
@@ -57,7 +57,9 @@ export function filled(sentence, holes) {
     return sentence.replace(/\{(\w+)('s| [a-z]+)?\}/g, (_, name, ending = "") => {
         const key = name.slice(0, 1).toLowerCase() + name.slice(1);
         if (holes[key] === undefined) throw new RangeError(`${key} of: ${sentence}`);
-        const value = ending.startsWith(" ") ? count(Number(holes[key]), ending.slice(1)) : ending ? possessive(String(holes[key])) : String(holes[key]);
+        const text = String(holes[key]);
+        const isCounted = ending.startsWith(" ");
+        const value = isCounted ? count(Number(text), ending.slice(1)) : ending ? possessive(text) : text;
         return key === name ? value : capital(value);
     });
 }

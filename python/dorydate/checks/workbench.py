@@ -2,7 +2,7 @@
 
 With Node (Debian's package `nodejs`), over the native program (over its module, which is faster, while it is not proved and has one):
 - each example's moments print what is stored, each stop is there once, and a change at a random position is exact;
-- what each event leaves inside is what the independent model in Python has then, part for part;
+- what each event leaves inside, in the programs of hosts too, is what the independent model in Python has then, part for part;
 - packets that are thrown away are called repeats or lost, as rows written by hand say;
 - nothing that waits is left out at any stop, each message has its lane, each sentence is whole, and faults, texts and addresses are as by hand;
 - random lines have a fault here exactly where the reader in Python finds one;
@@ -30,6 +30,9 @@ from dorydate.explain import faults
 from dorydate.parts import ROOT, any_program
 from dorydate.model.subnet import Subnet
 from dorydate.model.trace_subnet import every_name, part
+from dorydate.model.trace_world import program_of
+from dorydate.model.names import spell_host
+from dorydate.model.world import World
 
 MOST_ROUNDS = 400  # of calm in an example that the model follows
 
@@ -43,7 +46,8 @@ def node() -> str | None:
 
 
 def states_of(text: bytes) -> list[dict[str, dict[str, Any] | None]] | None:
-    """The parts of a subnet after each event of an input, by the independent model; None for plain mailboxes and long calms."""
+    """The parts of a subnet, and the programs of its hosts, after each event of an input, by the independent model; None for plain
+    mailboxes and long calms."""
     head, _, script = text.decode().partition("\n%\n")
     network = topology.read(head.encode())
     lines = [it for it in script.split("\n") if it and not it.startswith("#")]
@@ -57,8 +61,14 @@ def states_of(text: bytes) -> list[dict[str, dict[str, Any] | None]] | None:
     states = []
     for line in lines:
         place.happen(*read_event(line, network.raw))
-        states.append({name: part(subnet, name) for name in every_name(subnet)})
+        states.append({name: part(subnet, name) for name in every_name(subnet)} | programs_of(place))
     return states
+
+
+def programs_of(place: object) -> dict[str, dict[str, Any] | None]:
+    """What the programs of hosts hold, where hosts have programs."""
+    hosts = place.hosts.items() if isinstance(place, World) else ()
+    return {f"program {spell_host(host)}": program_of(program) for host, program in hosts}
 
 
 def model_states() -> dict[str, object]:

@@ -13,8 +13,8 @@ test("what two replays printed stands in pairs, alike lines together", async () 
     const after = await historyOfText(twoImps(["calm 2", "out 0/1 0/2 5 8 41", "hostdown 0/2", "calm 4"]));
     const pairs = beside(printedBy(before.replay), printedBy(after.replay));
     assert.deepEqual(pairs.map((pair) => [pair.before?.text ?? "", pair.after?.text ?? ""]), [
-        ["out 0/1 0/2 5 8", "out 0/1 0/2 5 8"],
-        ["in 0/1 0/2 5 8", ""],
+        ["out 0/1 0/2 5 8 41", "out 0/1 0/2 5 8 41"],
+        ["in 0/1 0/2 5 8 41", ""],
         ["answer rfnm 0/1 0/2 5", ""],
         ["", "down 0/2"],
         ["", "answer dead 0/1 0/2 5"],

@@ -35,6 +35,15 @@ function printedBefore(history, position) {
 }
 
 /**
+ * Whether a replay has rounds as a whole, and not what happens within them.
+ *
+ * @param {History} history
+ */
+function isByRounds({ replay }) {
+    return replay.moments.some(({ words, printed }) => words[0] === "calm" && printed.length > 1);
+}
+
+/**
  * The rounds of all calms of a text.
  *
  * @param {string} text
@@ -61,7 +70,7 @@ async function wrongWith(history, position, edit) {
         found.push("printed");
     }
     if (rounds(edit.text) !== rounds(history.replay.input.text)) found.push("rounds");
-    if (after.replay.inside !== history.replay.inside) found.push("inside");
+    if (isByRounds(after) !== isByRounds(history)) found.push("inside");
     const script = edit.text.split("\n%\n")[1].split("\n");
     if (script[edit.line - 1] !== "calm 0") found.push("place");
     return position < 0 ? [] : found;

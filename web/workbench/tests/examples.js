@@ -72,5 +72,6 @@ export async function historyOfText(text) {
  * @param {string[]} script
  */
 export function twoImps(script) {
-    return ["raw = true", "[[imp]]", "id = 1", "hosts = 1", "[[imp]]", "id = 2", "hosts = 1", "[[line]]", "a = 1", "b = 2", "%", ...script, ""].join("\n");
+    const imps = [1, 2].flatMap((imp) => ["[[imp]]", `id = ${imp}`, "hosts = 1"]);
+    return ["raw = true", ...imps, "[[line]]", "a = 1", "b = 2", "%", ...script, ""].join("\n");
 }

@@ -30,15 +30,16 @@ function leftOut(history, position, talk, waits) {
     const state = history.at(position);
     const found = [];
     const flows = new Set(waits.map((it) => it.flow));
-    if (history.replay.inside && !history.network.plain) {
+    if (!history.network.plain) {
         for (const { number } of history.network.sites) {
             for (const it of state.imp(number)?.sources ?? []) {
                 if (it.state !== "idle" && !flows.has(it.flow)) found.push(it.flow);
             }
         }
-    } else if (!history.replay.inside) for (const flow of talk.messages.keys()) if (!flows.has(flow)) found.push(flow);
+    }
+    const isSaid = (/** @type {number} */ socket) => waits.some((it) => it.what.includes(`socket ${socket} `));
     for (const end of talk.ends) {
-        if (sends(end.socket) && end.state === "open" && end.handed > end.bits && !waits.some((it) => it.what.includes(`socket ${end.socket} `))) {
+        if (sends(end.socket) && end.state === "open" && end.handed > end.bits && !isSaid(end.socket)) {
             found.push(`bits on ${end.socket}`);
         }
     }
@@ -64,7 +65,7 @@ for (const name of NAMES) {
                 assert.equal(sentence.split("`").length % 2, 1, sentence);
             }
             const state = history.at(stop.to);
-            const waits = waitsOf(state, talk.goTo(stop.to), history.replay.inside);
+            const waits = waitsOf(state, talk.goTo(stop.to));
             assert.deepEqual(leftOut(history, stop.to, talk, waits), [], `step ${place + 1}`);
             for (const end of talk.ends) {
                 assert(
@@ -139,7 +140,7 @@ test("something that waits and is left out is found", async () => {
     assert(history);
     const stops = stopsOf(history, "arrival");
     const talk = new Talk(history.replay).goTo(stops[130].to);
-    const waits = waitsOf(history.at(stops[130].to), talk, true);
+    const waits = waitsOf(history.at(stops[130].to), talk);
     assert.equal(waits.length, 16);
     assert.equal(leftOut(history, stops[130].to, talk, waits.slice(1)).length, 1);
 });

@@ -24,7 +24,7 @@ import { isReplay, replay } from "../runs.js";
  * @param {History} history
  */
 function waitsAtEnd(history) {
-    return waitsOf(history.at(history.length), new Talk(history.replay).goTo(history.length), history.replay.inside);
+    return waitsOf(history.at(history.length), new Talk(history.replay).goTo(history.length));
 }
 
 /**
@@ -65,7 +65,12 @@ test("a message that was lost for a reset of one end waits for nobody, and is to
 
 test("bits wait for a grant, and it is told how much is left of it", async () => {
     const open = ["calm 2", "contact 0/1 0/2", "calm 6", "listen 0/2 16 8", "opensend 0/1 0/2 33 16 8", "calm 6"];
-    for (const [grant, left] of /** @type {const} */ ([[[], "0 messages and 0 bits"], [["grant 0/2 16 1 4"], "1 message and 4 bits"], [["grant 0/2 16 0 80"], "0 messages and 80 bits"]])) {
+    const grants = /** @type {[string[], string][]} */ ([
+        [[], "0 messages and 0 bits"],
+        [["grant 0/2 16 1 4"], "1 message and 4 bits"],
+        [["grant 0/2 16 0 80"], "0 messages and 80 bits"],
+    ]);
+    for (const [grant, left] of grants) {
         const history = await historyOfText(programs([...open, ...grant, "send 0/1 33 8 4C", "calm 6"]));
         const [wait] = waitsAtEnd(history);
         assert(wait && wait.what.startsWith("8 bits on socket 33") && wait.bad, JSON.stringify(wait));
@@ -110,7 +115,7 @@ test("what an echo service took waits for its host to offer, and then no longer"
     const at = history.replay.moments.findIndex(
         (moment) => moment.printed.some((line) => line.startsWith("arrived 0/2 100")),
     );
-    const waits = waitsOf(history.at(at + 1), talk.goTo(at + 1), history.replay.inside);
+    const waits = waitsOf(history.at(at + 1), talk.goTo(at + 1));
     const echo = waits.find((it) => it.what.startsWith("56 bits on socket 101"));
     assert(
         echo && echo.for === "host 0/2 to offer" && echo.where.includes("service; 4 messages and 4096 bits"),
@@ -135,7 +140,6 @@ test("a contact that never ends is told, and that nothing of its message is aliv
             "calm 20",
         ]),
     );
-    assert(history.replay.inside);
     const waits = waitsAtEnd(history);
     assert(waits.some((it) => it.what.includes("contact")), JSON.stringify(waits));
     assert(waits.some((it) => it.for.startsWith("nothing of it is alive")), JSON.stringify(waits));
@@ -154,7 +158,7 @@ test("the sixteen messages of the lockup are two rows", async () => {
     const at = history.replay.moments.findIndex(
         (moment) => moment.words.join(" ") === "enddown 1 0" || moment.words[0] === "enddown",
     );
-    const waits = waitsOf(history.at(at), new Talk(history.replay).goTo(at), true);
+    const waits = waitsOf(history.at(at), new Talk(history.replay).goTo(at));
     assert.deepEqual(grouped(history.network, waits).map((it) => it.count), [8, 8]);
 });
 

@@ -120,13 +120,11 @@ export class Compare {
         if (!this.map || !this.talk) return;
         const place = placeBeside(was.replay, history.replay, position);
         const state = was.at(place);
-        const { inside } = was.replay;
-        this.map.draw({ state, talk: this.talk.goTo(place), inside, to });
-        const differs = inside && history.replay.inside ? differingParts(state, history.at(position)) : [];
+        this.map.draw({ state, talk: this.talk.goTo(place), to });
+        const differs = differingParts(state, history.at(position));
         this.map.mark(new Set(differs));
         const words = differs.map((name) => partWords(was.network, name));
-        const known = inside && history.replay.inside;
-        const alike = known ? "At this step both are alike inside." : "What is inside isn't known of both.";
+        const alike = "At this step both are alike inside.";
         say(this.parts, words.length ? `Not alike at this step: ${words.join(", ")}.` : alike);
         this.parts.hidden = false;
         const at = stepWords(was, place);

@@ -33,15 +33,9 @@ export function fillHandout(element, history, title, intro) {
         const [kind, rounds] = event.words;
         const text = shortened(event.words);
         if (mine.length === 0) {
-            rows.append(
-                row(
-                    String(event.line),
-                    text,
-                    kind === "calm"
-                        ? `${count(Number(rounds), "round")} ${rounds === "1" ? "passes" : "pass"}, and no host's interface is crossed.`
-                        : "",
-                ),
-            );
+            const passing = `${count(Number(rounds), "round")} ${rounds === "1" ? "passes" : "pass"}`;
+            const told = kind === "calm" ? `${passing}, and no host's interface is crossed.` : "";
+            rows.append(row(String(event.line), text, told));
         }
         mine.forEach((stop, at) => {
             const start = at === 0 ? `${text}${stop.round ? ", " : ""}` : "";

@@ -14,6 +14,18 @@ import { keep, s, say, set } from "./dom.js";
 /** @typedef {import("../trace.js").Frame} Frame */
 /** @typedef {import("../choices.js").Part} Part */
 
+/**
+ * A frame that is drawn.
+ *
+ * @typedef {object} FrameOnLine
+ * @property {number} line
+ * @property {"+" | "-"} way
+ * @property {number} place its place among the frames that way
+ * @property {Frame} frame
+ * @property {number} count how many are drawn that way
+ * @property {number} more how many are not, of the last one that is
+ */
+
 const MOST_FRAMES = 7;
 const MOST_ARCS = 6;
 
@@ -21,7 +33,6 @@ const MOST_ARCS = 6;
  * @typedef {object} Scene what is drawn
  * @property {State} state
  * @property {Talk} talk
- * @property {boolean} inside
  * @property {number} to the IMP by whose distance the map is coloured, 0 for none
  */
 
@@ -197,35 +208,33 @@ export class MapView {
     }
 
     /** @param {Scene} scene */
-    updateLines({ state, inside }) {
+    updateLines({ state }) {
         if (this.network.plain) return;
         [...this.lines.children].forEach((element, line) => {
             const imps = this.network.lines[line];
-            const up = imps.map((imp) => !inside || state.isEndUp(imp, line));
+            const up = imps.map((imp) => state.isEndUp(imp, line));
             imps.forEach((_, place) => {
                 element.children[place + 1].classList.toggle("down", !up[place]);
                 element.children[place + 3].classList.toggle("shown", !up[place]);
             });
             const downAt = imps.filter((_, place) => !up[place]).map((imp) => siteName(this.network, imp));
-            label(
-                element,
-                `${partTitle(state, { kind: "line", line })}${downAt.length ? `, down at ${downAt.join(" and ")}` : ""}`,
-            );
+            const told = downAt.length ? `, down at ${downAt.join(" and ")}` : "";
+            label(element, `${partTitle(state, { kind: "line", line })}${told}`);
         });
     }
 
     /** @param {Scene} scene */
-    updateImps({ state, inside, to }) {
+    updateImps({ state, to }) {
         this.network.sites.forEach(({ number }, place) => {
             const element = this.imps.children[place];
-            const isUp = this.network.plain || !inside || state.imp(number) !== null;
+            const isUp = this.network.plain || state.imp(number) !== null;
             const distance = to && isUp ? state.way(number, to).distance : -1;
             element.classList.toggle("down", !isUp);
             element.classList.toggle("chosen", to === number);
             element.classList.toggle("nowhere", distance === FAR);
             const title = element.querySelector(".title");
             set(element, { "data-shade": distance < 0 || distance === FAR ? null : Math.min(8, distance) });
-            const held = inside && !this.network.plain ? state.heldBy(number).length : 0;
+            const held = !this.network.plain ? state.heldBy(number).length : 0;
             updateBadge(element, held);
             const below = element.querySelector(".below");
             if (below) {
@@ -249,12 +258,12 @@ export class MapView {
     }
 
     /** @param {Scene} scene */
-    updateHosts({ state, talk, inside }) {
+    updateHosts({ state }) {
         this.network.hosts.forEach((host, place) => {
             const element = this.hosts.children[place];
-            const isUp = inside ? state.isUp(host) : (talk.up.get(host) ?? true);
+            const isUp = state.isUp(host);
             element.classList.toggle("down", !isUp);
-            const box = inside ? state.box(host) : null;
+            const box = state.box(host);
             const waits = box ? box.messages.length + box.answers.length : 0;
             updateBadge(element, waits);
             label(element, `Host ${host}${isUp ? "" : ", down"}${waits ? `, ${waits} wait for it` : ""}`);
@@ -292,8 +301,8 @@ export class MapView {
      *
      * @param {Scene} scene
      */
-    updateWays({ state, inside, to }) {
-        const chosen = to && inside && !this.network.plain
+    updateWays({ state, to }) {
+        const chosen = to && !this.network.plain
             ? this.network.sites.flatMap(
                 ({ number }) => (
                     state.imp(number) && state.way(number, to).line >= 0
@@ -324,10 +333,10 @@ export class MapView {
     }
 
     /** @param {Scene} scene */
-    updateFrames({ state, inside }) {
-        /** @type {{key: string, line: number, way: "+" | "-", place: number, frame: Frame, count: number, more: number}[]} */
+    updateFrames({ state }) {
+        /** @type {(FrameOnLine & {key: string})[]} */
         const shown = [];
-        if (inside && !this.network.plain) {
+        if (!this.network.plain) {
             this.network.lines.forEach((_, line) => {
                 for (const way of /** @type {const} */ (["+", "-"])) {
                     const frames = state.line(line)[way];
@@ -367,7 +376,7 @@ export class MapView {
     /**
      * @param {State} state
      * @param {SVGElement} element
-     * @param {{line: number, way: "+" | "-", place: number, frame: Frame, count: number, more: number}} it
+     * @param {FrameOnLine} it
      */
     updateFrame(state, element, { line, way, place, frame, count, more }) {
         const [a, b] = this.ends(line);

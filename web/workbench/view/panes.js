@@ -2,16 +2,15 @@
 
 import { changedWays } from "../fates.js";
 import { FAR } from "../state.js";
+import { groupsOf } from "../programs.js";
 import { packetName } from "../sentences.js";
-import { sends } from "../talk.js";
 import { farEnd, hostName, siteName, wayOf } from "../topology.js";
 import { ANSWERS, grouped, messageName } from "../waits.js";
-import { capital, count } from "../words.js";
+import { capital } from "../words.js";
 import { h, keep, s, say, sayWithCode, set } from "./dom.js";
 
 /** @typedef {import("../state.js").State} State */
 /** @typedef {import("../talk.js").Talk} Talk */
-/** @typedef {import("../talk.js").End} End */
 /** @typedef {import("../waits.js").Wait} Wait */
 /** @typedef {import("../fold.js").History} History */
 /** @typedef {import("../choices.js").Part} Part */
@@ -31,6 +30,7 @@ import { h, keep, s, say, sayWithCode, set } from "./dom.js";
  * @property {State} state
  * @property {State | null} before the state before the last step
  * @property {Talk} talk
+ * @property {Talk | null} earlier what the lines say as of the state before
  * @property {Wait[]} waits
  * @property {number} to the IMP by whose distance the map is coloured
  * @property {boolean} hidden
@@ -120,13 +120,7 @@ export class Panes {
     /** @param {View} view */
     drawDistances({ history, state, before, to, position, hidden }) {
         const { network } = state;
-        if (network.plain || !history.replay.inside) {
-            return this.nothing(
-                network.plain
-                    ? "Plain mailboxes have no IMPs, so there are no distances."
-                    : "What is inside isn't known for this script.",
-            );
-        }
+        if (network.plain) return this.nothing("Plain mailboxes have no IMPs, so there are no distances.");
         const columns = network.sites.length <= 9
             ? network.sites.map((site) => site.number)
             : [to || network.sites[0].number];
@@ -215,9 +209,8 @@ export class Panes {
     }
 
     /** @param {View} view */
-    drawInside({ history, state }) {
+    drawInside({ state }) {
         const { network } = state;
-        if (!history.replay.inside) return this.nothing("What is inside isn't known for this script.");
         if (network.plain) return this.drawBoxes(state);
         say(
             this.intro,
@@ -341,70 +334,31 @@ export class Panes {
     }
 
     /** @param {View} view */
-    drawHosts({ history, state, talk }) {
+    drawHosts({ state, before, talk, earlier }) {
         const { network } = state;
-        const { inside } = history.replay;
         say(
             this.intro,
             network.raw
                 ? "Hosts, and messages without an answer."
-                : "Hosts, their peers, and the ends of their connections as of this step.",
+                : "Hosts, and what their programs and services hold. What this step changed is framed.",
         );
         keep(
             this.body,
             network.hosts,
             (host) => host,
-            (host) => h(
-                "section",
-                { class: "host-row" },
-                h("h3"),
-                h("p", { class: "soft" }),
-                h(
-                    "table",
-                    { class: "ends" },
-                    h(
-                        "thead",
-                        {},
-                        h(
-                            "tr",
-                            {},
-                            ...["socket", "with", "state", "granted", "handed over", "sent or taken"].map(
-                                (it) => h("th", { scope: "col" }, it),
-                            ),
-                        ),
-                    ),
-                    h("tbody"),
-                ),
-            ),
+            () => h("section", { class: "host-row" }, h("h3"), h("p", { class: "soft" }), h("div")),
             (element, host) => {
-                const isUp = inside ? state.isUp(host) : talk.up.get(host);
-                const [title, told, table] = element.children;
-                say(
-                    title,
-                    `${capital(hostName(network, host))}${hostName(network, host) === `host ${host}` ? "" : ` (${host})`}`,
-                );
-                const ready = talk.contacts.filter((it) => it.host === host && it.state === "ready").map(
-                    (it) => hostName(network, it.peer),
-                );
-                const open = [...talk.messages.values()].filter((it) => it.flow.startsWith(`${host} `));
-                const parts = [
-                    isUp ? "up" : "down",
-                    ...(ready.length ? [`ready with ${ready.join(", ")}`] : []),
-                    ...open.map(({ flow, taken }) => {
-                        const [, to, link] = flow.split(" ");
-                        const state = taken ? "no answer yet, though taken" : "no answer yet";
-                        return `${state}: to ${hostName(network, to)} on link ${link}`;
-                    }),
-                ];
-                say(told, parts.join(" · "));
-                const ends = talk.ends.filter((end) => end.host === host && end.state !== "over");
-                table.hidden = ends.length === 0;
+                const [title, told, groups] = element.children;
+                const name = hostName(network, host);
+                say(title, `${capital(name)}${name === `host ${host}` ? "" : ` (${host})`}`);
+                say(told, [state.isUp(host) ? "up" : "down", ...openWords(network, talk, host)].join(" · "));
+                const were = before && earlier ? groupsOf(before, earlier, host) : null;
                 keep(
-                    table.querySelector("tbody"),
-                    ends,
-                    (end) => `${end.socket} ${end.peer} ${end.foreign}`,
-                    () => h("tr", {}, h("th", { scope: "row" }), ...Array.from({ length: 5 }, () => h("td"))),
-                    (row, end) => endCells(network, end).forEach((text, place) => say(row.children[place], text)),
+                    groups,
+                    groupsOf(state, talk, host),
+                    (it) => it.key,
+                    () => h("section", { class: "holds" }, h("h4"), h("dl")),
+                    (group, it) => drawGroup(group, it, were),
                 );
             },
         );
@@ -412,27 +366,42 @@ export class Panes {
 }
 
 /**
- * The cells of an end: what was done so far, and never what is still to come.
+ * A host's messages that have no answer.
  *
  * @param {import("../topology.js").Network} network
- * @param {End} end
+ * @param {Talk} talk
+ * @param {string} host
  */
-function endCells(network, end) {
-    const isSending = sends(end.socket);
-    const back = end.returnedBits || end.returnedMessages
-        ? `, ${count(end.returnedMessages, "message")} and ${count(end.returnedBits, "bit")} back`
-        : "";
-    const byService = end.service && end.grantedBits === 0 && end.handed === 0 ? "by its service" : "";
-    return [
-        String(end.socket),
-        end.peer ? `${end.foreign} of ${hostName(network, end.peer)}` : "anybody",
-        end.state,
-        isSending
-            ? ""
-            : byService || `${count(end.grantedMessages, "message")}, ${count(end.grantedBits, "bit")}${back}`,
-        isSending ? byService || count(end.handed, "bit") : "",
-        `${count(end.bits, "bit")} ${isSending ? "sent" : "taken"}`,
-    ];
+function openWords(network, talk, host) {
+    const open = [...talk.messages.values()].filter((it) => it.flow.startsWith(`${host} `));
+    return open.map(({ flow, taken }) => {
+        const [, to, link] = flow.split(" ");
+        const state = taken ? "no answer yet, though taken" : "no answer yet";
+        return `${state}: to ${hostName(network, to)} on link ${link}`;
+    });
+}
+
+/**
+ * A group of cells; those that are not as they were are marked.
+ *
+ * @param {Element} element
+ * @param {import("../programs.js").Group} group
+ * @param {import("../programs.js").Group[] | null} were
+ */
+function drawGroup(element, { key, title, cells }, were) {
+    const [head, list] = element.children;
+    say(head, title);
+    const old = new Map(were?.find((it) => it.key === key)?.cells ?? []);
+    keep(
+        list,
+        cells,
+        ([name]) => name,
+        ([name]) => h("div", {}, h("dt", {}, name), h("dd")),
+        (cell, [name, text]) => {
+            say(cell.children[1], text);
+            cell.classList.toggle("changed", were !== null && old.get(name) !== text);
+        },
+    );
 }
 
 /**

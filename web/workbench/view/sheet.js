@@ -276,17 +276,12 @@ export class SheetView {
                 ];
             }
             // an answer without a taking: a bow at the source's own lane, or only its end where it is long
-            const top = Math.max(start, stop - 120);
+            const [at, top] = [x(lane), Math.max(start, stop - 120)];
             return [
                 s(
                     "g",
                     { class: `arrow ${kind}`, "data-at": to },
-                    s(
-                        "path",
-                        {
-                            d: `M${x(lane)} ${top} C${x(lane) - 13} ${top + 6} ${x(lane) - 13} ${stop - 6} ${x(lane)} ${stop}`,
-                        },
-                    ),
+                    s("path", { d: `M${at} ${top} C${at - 13} ${top + 6} ${at - 13} ${stop - 6} ${at} ${stop}` }),
                 ),
             ];
         });
@@ -334,7 +329,8 @@ export class SheetView {
                     "path",
                     {
                         class: "end",
-                        d: `M${far - 4} ${low - 4} L${far + 4} ${low + 4} M${far + 4} ${low - 4} L${far - 4} ${low + 4}`,
+                        d: `M${far - 4} ${low - 4} L${far + 4} ${low + 4} `
+                            + `M${far + 4} ${low - 4} L${far - 4} ${low + 4}`,
                     },
                 ),
             ),
