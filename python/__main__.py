@@ -10,6 +10,7 @@ from dorydate import ending
 # each command, and the function that runs it
 COMMANDS = {
     "cases": "dorydate.checks.cases:run",
+    "caught": "dorydate.wasm.caught:main",
     "check": "dorydate.commands:check",
     "explain": "dorydate.explain.command:main",
     "explore": "dorydate.explore.command:main",
@@ -18,6 +19,8 @@ COMMANDS = {
     "keep-wasm": "dorydate.builds.pages:main",
     "measure": "dorydate.commands:measure",
     "optimised": "dorydate.builds.optimised:main",
+    "pack": "dorydate.wasm.pack:main",
+    "release": "dorydate.builds.release:main",
 }
 
 

@@ -13,7 +13,7 @@ from typing import Any
 
 HERE = Path(__file__).resolve().parent
 TAG = "py3-none-any"
-OF_REPOSITORY = {"builds", "checks", "documents", "drawings", "measure"}  # parts that build, check and draw the repository
+OF_REPOSITORY = {"builds", "checks", "documents", "drawings", "measure", "wasm"}  # parts that build, check and draw the repository
 
 
 def named(key: str) -> str:

@@ -19,10 +19,10 @@ import sys
 
 from dorydate.builds.unproved import kept_for_sources
 from dorydate.parts import ROOT
-from wasm import pack
-from wasm.again import build_again
-from wasm.binary import Refused
-from wasm.make import make, makers, read_note
+from dorydate.wasm import pack
+from dorydate.wasm.again import build_again
+from dorydate.wasm.binary import Refused
+from dorydate.wasm.make import make, makers, read_note
 
 
 def note(text: str) -> None:

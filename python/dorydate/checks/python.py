@@ -89,7 +89,7 @@ def main() -> int:
     if program is None:
         print("check python: there is no program of these sources: ./build makes it")
         return 1
-    env = {**os.environ, "DORYDATE_PROGRAM": program, "PYTHONPATH": f"{PACKAGE}:{ROOT}/tools"}
+    env = {**os.environ, "DORYDATE_PROGRAM": program, "PYTHONPATH": PACKAGE}
     if program.endswith("-unproved"):
         print("check python: the program without proofs is too slow for explorations, so none is run: ./build makes the fast one")
     return 0 if all([mypy(), pyflakes(), tests(env), notebook(env), program.endswith("-unproved") or explorations(env)]) else 1

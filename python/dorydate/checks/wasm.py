@@ -2,9 +2,9 @@
 
 It wants Node, and says so in its last line where there is none. In turn it tries
 
-- the makers and the page's scripts by their own tests;
+- the page's scripts by their own tests (those of the makers are in ./check python);
 - the surroundings of the program (heap, reads, writes, words, wide numbers) against models, in random order, and that this finds each wrong
-  body of tools/wasm/wrong-bodies;
+  body of tools/wasm/wrong-bodies, and stores that are lowered wrong;
 - the module against the native program that is kept: each example with each list of options, and with changes in random places, and the
   inputs of logs/ and cases/;
 - the module with every limit of memory from the least to one that is enough: `stopped`, and a prefix of the output;
@@ -34,7 +34,9 @@ from dorydate.checks.cases import cases_below
 from dorydate.parts import ROOT
 from collections.abc import Callable
 from typing import Any
-from wasm import binary, make
+from dorydate.wasm import binary, make, retarget
+from dorydate.wasm.lower import CUT, I32, I64, LOCAL_GET, LOCAL_SET, STORED, Spares, Stores, lowered_store
+from dorydate.wasm.shims import build
 
 # lists of words that each example is run with
 OPTIONS = [[], ["--texts"], ["--book"], ["--check"], ["--check", "--book"], ["--book", "--texts"], ["--log"], ["--trace"], ["--audit"], ["--no"], ["--log", ""], ["é€😀" * 300]]
@@ -58,18 +60,18 @@ def call(*words: str, **how: Any) -> None:
         raise Wrong(f"failed: {' '.join(os.path.relpath(it, ROOT) if it.startswith(ROOT) else it for it in words[:4])}")
 
 
-def in_tools(root: str = ROOT) -> dict[str, Any]:
-    return {"cwd": f"{root}/tools", "env": {**os.environ, "PYTHONDONTWRITEBYTECODE": "1"}}
-
-
 # ---- the surroundings
 
 
-def try_shims(folder: str, sources: str, root: str = ROOT) -> str | None:
+def try_shims(sources: str = make.SURROUNDINGS, stores: Stores = lowered_store) -> str | None:
     """Builds the surroundings and tries them; what was said is given back if something differs, else None."""
-    built = subprocess.run([sys.executable, "-m", "wasm.shims", folder, sources], capture_output=True, text=True, **in_tools(root))
-    if built.returncode:
-        raise Wrong(f"the surroundings can't be built: {built.stderr}")
+    with tempfile.TemporaryDirectory() as folder:
+        build(folder, sources, stores)
+        return told_of_shims(folder)
+
+
+def told_of_shims(folder: str) -> str | None:
+    """Tries surroundings that are built; what was said is given back if something differs, else None."""
     tried = subprocess.run([node(), f"{ROOT}/web/check/shims.js", f"{folder}/shims.wasm", f"{folder}/small.wasm"], capture_output=True, text=True)
     if tried.returncode == 0:
         print(tried.stdout, end="")
@@ -92,17 +94,30 @@ def apply(edit: str, folder: str) -> None:
         file.write(text.replace(f"{old}\n", f"{new}\n"))
 
 
+def swapped(instruction: bytes, spares: Spares) -> bytes:
+    """A store of 64 bits with value and address swapped: what lies on top is taken for the address."""
+    if STORED[instruction[0]] != I64:
+        return lowered_store(instruction, spares)
+    value, address = spares.of(I64), spares.of(I32)
+    return CUT + LOCAL_SET + address + LOCAL_SET + value + LOCAL_GET + address + LOCAL_GET + value + instruction
+
+
+def want_found(what: str, said: str | None) -> None:
+    """A fault has to be found by what the models say, or by a trap."""
+    if said is None or not re.search(r"AssertionError|RuntimeError", said):
+        raise Wrong(f"not found: {what}: {said}")
+
+
 def try_wrong_bodies() -> None:
-    """Each wrong body has to be found by what the models say, or by a trap."""
+    """Each wrong body has to be found."""
     edits = sorted(glob.glob(f"{ROOT}/tools/wasm/wrong-bodies/*.edit"))
     for edit in edits:
         with tempfile.TemporaryDirectory() as room:
-            shutil.copytree(f"{ROOT}/tools/wasm", f"{room}/tools/wasm")
-            apply(edit, f"{room}/tools/wasm")
-            said = try_shims(room, f"{room}/tools/wasm", room)
-        if said is None or not re.search(r"AssertionError|RuntimeError", said):
-            raise Wrong(f"not found: {os.path.basename(edit)}: {said}")
-    print(f"wrong bodies: all {len(edits)} found")
+            shutil.copytree(make.SURROUNDINGS, f"{room}/wasm")
+            apply(edit, f"{room}/wasm")
+            want_found(os.path.basename(edit), try_shims(f"{room}/wasm"))
+    want_found("stores with value and address swapped", try_shims(stores=swapped))
+    print(f"wrong bodies: all {len(edits) + 1} found")
 
 
 # ---- runs
@@ -179,7 +194,7 @@ def check_module(module: bytes, sources: str, is_proved: bool) -> None:
     if note.get("sources") != sources:
         raise Wrong(f"the module comes from the sources {note.get('sources')}, and not from {sources}")
     mark = make.mark_in(module)
-    if note.get("mark") != mark or note.get("proved") != make.is_proved(mark):
+    if note.get("mark") != mark or note.get("proved") != retarget.is_proved(mark):
         raise Wrong(f"the module says proved={note.get('proved')}, and its compiler left the mark {mark}")
     if note["proved"] != is_proved:
         raise Wrong(f"the module is {'not ' * (not note['proved'])}proved, and the program {'not ' * (not is_proved)}")
@@ -205,7 +220,7 @@ def check_released(page: str, note: dict[str, Any]) -> None:
     held = gzip.decompress(base64.b64decode(block_of(page, "program")))
     if hashlib.sha256(held).hexdigest() != note["module"]:
         raise Wrong("released/dorydate.html holds another module than released/note.json tells of")
-    if not note["proved"] or not make.is_proved(note["mark"]) or note["mark"] != make.mark_in(held):
+    if not note["proved"] or not retarget.is_proved(note["mark"]) or note["mark"] != make.mark_in(held):
         raise Wrong("released/dorydate.html is not of a proved program")
     check_page(page, note["sources"], True)
 
@@ -241,8 +256,8 @@ def check_pages(program: str) -> None:
     packed = block_of(page, "program")
 
     def page_with(**changes: object) -> str:
-        note = {**json.loads(binary.note_of(module, make.NOTE)), **changes}
-        changed = make.noted(module, binary.note_of(module, "producers"), note)
+        note = {**json.loads(binary.note_of(module, make.NOTE) or b"{}"), **changes}
+        changed = make.noted(module, binary.note_of(module, "producers") or b"", note)
         return page.replace(packed, base64.b64encode(gzip.compress(changed)).decode())
 
     has_to_refuse("a module of other sources", check_page, page_with(sources="0" * 64), sources, is_proved)
@@ -269,12 +284,10 @@ def main() -> int:
         if words:
             call(node(), f"{ROOT}/web/check/page.js", f"{program}-plain.html", f"{ROOT}/examples")
             return 0
-        call(sys.executable, "-m", "unittest", "discover", "-q", "-s", "wasm/tests", "-t", ".", **in_tools())
         call(node(), "--test", "--test-reporter=dot", *sorted(glob.glob(f"{ROOT}/web/tests/*.test.js")))
-        with tempfile.TemporaryDirectory() as room:
-            said = try_shims(room, f"{ROOT}/tools/wasm")
-            if said is not None:
-                raise Wrong(said)
+        said = try_shims()
+        if said is not None:
+            raise Wrong(said)
         try_wrong_bodies()
         with tempfile.TemporaryDirectory() as room:
             write_runs(room)

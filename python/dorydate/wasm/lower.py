@@ -9,8 +9,9 @@ answers 2^32 - 1 here and 2^64 - 1 there.
 from __future__ import annotations
 
 import dataclasses
+from collections.abc import Callable
 
-from .binary import CODE, CUSTOM, DATA, FUNCTIONS, MEMORIES, TYPES, Reader, Refused, Section, content_of, counted, module_of, number, sections_of
+from dorydate.wasm.binary import CODE, CUSTOM, DATA, FUNCTIONS, MEMORIES, TYPES, Reader, Refused, Section, content_of, counted, module_of, number, sections_of
 
 I32, I64, F32, F64 = 0x7F, 0x7E, 0x7D, 0x7C
 LOCAL_GET, LOCAL_SET = b"\x20", b"\x21"
@@ -83,6 +84,9 @@ def lowered_store(instruction: bytes, spares: Spares) -> bytes:
     return LOCAL_SET + value + CUT + LOCAL_GET + value + instruction
 
 
+Stores = Callable[[bytes, Spares], bytes]  # how a store is lowered whose value wasn't only just put there
+
+
 def lowered_more(reader: Reader, start: int, spares: Spares) -> bytes:
     """An instruction of two parts, from its first octet on."""
     which = reader.number()
@@ -97,7 +101,7 @@ def lowered_more(reader: Reader, start: int, spares: Spares) -> bytes:
     return set_aside + CUT + LOCAL_GET + second + LOCAL_GET + count + CUT + reader.octets[start : reader.at]
 
 
-def lowered_body(reader: Reader, spares: Spares) -> bytes:
+def lowered_body(reader: Reader, spares: Spares, stores: Stores) -> bytes:
     """The instructions of a function, to the end of its octets."""
     octets, out, pushed_at = reader.octets, bytearray(), -1
     while not reader.is_at_end():
@@ -122,7 +126,7 @@ def lowered_body(reader: Reader, spares: Spares) -> bytes:
             out[pushed_at:pushed_at] = CUT
             out += instruction
         elif kind == STORE:
-            out += lowered_store(instruction, spares)
+            out += stores(instruction, spares)
         elif kind == SIZE:
             out += instruction + WIDEN
         elif kind == GROW:
@@ -133,7 +137,7 @@ def lowered_body(reader: Reader, spares: Spares) -> bytes:
     return bytes(out)
 
 
-def lowered_function(body: bytes, parameters: int) -> bytes:
+def lowered_function(body: bytes, parameters: int, stores: Stores) -> bytes:
     """A function, whose locals come before its instructions."""
     reader = Reader(body)
     groups, count, start = reader.number(), parameters, reader.at
@@ -142,7 +146,7 @@ def lowered_function(body: bytes, parameters: int) -> bytes:
         reader.octet()
     locals_before = body[start : reader.at]
     spares = Spares(count)
-    instructions = lowered_body(reader, spares)
+    instructions = lowered_body(reader, spares, stores)
     added = b"".join(number(1) + bytes([kind]) for kind in spares.types)
     return number(groups + len(spares.types)) + locals_before + added + instructions
 
@@ -158,13 +162,14 @@ def parameters_of(content: bytes) -> list[int]:
     return counts
 
 
-def lowered_code(content: bytes, functions: bytes, types: bytes) -> bytes:
+def lowered_code(content: bytes, functions: bytes, types: bytes, stores: Stores) -> bytes:
     """The section of code, where the section of functions has the type of each."""
     parameters, of_function, reader = parameters_of(types), Reader(functions), Reader(content)
     count = reader.number()
     if of_function.number() != count:
         raise Refused("functions and code differ in number")
-    return number(count) + b"".join(counted(lowered_function(reader.counted(), parameters[of_function.number()])) for _ in range(count))
+    bodies = [lowered_function(reader.counted(), parameters[of_function.number()], stores) for _ in range(count)]
+    return number(count) + b"".join(counted(it) for it in bodies)
 
 
 def lowered_memory(content: bytes) -> bytes:
@@ -193,8 +198,8 @@ def lowered_data(content: bytes) -> bytes:
     return out
 
 
-def lowered(module: bytes) -> bytes:
-    """The module with addresses of 32 bits. Custom sections go."""
+def lowered(module: bytes, stores: Stores = lowered_store) -> bytes:
+    """The module with addresses of 32 bits. Custom sections go. Another way to lower stores is a fault, to be found by tests."""
     sections = [it for it in sections_of(module) if it.number != CUSTOM]
     types, functions = content_of(sections, TYPES), content_of(sections, FUNCTIONS)
 
@@ -202,7 +207,7 @@ def lowered(module: bytes) -> bytes:
         if section.number == MEMORIES:
             return lowered_memory(section.content)
         if section.number == CODE:
-            return lowered_code(section.content, functions, types)
+            return lowered_code(section.content, functions, types, stores)
         return lowered_data(section.content) if section.number == DATA else section.content
 
     return module_of([Section(it.number, content(it)) for it in sections])

@@ -9,7 +9,7 @@ from __future__ import annotations
 
 import re
 
-from .binary import Refused
+from dorydate.wasm.binary import Refused
 
 LAYOUT = b'target datalayout = "e-m:e-p270:32:32-p271:32:32-p272:64:64-i64:64-i128:128-f80:128-n8:16:32:64-S128"\n'
 TRIPLE = b'target triple = "x86_64-unknown-linux-gnu"\n'

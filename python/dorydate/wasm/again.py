@@ -14,9 +14,10 @@ import sys
 import tempfile
 import time
 
-from .binary import Refused
+from dorydate.parts import ROOT
+from dorydate.wasm.binary import Refused
 
-CAUGHT = os.path.join(os.path.dirname(os.path.realpath(__file__)), "caught.py")
+CAUGHT = [sys.executable, "-B", f"{ROOT}/python", "caught"]
 
 
 def build_again(root: str, module: str, log: str) -> None:
@@ -32,6 +33,6 @@ def build_again(root: str, module: str, log: str) -> None:
         # (where CI is set, `rt ci` takes no names, so that nobody takes that for the gate)
         environment = {name: value for name, value in os.environ.items() if name != "CI"}
         with open(log, "wb") as said:
-            ran = subprocess.run([sys.executable, CAUGHT, module, "rt", "ci", "arpasim"], cwd=room, env=environment, stdin=subprocess.DEVNULL, stdout=said, stderr=said)
+            ran = subprocess.run([*CAUGHT, module, "rt", "ci", "arpasim"], cwd=room, env=environment, stdin=subprocess.DEVNULL, stdout=said, stderr=said)
     if ran.returncode or not os.path.exists(module):
         raise Refused(f"the module was not caught; {log} has what rt said")

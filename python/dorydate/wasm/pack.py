@@ -1,5 +1,4 @@
-#!/usr/bin/env python3
-"""Packs a page, its scripts, the examples and the program into one file: tools/wasm/pack.py FOLDER MODULE FILE
+"""Packs a page, its scripts, the examples and the program into one file: python3 python pack FOLDER MODULE FILE
 
 FOLDER has `page.html`, `page.css` and `main.js`, the module of JavaScript that the page begins with (web/page, or another one). In
 `page.html` four comments say where what is packed goes: `<!-- policy -->`, `<!-- style -->`, `<!-- data -->` and `<!-- script -->`. The
@@ -22,7 +21,8 @@ import re
 import sys
 from dataclasses import dataclass, field
 
-ROOT = os.path.dirname(os.path.dirname(os.path.dirname(os.path.realpath(__file__))))
+from dorydate.parts import ROOT
+
 IMPORT = re.compile(r"^import\s+(?:\{([^}]*)\}|\*\s+as\s+(\w+))\s+from\s+\"(\.{1,2}/[^\"]+)\";[ ]*$", re.MULTILINE)
 EXPORT = re.compile(r"^export\s+((?:async\s+)?function\s*\*?\s*(\w+)|class\s+(\w+)|const\s+(\w+))", re.MULTILINE)
 EXPORT_LIST = re.compile(r"^export\s+\{([^}]*)\};[ ]*$", re.MULTILINE)
@@ -168,19 +168,15 @@ def page(folder: str, module: bytes, first: list[dict[str, str]] | None = None) 
 
 def main() -> int:
     if len(sys.argv) != 4:
-        sys.exit("usage: tools/wasm/pack.py FOLDER MODULE FILE")
+        sys.exit("usage: python3 python pack FOLDER MODULE FILE")
     folder, module, to = sys.argv[1:]
     try:
         with open(module, "rb") as file:
             text = page(os.path.realpath(folder), file.read())
     except (Refused, OSError) as why:
-        print(f"pack.py: {why}", file=sys.stderr)
+        print(f"pack: {why}", file=sys.stderr)
         return 1
     with open(f"{to}.new", "w", encoding="utf-8", newline="\n") as made:
         made.write(text)
     os.replace(f"{to}.new", to)
     return 0
-
-
-if __name__ == "__main__":
-    sys.exit(main())

@@ -7,7 +7,8 @@ import tempfile
 import unittest
 from typing import Dict
 
-from wasm.pack import ROOT, Refused, hash_of, joined, page, title_of
+from dorydate.parts import ROOT
+from dorydate.wasm.pack import Refused, hash_of, joined, page, title_of
 
 NODE = shutil.which("node") or shutil.which("nodejs")
 

@@ -13,11 +13,13 @@ import os
 import subprocess
 import tempfile
 
-from .binary import Reader, Refused, note_of, with_notes
-from .lower import lowered
-from .retarget import for_wasm, is_proved, mark_of
+from dorydate.parts import ROOT
+from dorydate.wasm.binary import Reader, Refused, note_of, with_notes
+from dorydate.wasm.lower import lowered
+from dorydate.wasm.retarget import for_wasm, is_proved, mark_of
 
 HERE = os.path.dirname(os.path.realpath(__file__))
+SURROUNDINGS = f"{ROOT}/tools/wasm"  # in C
 SHIMS = ("heap", "system", "wide")
 NOTE = "arpasim"  # the section of the note
 TARGET = ["--no-default-config", "--target=wasm64-unknown-unknown"]
@@ -37,7 +39,7 @@ def clang(*words: str) -> None:
     subprocess.run([f"{kit()}/toolchain/bin/clang", *words], check=True)
 
 
-def compiled_shims(folder: str, sources: str = HERE) -> list[str]:
+def compiled_shims(folder: str, sources: str = SURROUNDINGS) -> list[str]:
     """Compiles the surroundings of the program, and answers their object files."""
     for name in SHIMS:
         clang(*TARGET, *SHIM_OPTIONS, "-c", f"{sources}/{name}.c", "-o", f"{folder}/{name}.o")
@@ -80,12 +82,12 @@ def mark_in(module: bytes) -> str:
 
 
 def makers() -> str:
-    """The hash of what makes the modules: this folder's files of C and Python, without what only packs pages."""
-    names = sorted(it for it in os.listdir(HERE) if it.endswith((".c", ".h", ".py")) and it != "pack.py")
+    """The hash of what makes the modules: the surroundings in C and this folder's Python, without what only packs pages."""
+    files = [f"{folder}/{it}" for folder in (SURROUNDINGS, HERE) for it in sorted(os.listdir(folder)) if it.endswith((".c", ".h", ".py"))]
     together = hashlib.sha256()
-    for name in names:
-        with open(f"{HERE}/{name}", "rb") as file:
-            together.update(f"{name} {hashlib.sha256(file.read()).hexdigest()}\n".encode())
+    for path in (it for it in files if os.path.basename(it) != "pack.py"):
+        with open(path, "rb") as file:
+            together.update(f"{os.path.basename(path)} {hashlib.sha256(file.read()).hexdigest()}\n".encode())
     return together.hexdigest()
 
 

@@ -1,5 +1,4 @@
-#!/usr/bin/env python3
-"""Runs a command that builds arpasim, and keeps the LLVM module that the program is compiled of: tools/wasm/caught.py FILE COMMAND..
+"""Runs a command that builds arpasim, and keeps the LLVM module that the program is compiled of: python3 python caught FILE COMMAND..
 
 The toolchain's `rattle build` writes the module to a folder of its own, has clang compile it, which takes many seconds, and removes it.
 Meanwhile it is opened here, so that its content is still there afterwards. Only builds that COMMAND has begun count, and of these only
@@ -94,7 +93,7 @@ def watch(running: subprocess.Popen[bytes], catcher: Catcher) -> None:
 
 def main() -> int:
     if len(sys.argv) < 3:
-        sys.exit("usage: tools/wasm/caught.py FILE COMMAND..")
+        sys.exit("usage: python3 python caught FILE COMMAND..")
     to, *command = sys.argv[1:]
     with contextlib.suppress(FileNotFoundError):
         os.remove(to)
@@ -105,10 +104,6 @@ def main() -> int:
     try:
         watch(running, Catcher(running.pid, os.path.abspath(to)))
     except OSError as why:
-        print(f"caught.py: the module is not kept: {why}", file=sys.stderr)
+        print(f"caught: the module is not kept: {why}", file=sys.stderr)
     status = running.wait()
     return status if status >= 0 else 128 - status
-
-
-if __name__ == "__main__":
-    sys.exit(main())
