@@ -1,0 +1,89 @@
+"""Scripts as files: a network, events with their comments, and what each event is expected to print."""
+
+from __future__ import annotations
+
+from collections.abc import Iterator, Sequence
+from dataclasses import dataclass
+
+from dorydate.network import BadNetwork, Network
+from dorydate.script.event import Event
+from dorydate.script.lines import read_event
+from dorydate.script.values import BadLine
+
+EXPECTED = "#="  # begins a comment with a line that the event before it has to print
+
+
+@dataclass(frozen=True)
+class Entry:
+    """A line of a script that asks for an event, with the comments before it, the lines that it is expected to
+    print (None where nothing is said), and its number in the file (0 where it is from none)."""
+
+    event: Event
+    comments: tuple[str, ...] = ()
+    expected: tuple[str, ...] | None = None
+    number: int = 0
+
+    def lines(self) -> Iterator[str]:
+        for comment in self.comments:
+            yield f"# {comment}".rstrip()
+        yield str(self.event)
+        if self.expected is not None:
+            yield from (f"{EXPECTED} {it}".rstrip() for it in self.expected or ("",))
+
+
+@dataclass(frozen=True)
+class Script:
+    """A network and the events that happen in it."""
+
+    network: Network
+    entries: tuple[Entry, ...] = ()
+    heading: tuple[str, ...] = ()  # comments at the head of the file
+
+    @staticmethod
+    def of(network: Network, events: Sequence[Event], heading: Sequence[str] = ()) -> Script:
+        return Script(network, tuple(Entry(it) for it in events), tuple(heading))
+
+    @property
+    def events(self) -> tuple[Event, ...]:
+        return tuple(it.event for it in self.entries)
+
+    def text(self) -> str:
+        """The whole input, as the program reads it."""
+        head = [f"# {it}".rstrip() for it in self.heading]
+        lines = [line for entry in self.entries for line in entry.lines()]
+        return "\n".join([*head, *self.network.toml().splitlines(), "%", *lines]) + "\n"
+
+    @staticmethod
+    def read(text: str) -> Script:
+        """The script of an input. A comment that begins with `#=` is what the event before it is expected to print."""
+        head, marker, rest = f"\n{text}".partition("\n%\n")
+        if not marker:
+            raise BadLine("no line is `%`, which separates the topology from the script")
+        network = Network.read(head)
+        first = head.count("\n") + 2
+        entries: list[Entry] = []
+        comments: list[str] = []
+        lines = rest.split("\n")
+        for number, line in enumerate(lines[:-1] if lines[-1] == "" else lines, first):
+            if line.startswith(EXPECTED):
+                expect(entries, line, number)
+            elif line.startswith("#"):
+                comments.append(line[1:].strip())
+            elif line:
+                try:
+                    entries.append(Entry(read_event(line, network.raw), tuple(comments), None, number))
+                except (BadLine, BadNetwork) as why:
+                    raise BadLine(f"line {number}, `{line}`: {why}") from None
+                comments = []
+        heading = tuple(it[1:].strip() for it in head.strip("\n").split("\n") if it.startswith("#"))
+        return Script(network, tuple(entries), heading)
+
+
+def expect(entries: list[Entry], line: str, number: int) -> None:
+    """Adds a line to what the last event is expected to print; an empty one says that it prints nothing."""
+    if not entries:
+        raise BadLine(f"line {number}, `{line}`: no event comes before it")
+    last, printed = entries[-1], line[len(EXPECTED) :].strip(" ")
+    if last.expected == () or (last.expected and not printed):
+        raise BadLine(f"line {number}, `{line}`: the event of line {last.number} can't print nothing and something")
+    entries[-1] = Entry(last.event, last.comments, (*(last.expected or ()), *([printed] if printed else [])), last.number)

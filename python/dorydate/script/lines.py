@@ -1,0 +1,32 @@
+"""Lines of scripts: which words raw networks have and which networks with host programs, and the event of a line."""
+
+from __future__ import annotations
+
+from dataclasses import fields
+
+from dorydate.script import of_network, of_programs
+from dorydate.script.event import EVENTS, Event
+from dorydate.script.values import BadLine
+
+OF_PROGRAMS = {word for word, kind in EVENTS.items() if kind.__module__ == of_programs.__name__}
+RAW = {*EVENTS} - OF_PROGRAMS
+WORLD = {*EVENTS} - {of_network.Out.word}
+IN_THE_NETWORK = {"deliver", "drop", "resend", "route", "enddown", "endup", "impdown", "impup", "forget", "abandon", "ask"}
+
+
+def read_event(line: str, raw: bool | None = None) -> Event:
+    """The event of a script line. `raw` says of which networks it has to be, None of any."""
+    word, *words = line.split(" ", 2) if line.startswith("type ") else line.split(" ")
+    kind = EVENTS.get(word)
+    if kind is None:
+        raise BadLine(f"`{word}` is no event")
+    if raw is not None and word not in (RAW if raw else WORLD):
+        raise BadLine(f"`{word}` is an event of {'networks with host programs' if raw else 'raw networks'}")
+    forms = [it.metadata["form"] for it in fields(kind)]
+    if len(words) != sum(it.words for it in forms):
+        raise BadLine(f"`{word}` takes {sum(it.words for it in forms)} words after it, and this line has {len(words)}")
+    values = []
+    for it in forms:
+        values.append(it.read(*words[: it.words]))
+        words = words[it.words :]
+    return kind(*values)
