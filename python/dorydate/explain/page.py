@@ -8,7 +8,7 @@ import sys
 
 from dorydate.ending import shown_name
 from dorydate.parts import ROOT
-from wasm import pack
+from dorydate.wasm import pack
 
 USAGE = "usage: ./explain --page [OTHER-FILE] < INPUT > page.html"
 
