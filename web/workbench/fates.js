@@ -157,6 +157,15 @@ function sentBy(moment, before, after) {
 }
 
 /**
+ * Whether a moment is a whole round, in which something changed.
+ *
+ * @param {Moment} moment
+ */
+function isWholeRound({ words, parts }) {
+    return words[0] === "calm" && parts.length > 0;
+}
+
+/**
  * How much a moment matters.
  *
  * @param {Moment} moment
@@ -165,7 +174,7 @@ function sentBy(moment, before, after) {
  */
 function weightOf(moment, note) {
     if (moment.printed.length) return 2;
-    if (moment.round === 0) return 1;
+    if (moment.round === 0 || isWholeRound(moment)) return 1;
     return note.fate === "fresh" || note.fate === "lost" || note.fate === "news" ? 1 : 0;
 }
 
