@@ -3,7 +3,7 @@
 A trace is what two programs might write down, a JSON value in each line, in the order in which it happened. Each names its `host`.
 `put` and `got` say a message that went out and one that came in, as the other host, the link and the octets of the text; with `asks` it has
 the request of the first of two sockets to the second. `answer` is what became of a message. The others are about a socket: `open` with its peer
-and the peer's socket, `grants`, `took`, `sent`, and `user` with what a user handed over.
+and the peer's socket, `grants`, `took`, `sent`, and `user` with what a user handed over. No end is over in such a trace.
 """
 
 from __future__ import annotations
@@ -11,67 +11,79 @@ from __future__ import annotations
 import json
 import sys
 from collections.abc import Iterable, Iterator
+from dataclasses import dataclass, field
 from typing import Any
 
 Event = dict[str, Any]
+CROSSINGS = "put", "got", "answer"
+
+
+@dataclass
+class End:
+    """An end of a connection: the first words of its life's line, and what happened on it."""
+
+    words: str
+    sends: bool
+    octets: str = ""
+    messages: int = 0
+    granted: list[int] = field(default_factory=lambda: [0, 0])
+    handed: str = ""
+
+    def keep(self, event: Event) -> None:
+        """Adds what happened."""
+        if "grants" in event:
+            self.granted = [had + more for had, more in zip(self.granted, event["grants"])]
+        elif "user" in event:
+            self.handed += event["user"]
+        else:
+            self.octets += event["sent" if self.sends else "took"]
+            self.messages += 1
+
+    def life(self) -> str:
+        """The line of its life."""
+        kind, bits = "send" if self.sends else "receive", 4 * len(self.octets)
+        return f"life {self.words} {kind} {self.messages} {bits} {self.granted[0]} {self.granted[1]} 0 0 open {self.octets or '-'}"
 
 
 def log_of(events: Iterable[Event]) -> Iterator[str]:
     """The lines of the log."""
-    asked: dict[tuple[str, ...], int] = {}  # where a request went out or came in: by the host, and by its two sockets as the host has them
-    lives: dict[tuple[str, str], Event] = {}  # the newest life of each socket
-    all_lives: list[Event] = []
+    asked: dict[str, int] = {}  # where a request last went out or came in, by the host and its sockets
+    newest: dict[str, End] = {}  # the newest life of each socket
+    ends: list[End] = []
     place = 0
-    for it in events:
-        host, socket = it["host"], it.get("socket")
-        if "put" in it or "got" in it or "answer" in it:
-            yield crossing(it)
-            if "asks" in it:
-                asked[(host, "put" if "put" in it else "got", *map(str, it["asks"]))] = place
+    for event in events:
+        host, end = event["host"], f"{event['host']} {event.get('socket')}"
+        if any(it in event for it in CROSSINGS):
+            yield crossing(event)
+            if "asks" in event:
+                own, foreign = event["asks"]
+                asked[f"{host} put {own} {foreign}" if "put" in event else f"{host} got {foreign} {own}"] = place
             place += 1
-        elif "open" in it:
-            peer, foreign = it["open"]
-            stamps = asked[host, "put", str(socket), str(foreign)], asked[host, "got", str(foreign), str(socket)]
-            lives[host, socket] = {"ends": f"{host} {socket} {peer} {foreign} {stamps[0]} {stamps[1]}", "bits": "", "count": 0, "grants": [0, 0], "user": ""}
-            all_lives.append(lives[host, socket])
+        elif "open" in event:
+            socket, (peer, foreign) = event["socket"], event["open"]
+            own, partner = asked[f"{host} put {socket} {foreign}"], asked[f"{host} got {socket} {foreign}"]
+            newest[end] = End(f"{end} {peer} {foreign} {own} {partner}", socket % 2 == 1)
+            ends.append(newest[end])
         else:
-            keep(lives[host, socket], it)
-    for life in all_lives:
-        yield spelled(life)
-    yield from (f"handed {octets(life['user'])}" for life in all_lives)
+            newest[end].keep(event)
+    yield from (it.life() for it in ends)
+    yield from (f"handed {spelled(it.handed)}" for it in ends)
     yield "end"
 
 
-def crossing(it: Event) -> str:
+def crossing(event: Event) -> str:
     """The line of what crossed."""
-    if "answer" in it:
-        kind, peer, link = it["answer"]
-        return f"answer {kind} {it['host']} {peer} {link}"
-    peer, link, text = it["put"] if "put" in it else it["got"]
-    return f"{'out' if 'put' in it else 'in'} {it['host'] + ' ' + peer if 'put' in it else peer + ' ' + it['host']} {link} {octets(text)}"
+    host = event["host"]
+    if "answer" in event:
+        kind, peer, link = event["answer"]
+        return f"answer {kind} {host} {peer} {link}"
+    peer, link, text = event["put"] if "put" in event else event["got"]
+    return f"out {host} {peer} {link} {spelled(text)}" if "put" in event else f"in {peer} {host} {link} {spelled(text)}"
 
 
-def keep(life: Event, it: Event) -> None:
-    """Adds what happened on a socket to its life."""
-    if "grants" in it:
-        life["grants"] = [had + more for had, more in zip(life["grants"], it["grants"])]
-    elif "user" in it:
-        life["user"] += it["user"]
-    else:
-        life["bits"] += it.get("took", it.get("sent"))
-        life["count"] += 1
-
-
-def octets(text: str) -> str:
+def spelled(octets: str) -> str:
     """The number of bits of some octets, and the octets."""
-    return f"{4 * len(text)} {text or '-'}"
-
-
-def spelled(life: Event) -> str:
-    """The line of a life that continues."""
-    bits, spelled_bits = octets(life["bits"]).split()
-    kind = "send" if int(life["ends"].split()[1]) % 2 else "receive"
-    return f"life {life['ends']} {kind} {life['count']} {bits} {life['grants'][0]} {life['grants'][1]} 0 0 open {spelled_bits}"
+    return f"{4 * len(octets)} {octets or '-'}"
 
 
 if __name__ == "__main__":

@@ -59,8 +59,7 @@ class Mailboxes:
 
 def hosts_of(log: Iterable[Crossing]) -> set[HostName]:
     """The hosts that a log names."""
-    named = (({it.host} if isinstance(it, Turned) else {it.flow.source, it.flow.destination}) for it in log)
-    return set().union(*named)
+    return {host for it in log for host in ([it.host] if isinstance(it, Turned) else [it.flow.source, it.flow.destination])}
 
 
 def first_break(hosts: Iterable[HostName], log: Sequence[Crossing], kind: type[Mailboxes] = Mailboxes) -> int | None:
