@@ -11,7 +11,7 @@ use Rattle.ncp_control.specs.declared.command.Command.TheVariants as command
 use Rattle.host_pairs.specs.Asked.{closed_end, commanded, contact_notices, contacted, interrupt_of, passes, receiver_requested, requested, with_end, with_more_bits}
 use Rattle.host_pairs.specs.Commands.{granted}
 use Rattle.host_pairs.specs.Desk.{listens_on, without_listener}
-use Rattle.host_pairs.specs.Entries.{called_off, changed_first, closed_when, entry_at, free_link, is_mine_on, is_open, must_close, receiving_end, sending_end, was_closed}
+use Rattle.host_pairs.specs.Entries.{called_off, changed_first, closed_when, entry_at, free_link, has_cls, is_mine_on, is_open, must_close, receiving_end, sending_end, was_closed}
 use Rattle.host_pairs.specs.Pair.{PairState}
 use Rattle.host_pairs.specs.Parcels.{link_of}
 use Rattle.ncp_control.specs.Phases.{is_ready}
@@ -32,8 +32,8 @@ use Rattle.net_sim.specs.Safe.{IsPrefix, receives}
 use Rattle.world_keeps_lives.specs.Lives.{AddsUp, AreRefusing, EachIn, EachOn, IsFresh, IsLifeOf, IsOwned, IsSafe, NoneOf, has_opened, mine_on}
 use Rattle.world_keeps_lives.proofs.Ends.{IsRefusing, mine_append, mine_one, refusing_append, refusing_changed, refusing_mapped, split}
 use Rattle.world_keeps_lives.proofs.Books.{each_apart, each_handed, each_weaker, other_socket, there_at}
-use Rattle.world_keeps_lives.proofs.Desks.{At, Elsewhere, Near, Place, at_changed, at_lessened, at_mapped, at_same, clash, open_opened, own_is}
-use Rattle.world_keeps_lives.proofs.Steps.{called_less, closed_less, refuses_due, refuses_when}
+use Rattle.world_keeps_lives.proofs.Desks.{At, Elsewhere, Near, Place, at_changed, at_lessened, at_mapped, at_same, clash, open_opened, open_parts, own_is}
+use Rattle.world_keeps_lives.proofs.Steps.{called_drains, called_less, closed_drains, closed_less, refuses_due, refuses_when}
 use Rattle.world_keeps_lives.proofs.Takes.{at_here}
 use Rattle.world_keeps_lives.proofs.Hosts.{Done, Holds, IsPut, lift, lifted, near}
 use Rattle.world_keeps_lives.proofs.Owners.{owner_found, unused}
@@ -64,18 +64,20 @@ granted_life p messages bits e x t ok i = record {
   own = i.own;
   partner = i.partner;
   waits = i.waits;
+  drained = i.drained;
   left = λ r. record { messages = omega (arith, ok.0, (i.left r).messages); bits = omega (arith, ok.1, (i.left r).bits) };
 }
 
 more_safe : (bits : List Bool) (x : Life) (t : List Bool) → IsSafe x t → IsSafe x (t ++ bits)
 more_safe bits x t s = record { front = λ q. let f : IsPrefix x.bits t = s.front q in (f.0 ++ bits, sym (append_assoc x.bits f.0 bits) ∙ ap (λ (l : List Bool). l ++ bits) f.1); within = s.within; bounded = s.bounded }
 
-more_life : (p : Host) (bits : List Bool) (e : Entry) (x : Life) (t : List Bool) → IsLifeOf p e x t → IsLifeOf p (with_more_bits bits e) x (t ++ bits)
-more_life p bits e x t i = record {
+more_life : (p : Host) (bits : List Bool) (e : Entry) (x : Life) (t : List Bool) → is_open e ≡ true → IsLifeOf p e x t → IsLifeOf p (with_more_bits bits e) x (t ++ bits)
+more_life p bits e x t open_end i = record {
   peers = i.peers;
   foreign = i.foreign;
   own = i.own;
   partner = i.partner;
+  drained = λ q r s c f. clash _ (has_cls e.closing) c (open_parts e open_end).unclosed;
   waits = λ o q. ap (λ (l : List Bool). l ++ bits) (i.waits o q) ∙ append_assoc x.bits e.bits bits;
   left = i.left;
 }
@@ -160,8 +162,8 @@ module _ (a : Host) (k : ℕ) where
         closes m q l d = record {
           refusing = refusing_settled (changed_first (is_mine_on socket) called_off q.entries) (refusing_changed (is_mine_on socket) called_off q.entries refuses_due d.refusing);
           idle = λ i. ap (λ (es : List Entry). map (λ e. closed_when (must_close q.busy e) e) (changed_first (is_mine_on socket) called_off es)) (d.idle i);
-          on = at_mapped a k m p (λ e. closed_when (must_close q.busy e) e) (changed_first (is_mine_on socket) called_off q.entries) l κ (λ e. closed_less (must_close q.busy e) e)
-              (at_lessened a k m p (is_mine_on socket) called_off q.entries l κ called_less d.on);
+          on = at_mapped a k m p (λ e. closed_when (must_close q.busy e) e) (changed_first (is_mine_on socket) called_off q.entries) l κ (λ e. closed_less (must_close q.busy e) e) (closed_drains q.busy)
+              (at_lessened a k m p (is_mine_on socket) called_off q.entries l κ called_less called_drains d.on);
         } where
           refusing_settled : (es : List Entry) → AreRefusing es → AreRefusing (map (λ e. closed_when (must_close q.busy e) e) es)
           refusing_settled es h = refusing_mapped (λ e. closed_when (must_close q.busy e) e) es (λ e. refuses_when (must_close q.busy e) e) h
@@ -233,17 +235,17 @@ module _ (a : Host) (k : ℕ) where
         apart off false f = f
 
   -- bits that wait are more, and so is what was handed over
-  at_handed : (m : Place) (p : Host) (e : Entry) (socket : ℕ) (bits : List Bool) (l : Bool) (κ next : Kept) → (socket == k) ≡ true → has_opened e ≡ true → next.book.lives ≡ κ.book.lives → next.handed ≡ handed_to (lives_at a socket) bits κ.book.lives κ.handed
+  at_handed : (m : Place) (p : Host) (e : Entry) (socket : ℕ) (bits : List Bool) (l : Bool) (κ next : Kept) → (socket == k) ≡ true → is_open e ≡ true → next.book.lives ≡ κ.book.lives → next.handed ≡ handed_to (lives_at a socket) bits κ.book.lives κ.handed
       → At a k m p (e ∷ []) l κ → At a k m p (with_more_bits bits e ∷ []) l next
   at_handed Near p e socket bits false κ next is opened lives handed h =
       let own : socket ≡ k = eqb-true socket k is in
       let done : EachOn a k (IsLifeOf p (with_more_bits bits e)) κ.book.lives (handed_to (lives_at a k) bits κ.book.lives κ.handed) =
       each_handed a k (lives_at a k) bits (IsLifeOf p e) (IsLifeOf p (with_more_bits bits e)) κ.book.lives κ.handed
-      (λ x t there on o. (more_safe bits x t o.0, λ goes. more_life p bits e x t (o.1 goes)))
+      (λ x t there on o. (more_safe bits x t o.0, λ goes. more_life p bits e x t opened (o.1 goes)))
       (λ x t there off o. (o.0, λ goes. clash _ x.ended (there_at a k x there off) goes)) h.1 in
       let moved : EachOn a k (IsLifeOf p (with_more_bits bits e)) κ.book.lives (handed_to (lives_at a socket) bits κ.book.lives κ.handed) =
       subst (λ (n : ℕ). EachOn a k (IsLifeOf p (with_more_bits bits e)) κ.book.lives (handed_to (lives_at a n) bits κ.book.lives κ.handed)) (sym own) done in (
-        (λ unopen. clash _ (has_opened e) opened unopen),
+        (λ unopen. clash _ (has_opened e) (open_opened e opened) unopen),
         subst (λ (hs : List (List Bool)). EachOn a k (IsLifeOf p (with_more_bits bits e)) next.book.lives hs) (sym handed)
             (subst (λ (ls : List Life). EachOn a k (IsLifeOf p (with_more_bits bits e)) ls (handed_to (lives_at a socket) bits κ.book.lives κ.handed)) (sym lives) moved),
       )
@@ -255,7 +257,7 @@ module _ (a : Host) (k : ℕ) where
   send_holds s socket bits κ None f order may h = absurd (cc)
   send_holds s socket bits κ (Some (g, e)) f order may h =
       let found : find (is_mine_on socket) (pair_with g s.peers).entries ≡ Some e = owner_found socket s.peers g e order f in
-      let opened : has_opened e ≡ true = open_opened e (not_false (is_open e) (not_first (not (is_open e)) _ _ may).0) in
+      let opened : is_open e ≡ true = not_false (is_open e) (not_first (not (is_open e)) _ _ may).0 in
       let own : e.own ≡ socket = own_is socket e (split (is_mine_on socket) (λ y. y) (pair_with g s.peers).entries e found).passes in
       open_holds s g socket (with_more_bits bits) (λ q. q) e κ (asked a (request.Send socket bits) κ) found refl (λ e r. r) (λ q. (refl, refl))
       (λ is m l i. at_handed m g e socket bits l κ (asked a (request.Send socket bits) κ) (subst (λ (n : ℕ). (n == k) ≡ true) own (both e.mine (e.own == k) is).1) opened refl refl i)

@@ -1,6 +1,7 @@
 -- What is done to the connections of one pair, at one socket of the host.
-use Rattle.std.proofs.Common.{◌≡◌, ℕ, ◌==◌, ◌&&◌, ◌||◌, Bool, true, false, not, if◌then◌else◌, List, [], ◌∷◌, ◌++◌, map, find, Option, Some, None, is_some, refl, ap, sym, subst, ◌∙◌}
+use Rattle.std.proofs.Common.{◌≡◌, ◌⊎◌, inl, inr, ℕ, ◌==◌, ◌&&◌, ◌||◌, Bool, true, false, not, if◌then◌else◌, List, [], ◌∷◌, ◌++◌, map, find, Option, Some, None, is_some, refl, ap, sym, subst, ◌∙◌}
 use Rattle.std.proofs.lemmas.Bool.{eqb-true}
+use Rattle.std.proofs.lemmas.List.{append-nil}
 use Rattle.interface.specs.Host.{Host}
 use Rattle.interface.proofs.lemmas.{or_false}
 use Rattle.host_pairs.specs.Entries.{changed_first, has_cls, is_ending, is_mine_on, is_open}
@@ -12,7 +13,9 @@ use Rattle.host_pairs.proofs.lemmas.{both, not_is}
 use Rattle.net_sim.specs.declared.life.Life.{Life}
 use Rattle.net_sim.specs.Book as book
 use Rattle.net_sim.specs.Book.{Kept, all_told, lives_between, lives_told, new_life}
+use Rattle.ncp_control.specs.Numbers.{is_receive_socket, is_send_socket}
 use Rattle.ncp_control.specs.declared.allocation.Allocation.{Allocation}
+use Rattle.net_sim.specs.Safe.{sends}
 use Rattle.world_keeps_lives.specs.Lives.{AddsUp, EachIn, IsFresh, IsLifeOf, NoneOf, has_opened, mine_on}
 use Rattle.world_keeps_lives.proofs.Ends.{IsRefusing, IsSplit, mine_append, mine_one, none_changed, split}
 use Rattle.world_keeps_lives.proofs.Books.{IsAside, each_aside, each_weaker}
@@ -66,15 +69,36 @@ pub record IsLess (e new : Entry) : Type 0 where
   pub waits : is_open new ≡ true → (is_open e ≡ true) × (new.bits ≡ e.bits)
   pub fresh : IsFresh e → IsFresh new
 
-less_life : (p : Host) (e new : Entry) (x : Life) (t : List Bool) → IsLess e new → IsLifeOf p e x t → IsLifeOf p new x t
-less_life p e new x t less h = record {
+-- the CLS of a sending end is queued only when nothing waits
+abbrev pub Drains : Entry → Entry → Type 0
+Drains e new =
+    is_send_socket e.own ≡ true → is_receive_socket e.foreign ≡ true → has_cls new.closing ≡ true → new.partner_closed ≡ false → (e.partner_closed ≡ false) × ((has_cls e.closing ≡ true) ⊎ ((has_cls e.closing ≡ false) × (e.bits ≡ [])))
+
+less_life : (p : Host) (e new : Entry) (x : Life) (t : List Bool) → IsLess e new → Drains e new → IsLifeOf p e x t → IsLifeOf p new x t
+less_life p e new x t less drains h = record {
   peers = h.peers;
   foreign = less.foreign ∙ h.foreign;
   own = less.asked ∙ h.own;
   partner = less.partner ∙ h.partner;
   waits = λ o s. h.waits (less.waits o).0 s ∙ ap (λ (bits : List Bool). x.bits ++ bits) (sym (less.waits o).1);
+  drained = λ q r s c f. by (kind q) (foreign r) s (drains (kind q) (foreign r) c f).0 (drains (kind q) (foreign r) c f).1;
   left = λ r. subst (λ (c : Allocation). AddsUp x c) (sym less.allocation) (h.left r);
-}
+} where
+  kind : is_send_socket new.own ≡ true → is_send_socket e.own ≡ true
+  kind q = ap is_send_socket (sym less.mine.1) ∙ q
+
+  foreign : is_receive_socket new.foreign ≡ true → is_receive_socket e.foreign ≡ true
+  foreign r = ap is_receive_socket (sym less.foreign) ∙ r
+
+  opened : has_opened e ≡ true
+  opened = ap (λ (o : Option ℕ). is_some o && is_some e.partner) h.own ∙ ap is_some h.partner
+
+  by : is_send_socket e.own ≡ true → is_receive_socket e.foreign ≡ true → sends x ≡ true → e.partner_closed ≡ false → (has_cls e.closing ≡ true) ⊎ ((has_cls e.closing ≡ false) × (e.bits ≡ [])) → t ≡ x.bits
+  by q r s f (inl c) = h.drained q r s c f
+  by q r s f (inr o) =
+      let unclosed : has_cls e.closing ≡ false = o.0 in
+      let is : is_open e ≡ true = (rw (opened, unclosed, f) refl) in
+      h.waits is s ∙ ap (λ (bits : List Bool). x.bits ++ bits) o.1 ∙ append-nil x.bits
 
 -- ---- a place
 
@@ -187,20 +211,20 @@ module _ (a : Host) (k : ℕ) where
         subst (λ (ys : List Entry). At a k m p ys l new) (sym same) (away f (mine_on k xs) h)
 
   -- ends that only close
-  at_less : (m : Place) (p : Host) (e new : Entry) (l : Bool) (κ : Kept) → IsLess e new → At a k m p (e ∷ []) l κ → At a k m p (new ∷ []) l κ
-  at_less Near p e new false κ less h = (less.fresh h.0, each_weaker a k (IsLifeOf p e) (IsLifeOf p new) κ.book.lives κ.handed (λ x t there i. less_life p e new x t less i) h.1)
-  at_less Near p e new true κ less h = h
-  at_less (Elsewhere g y) p e new l κ less h = h
+  pub at_less : (m : Place) (p : Host) (e new : Entry) (l : Bool) (κ : Kept) → IsLess e new → Drains e new → At a k m p (e ∷ []) l κ → At a k m p (new ∷ []) l κ
+  at_less Near p e new false κ less drains h = (less.fresh h.0, each_weaker a k (IsLifeOf p e) (IsLifeOf p new) κ.book.lives κ.handed (λ x t there i. less_life p e new x t less drains i) h.1)
+  at_less Near p e new true κ less drains h = h
+  at_less (Elsewhere g y) p e new l κ less drains h = h
 
   mine_same : (e new : Entry) → IsLess e new → is_mine_on k new ≡ is_mine_on k e
   mine_same e new less = ap (λ (b : Bool). b && new.own == k) less.mine.0 ∙ ap (λ (n : ℕ). e.mine && n == k) less.mine.1
 
-  pub at_lessened : (m : Place) (p : Host) (test : Entry → Bool) (change : Entry → Entry) (xs : List Entry) (l : Bool) (κ : Kept) → ((e : Entry) → IsLess e (change e))
+  pub at_lessened : (m : Place) (p : Host) (test : Entry → Bool) (change : Entry → Entry) (xs : List Entry) (l : Bool) (κ : Kept) → ((e : Entry) → IsLess e (change e)) → ((e : Entry) → Drains e (change e))
       → At a k m p (mine_on k xs) l κ → At a k m p (mine_on k (changed_first test change xs)) l κ
-  at_lessened m p test change xs l κ less h = by (find test xs) refl where
+  at_lessened m p test change xs l κ less drains h = by (find test xs) refl where
     by : (o : Option Entry) → find test xs ≡ o → At a k m p (mine_on k (changed_first test change xs)) l κ
     by None f = subst (λ (ys : List Entry). At a k m p (mine_on k ys) l κ) (sym (none_changed test change xs f)) h
-    by (Some e) f = at_changed m p test change xs l κ κ e f (mine_same e (change e) (less e)) (λ is i. at_less m p e (change e) l κ (less e) i) (λ is ms i. i) h
+    by (Some e) f = at_changed m p test change xs l κ κ e f (mine_same e (change e) (less e)) (λ is i. at_less m p e (change e) l κ (less e) (drains e) i) (λ is ms i. i) h
 
   mapped_mine : (f : Entry → Entry) (xs : List Entry) → ((e : Entry) → IsLess e (f e)) → mine_on k (map f xs) ≡ map f (mine_on k xs)
   mapped_mine f [] less = refl
@@ -209,11 +233,11 @@ module _ (a : Host) (k : ℕ) where
     by rest true e = rw (e, let s : is_mine_on k (f x) ≡ true = mine_same x (f x) (less x) ∙ e in s) (ap (λ (ys : List Entry). f x ∷ ys) rest)
     by rest false e = rw (e, let s : is_mine_on k (f x) ≡ false = mine_same x (f x) (less x) ∙ e in s) rest
 
-  at_map : (m : Place) (p : Host) (f : Entry → Entry) (ms : List Entry) (l : Bool) (κ : Kept) → ((e : Entry) → IsLess e (f e)) → At a k m p ms l κ → At a k m p (map f ms) l κ
-  at_map m p f [] l κ less h = h
-  at_map m p f (e ∷ []) l κ less h = at_less m p e (f e) l κ (less e) h
-  at_map Near p f (e ∷ g ∷ ms) l κ less h = h
-  at_map (Elsewhere q y) p f (e ∷ g ∷ ms) l κ less h = h
+  at_map : (m : Place) (p : Host) (f : Entry → Entry) (ms : List Entry) (l : Bool) (κ : Kept) → ((e : Entry) → IsLess e (f e)) → ((e : Entry) → Drains e (f e)) → At a k m p ms l κ → At a k m p (map f ms) l κ
+  at_map m p f [] l κ less drains h = h
+  at_map m p f (e ∷ []) l κ less drains h = at_less m p e (f e) l κ (less e) (drains e) h
+  at_map Near p f (e ∷ g ∷ ms) l κ less drains h = h
+  at_map (Elsewhere q y) p f (e ∷ g ∷ ms) l κ less drains h = h
 
-  pub at_mapped : (m : Place) (p : Host) (f : Entry → Entry) (xs : List Entry) (l : Bool) (κ : Kept) → ((e : Entry) → IsLess e (f e)) → At a k m p (mine_on k xs) l κ → At a k m p (mine_on k (map f xs)) l κ
-  at_mapped m p f xs l κ less h = subst (λ (ys : List Entry). At a k m p ys l κ) (sym (mapped_mine f xs less)) (at_map m p f (mine_on k xs) l κ less h)
+  pub at_mapped : (m : Place) (p : Host) (f : Entry → Entry) (xs : List Entry) (l : Bool) (κ : Kept) → ((e : Entry) → IsLess e (f e)) → ((e : Entry) → Drains e (f e)) → At a k m p (mine_on k xs) l κ → At a k m p (mine_on k (map f xs)) l κ
+  at_mapped m p f xs l κ less drains h = subst (λ (ys : List Entry). At a k m p ys l κ) (sym (mapped_mine f xs less)) (at_map m p f (mine_on k xs) l κ less drains h)

@@ -1,5 +1,6 @@
 -- What goes out of a pair, at one socket of the host.
 use Rattle.std.proofs.Common.{◌≡◌, ◌⊎◌, inl, inr, ℕ, ◌==◌, ◌&&◌, Bool, true, false, if◌then◌else◌, List, [], ◌∷◌, ◌++◌, find, take, drop, Option, Some, None, is_some, refl, ap, sym, subst, ◌∙◌, eq-eqb}
+use Rattle.std.proofs.lemmas.Bool.{eqb-true}
 use Rattle.std.proofs.lemmas.List.{append_assoc, take-append-drop}
 use Rattle.interface.specs.Host.{Host}
 use Rattle.ncp_control.specs.Command.{IsCommand}
@@ -9,11 +10,12 @@ use Rattle.ncp_control.specs.declared.command.Command.TheVariants as command
 use Rattle.pairing_law.specs.Ends.{End}
 use Rattle.pairing_law.specs.Marks.{Mark, Ask, Close}
 use Rattle.host_pairs.specs.Commands.{changed}
-use Rattle.host_pairs.specs.Desk.{DeskState, desk_told}
-use Rattle.host_pairs.specs.Entries.{entry_at, is_at, is_open, is_receiving}
+use Rattle.host_pairs.specs.Desk.{DeskState, desk_told, listens_on}
+use Rattle.host_pairs.specs.Entries.{entry_at, has_cls, is_at, is_open, is_receiving}
 use Rattle.host_pairs.specs.Parcels.{asked_at, bits_gone, cls_sent, command_gone, commands_gone, may_send_on, request_gone}
 use Rattle.host_pairs.specs.declared.entry.Entry.{Entry}
 use Rattle.host_pairs.specs.declared.notice.Notice.TheVariants as notice
+use Rattle.host_pairs.proofs.lemmas.{both}
 use Rattle.host_keeps_pairing.specs.Ends.{Standing, Stand, at, standing}
 use Rattle.host_keeps_pairing.specs.Words.{mark_of, marks}
 use Rattle.host_keeps_pairing.proofs.lemmas.{Found, found_at, heads, none_at, one_gone}
@@ -21,10 +23,10 @@ use Rattle.host_keeps_ranges.specs.Ranges.{AreCommands}
 use Rattle.net_sim.specs.declared.life.Life.{Life}
 use Rattle.net_sim.specs.Book.{Kept, all_told, carried}
 use Rattle.net_sim.specs.Safe.{receives, sends}
-use Rattle.world_keeps_lives.specs.Lives.{IsLifeOf, IsSafe, has_opened}
-use Rattle.world_keeps_lives.proofs.Ends.{refusing_found}
-use Rattle.world_keeps_lives.proofs.Desks.{Place, clash, open_mine, open_opened, own_off}
-use Rattle.world_keeps_lives.proofs.Steps.{good_changed, good_less, good_opening, good_swept, sent_less}
+use Rattle.world_keeps_lives.specs.Lives.{IsLifeOf, IsSafe, has_opened, mine_on}
+use Rattle.world_keeps_lives.proofs.Ends.{none_changed, refusing_changed, refusing_found, split}
+use Rattle.world_keeps_lives.proofs.Desks.{At, Place, at_less, clash, open_mine, open_opened, open_parts, own_off}
+use Rattle.world_keeps_lives.proofs.Steps.{good_changed, good_opening, good_quiet, good_swept, sent_drains, sent_less}
 use Rattle.world_keeps_lives.proofs.Takes.{G, at_here, life_receives}
 
 -- two sockets of a connection, the own one and the foreign one
@@ -48,6 +50,19 @@ unasked origin own foreign entries words x e h f =
     let g : Found own foreign entries e = found_at own foreign entries e f in
     unasked_by origin (standing e) g.rest words x (subst (λ (ss : List Standing). Stand true origin 0 ss (Ask 0 ∷ words) x) g.first h)
 
+-- the CLS of one whose CLS waits is queued
+queued_by : (origin : ℕ → ℕ) (s : Standing) (rest : List Standing) (words : List Mark) (x : End) → Stand true origin 0 (s ∷ rest) (Close ∷ words) x → has_cls s.closing ≡ true
+queued_by origin s [] words x h = elim (heads 0 s.mine s.asked s.closing Close words h.1) [
+  | inl r ↦ absurd (let q : Close ≡ Ask 0 = r.mark in cc)
+  | inr r ↦ ap has_cls r.queued
+]
+queued_by origin s (t ∷ rest) words x h = absurd h
+
+has_queued : (origin : ℕ → ℕ) (own foreign : ℕ) (entries : List Entry) (words : List Mark) (x : End) (e : Entry) → Stand true origin 0 (at own foreign entries) (Close ∷ words) x → entry_at own foreign entries ≡ Some e → has_cls e.closing ≡ true
+has_queued origin own foreign entries words x e h f =
+    let g : Found own foreign entries e = found_at own foreign entries e f in
+    queued_by origin (standing e) g.rest words x (subst (λ (ss : List Standing). Stand true origin 0 ss (Close ∷ words) x) g.first h)
+
 -- bits of a life go out
 sent_safe : (p : Host) (e : Entry) (x : Life) (t : List Bool) (n : ℕ) → is_open e ≡ true → receives x ≡ false → IsLifeOf p e x t → IsSafe (carried (take n e.bits) x) t
 sent_safe p e x t n o off i = record {
@@ -62,6 +77,7 @@ sent_life p e x t n o off i = record {
   foreign = i.foreign;
   own = i.own;
   partner = i.partner;
+  drained = λ q r s c f. clash _ (has_cls e.closing) c (open_parts e o).unclosed;
   waits = λ q s. i.waits o s ∙ sym (append_assoc x.bits (take n e.bits) (drop n e.bits) ∙ ap (λ (l : List Bool). x.bits ++ l) (take-append-drop n e.bits));
   left = λ r. clash _ (receives x) r off;
 }
@@ -87,14 +103,37 @@ module _ (a : Host) (k : ℕ) (m : Place) (p : Host) (k0 : Kept) where
       let same : (own == own && foreign == foreign) ≡ true = rw (eq-eqb own own refl, eq-eqb foreign foreign refl) refl in
       good_request origin stamp own foreign d words s.0 (subst (λ (b : Bool). Stand true origin 0 (at own foreign d.entries) ((if b then Ask 0 ∷ [] else []) ++ words) s.0) same s.1) h
 
+  -- a CLS
+  good_closed : (origin : ℕ → ℕ) (own foreign : ℕ) (cs behind : List Command) (d : DeskState) → Waits origin d.entries (command.Cls own foreign ∷ cs) behind → G a k m p k0 d → G a k m p k0 (changed (is_at own foreign) cls_sent d)
+  good_closed origin own foreign cs behind d w h = by (entry_at own foreign d.entries) refl where
+    same : (own == own && foreign == foreign) ≡ true
+    same = rw (eq-eqb own own refl, eq-eqb foreign foreign refl) refl
+
+    queued : (e : Entry) → entry_at own foreign d.entries ≡ Some e → is_send_socket e.own ≡ true → is_receive_socket e.foreign ≡ true → has_cls e.closing ≡ true
+    queued e f kind other =
+        let at_it : ((e.own == own) ≡ true) × ((e.foreign == foreign) ≡ true) = both (e.own == own) (e.foreign == foreign) (split (is_at own foreign) (λ y. y) d.entries e f).passes in
+        let sends : is_send_socket own ≡ true = ap is_send_socket (sym (eqb-true e.own own at_it.0)) ∙ kind in
+        let receives : is_receive_socket foreign ≡ true = ap is_receive_socket (sym (eqb-true e.foreign foreign at_it.1)) ∙ other in
+        let s : (x : End) × Stand true origin 0 (at own foreign d.entries) ((if own == own && foreign == foreign then Close ∷ [] else []) ++ (marks 0 own foreign cs ++ marks 0 own foreign behind)) x =
+        parted origin (command.Cls own foreign) cs behind d own foreign (w own foreign (inr (sends, receives))) in
+        has_queued origin own foreign d.entries (marks 0 own foreign cs ++ marks 0 own foreign behind) s.0 e
+        (subst (λ (b : Bool). Stand true origin 0 (at own foreign d.entries) ((if b then Close ∷ [] else []) ++ (marks 0 own foreign cs ++ marks 0 own foreign behind)) s.0) same s.1) f
+
+    by : (o : Option Entry) → entry_at own foreign d.entries ≡ o → G a k m p k0 (changed (is_at own foreign) cls_sent d)
+    by None f = record {
+      refusing = refusing_changed (is_at own foreign) cls_sent d.entries (λ e r g. refl) h.refusing;
+      on = subst (λ (ys : List Entry). At a k m p (mine_on k ys) (listens_on k d.listening) (all_told a d.notices k0)) (sym (none_changed (is_at own foreign) cls_sent d.entries f)) h.on;
+    }
+    by (Some e) f =
+        good_quiet a k m p k0 (is_at own foreign) cls_sent d e f refl (λ e r g. refl) (λ is l κ i. at_less a k m p e (cls_sent e) l κ (sent_less e) (sent_drains e (queued e f)) i) h
+
   one_goes : (origin : ℕ → ℕ) (stamp : ℕ) (c : Command) (cs behind : List Command) (d : DeskState) → IsCommand c → Waits origin d.entries (c ∷ cs) behind → G a k m p k0 d → G a k m p k0 (command_gone p stamp c d)
   one_goes origin stamp command.Nop cs behind d is w h = h
   one_goes origin stamp (command.Rts receive send link) cs behind d is w h =
       asks origin stamp receive send d (marks 0 receive send cs ++ marks 0 receive send behind) (parted origin (command.Rts receive send link) cs behind d receive send (w receive send (inl (is.1, is.3)))) h
   one_goes origin stamp (command.Str send receive size) cs behind d is w h =
       asks origin stamp send receive d (marks 0 send receive cs ++ marks 0 send receive behind) (parted origin (command.Str send receive size) cs behind d send receive (w send receive (inr (is.1, is.3)))) h
-  one_goes origin stamp (command.Cls own foreign) cs behind d is w h =
-      good_swept a k m p k0 (changed (is_at own foreign) cls_sent d) (good_less a k m p k0 (is_at own foreign) cls_sent d sent_less (λ e r f. refl) h)
+  one_goes origin stamp (command.Cls own foreign) cs behind d is w h = good_swept a k m p k0 (changed (is_at own foreign) cls_sent d) (good_closed origin own foreign cs behind d w h)
   one_goes origin stamp (command.All link messages bits) cs behind d is w h = h
   one_goes origin stamp (command.Gvb link messages bits) cs behind d is w h = h
   one_goes origin stamp (command.Ret link messages bits) cs behind d is w h = h

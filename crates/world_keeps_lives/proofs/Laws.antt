@@ -25,7 +25,7 @@ use Rattle.world_keeps_lives.proofs.Moments.{held}
 abbrev Any : Life → List Bool → Type 0
 Any x t = Unit {0}
 
-own_socket : (x : Life) → at_socket x.host x.socket x ≡ true
+pub own_socket : (x : Life) → at_socket x.host x.socket x ≡ true
 own_socket x = rw (same_host-refl x.host, eq-eqb x.socket x.socket refl) refl
 
 found_from : (a : Host) (k : ℕ) (P : Life → List Bool → Type 0) (lives : List Life) (handed : List (List Bool)) (x : Life) (i : ℕ) → i < length lives → slice_index_or lives i x ≡ x → EachOn a k P lives handed

@@ -10,6 +10,7 @@ pub mod Owners
 pub mod Asks
 pub mod Moments
 pub mod Laws
+pub mod Drained
 pub mod Requests
 pub mod RequestCalls
 pub mod Grounds

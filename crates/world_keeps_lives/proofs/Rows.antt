@@ -1,17 +1,19 @@
 -- Ends, lives and programs, computed.
-use Rattle.std.proofs.Common.{◌≡◌, ℕ, true, false, List, [], ◌∷◌, Option, Some, None, refl, ap, ◌∙◌, arith}
+use Rattle.std.proofs.Common.{◌≡◌, ℕ, true, false, List, [], ◌∷◌, find, Option, Some, None, refl, ap, ◌∙◌, arith}
+use Rattle.interface.specs.Host.{Host, same_host}
 use Rattle.host_pairs.specs.Asked.{with_more_bits}
 use Rattle.host_pairs.specs.Commands as commands
 use Rattle.host_pairs.specs.Commands.{asked_on_link, asked_with_size}
 use Rattle.host_pairs.specs.Entries.{receiving_end, sending_end}
 use Rattle.host_pairs.specs.Parcels.{asked_at}
 use Rattle.host_pairs.specs.declared.entry.Entry.{Entry}
-use Rattle.sockets.specs.Pairs.{opening_state}
+use Rattle.sockets.specs.Pairs.{opening_state, pair_in, pair_with}
+use Rattle.sockets.specs.declared.peer.Peer.{Peer}
 use Rattle.sockets.specs.Worked.{first, second}
 use Rattle.net_sim.specs.declared.life.Life.{Life}
 use Rattle.net_sim.specs.Book.{carried, life_ended, granted, new_life, opening_kept, returned}
 use Rattle.world_keeps_lives.specs.Worked.{worked_end, with_one}
-use Rattle.world_keeps_lives.specs.Lives.{EachOn, HasOpenEnd, IsBounded, IsFreeSocket, IsFresh, IsLifeOf, IsOwned, IsSafe, IsSteady, NoneOf}
+use Rattle.world_keeps_lives.specs.Lives.{EachOn, HasOpenEnd, IsBounded, IsFreeSocket, IsFresh, IsLifeOf, IsOwned, IsSafe, IsSteady, NoneOf, mine_on}
 
 pub row_early : IsFresh (with_more_bits (true ∷ []) (sending_end 33 16 8)) → ⊥
 row_early h = absurd (let r : true ∷ [] ≡ [] = (h refl).0 in cc)
@@ -62,6 +64,7 @@ row_life = record {
   own = refl;
   partner = refl;
   waits = λ o s. refl;
+  drained = λ q r s c f. refl;
   left = λ r. record { messages = refl; bits = refl };
 }
 
@@ -123,3 +126,17 @@ row_unowned h = absurd (let r : [] ≡ h.end ∷ [] = h.one in cc)
 
 pub row_steady : IsSteady (opening_state first)
 row_steady = record { refusing = λ p. tt; idle = λ p i. refl }
+
+-- ---- a host that has one peer has no ends with another
+
+-- all of these are of one host
+abbrev pub AreOf : Host → List Peer → Type 0
+AreOf h [] = Unit {0}
+AreOf h (p ∷ ps) = (p.host ≡ h) × AreOf h ps
+
+found_none : (h other : Host) (ps : List Peer) → AreOf h ps → same_host other h ≡ false → find (λ (p : Peer). same_host other p.host) ps ≡ None
+found_none h other [] are away = refl
+found_none h other (p ∷ ps) are away = let off : same_host other p.host ≡ false = ap (same_host other) are.0 ∙ away in rw off (found_none h other ps are.1 away)
+
+pub none_there : (socket : ℕ) (h other : Host) (ps : List Peer) → AreOf h ps → same_host other h ≡ false → mine_on socket (pair_with other ps).entries ≡ []
+none_there socket h other ps are away = ap (λ (o : Option Peer). mine_on socket (pair_in o).entries) (found_none h other ps are away)

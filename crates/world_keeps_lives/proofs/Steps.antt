@@ -1,13 +1,15 @@
 -- Each thing that is done to the connections of a pair, at one socket of the host.
-use Rattle.std.proofs.Common.{◌≡◌, ℕ, ◌==◌, ◌&&◌, ◌||◌, Bool, true, false, not, if◌then◌else◌, List, [], ◌∷◌, ◌++◌, filter, find, Option, Some, None, is_some, refl, ap, sym, subst, ◌∙◌, eq-eqb, arith}
+use Rattle.std.proofs.Common.{◌≡◌, ◌⊎◌, inl, inr, ℕ, ◌==◌, ◌&&◌, ◌||◌, Bool, true, false, not, if◌then◌else◌, List, [], ◌∷◌, ◌++◌, length, filter, find, Option, Some, None, is_some, refl, ap, sym, subst, ◌∙◌, eq-eqb, arith}
+use Rattle.std.proofs.lemmas.Bool.{eqb-true}
 use Rattle.std.proofs.lemmas.List.{append-nil}
 use Rattle.std.specs.List.{flat_map}
 use Rattle.interface.specs.Host.{Host, same_host}
 use Rattle.interface.proofs.lemmas.{same_host-refl}
 use Rattle.ncp_control.specs.Allocation as counters
+use Rattle.ncp_control.specs.Numbers.{is_receive_socket, is_send_socket}
 use Rattle.ncp_control.specs.declared.allocation.Allocation.{Allocation}
 use Rattle.ncp_control.specs.declared.command.Command.{Command}
-use Rattle.host_pairs.specs.Entries.{called_off, changed_first, close_due, closed_by_partner, closed_when, ending, entry_at, has_cls, is_at, is_ending, is_mine_on, is_over, must_close, opening_notices, opening_by}
+use Rattle.host_pairs.specs.Entries.{called_off, changed_first, close_due, closed_by_partner, closed_when, ending, entry_at, has_cls, is_answered, is_at, is_drained, is_due, is_ending, is_mine_on, is_over, is_receiving, must_close, opening_notices, opening_by}
 use Rattle.host_pairs.specs.Commands.{answered_on, changed, entry_joined}
 use Rattle.host_pairs.specs.Parcels.{cls_sent}
 use Rattle.host_pairs.specs.Desk.{DeskState, listener_on, listens_on, command_queued, settled, swept, desk_told}
@@ -18,12 +20,13 @@ use Rattle.host_pairs.specs.declared.listener.Listener.{Listener}
 use Rattle.host_pairs.specs.declared.notice.Notice.{Notice}
 use Rattle.host_pairs.specs.declared.notice.Notice.TheVariants as notice
 use Rattle.host_pairs.proofs.lemmas.{both}
+use Rattle.host_keeps_streams.proofs.lemmas.{odd_is}
 use Rattle.net_sim.specs.declared.life.Life.{Life}
 use Rattle.net_sim.specs.Book.{Kept, all_told, lives_between, new_life}
 use Rattle.world_keeps_lives.specs.Lives.{AddsUp, AreRefusing, EachIn, IsFresh, IsLifeOf, IsSafe, NoneOf, at_socket, has_opened, mine_on}
 use Rattle.world_keeps_lives.proofs.Ends.{IsRefusing, split, found_changed, mine_append, mine_one, refusing_append, refusing_changed, refusing_filtered, refusing_found, refusing_mapped}
 use Rattle.world_keeps_lives.proofs.Books.{all_told_append, each_ended, each_more, each_weaker}
-use Rattle.world_keeps_lives.proofs.Desks.{AreAside, At, Elsewhere, IsLess, Near, Place, at_aside, at_changed, at_lessened, at_mapped, clash, each_all_aside, listens_found, open_parts, own_is, own_off, without_other, without_same}
+use Rattle.world_keeps_lives.proofs.Desks.{AreAside, At, Drains, Elsewhere, IsLess, Near, Place, at_aside, at_changed, at_lessened, at_mapped, clash, each_all_aside, listens_found, open_parts, own_is, own_off, without_other, without_same}
 
 -- ---- ends that only close
 
@@ -78,6 +81,41 @@ sent_less e = record {
   fresh = λ f. f;
 }
 
+-- ---- what the CLS of a sending end finds sent
+
+due_only : (c : Closing) → is_due c ≡ true → has_cls c ≡ false
+due_only closing.No d = refl
+due_only closing.Due d = refl
+due_only closing.Queued d = absurd (let no : false ≡ true = d in cc)
+due_only closing.Sent d = absurd (let no : false ≡ true = d in cc)
+
+none_left : (bits : List Bool) → (length bits == 0) ≡ true → bits ≡ []
+none_left [] e = refl
+none_left (b ∷ bits) e = let no : length (b ∷ bits) ≡ 0 = eqb-true (length (b ∷ bits)) 0 e in absurd (omega (arith, no))
+
+must_drain : (busy : List ℕ) (e : Entry) → must_close busy e ≡ true → is_send_socket e.own ≡ true → (has_cls e.closing ≡ false) × (e.bits ≡ [])
+must_drain busy e must kind =
+    let sends : is_receiving e ≡ false = odd_is e.own kind in
+    let m : (is_due e.closing ≡ true) × (is_drained busy e ≡ true) = both (is_due e.closing) (is_drained busy e) must in
+    let d : (length e.bits == 0 && is_answered busy e.link) ≡ true = sym (rw sends refl) ∙ m.1 in
+    (due_only e.closing m.0, none_left e.bits (both (length e.bits == 0) (is_answered busy e.link) d).0)
+
+pub closed_drains : (busy : List ℕ) (e : Entry) → Drains e (closed_when (must_close busy e) e)
+closed_drains busy e q r c f = by (must_close busy e) refl c where
+  by : (b : Bool) → must_close busy e ≡ b → has_cls (if b then closing.Queued else e.closing) ≡ true → (e.partner_closed ≡ false) × ((has_cls e.closing ≡ true) ⊎ ((has_cls e.closing ≡ false) × (e.bits ≡ [])))
+  by true must c = (f, inr (must_drain busy e must q))
+  by false must c = (f, inl c)
+
+pub called_drains : (e : Entry) → Drains e (called_off e)
+called_drains e q r c f = (f, inl (due_cls e.closing ∙ c))
+
+pub heard_drains : (e : Entry) → Drains e (closed_by_partner e)
+heard_drains e q r c f = absurd (let no : true ≡ false = f in cc)
+
+-- a CLS that goes out was queued
+pub sent_drains : (e : Entry) → (is_send_socket e.own ≡ true → is_receive_socket e.foreign ≡ true → has_cls e.closing ≡ true) → Drains e (cls_sent e)
+sent_drains e queued q r c f = (f, inl (queued q r))
+
 pub refuses_when : (b : Bool) (e : Entry) → IsRefusing e → IsRefusing (closed_when b e)
 refuses_when true e r m = refl
 refuses_when false e r m = r m
@@ -110,10 +148,11 @@ module _ (a : Host) (k : ℕ) (m : Place) (p : Host) (k0 : Kept) where
   pub good_aside : (ns : List Notice) (d : DeskState) → AreAside a k ns → Good d → Good (desk_told ns d)
   good_aside ns d off h = told_on ns d h.refusing (at_aside a k m p (mine_on k d.entries) (listens_on k d.listening) ns (all_told a d.notices k0) off h.on)
 
-  pub good_less : (test : Entry → Bool) (change : Entry → Entry) (d : DeskState) → ((e : Entry) → IsLess e (change e)) → ((e : Entry) → IsRefusing e → IsRefusing (change e)) → Good d → Good (changed test change d)
-  good_less test change d less keeps h = record {
+  pub good_less : (test : Entry → Bool) (change : Entry → Entry) (d : DeskState) → ((e : Entry) → IsLess e (change e)) → ((e : Entry) → Drains e (change e)) → ((e : Entry) → IsRefusing e → IsRefusing (change e)) → Good d
+      → Good (changed test change d)
+  good_less test change d less drains keeps h = record {
     refusing = refusing_changed test change d.entries keeps h.refusing;
-    on = at_lessened a k m p test change d.entries (listens_on k d.listening) (all_told a d.notices k0) less h.on;
+    on = at_lessened a k m p test change d.entries (listens_on k d.listening) (all_told a d.notices k0) less drains h.on;
   }
 
   -- an end is changed, and this is reported
@@ -186,7 +225,7 @@ module _ (a : Host) (k : ℕ) (m : Place) (p : Host) (k0 : Kept) where
   pub good_settled : (busy : List ℕ) (d : DeskState) → Good d → Good (settled busy d)
   good_settled busy d h = record {
     refusing = refusing_mapped (λ e. closed_when (must_close busy e) e) d.entries (λ e. refuses_when (must_close busy e) e) h.refusing;
-    on = at_mapped a k m p (λ e. closed_when (must_close busy e) e) d.entries (listens_on k d.listening) (all_told a d.notices k0) (λ e. closed_less (must_close busy e) e) h.on;
+    on = at_mapped a k m p (λ e. closed_when (must_close busy e) e) d.entries (listens_on k d.listening) (all_told a d.notices k0) (λ e. closed_less (must_close busy e) e) (closed_drains busy) h.on;
   }
 
   abbrev stays : Entry → Bool
@@ -297,6 +336,7 @@ module _ (a : Host) (k : ℕ) (m : Place) (p : Host) (k0 : Kept) where
       own = f;
       partner = g;
       waits = λ o s. sym none;
+      drained = λ q r s c f. refl;
       left = λ r. subst (λ (c : Allocation). AddsUp (new_life a e.own p e.foreign x y) c) (sym nothing) (record { messages = refl; bits = refl });
     }
 

@@ -30,7 +30,7 @@ use Rattle.world_keeps_lives.specs.Lives.{AddsUp, EachOn, IsLifeOf, IsSafe, at_s
 use Rattle.world_keeps_lives.proofs.Ends.{IsRefusing, refusing_found, split}
 use Rattle.world_keeps_lives.proofs.Books.{each_here, each_weaker}
 use Rattle.world_keeps_lives.proofs.Desks.{At, Elsewhere, Near, Place, clash, open_mine, open_opened, own_is, own_off}
-use Rattle.world_keeps_lives.proofs.Steps.{Good, good_aside, good_changed, good_foreign, good_if, good_joined, good_less, good_opening, good_queued, good_quiet, good_settled, good_swept, heard_less, refuses_due}
+use Rattle.world_keeps_lives.proofs.Steps.{Good, good_aside, good_changed, good_foreign, good_if, good_joined, good_less, good_opening, good_queued, good_quiet, good_settled, good_swept, heard_drains, heard_less, refuses_due}
 
 and_false : (b : Bool) → (b && false) ≡ false
 and_false true = refl
@@ -77,7 +77,7 @@ module _ (a : Host) (k : ℕ) where
 
 -- more is granted to a sending end, or taken back from it
 sender_still : (p : Host) (e : Entry) (c : Allocation) (x : Life) (t : List Bool) → receives x ≡ false → IsLifeOf p e x t → IsLifeOf p (record e { allocation = c }) x t
-sender_still p e c x t off i = record { peers = i.peers; foreign = i.foreign; own = i.own; partner = i.partner; waits = i.waits; left = λ r. clash _ (receives x) r off }
+sender_still p e c x t off i = record { peers = i.peers; foreign = i.foreign; own = i.own; partner = i.partner; waits = i.waits; drained = i.drained; left = λ r. clash _ (receives x) r off }
 
 covered : (bits : ℕ) (c : Allocation) → is_covered bits c ≡ true → (0 < c.messages) × (bits ≤ c.bits)
 covered bits c is = let h : (nat_lt 0 c.messages ≡ true) × (nat_le bits c.bits ≡ true) = both (nat_lt 0 c.messages) (nat_le bits c.bits) is in (ltb-true 0 c.messages h.0, leb-true bits c.bits h.1)
@@ -113,6 +113,7 @@ taken_life p e x t ds bits off ok whole i = record {
   own = i.own;
   partner = i.partner;
   waits = λ o s. absurd (off s);
+  drained = λ q r s c f. absurd (off s);
   left = λ r. record { messages = omega (arith, ok.0, (i.left r).messages); bits = omega (arith, ok.1, whole, (i.left r).bits, length-append x.bits ds) };
 }
 
@@ -131,6 +132,7 @@ returned_life p e x t messages bits off m b i = record {
   own = i.own;
   partner = i.partner;
   waits = λ o s. absurd (off s);
+  drained = λ q r s c f. absurd (off s);
   left = λ r. record { messages = omega (arith, m, (i.left r).messages); bits = omega (arith, b, (i.left r).bits) };
 }
 
@@ -196,7 +198,7 @@ module _ (a : Host) (k : ℕ) (m : Place) (p : Host) (k0 : Kept) where
   good_cls busy x y None d h = good_fault NO_SOCKET (command.Cls y x) d h
   good_cls busy x y (Some e) d h =
       good_if a k m p k0 e.partner_closed d (swept p (settled busy (changed (is_at x y) closed_by_partner d))) h
-      (good_swept a k m p k0 (settled busy (changed (is_at x y) closed_by_partner d)) (good_settled a k m p k0 busy (changed (is_at x y) closed_by_partner d) (good_less a k m p k0 (is_at x y) closed_by_partner d heard_less heard_refuses h)))
+      (good_swept a k m p k0 (settled busy (changed (is_at x y) closed_by_partner d)) (good_settled a k m p k0 busy (changed (is_at x y) closed_by_partner d) (good_less a k m p k0 (is_at x y) closed_by_partner d heard_less heard_drains heard_refuses h)))
 
   -- ---- a link
 

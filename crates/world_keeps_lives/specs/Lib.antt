@@ -1,3 +1,4 @@
+pub mod Drained
 pub mod Firsts
 pub mod Lives
 pub mod Worked

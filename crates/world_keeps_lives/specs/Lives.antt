@@ -4,6 +4,7 @@ use Rattle.interface.specs.Host.{Host, same_host}
 use Rattle.ncp_control.specs.Allocation as counters
 use Rattle.ncp_control.specs.declared.allocation.Allocation.{Allocation}
 use Rattle.host_pairs.specs.Entries.{has_cls, is_mine_on, is_open}
+use Rattle.ncp_control.specs.Numbers.{is_receive_socket, is_send_socket}
 use Rattle.ncp_control.specs.Phases.{is_ready}
 use Rattle.host_pairs.specs.Desk.{listens_on}
 use Rattle.host_pairs.specs.declared.entry.Entry.{Entry}
@@ -49,13 +50,15 @@ pub record IsSafe (x : Life) (handed : List Bool) : Type 0 where
   pub bounded : receives x ≡ true → IsBounded x
 
 -- a life is that of an end with a peer: they have one foreign socket and the same two stamps. While it is open, what was handed over
--- is what was sent and then what waits; and what was granted is what was taken, what was returned, and what the end has left
+-- is what was sent and then what waits; and all of it was sent where the CLS of a sending end was queued before its partner's was taken. What was granted is
+-- what was taken, what was returned, and what the end has left
 pub record IsLifeOf (peer : Host) (e : Entry) (x : Life) (handed : List Bool) : Type 0 where
   pub peers : x.peer ≡ peer
   pub foreign : e.foreign ≡ x.foreign
   pub own : e.asked ≡ Some x.own_stamp
   pub partner : e.partner ≡ Some x.partner_stamp
   pub waits : is_open e ≡ true → sends x ≡ true → handed ≡ x.bits ++ e.bits
+  pub drained : is_send_socket e.own ≡ true → is_receive_socket e.foreign ≡ true → sends x ≡ true → has_cls e.closing ≡ true → e.partner_closed ≡ false → handed ≡ x.bits
   pub left : receives x ≡ true → AddsUp x e.allocation
 
 -- ---- all lives of a socket

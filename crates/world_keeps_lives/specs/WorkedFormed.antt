@@ -8,6 +8,8 @@ use Rattle.host_pairs.specs.declared.notice.Notice.TheVariants as notice
 use Rattle.sockets.specs.Worked as sockets
 use Rattle.sockets.specs.Worked.{first, second}
 use Rattle.net_sim.specs.declared.book.Told.{Told}
+use Rattle.sockets.specs.declared.request.Request.TheVariants as request
+use Rattle.net_sim.specs.Story.{Asked, Crossed, Moment}
 use Rattle.net_sim.specs.Timeline.{crossings_of}
 use Rattle.net_sim.specs.Worked.{eight, eight_zeros, giver, taker}
 use Rattle.net_sim.specs.WorkedMoments.{connected, sent_moments}
@@ -69,3 +71,20 @@ stray_sent = record sent_told { place = 13 }
 
 abbrev pub stray_arrived : Told
 stray_arrived = record arrived_told { place = 14 }
+
+-- ---- the sending user closes
+
+-- once its message is answered
+abbrev pub closed_moments : List Moment
+closed_moments = Asked second (request.Close 33) ∷ Crossed (crossing.Answer answer.Rfnm (sockets.on_link second first 2)) ∷ sent_moments
+
+-- before that
+abbrev pub closing_moments : List Moment
+closing_moments = Asked second (request.Close 33) ∷ sent_moments
+
+-- and after the receiving user, whose CLS came
+abbrev pub close_taken : HostMessage
+close_taken = sockets.control first second (3 ∷ 0 ∷ 0 ∷ 0 ∷ 16 ∷ 0 ∷ 0 ∷ 0 ∷ 33 ∷ [])
+
+abbrev pub taken_moments : List Moment
+taken_moments = Crossed (crossing.In close_taken) ∷ Crossed (crossing.Out close_taken) ∷ Asked first (request.Close 16) ∷ Crossed (crossing.Answer answer.Rfnm (sockets.on_link second first 2)) ∷ sent_moments

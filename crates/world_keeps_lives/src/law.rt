@@ -23,9 +23,10 @@ ghost use Rattle.host_pairs.specs.declared.notice.Notice.TheVariants as notice;
 ghost use Rattle.sockets.specs.Worked.{first, second, third};
 ghost use Rattle.net_sim.specs.Book.{carried, life_ended, granted, new_life, opening_kept, returned};
 ghost use Rattle.world_keeps_lives.specs.Lives.{AreRefusing, EachOn, HasOpenEnd, IsBounded, IsFreeSocket, IsFresh, IsLifeOf, IsOwned, IsSafe, IsSteady, NoneOf, at_socket, mine_on};
+ghost use Rattle.world_keeps_lives.specs.Drained.{AllDrained, AllSent, ClosesFirst};
 ghost use Rattle.world_keeps_lives.specs.Firsts.{AreApart, FirstBook, IsFirst};
 ghost use Rattle.world_keeps_lives.specs.Worked.{worked_end, with_one};
-ghost use Rattle.world_keeps_lives.specs.WorkedFormed.{arrived_told, gave, gave_on, sent_log, sent_told, stray_arrived, stray_log, stray_sent, took, took_on, took_second, two_log, untaken_log};
+ghost use Rattle.world_keeps_lives.specs.WorkedFormed.{arrived_told, closed_moments, closing_moments, gave, gave_on, sent_log, sent_told, stray_arrived, stray_log, stray_sent, taken_moments, took, took_on, took_second, two_log, untaken_log};
 ghost use Rattle.net_sim.specs.Worked.{crossings, eight_zeros, taker};
 ghost use Rattle.net_sim.specs.WorkedMoments.{sent_moments};
 
@@ -51,6 +52,9 @@ pub fn programs()
     // what each sending life sent is a prefix of what was handed over in it
     ensures handed { (hosts : List Host) (moments : List Moment) → HaveAddresses hosts → mail.IsRun hosts (crossings_of moments) → IsTimeline hosts moments → AreHanded (kept_in moments).book.lives (kept_in moments).handed }
 
+    // a sending life whose CLS is queued, before its partner's was taken, has sent all that was handed over in it
+    ensures drained { (hosts : List Host) (moments : List Moment) → HaveAddresses hosts → mail.IsRun hosts (crossings_of moments) → IsTimeline hosts moments → AllSent moments (kept_in moments).book.lives (kept_in moments).handed }
+
     // each life is made of messages that crossed: its two requests are in those at its stamps, and its bits are those of its data messages
     ensures formed { (hosts : List Host) (moments : List Moment) → HaveAddresses hosts → mail.IsRun hosts (crossings_of moments) → IsTimeline hosts moments → FormedBook (crossings_of moments) (kept_in moments).book.lives }
 
@@ -67,6 +71,7 @@ pub fn worlds<C: Carrier>()
     ensures taken { (hosts : List Host) (w : WorldState C) → IsLawful C.calls.seen hosts w → (receiver : Life) → Contains w.kept.book.lives receiver → receives receiver ≡ true → IsGranted receiver receiver.messages (length receiver.bits) }
     ensures bounded { (hosts : List Host) (w : WorldState C) → IsLawful C.calls.seen hosts w → (receiver : Life) → Contains w.kept.book.lives receiver → receives receiver ≡ true → IsBounded receiver }
     ensures handed { (hosts : List Host) (w : WorldState C) → IsLawful C.calls.seen hosts w → AreHanded w.kept.book.lives w.kept.handed }
+    ensures drained { (hosts : List Host) (w : WorldState C) → (lawful : IsLawful C.calls.seen hosts w) → AllDrained lawful.whole.moments }
     ensures formed { (hosts : List Host) (w : WorldState C) → IsLawful C.calls.seen hosts w → FormedBook w.kept.book.crossings w.kept.book.lives }
     ensures told { (hosts : List Host) (w : WorldState C) → IsLawful C.calls.seen hosts w → FormedNotices w.kept.book.crossings w.kept.book.notices }
 {}
@@ -189,4 +194,12 @@ pub fn worked_notices()
 
     // a message on link 3 isn't that of a connection whose RTS names link 2
     ensures another_link { FormedNotices stray_log (stray_sent ∷ stray_arrived ∷ []) → ⊥ }
+{}
+
+/// A sending life whose user closes: all that was handed over was sent where its CLS is queued, but for a CLS that waits for an answer, or comes after the
+/// partner's.
+pub fn worked_drained()
+    ensures closed { ClosesFirst closed_moments gave }
+    ensures unanswered { ClosesFirst closing_moments gave → ⊥ }
+    ensures taken { ClosesFirst taken_moments gave → ⊥ }
 {}

@@ -1,3 +1,4 @@
+use Rattle.world_keeps_lives.proofs.Drained.{drained}
 use Rattle.world_keeps_lives.proofs.Formed.{formed}
 use Rattle.world_keeps_lives.proofs.Laws.{bounded, handed, holds, live, taken}
 use Rattle.world_keeps_lives.proofs.Notices.{told}
@@ -20,6 +21,9 @@ returns-clause-bounded c hosts moments addresses run time x there r = bounded ho
 
 pub returns-clause-handed : goal.returns-clause-handed
 returns-clause-handed c hosts moments addresses run time = handed hosts moments addresses run time
+
+pub returns-clause-drained : goal.returns-clause-drained
+returns-clause-drained c hosts moments addresses run time = drained hosts moments addresses run time
 
 pub returns-clause-formed : goal.returns-clause-formed
 returns-clause-formed c hosts moments addresses run time = formed hosts addresses moments run time

@@ -1,3 +1,4 @@
+use Rattle.world_keeps_lives.proofs.Drained.{world_drained}
 use Rattle.world_keeps_lives.proofs.Formed.{world_formed}
 use Rattle.world_keeps_lives.proofs.Laws.{world_bounded, world_handed, world_live, world_taken}
 use Rattle.world_keeps_lives.proofs.Notices.{world_told}
@@ -14,6 +15,9 @@ returns-clause-bounded g c hosts w lawful x there r = world_bounded g.C.Carrier.
 
 pub returns-clause-handed : goal.returns-clause-handed
 returns-clause-handed g c hosts w lawful = world_handed g.C.Carrier.calls.seen hosts w lawful
+
+pub returns-clause-drained : goal.returns-clause-drained
+returns-clause-drained g c hosts w lawful = world_drained g.C.Carrier.calls.seen hosts w lawful
 
 pub returns-clause-formed : goal.returns-clause-formed
 returns-clause-formed g c hosts w lawful = world_formed g.C.Carrier.calls.seen hosts w lawful

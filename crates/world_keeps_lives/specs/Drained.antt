@@ -1,0 +1,26 @@
+-- What a sending life has sent once its CLS is queued (NIC 8246, CLS).
+use Rattle.std.specs.Prelude.{◌≡◌, Bool, false, true, List, [], ◌∷◌, ◌++◌}
+use Rattle.host_pairs.specs.Entries.{has_cls}
+use Rattle.net_sim.specs.Safe.{sends}
+use Rattle.net_sim.specs.Story.{Moment, program}
+use Rattle.net_sim.specs.Told.{kept_in}
+use Rattle.net_sim.specs.declared.life.Life.{Life}
+use Rattle.world_keeps_lives.specs.Lives.{HasOpenEnd}
+
+-- a sending life isn't over, its end's CLS is queued or has gone out, and the partner's CLS wasn't taken before
+pub record ClosesFirst (moments : List Moment) (sender : Life) : Type 0 where
+  pub goes : sender.ended ≡ false
+  pub sending : sends sender ≡ true
+  pub end : HasOpenEnd (program sender.host moments) sender
+  pub closed : has_cls end.end.closing ≡ true
+  pub unheard : end.end.partner_closed ≡ false
+
+-- each such life has sent all that was handed over in it
+abbrev pub AllSent : List Moment → List Life → List (List Bool) → Type 0
+AllSent moments [] handed = Unit {0}
+AllSent moments (x ∷ lives) [] = ⊥
+AllSent moments (x ∷ lives) (t ∷ handed) = (ClosesFirst moments x → x.bits ≡ t) × AllSent moments lives handed
+
+-- so it is at every moment
+abbrev pub AllDrained : List Moment → Type 0
+AllDrained moments = (later earlier : List Moment) → moments ≡ later ++ earlier → AllSent earlier (kept_in earlier).book.lives (kept_in earlier).handed
