@@ -12,6 +12,7 @@ pub use Rattle.world_keeps_lives.proofs.Laws.{live, taken, world_handed, world_t
 pub use Rattle.world_keeps_lives.proofs.Moments.{has_ends, held}
 pub use Rattle.world_keeps_lives.proofs.Notices.{world_told}
 pub use Rattle.world_keeps_lives.proofs.Owners.{owner_found}
+pub use Rattle.world_keeps_lives.proofs.Rows.{none_there}
 pub use Rattle.world_keeps_lives.proofs.Steps.{called_less, closed_less, good_queued, heard_less, sent_less}
 pub use Rattle.world_keeps_lives.proofs.Takes.{G, good_data, good_taken}
 pub use Rattle.world_keeps_lives.proofs.Turns.{GoodTurn, good_ready, good_reset}

@@ -8,5 +8,4 @@ pub mod Heard
 pub mod Lives
 pub mod Requests
 pub mod Books
-pub mod Rows
 pub mod lemmas

@@ -13,7 +13,7 @@ use Rattle.sockets.specs.Sending.{next_out, offered}
 use Rattle.sockets.specs.Worked.{first, second}
 use Rattle.net_sim.specs.Story.{program}
 use Rattle.net_sim.specs.WorkedMoments.{bits_sent}
-use Rattle.world_keeps_streams.proofs.Rows.{none_there}
+use Rattle.world_keeps_lives.proofs.lemmas.{none_there}
 use Rattle.world_keeps_streams.proofs.law.worked_arrivals.Goals as goal
 
 first_open : List Entry → Bool

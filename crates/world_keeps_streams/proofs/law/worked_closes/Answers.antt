@@ -22,7 +22,7 @@ use Rattle.world_keeps_streams.specs.Calls.{own_calls}
 use Rattle.world_keeps_streams.specs.Closes.{IsClosedByPartner}
 use Rattle.world_keeps_streams.specs.Worked.{close_back, ended_moments, quit_moments, took_eight}
 use Rattle.net_sim.specs.Story.{Crossed, program}
-use Rattle.world_keeps_streams.proofs.Rows.{none_there}
+use Rattle.world_keeps_lives.proofs.lemmas.{none_there}
 use Rattle.world_keeps_streams.proofs.law.worked_closes.Goals as goal
 
 -- calls of which none closes an end

@@ -17,7 +17,7 @@ use Rattle.sockets.specs.Worked.{first, second}
 use Rattle.net_sim.specs.Story.{program}
 use Rattle.net_sim.specs.Timeline.{crossings_of}
 use Rattle.net_sim.specs.WorkedMoments.{bits_sent, eight_sent, sent_moments}
-use Rattle.world_keeps_streams.proofs.Rows.{none_there}
+use Rattle.world_keeps_lives.proofs.lemmas.{none_there}
 use Rattle.world_keeps_streams.proofs.law.worked_rests.Goals as goal
 
 first_link : List Entry → Option ℕ
