@@ -12,6 +12,7 @@ from dorydate import script as events
 from dorydate.deeds import Deed, Octets, Step, Stopped, text_of, together
 from dorydate.drawing import drawn
 from dorydate.inside import CannotFollow, state_of, trace_of
+from dorydate.marks import Marked, Unmarked, each_printed, mark_for
 from dorydate.network import Host, HostName, ImpName, Network
 from dorydate.printed import flow_of, kind_of, matches, without_text
 from dorydate.program import Program, found
@@ -19,6 +20,30 @@ from dorydate.script import Entry, Event, Flow, Script
 from dorydate.state import Frame, State
 
 MOST_ROUNDS = 200  # of one `settle`, `run_until` or `restart` where nothing else is said
+
+
+def output_of(program: Program, octets: bytes) -> str:
+    """What an input prints, with the octets of messages."""
+    ran = program.run(octets, "--texts")
+    if ran.status:
+        raise Stopped(f"the program says: {ran.said.strip()} (status {ran.status})")
+    return ran.output
+
+
+def attributed(program: Program, network: Network, happened: Sequence[Event]) -> list[list[str]]:
+    """The lines that each event prints, with the octets of messages."""
+    lines = [str(it).encode("latin-1") for it in happened]
+    marked = Marked(network.toml().encode("latin-1"), lines, mark_for(map(str, network.hosts()), lines))
+    parts = [*marked.parts()]
+    try:
+        return each_printed(parts, (output_of(program, marked.input(it)) for it in parts))
+    except Unmarked as why:
+        raise Stopped(str(why)) from None
+
+
+def step_of(event: Event, texts: Sequence[str], why: str) -> Step:
+    """An event that printed these lines, which have the octets of messages."""
+    return Step(event, tuple(map(without_text, texts)), tuple(texts), why)
 
 
 class Replay:
@@ -35,8 +60,10 @@ class Replay:
     def of(script: Script, program: Program | None = None) -> Replay:
         """The replay of a script, all of whose events have happened."""
         net = Replay(script.network, program, script.heading)
-        for entry in script.entries:
-            net.do(entry.event, "; ".join(entry.comments))
+        for event in script.events:
+            net._has_to_fit(event)
+        printed = attributed(net.program, script.network, script.events)
+        net.steps = tuple(step_of(entry.event, its, "; ".join(entry.comments)) for entry, its in zip(script.entries, printed))
         return net
 
     # ---- one event after another
@@ -49,20 +76,19 @@ class Replay:
 
     def _try(self, event: Event, why: str = "") -> Step:
         """What an event would print."""
-        if event.word not in (events.RAW if self.network.raw else events.WORLD):
-            raise Stopped(f"`{event.word}` is an event of {'networks with host programs' if self.network.raw else 'raw networks'}")
+        self._has_to_fit(event)
         texts = self._printed([*(it.event for it in self.steps), event])
         before = sum(len(it.printed) for it in self.steps)
-        new = tuple(texts[before:])
-        return Step(event, tuple(map(without_text, new)), new, why)
+        return step_of(event, texts[before:], why)
+
+    def _has_to_fit(self, event: Event) -> None:
+        """Raises `Stopped` for an event that networks of this kind don't have."""
+        if event.word not in (events.RAW if self.network.raw else events.WORLD):
+            raise Stopped(f"`{event.word}` is an event of {'networks with host programs' if self.network.raw else 'raw networks'}")
 
     def _printed(self, happened: Sequence[Event]) -> list[str]:
         """All lines that these events print, with the octets of messages."""
-        octets = Script.of(self.network, happened).text().encode("latin-1")
-        ran = self.program.run(octets, "--texts")
-        if ran.status:
-            raise Stopped(f"the program says: {ran.said.strip()} (status {ran.status})")
-        return ran.output.splitlines()[:-1]
+        return output_of(self.program, Script.of(self.network, happened).text().encode("latin-1")).splitlines()[:-1]
 
     def _perform(self, wanted: Iterable[Event], why: str) -> tuple[list[Step], list[Step]]:
         """Lets those of some events happen that are not refused: these, and the others."""

@@ -29,7 +29,6 @@ class Inputs(unittest.TestCase):
     def test_lines(self) -> None:
         given = Input(TWO + SCRIPT)
         self.assertEqual((given.marker, [number for number, _ in given.script]), (10, [12, 13, 14, 15, 16]))
-        self.assertEqual(given.cut_after(12), TWO + b"# routes")
         self.assertEqual(Input(b"no marker").script, [])
 
     def test_a_long_line_is_shown_without_its_middle(self) -> None:

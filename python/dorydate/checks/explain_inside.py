@@ -2,7 +2,6 @@
 
 from __future__ import annotations
 
-import copy
 import re
 from collections import Counter
 from contextlib import AbstractContextManager
@@ -18,6 +17,7 @@ from dorydate.explain.given import Input
 from dorydate.explain.inside import Inside, Told
 from dorydate.explain.runs import replay
 from dorydate.sentences.texts import text_in_words
+from dorydate.model.forks import forked
 from dorydate.model.imp import Imp
 from dorydate.model.script import Event, read_event
 from dorydate.model.subnet import Subnet
@@ -75,7 +75,7 @@ def clears(goes: Inside, event: Event, said: Told) -> int:
     refusal = said.printed[-1]
     if refusal.split(" ")[1] not in ("StillAlive", "Unsettled", "Blocked", "NoRoom"):
         return 0
-    goes = copy.deepcopy(goes)
+    goes = forked(goes)
     for _ in range(400):
         named = re.findall("`([^`]*)`", " ".join(said.sentences))
         same(bool(named), True, f"an event that clears {line_of(event)}: {said.sentences}")

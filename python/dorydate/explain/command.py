@@ -6,8 +6,7 @@ that the program refuses it says what is probably wrong. With --chart it writes 
 instead, which GitHub and GitLab draw; with --short it draws one arrow for each message, and leaves out RFNMs and most of
 what users learn. With --page it writes a page for a browser (docs/workbench.md). Its exit status is that of the program.
 
-Which script line printed what needs no knowledge of the network's rules (dorydate.explain.runs), and so it is right for
-every input. A script of n events costs n runs of a few milliseconds.
+Which script line printed what the program itself says, in a run with refused events between those of the script (dorydate.marks).
 
 Only the sentences rest on the rules in docs/. What messages say, and what happens inside the network, comes from the
 independent model in Python, which replays the script beside the program and has to print the same lines.

@@ -29,10 +29,6 @@ class Input:
         script = list(enumerate(self.lines, 1))[self.marker + 1 :] if self.marker is not None else []
         return script[:-1] if script and script[-1][1] == b"" else script
 
-    def cut_after(self, number: int) -> bytes:
-        """The input without what follows the line of this number."""
-        return b"\n".join(self.lines[:number])
-
     def topology(self) -> bytes:
         """What comes before the marker."""
         return b"\n".join(self.lines[: self.marker])

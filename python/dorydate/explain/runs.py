@@ -1,7 +1,7 @@
 """What the program prints for each event of an input.
 
-It is run on the whole input, and then once more for each event, on the input cut off after that event's line. The program
-replays events in order and its output depends on its input only, so what an event printed is what the output grew by.
+It is run on the whole input, and then on the same events with marks between them (dorydate.marks). Without the marks both runs have to print the
+same. A script for which there are no marks is run once for each event, on its first part that ends there.
 """
 
 from __future__ import annotations
@@ -17,10 +17,11 @@ from dataclasses import dataclass
 from itertools import chain, islice
 
 from dorydate.explain.given import Input, is_event
+from dorydate.explain.topology import network_by
+from dorydate.marks import LAST, Marked, Unmarked, each_printed, mark_for
 from dorydate.parts import ROOT
 
 MOST_TRIED = 64_000_000  # octets of inputs that are run without a kept program
-LAST = b"end\n"  # the last line of each run that ends
 Ended = tuple[int, bytes, str]  # the status of a run, its output, and what it said on standard error
 
 
@@ -107,24 +108,22 @@ def ends_of_cases(output: bytes, notes: str) -> list[Ended]:
 def replay(given: Input, program: str | None) -> Replayed:
     """How the program ends on the input, and what each event printed."""
     events = [(number, line) for number, line in given.script if is_event(line)]
-    inputs = chain([given.octets], (given.cut_after(number) for number, _ in events))
+    lines = [line for _, line in events]
+    network = network_by(given)
+    marked = Marked(given.topology(), lines, mark_for(network.hosts(), lines) if network else None)
+    parts = [*marked.parts()]
+    inputs = chain([given.octets], map(marked.input, parts))
     ended = answers(program, inputs) if program else answers_without_proofs(inputs)
     status, whole, said = next(ended)
     if status != 0:
         return Replayed(status, said, [])
-    if len(events) > 5000:
-        print(f"explain: running the program {len(events)} times", file=sys.stderr)
-    found: list[Happened] = []
-    before = 0
-    for (number, line), (status, output, _) in zip(events, ended):
-        printed = output.removesuffix(LAST)
-        if status != 0 or printed == output or len(printed) < before or not whole.startswith(printed):
-            raise CannotTell(f"cut off after line {number}, the script did not print a first part of what the whole script prints")
-        found.append(Happened(number, line.decode().split(" "), whole[before : len(printed)].decode().splitlines()))
-        before = len(printed)
-    if whole[before:] != LAST:
-        raise CannotTell("the events did not print all that the whole script prints")
-    return Replayed(0, said, found)
+    try:
+        printed = each_printed(parts, (output.decode() for _, output, _ in ended))
+    except Unmarked as why:
+        raise CannotTell(str(why)) from None
+    if [*chain.from_iterable(printed), LAST] != whole.decode().splitlines():
+        raise CannotTell("with marks between its events, the script prints something else than without them")
+    return Replayed(0, said, [Happened(number, line.decode().split(" "), its) for (number, line), its in zip(events, printed)])
 
 
 def lives(given: Input, program: str | None, raw: bool) -> list[str]:

@@ -5,12 +5,12 @@ It reads the state of the independent model, and lets a copy of it have some mor
 
 from __future__ import annotations
 
-import copy
 from collections.abc import Iterator
 
 from dorydate.explain.in_the_way import InTheWay
 from dorydate.model.boxes import Boxes
 from dorydate.model.crossings import Carrier
+from dorydate.model.forks import forked
 from dorydate.model.host import Host
 from dorydate.model.imp import Imp
 from dorydate.model.names import Flow, HostName, in_order, spell_flow, spell_host
@@ -38,7 +38,7 @@ def at_rest(place: Place, carrier: Carrier) -> list[str]:
 
 def moves(place: Place) -> bool:
     """Whether something comes of some more rounds."""
-    ahead = copy.deepcopy(place)
+    ahead = forked(place)
     before = len(ahead.printed)
     ahead.happen("calm", LOOKED)
     return len(ahead.printed) > before

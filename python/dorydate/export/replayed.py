@@ -3,21 +3,19 @@
 from __future__ import annotations
 
 import json
-from collections.abc import Iterator, Mapping, Sequence
+from collections.abc import Iterator, Mapping
 from dataclasses import dataclass, field
 from typing import Any
 
-from dorydate.network import MOST_HOSTS, MOST_IMPS, Host, Network
+from dorydate.network import Network
 from dorydate.printed import CROSSINGS
 from dorydate.program import Program, found
 from dorydate.deeds import Stopped
-from dorydate.replay import Replay
-from dorydate.script import Event, HostDown, Script
+from dorydate.replay import attributed
+from dorydate.script import Event, Script
 from dorydate.trace import opening, records
 
 MICROSECONDS = 1_000_000  # of a second, which is the time of an event
-NO_SUCH = "refused NoSuch"
-Printed = Sequence[Sequence[str]]  # for each event its lines
 
 
 @dataclass(frozen=True)
@@ -102,7 +100,7 @@ def replayed(script: Script, program: Program | None = None, with_trace: bool = 
     log = output(program, script, "--log")
     crossings = iter([it for it in log if it.split(" ")[0] in CROSSINGS])
     events = []
-    for second, (entry, printed) in enumerate(zip(script.entries, attributed(program, script))):
+    for second, (entry, printed) in enumerate(zip(script.entries, attributed(program, script.network, script.events))):
         said = [next(crossings, "") if it.split(" ")[0] in CROSSINGS else it for it in printed]
         if [as_printed(it) for it in said] != [*printed]:
             raise Stopped(f"line {entry.number}: the log says something else than what is printed")
@@ -130,26 +128,3 @@ def output(program: Program, script: Script, option: str) -> list[str]:
     if ran.status:
         raise Stopped(f"the program says: {ran.said.strip()} (status {ran.status})")
     return ran.output.splitlines()[:-1]
-
-
-def attributed(program: Program, script: Script) -> Printed:
-    """What each event printed. After each an event is put in that is always refused, since it names a host that is not there, and
-    changes nothing. Where the script has such a refusal of its own, the program runs on each first part of it instead."""
-    marker = missing_host(script.network)
-    if marker:
-        marked = Script.of(script.network, [it for event in script.events for it in (event, HostDown(marker))])
-        parts: list[list[str]] = [[]]
-        for line in output(program, marked, "--texts"):
-            if line == NO_SUCH:
-                parts.append([])
-            else:
-                parts[-1].append(line)
-        if len(parts) == len(script.events) + 1:
-            return parts[:-1]
-    return [it.texts for it in Replay.of(script, program).steps]
-
-
-def missing_host(network: Network) -> Host | None:
-    """A host that a network doesn't have."""
-    hosts = {imp.number: imp.hosts for imp in network.imps}
-    return next((Host(MOST_HOSTS - 1, it) for it in range(MOST_IMPS, 0, -1) if hosts.get(it, 0) < MOST_HOSTS), None)
