@@ -267,11 +267,6 @@ impl Imp {
         self.store.iter().chain(self.ports.iter().flat_map(|it| it.end.held()))
     }
 
-    /// Whether it keeps no packet, so that nothing is sent again.
-    pub fn is_at_rest(&self) -> bool {
-        self.stored == 0
-    }
-
     // Its steps.
 
     /// Puts a frame on the line of a port.

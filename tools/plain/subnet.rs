@@ -351,6 +351,6 @@ impl Carrier for Subnet {
                 }
             }
         }
-        is_settled && self.imps().all(Imp::is_at_rest) && self.lines.iter().all(|it| it.live.iter().all(VecDeque::is_empty))
+        is_settled && self.lines.iter().all(|it| it.live.iter().all(VecDeque::is_empty))
     }
 }
