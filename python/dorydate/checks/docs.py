@@ -12,9 +12,9 @@ stored inputs of cases/; and each other name has to be one of these, or that of 
 
 docs/PROVED.md names each clause after the path of its call, `CRATE::..::CALL`, and docs/measured/crates.md leads to the claims of each crate.
 
-The drawings of docs/pictures, the page of crates and the page of what must be believed have to be as they are made, the numbers in drawings as the sources have them, and
+The drawings of docs/pictures, the page of crates, the index of rules and the page of what must be believed have to be as they are made, the numbers in drawings as the sources have them, and
 no text of a drawing over another one or over a line. Words of the house's dialect are counted against limits that can only fall
-(dorydate.documents). With --write these, the index of rules and the page of planted bugs are made anew, and with --lower the limits are lowered to what is counted.
+(dorydate.documents). With --write these and the page of planted bugs are made anew, and with --lower the limits are lowered to what is counted.
 With --rule the rules in which all of the words occur are printed, each with its definition, its functions, its rows and its planted bugs.
 
 Then it counts what hides borders and what is dead, each against its limit: imports that reach into another crate's proofs/

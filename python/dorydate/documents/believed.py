@@ -1,8 +1,7 @@
-"""docs/measured/promise.md: all that must be believed of the headline, in reading order.
+"""docs/measured/promise.md: all definitions by which the clause `promise` of headline::book_of says anything, in reading order.
 
-The headline is four fields of `KeepsPromise`, and that what crossed is a run of the mailboxes. From the definitions of these five the names in each
-definition are followed to where specs/ has them, by the imports of its file. A name that is both a field's and a definition's counts as the definition,
-so the page may have too much, and never too little. The types that are declared in Rust are named.
+From `Promised` the names in each definition are followed to where specs/ has them, by the imports of its file. A name that is both a field's and
+a definition's counts as the definition, so the page may have too much, and never too little. The types that are declared in Rust are named.
 """
 
 from __future__ import annotations
@@ -10,7 +9,7 @@ from __future__ import annotations
 import functools
 import os
 import re
-from collections.abc import Iterable, Iterator
+from collections.abc import Iterator
 from dataclasses import dataclass, field
 
 from dorydate.documents.rules import Place, read
@@ -18,21 +17,13 @@ from dorydate.parts import ROOT
 
 PAGE = f"{ROOT}/docs/measured/promise.md"
 MOST_LINES = 400  # without comments, imports and empty lines
-FIRST = (
-    ("interface" if os.path.isdir(f"{ROOT}/crates/interface") else "leader1822", "Mailboxes", "IsRun"),
-    ("net_sim", "Formed", "FormedBook"),
-    ("net_sim", "Notices", "FormedNotices"),
-    ("net_sim", "Safe", "SafeBook"),
-    ("world_keeps_connections", "Connections", "JoinedBook"),
-)
+FIRST = ("headline", "Promised", "Promised")
 # the files in the order in which they are read: what is promised, what crosses, what is written down of it, and how texts are read
-ORDER = ("interface", "leader1822", "net_sim", "world_keeps_connections", "host_pairs", "ncp_control", "bit_messages")
-WITHIN = ("Mailboxes", "Messages", "Book", "Safe", "Formed", "Notices")
+ORDER = ("headline", "interface", "leader1822", "net_sim", "world_keeps_connections", "host_pairs", "ncp_control", "bit_messages")
+WITHIN = ("Promised", "Mailboxes", "Messages", "Book", "Safe", "Formed", "Notices")
 HEAD = """# What must be believed of the headline
 
-`headline::book_of` ensures `KeepsPromise`. Five parts of it are the headline, and can be read without knowing any program: what crossed is a run of the mailboxes (`IsRun`), lives are made of messages that crossed (`FormedBook`), notices of data report them (`FormedNotices`), the book is safe (`SafeBook`), and initial connections pair the right sockets (`JoinedBook`). [The headline](../headline.md) says what the words mean, and what the other parts add by the rules of a host's program.
-
-`./check docs --write` makes this page from the sources. It has, in reading order, all definitions by which these five say anything: {definitions} definitions of {files} files, in {lines} lines without comments; `./check docs` wants at most {most}. No other line of any `specs/` changes what they say.
+`./check docs --write` makes this page from the sources. It has, in reading order, all definitions by which the clause `promise` of `headline::book_of` says anything: {definitions} definitions of {files} files, in {lines} lines without comments; `./check docs` wants at most {most}. No host program, packet, route or buffer occurs in them, and no other line of any `specs/` changes what is promised. [The headline](../headline.md) says what the words mean, and what the clause `lawful` adds by the rules of a host's program.
 
 The records and variants that they speak of are declared in Rust: {types}.
 """
@@ -104,11 +95,11 @@ def named(crate: str, path: str, name: str) -> Iterator[tuple[str, str, str]]:
             yield (*module.imports[part], part)
 
 
-def closure(first: Iterable[tuple[str, str, str]]) -> tuple[dict[tuple[str, str, str], Definition], set[tuple[str, str]]]:
-    """These definitions, those to which the names in them lead, and so on, and the types declared in Rust, each as its crate and path."""
+def closure(first: tuple[str, str, str]) -> tuple[dict[tuple[str, str, str], Definition], set[tuple[str, str]]]:
+    """A definition, those to which the names in it lead, and so on, and the types declared in Rust, each as its crate and path."""
     found: dict[tuple[str, str, str], Definition] = {}
     types: set[tuple[str, str]] = set()
-    waiting, seen = [*first], {*first}
+    waiting, seen = [first], {first}
     while waiting:
         crate, path, name = waiting.pop()
         if path.startswith("declared.") and name[0].isupper():

@@ -19,7 +19,7 @@ from dorydate.drawings.repository import layers
 PAGE = f"{ROOT}/docs/measured/rules.md"
 HEAD = """# From a rule to its code
 
-`./check docs --write` makes this page from the sources. It has each definition that the contract of a function cites, with the comment above it, the function, the rows that fail if the definition is read otherwise, and the bugs that are planted in the function. Each name leads to its line. `./check docs --rule WORD..` prints the rules with these words, with the text of the definition and of its functions.
+`./check docs --write` makes this page from the sources, and `./check docs` compares it. It has each definition that the contract of a function cites, with the comment above it, the function, the rows that fail if the definition is read otherwise, and the bugs that are planted in the function. Each name leads to its line. `./check docs --rule WORD..` prints the rules with these words, with the text of the definition and of its functions.
 """
 DEFINED = re.compile(r"^(?:(?:unfoldable|abbrev) )?pub (?:record |data )?([\w'-]+)\b.*$", re.MULTILINE)
 FUNCTION = re.compile(r"^( *)(?:pub(?:\(\w+\))? )?(?:const )?fn (\w+)", re.MULTILINE)
@@ -221,20 +221,20 @@ def write() -> None:
         file.write(text)
 
 
+def differing(stored: str, made: str) -> list[str]:
+    """The first line in which the page isn't as it is made, and how many there are."""
+    old, new = stored.split("\n"), set(made.split("\n"))
+    gone = [it for it in old if it not in new]
+    missing = [it for it in made.split("\n") if it not in set(old)]
+    first = next((re.search(r"\| (\[`[^|]*) \|", it) for it in [*gone, *missing]), None)
+    named = f", first {first[1]}" if first else ""
+    return [f"docs/measured/rules.md: {len(gone)} lines aren't as they are made, {len(missing)} are missing{named} (./check docs --write)"]
+
+
 def faults() -> list[str]:
-    """The names that the page has and their files no longer do. New rules are added, and lines set right, by --write."""
-    stored = read(PAGE) if os.path.exists(PAGE) else ""
-    wrong = [] if stored else ["docs/measured/rules.md: not there (./check docs --write)"]
-    for name, file in re.findall(r"\[`([^`]+)`\]\(../../([^)#]+)", stored):
-        if not os.path.exists(f"{ROOT}/{file}") or name.split("::")[-1] not in (file if file.endswith(".edit") else text_of(file)):
-            wrong.append(f"docs/measured/rules.md: {file} has no `{name}` (./check docs --write)")
-    return wrong
-
-
-@functools.cache
-def text_of(file: str) -> str:
-    """The text of a file, named from the root of the repository."""
-    return read(f"{ROOT}/{file}")
+    """Whether the page is as it is made."""
+    stored, made = read(PAGE) if os.path.exists(PAGE) else "", page()
+    return [] if stored == made else differing(stored, made)
 
 
 def has_words(crate: str, rule: Rule, words: list[str]) -> bool:

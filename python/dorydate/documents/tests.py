@@ -150,6 +150,10 @@ class Rules(unittest.TestCase):
         self.assertTrue(rules.has_words("a", rule, ["MANY", "store"]))
         self.assertFalse(rules.has_words("a", rule, ["many", "few"]))
 
+    def test_a_page_that_isnt_as_it_is_made_is_named(self) -> None:
+        (fault,) = rules.differing("| a | [`count`](x#L5) |", "| a | [`count`](x#L6) |\n| b | [`more`](x#L9) |")
+        self.assertIn("1 lines aren't as they are made, 2 are missing, first [`count`](x#L5)", fault)
+
 
 BELIEVED = """use Rattle.b.specs.B.{two}
 use Rattle.b.specs.declared.thing.Thing.TheVariants as thing
@@ -175,7 +179,7 @@ class Believed(unittest.TestCase):
     def test_names_are_followed_over_files_to_definitions_and_types_of_rust(self) -> None:
         modules = {("a", "A"): believed.parsed("a", BELIEVED), ("b", "B"): believed.parsed("b", "pub use Rattle.c.specs.C.{two}\n"), ("c", "C"): believed.parsed("c", "pub two : ℕ\ntwo = 2\n")}
         with mock.patch.object(believed, "module_of", lambda crate, path: modules.get((crate, path), believed.Module())):
-            found, types = believed.closure([("a", "A", "other")])
+            found, types = believed.closure(("a", "A", "other"))
         self.assertEqual(set(found), {("a", "A", "other"), ("a", "A", "Kind"), ("a", "A", "one"), ("c", "C", "two")})
         self.assertEqual((types, believed.count([*found.values()])), ({("b", "declared.thing.Thing")}, 8))
 
