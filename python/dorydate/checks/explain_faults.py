@@ -156,5 +156,5 @@ BROKEN_LOGS = [
     # what the program doesn't judge, and the model in Python does
     (11, b"send 1", b"send 2", "broken grants lines 10 11", "Line 11 isn't made of the messages that crossed, which the program doesn't judge: it counts 2 messages, and after its requests 1 went out on 0/2 0/1 5."),
     (10, b"4849", b"4848", "broken streams lines 10 11", "Line 10 isn't made of the messages that crossed, which the program doesn't judge: at octet 2 what it says has 48"),
-    (1, b"2105", b"2305", "broken run line 2\nbroken messages line 2", "no RTS of sockets 16 and 33 is in the message at its OWN."),
+    (2, b"2105", b"2305", "broken run line 2\nbroken messages line 2", "no RTS of sockets 16 and 33 is in the message at its PARTNER."),
 ]
