@@ -139,6 +139,28 @@ class Patterns(unittest.TestCase):
             with self.subTest(text), self.assertRaises(pattern.BadPattern):
                 pattern.read(text)
 
+    def test_what_is_asked_of_printed_lines(self) -> None:
+        def kept(text: str) -> list[str]:
+            sequels = pattern.read(text).printed().sequels
+            return [" ".join([*(f"not {bar} then" for bar in barred), str(part)]) for it in sequels for barred, part in it.parts]
+
+        self.assertEqual(kept("noted never A B N K then answer incomplete A B N then arrives data A B N K"), ["answer incomplete A B N"])
+        self.assertEqual(kept("noted never A B N K then arrives data A B N K"), [])
+        self.assertEqual(kept("out A B N .. then not in A B N .. then answer dead A B N"), ["out A B N ..", "not in A B N .. then answer dead A B N"])
+        # nothing is barred after a line that isn't printed, nor by a name that such a line binds
+        self.assertEqual(kept("noted taken A B N K then not out .. then in A B N .."), ["in A B N .."])
+        self.assertEqual(kept("slots I 2 and out A B N .. then not in X B N .. then in A B N .."), ["out A B N ..", "in A B N .."])
+
+    def test_what_matches_all_matches_what_is_printed(self) -> None:
+        chance, full = random.Random(3), pattern.read("out A B N then not up A then noted never A B N K then answer incomplete A B N then not down B then up B then not out A B N")
+        kinds, count = ("out 0/1 0/2 5", "noted never 0/1 0/2 5 0", "answer incomplete 0/1 0/2 5", "up 0/1", "up 0/2", "down 0/2", "out 0/2 0/1 5"), 0
+        for _ in range(20_000):
+            lines = [chance.choice(kinds) for _ in range(chance.randrange(10))]
+            if full.match(lines) is not None:
+                count += 1
+                self.assertIsNotNone(full.printed().match([it for it in lines if not it.startswith("noted")]), lines)
+        self.assertGreater(count, 100)
+
     def test_depth(self) -> None:
         self.assertEqual(pattern.read("out A .. then in A .. then answer rfnm A ..").depth(["out 0/1 0/2", "in 0/1 0/2"]), 2)
 

@@ -18,6 +18,7 @@ from dataclasses import dataclass, field
 from functools import lru_cache
 
 Names = tuple[tuple[str, str], ...]  # what is bound, in order of the names
+TRACED = frozenset({"noted", "arrives", "slots"})  # the first words of lines that only a trace has (explore.seen)
 
 
 class BadPattern(ValueError):
@@ -57,6 +58,14 @@ class Part:
                 return None
         return tuple(sorted(bound.items())) if len(bound) > len(names) else names
 
+    def is_traced(self) -> bool:
+        """Whether only a trace has such lines."""
+        return self.words[0] in TRACED
+
+    def names(self) -> set[str]:
+        """The names that it has."""
+        return {it for it in (*self.words, *self.ending) if len(it) == 1 and it.isupper()}
+
     def __str__(self) -> str:
         return " ".join([*self.words, *([".."] if self.has_rest else []), *self.ending])
 
@@ -71,6 +80,23 @@ class Sequel:
     def heads(self) -> set[str]:
         """The first words of lines that have to come."""
         return {part.words[0] for _, part in self.parts}
+
+    def printed(self) -> Sequel:
+        """Its parts that are printed. What must not come is kept between two of these, and only where it names nothing that another
+        part binds: so whatever matches all matches this, too."""
+        parts: list[tuple[tuple[Part, ...], Part]] = []
+        bound: set[str] = set()
+        follows = True
+
+        def kept(barred: Iterable[Part]) -> tuple[Part, ...]:
+            return tuple(it for it in barred if follows and it.names() <= bound)
+
+        for barred, part in self.parts:
+            if not part.is_traced():
+                parts.append((kept(barred), part))
+                bound |= part.names()
+            follows = not part.is_traced()
+        return Sequel(tuple(parts), kept(self.never_after))
 
 
 State = frozenset[tuple[int, Names]]  # how far a pattern has come, with which names
@@ -138,7 +164,11 @@ class Pattern:
 
     def needs_trace(self) -> bool:
         """Whether it names lines that only a trace has (explore.seen)."""
-        return any(it.heads() & {"noted", "arrives", "slots"} for it in self.sequels)
+        return any(it.heads() & TRACED for it in self.sequels)
+
+    def printed(self) -> Pattern:
+        """What it asks of printed lines: whatever matches it matches that, too."""
+        return Pattern(self.text, tuple(filter(Sequel.heads, (it.printed() for it in self.sequels))))
 
     def barred(self) -> set[str]:
         """The first words of lines that it forbids from the start, whatever else they say."""

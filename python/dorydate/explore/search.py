@@ -77,6 +77,8 @@ class Search:
         if pattern.needs_trace() and not network.raw:
             raise CannotRun("only raw networks have the lines of a trace: `noted`, `arrives`, `slots`")
         self.network, self.pattern = network, pattern
+        # a trace costs ten times as much as what is printed: where the pattern asks for printed lines, too, these are looked at first
+        self.first = pattern.printed() if pattern.needs_trace() and pattern.printed().sequels else None
         self.many, self.one = Many(network, program), One(network, program)
         opening = 1 if network.carrier == "subnet" else 0
         self.maker = Maker(fit(pools(network) if found is None else found, pattern), length=length, opening=opening, favoured=favoured(pattern))
@@ -92,20 +94,34 @@ class Search:
             return many.run(parts, calms, self.pattern.calm.rounds, self.pattern.needs_lives())
         return traced(many, parts, calms)
 
+    def alone(self, script: Script) -> Result:
+        """What a script prints, in a process of its own."""
+        return self.results(self.one, [[list(map(str, script))]], [0])[0]
+
+    def is_meant(self, result: Result) -> bool:
+        """Whether this is what is asked."""
+        return self.pattern.match(result.lines, result.last) is not None
+
     def matches(self, script: Script) -> bool:
         """Whether a script, in a process of its own, prints what is asked."""
-        result = self.results(self.one, [[list(map(str, script))]], [0])[0]
-        return self.pattern.match(result.lines, result.last) is not None
+        return self.is_meant(self.alone(script))
 
     def batch(self, number: int) -> Batch:
         """What comes of the schedules of this number. Those that match do so in a process of their own too."""
         parts, calms = self.maker.batch(random.Random(f"{self.seed} {number}"), self.many.copies, number)
         lines = [[[known[it] for it in part] for part in script] for script, known in zip(parts, self.table)]
-        results = self.results(self.many, lines, calms)
         kept = self.judged(self.many.text(lines, calms, self.pattern.calm.rounds)) if self.audits else 0
-        depths = [self.pattern.depth(it.lines) for it in results] if number % SAMPLED == 0 else []
-        meant = [tuple(self.maker.script(part, calms)) for part, it in zip(parts, results) if self.pattern.match(it.lines, it.last) is not None]
-        return Batch(self.many.copies, tuple(filter(self.matches, meant)), tuple(depths), kept)
+        if self.first is None:
+            results = self.results(self.many, lines, calms)
+            hopeful = [self.is_meant(it) for it in results]
+            depths = [self.pattern.depth(it.lines) for it in results] if number % SAMPLED == 0 else []
+        else:
+            hopeful = [self.first.match(it.lines) is not None for it in self.many.run(lines, calms)]
+            depths = []
+        tried = [(script, self.alone(script)) for script in (tuple(self.maker.script(part, calms)) for part, it in zip(parts, hopeful) if it)]
+        if self.first is not None:
+            depths = [self.pattern.depth(it.lines) for _, it in tried]
+        return Batch(self.many.copies, tuple(script for script, it in tried if self.is_meant(it)), tuple(depths), kept)
 
     def judged(self, text: str) -> int:
         """How many networks side by side have a log that the proved audit calls kept: all of them. Raises NotKept where it doesn't."""
