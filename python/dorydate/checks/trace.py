@@ -43,7 +43,7 @@ from dorydate.model.script import BadLine, Event, read_line
 from dorydate.model.subnet import Subnet
 from dorydate.model.topology import Topology, network_of
 from dorydate.model.topology import spelled as spelled_network
-from dorydate.model.trace import OfBoxes, Traced, all_parts, made_of, network_in, opening, spelled, text, traced
+from dorydate.model.trace import OF_BOXES, OF_SUBNET, Traced, all_parts, made_of, network_in, opening, spelled, text, traced
 from dorydate.model.trace_values import Object
 from dorydate.parts import ROOT
 
@@ -374,8 +374,8 @@ def named_less(kind: str, leave: Callable[[int, str], bool]) -> Broken:
 
 def boxes_with(change: Callable[[str, Any], Any]) -> Broken:
     """Another text of a part of mailboxes, wherever it is given."""
-    kept = OfBoxes.part
-    return lambda: put(OfBoxes, "part", staticmethod(lambda boxes, name: change(name, kept(boxes, name))))
+    kept = OF_BOXES.part
+    return lambda: put(OF_BOXES, "part", lambda boxes, name: change(name, kept(boxes, name)))
 
 
 def queues_with(**changes: Change) -> Broken:
@@ -398,24 +398,24 @@ def network_without(key: str) -> Broken:
 
 def fates_with(**others: str) -> Broken:
     """Other fates of frames in the place of some."""
-    kept = trace_subnet.fate
+    kept = OF_SUBNET.fate
 
     def fate(subnet: Subnet, event: Event) -> str | None:
         told = kept(subnet, event)
         return others.get(told, told) if told else None
 
-    return lambda: put(trace_subnet, "fate", fate)
+    return lambda: put(OF_SUBNET, "fate", fate)
 
 
 def subnet_with(kind: str, change: Callable[[Object], Object]) -> Broken:
     """Another text of an IMP or a line, wherever it is given."""
-    kept = trace_subnet.part
+    kept = OF_SUBNET.part
 
     def part(subnet: Subnet, name: str) -> Object | None:
         told = kept(subnet, name)
         return {**told, **change(told)} if told and name.startswith(kind) else told
 
-    return lambda: put(trace_subnet, "part", part)
+    return lambda: put(OF_SUBNET, "part", part)
 
 
 def imps_with(key: str, change: Change) -> Broken:

@@ -8,8 +8,9 @@ subnet are in dorydate.model.trace_subnet, and values in dorydate.model.trace_va
 from __future__ import annotations
 
 import json
-from collections.abc import Iterable, Iterator, Mapping, Sequence
-from typing import Any
+from collections.abc import Callable, Iterable, Iterator, Mapping, Sequence
+from dataclasses import dataclass
+from typing import Any, Generic, TypeVar
 
 from dorydate.model import trace_subnet
 from dorydate.model.bits import spelled_text
@@ -18,6 +19,7 @@ from dorydate.model.crossings import Carrier, Crossing, Passed, Turned
 from dorydate.model.names import HostName, read_host, spell_flow, spell_host
 from dorydate.model.runs import End, opened_carrier
 from dorydate.model.script import Event, read_line
+from dorydate.model.subnet import Subnet
 from dorydate.model.topology import Topology
 from dorydate.model.trace_subnet import subnet_of
 from dorydate.model.trace_values import Object, answer_in, answer_of, crossing_of, flow_in, message_of, text_in
@@ -59,57 +61,64 @@ def in_order(place: Carrier) -> list[HostName]:
     return sorted(place.hosts(), key=lambda host: (host.imp, host.number))
 
 
-class OfBoxes:
-    """What plain mailboxes have of a trace."""
-
-    @staticmethod
-    def part(boxes: Boxes, name: str) -> Part:
-        """A part, by its name."""
-        return down(boxes) if name == "down" else queues(boxes, read_host(name.split(" ")[1]))
-
-    @staticmethod
-    def every_name(boxes: Boxes) -> list[str]:
-        return ["down", *(f"host {spell_host(host)}" for host in in_order(boxes))]
-
-    @staticmethod
-    def names(boxes: Boxes, event: Event, crossed: Sequence[Crossing]) -> list[str]:
-        """The parts that an event can change, which crossed these."""
-        kind, *parts = event
-        touched: set[HostName] = set()
-        match kind:
-            case "out" | "giveup":
-                touched = {parts[0].source, parts[0].destination}
-            case "take":
-                touched = {parts[0], *(it.flow.source for it in crossed if isinstance(it, Passed) and it.kind == "in")}
-            case "hostdown":
-                touched = {*boxes.hosts()}
-        named = ["down"] if kind in ("hostdown", "hostup") else []
-        return named + [f"host {spell_host(host)}" for host in in_order(boxes) if host in touched]
-
-    @staticmethod
-    def fate(boxes: Boxes, event: Event) -> str | None:
-        """What becomes of a frame: there are none."""
-        return None
-
-    @staticmethod
-    def in_quiet_round(boxes: Boxes) -> Iterable[Event]:
-        """The elementary events of a quiet round: there are none."""
-        return ()
-
-    @staticmethod
-    def is_given(boxes: Boxes, host: HostName) -> bool:
-        """Whether a host that takes gets something."""
-        return boxes.is_up[host] and any(queues(boxes, host).values())
-
-    @staticmethod
-    def is_settled(boxes: Boxes, crossed: Sequence[Crossing]) -> bool:
-        """Whether a round in which so much crossed leaves nothing for later ones."""
-        return not crossed
+def part_of_boxes(boxes: Boxes, name: str) -> Part:
+    """A part, by its name."""
+    return down(boxes) if name == "down" else queues(boxes, read_host(name.split(" ")[1]))
 
 
-def of(place: Carrier) -> Any:
+def names_of_boxes(boxes: Boxes) -> list[str]:
+    return ["down", *(f"host {spell_host(host)}" for host in in_order(boxes))]
+
+
+def touched(boxes: Boxes, event: Event, crossed: Sequence[Crossing]) -> list[str]:
+    """The parts that an event can change, which crossed these."""
+    kind, *parts = event
+    hosts: set[HostName] = set()
+    match kind:
+        case "out" | "giveup":
+            hosts = {parts[0].source, parts[0].destination}
+        case "take":
+            hosts = {parts[0], *(it.flow.source for it in crossed if isinstance(it, Passed) and it.kind == "in")}
+        case "hostdown":
+            hosts = {*boxes.hosts()}
+    named = ["down"] if kind in ("hostdown", "hostup") else []
+    return named + [f"host {spell_host(host)}" for host in in_order(boxes) if host in hosts]
+
+
+def gets(boxes: Boxes, host: HostName) -> bool:
+    """Whether a host that takes gets something."""
+    return boxes.is_up[host] and any(queues(boxes, host).values())
+
+
+# ---- kinds of carriers
+
+Kind = TypeVar("Kind", bound=Carrier)
+
+
+@dataclass
+class Inspect(Generic[Kind]):
+    """What a kind of carrier has of a trace."""
+
+    part: Callable[[Kind, str], Part]  # a part, by its name
+    every_name: Callable[[Kind], list[str]]
+    names: Callable[[Kind, Event, Sequence[Crossing]], list[str]]  # the parts that an event can change, which crossed these
+    fate: Callable[[Kind, Event], str | None]  # what becomes of a frame
+    in_quiet_round: Callable[[Kind], Iterable[Event]]  # the elementary events of a quiet round
+    is_given: Callable[[Kind, HostName], bool]  # whether a host that takes gets something
+    is_settled: Callable[[Kind, Sequence[Crossing]], bool]  # whether a round in which so much crossed leaves nothing for later ones
+
+
+OF_BOXES = Inspect[Boxes](part_of_boxes, names_of_boxes, touched, lambda _, event: None, lambda _: (), gets, lambda _, crossed: not crossed)
+OF_SUBNET = Inspect[Subnet](
+    trace_subnet.part, trace_subnet.every_name, trace_subnet.names, trace_subnet.fate, trace_subnet.in_quiet_round, trace_subnet.is_given, trace_subnet.is_settled
+)  # fmt: skip
+
+
+def of(place: Carrier) -> Inspect[Any]:
     """What a carrier of this kind has of a trace."""
-    return OfBoxes if isinstance(place, Boxes) else trace_subnet
+    if isinstance(place, Boxes):
+        return OF_BOXES
+    return OF_SUBNET
 
 
 def all_parts(place: Carrier) -> dict[str, Part]:
