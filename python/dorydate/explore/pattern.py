@@ -15,7 +15,7 @@ import operator
 import re
 from collections.abc import Callable, Iterable, Mapping, Sequence
 from dataclasses import dataclass, field
-from functools import lru_cache
+from functools import cached_property, lru_cache
 
 Names = tuple[tuple[str, str], ...]  # what is bound, in order of the names
 TRACED = frozenset({"noted", "arrives", "slots"})  # the first words of lines that only a trace has (explore.seen)
@@ -80,6 +80,12 @@ class Sequel:
     def heads(self) -> set[str]:
         """The first words of lines that have to come."""
         return {part.words[0] for _, part in self.parts}
+
+    @cached_property
+    def words(self) -> frozenset[str]:
+        """The first words of all lines that it is about; no other line changes how far it has come."""
+        barred = [it for bars, _ in self.parts for it in bars]
+        return frozenset(it.words[0] for it in [*barred, *self.never_after]) | self.heads()
 
     def printed(self) -> Sequel:
         """Its parts that are printed. What must not come is kept between two of these, and only where it names nothing that another
@@ -147,7 +153,7 @@ class LastCalm:
     def holds(self, lines: Sequence[str]) -> bool:
         if (self.nothing and lines) or len(lines) < self.least:
             return False
-        return not any(part.match(line.split(" "), ()) is not None for part in self.barred for line in lines)
+        return not any(part.match(words_of(line), ()) is not None for part in self.barred for line in lines)
 
 
 @dataclass(frozen=True)
@@ -178,9 +184,13 @@ class Pattern:
     def heads(self) -> set[str]:
         return {word for sequel in self.sequels for word in sequel.heads()}
 
+    @cached_property
+    def heads_of_all(self) -> frozenset[str]:
+        return frozenset(self.heads())
+
     def depth(self, lines: Iterable[str]) -> int:
         """How many of its parts are found, at best."""
-        split = [it.split(" ") for it in lines]
+        split = list(map(words_of, lines))
         return sum(max((at for at, _ in run(sequel, split)), default=0) for sequel in self.sequels)
 
     def length(self) -> int:
@@ -190,10 +200,9 @@ class Pattern:
         """The names with which these lines match, the last calm's lines being `last`; None where they don't."""
         if not self.calm.holds(last):
             return None
-        words = {it.split(" ", 1)[0] for it in lines}
-        if not all(it.heads() <= words for it in self.sequels):
+        split = list(map(words_of, lines))
+        if not self.heads_of_all <= {it[0] for it in split}:
             return None
-        split = [it.split(" ") for it in lines]
         found: list[dict[str, str]] = [{}]
         for sequel in self.sequels:
             ends = [dict(names) for at, names in run(sequel, split) if at == len(sequel.parts)]
@@ -203,10 +212,17 @@ class Pattern:
 
 def run(sequel: Sequel, lines: Iterable[Sequence[str]]) -> State:
     """How far a pattern comes in these lines."""
-    state = START
+    state, about = START, sequel.words
     for words in lines:
-        state = step(sequel, state, words)
+        if words[0] in about:
+            state = step(sequel, state, words)
     return state
+
+
+@lru_cache(maxsize=65_536)
+def words_of(line: str) -> tuple[str, ...]:
+    """The words of a line. Many networks print the same ones."""
+    return tuple(line.split(" "))
 
 
 @lru_cache(maxsize=64)
