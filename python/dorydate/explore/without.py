@@ -1,7 +1,7 @@
 """Which promise breaks without a rule: random schedules in the independent model that lacks it, and the shortest that breaks something.
 
-The program has all its rules. So this runs in the model in Python, a schedule a process of some milliseconds, and its book is checked against
-the model's audit.
+The program has all its rules. So this runs in the model in Python, some hundred schedules a second, and its book is checked against the model's
+audit.
 """
 
 from __future__ import annotations
@@ -10,10 +10,12 @@ import random
 import sys
 import time
 from collections.abc import Sequence
+from dataclasses import dataclass
+from functools import partial
 
 from dorydate.explore.kinds import Maker, Pools, chosen, pools
 from dorydate.explore.shrink import Script as Events
-from dorydate.explore.shrink import Shrinker
+from dorydate.explore.shrink import Shrinker, cost
 from dorydate.model.script import Event as ModelEvent
 from dorydate.model.script import read_event
 from dorydate.model.topology import Topology
@@ -31,6 +33,7 @@ OF_NETWORK = {
     "question": ("out", "deliver", "ask", "drop"),
 }
 LENGTH = 16  # events of a schedule: the model is slow
+MATCHES = 5  # scripts that are shrunk; the shortest is taken
 
 
 def rules() -> list[str]:
@@ -60,6 +63,10 @@ class Lacking:
             place.happen(*self.read[event])
         return broken(place)
 
+    def breaks_just(self, part: str, script: Sequence[Event]) -> bool:
+        """Whether this part of the promise breaks first."""
+        return self.breaks(script) == part
+
 
 def network_for(rule: str) -> tuple[Network, Pools]:
     """The network and the events in which a rule is sought."""
@@ -67,22 +74,34 @@ def network_for(rule: str) -> tuple[Network, Pools]:
     return (RAW, chosen(pools(RAW), kinds)) if kinds else (PROGRAMS, pools(PROGRAMS))
 
 
-def search(rule: str, seed: int, seconds: float, runs: int) -> tuple[Events | None, str, int, float]:
-    """The shortest script that breaks something, what it breaks, after how many schedules and seconds it was found."""
+@dataclass(frozen=True)
+class Broke:
+    """A script that breaks a part of the promise, and after how many schedules and seconds the first one was found."""
+
+    script: Events
+    part: str
+    schedules: int
+    seconds: float
+
+
+def search(rule: str, seed: int, seconds: float, runs: int, matches: int = MATCHES) -> tuple[Broke | None, int]:
+    """The shortest script of some that break something, each shrunk; and how many schedules were run."""
     network, found = network_for(rule)
     lacking, chance = Lacking(rule, network), random.Random(seed)
     maker = Maker(found, LENGTH if network.raw else 40, opening=1)
-    begun = time.monotonic()
-    for number in range(1, runs + 1):
-        if time.monotonic() - begun > seconds:
-            return None, "", number - 1, time.monotonic() - begun
+    begun, left, number = time.monotonic(), matches, 0
+    best: Broke | None = None
+    while left and number < runs and time.monotonic() - begun < seconds:
+        number += 1
         (parts,), calms = maker.batch(chance, 1) if number % 2 else second_of(maker, chance)
         script = tuple(maker.script(parts, calms))
         if part := lacking.breaks(script):
-            took = time.monotonic() - begun
-            shrinker = Shrinker(lambda it: lacking.breaks(it) == part, 3000)
-            return shrinker.shrink(script), part, number, took
-    return None, "", runs, time.monotonic() - begun
+            after = (best.schedules, best.seconds) if best else (number, time.monotonic() - begun)
+            short = Shrinker(partial(lacking.breaks_just, part), 3000).shrink(script)
+            if best is None or cost(short) < cost(best.script):
+                best = Broke(short, part, *after)
+            left -= 1
+    return best, number
 
 
 def second_of(maker: Maker, chance: random.Random) -> tuple[list[list[list[int]]], list[int]]:
@@ -99,11 +118,11 @@ def command(words: str, seed: int, seconds: float, runs: int) -> int:
         return 2
     (rule,) = meant
     print(f"explore: without the rule: {rule}", file=sys.stderr)
-    script, part, count, took = search(rule, seed, seconds, runs)
-    if script is None:
-        print(f"explore: nothing broke in {count} schedules and {took:.0f} s", file=sys.stderr)
+    broke, count = search(rule, seed, seconds, runs)
+    if broke is None:
+        print(f"explore: nothing broke in {count} schedules", file=sys.stderr)
         return 1
     network, _ = network_for(rule)
-    print(f"explore: {part} broke after {count} schedules and {took:.1f} s; shrunk to {len(script)} events", file=sys.stderr)
-    print(Script.of(network, script, [f"lacks: {rule}", f"breaks: {part}"]).text(), end="")
+    print(f"explore: something broke first after {broke.schedules} schedules and {broke.seconds:.1f} s; shrunk to {len(broke.script)} events", file=sys.stderr)
+    print(Script.of(network, broke.script, [f"lacks: {rule}", f"breaks: {broke.part}"]).text(), end="")
     return 0
