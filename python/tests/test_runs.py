@@ -31,9 +31,8 @@ def raw() -> Replay:
 
 class Programs(unittest.TestCase):
     def test_limit_of_time(self) -> None:
-        net = raw()
-        net.cut("UCLA", "UTAH")
-        text = net.text + "enddown 2 0\nout 0/1 0/2 5 8 FF\ncalm 4294967295\n"
+        in_step = ["contact 0/1 0/2", "contact 0/2 0/1", "calm 1", "contact 0/2 0/1", "calm 4294967295"]
+        text = "\n".join([f"{TWO.toml()}%", *in_step, ""])
         with self.assertRaises(TookTooLong):
             found().run(text.encode(), seconds=0.3)
 
