@@ -348,6 +348,49 @@ export async function holding({ $, all, press, load, want }) {
 }
 
 /**
+ * The table of distances has those of the step, and frames what the step changed, and nothing else; a chosen column
+ * colours the map, and is drawn over time.
+ *
+ * @param {Page} page
+ */
+export async function distances({ $, one, all, press, load, want }) {
+    await load("arpanet-of-december-1969");
+    press("tab-distances");
+    const cells = () => all(".distances tbody td").map((it) => (
+        { text: it.textContent, isFramed: it.classList.contains("changed") }
+    ));
+    let before = cells();
+    let framed = 0;
+    for (let at = 0; at < 60; at += 1) {
+        press("next");
+        const now = cells();
+        now.forEach(({ text, isFramed }, place) => {
+            const isOther = before[place].text !== text;
+            want(isOther === isFramed, `step ${at + 1}: a distance is ${isFramed ? "framed" : "not framed"}: ${text}`);
+            framed += isFramed ? 1 : 0;
+        });
+        before = now;
+    }
+    want(framed > 8, "hardly a distance changes in 60 steps");
+    all(".distances button.column")[3].click();
+    const imps = all("#network .part.imp");
+    const shown = all(".distances tbody tr").map((it) => it.children[4].querySelector("b").textContent);
+    want(imps.length === shown.length, "the map has other IMPs than the table");
+    imps.forEach((it, place) => {
+        const told = it.querySelector(".below").textContent;
+        want(told === shown[place], `the map has the distance ${told}, and the table ${shown[place]}`);
+        const shade = Number(it.getAttribute("data-shade"));
+        want(shade === Math.min(8, Number(told)), `distance ${told} has the shade ${shade}`);
+    });
+    want(all(".staircase path").length === imps.length - 1, "the distances are not drawn over time");
+    const now = one(".staircase .now").getAttribute("x1");
+    press("next");
+    want(Number(one(".staircase .now").getAttribute("x1")) > Number(now), "the staircase doesn't show the step");
+    all(".distances button.column")[3].click();
+    press("tab-waits");
+}
+
+/**
  * Two maps are beside each other after a change, at the same step, with what differs; and the index has all lessons.
  *
  * @param {Page} page

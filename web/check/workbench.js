@@ -143,6 +143,13 @@ const PLANTED = /** @type {Planted[]} */ ([
         words: "is not framed",
     },
     {
+        what: "distances that a step changed are not framed",
+        from: "changed.has(`${imp} ${column}`)",
+        to: "false",
+        by: "distances",
+        words: "is not framed",
+    },
+    {
         what: "counters as they are in the end",
         from: "const talk = this.talk.goTo(position);",
         to: "const talk = this.talk.goTo(history.length);",
@@ -222,8 +229,8 @@ async function whole(browser, address) {
         wrong.push(...(await trial(browser, [open, name], [trials.stepped, name])));
         steps += await browser.evaluate('return Number(document.getElementById("slider").max);');
     }
-    const { keys, tapped, holding, compared, printed, hidden, typed, measured, contrast } = trials;
-    for (const body of [keys, tapped, holding, compared, printed, hidden, typed]) {
+    const { keys, tapped, holding, distances, compared, printed, hidden, typed, measured, contrast } = trials;
+    for (const body of [keys, tapped, holding, distances, compared, printed, hidden, typed]) {
         wrong.push(...(await trial(browser, [body])));
     }
     let places = 0;
