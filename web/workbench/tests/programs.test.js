@@ -105,17 +105,18 @@ function leftOut(history, position, host, groups) {
     const told = groups.flatMap((it) => [it.title, ...it.cells.flat()]).join("\n");
     const program = state.program(host);
     const wanted = (program?.pairs ?? []).flatMap(({ ends, busy, commands }) => [
-        ...ends.flatMap(({ socket, allocation, waiting }) => [
+        ...ends.flatMap(({ kind, socket, allocation, waiting }) => [
             `Socket ${socket} `,
             `${allocation.messages} message`,
             `${allocation.bits} bit`,
-            `${waiting.bits} bit`,
+            ...(kind === "send" ? [`${waiting.bits} bit`] : []),
         ]),
         ...busy.map(String),
         ...commands.map(({ kind }) => kind.toUpperCase()),
     ]);
     const listening = (program?.listening ?? []).map(({ socket }) => `socket ${socket}\n`);
-    return [...wanted, ...listening].filter((it) => !told.includes(it));
+    // a number is looked for whole: 0 bits aren't there where 1000 bits are
+    return [...wanted, ...listening].filter((it) => !told.split(it).slice(0, -1).some((before) => !/\d$/.test(before)));
 }
 
 for (const name of NAMES) {
