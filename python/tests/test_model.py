@@ -98,6 +98,21 @@ class Carried(unittest.TestCase):
         self.assertEqual(subnet.log, [OUT, Answered("answer", "dead", FLOW), OUT, TAKEN, RFNM])
         self.assertIsNone(first_break(subnet.hosts(), subnet.log))
 
+    def test_a_calm_ends_where_a_round_changes_nothing(self) -> None:
+        row = Topology("subnet", True, [(1, 1), (2, 1), (3, 1)], [(1, 2), (2, 3)])
+        head = ["calm 4", "enddown 3 1", "out 0/1 0/3 5 8 41", "out 0/1 0/2 5 8 42"]
+        long, short = (expected([], row, [*head, f"calm {rounds}", "endup 3 1", "calm 3"]) for rounds in (4294967295, 15))
+        self.assertEqual(long, short)
+        self.assertIn("in 0/1 0/3 5 8\n", long[1])
+
+    def test_what_only_reports_look_at_keeps_no_calm_going(self) -> None:
+        one, other = Subnet(*PAIR[2:]), Subnet(*PAIR[2:])
+        assert (imp := other.imps[1]) is not None
+        imp.lost += 1
+        self.assertEqual(one.state(), other.state())
+        imp.hosts[0].is_up = False
+        self.assertNotEqual(one.state(), other.state())
+
     def test_how_inputs_end(self) -> None:
         self.assertEqual(expected([], PAIR, ["take 0/1", "no"]), (2, "", "arpasim: bad script line 2\n"))
         self.assertEqual(expected(["--check"], PAIR, ["take 0/1"]), (0, "ok\n", ""))

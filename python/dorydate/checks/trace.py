@@ -51,6 +51,7 @@ RUNS = 300
 MOST_TRIED = 600  # this many scripts are run to find that a rule is broken
 ANEW = 2  # so often a network is made anew in a script
 EVENTS = 80  # of a script about the frames of a subnet
+MOST_ROUNDS = 20_000  # of the calms of a stored script that is traced
 UNTRACED = {"plain": "first-message", "subnet": "three-imps-in-a-row"}  # an example of each carrier
 
 
@@ -299,15 +300,20 @@ def is_script(lines: Iterable[str]) -> bool:
 
 
 def stored() -> Iterator[tuple[str, str, list[str]]]:
-    """The examples and cases that are raw networks and replay."""
+    """The examples and cases that are raw networks and replay, but for calms too long to be traced: each round has its lines."""
     for folder in ("examples", "cases"):
         for path in sorted(glob(f"{ROOT}/{folder}/*.stdout")):
             with open(path.removesuffix(".stdout"), "rb") as file:
                 octets = file.read()
             if b"raw = true" in octets and b"\n%\n" in octets:
                 document, lines = parted(octets)
-                if is_script(lines) and network_is_raw(document):
+                if is_script(lines) and network_is_raw(document) and rounds_of(lines) <= MOST_ROUNDS:
                     yield path.removesuffix(".stdout"), document, lines
+
+
+def rounds_of(lines: Sequence[str]) -> int:
+    """The rounds of all calms of a script."""
+    return sum(int(line.split(" ")[1]) for line in lines if line.startswith("calm "))
 
 
 def network_is_raw(document: str) -> bool:

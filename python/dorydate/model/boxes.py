@@ -76,6 +76,9 @@ class Boxes(Carrier):
     def is_quiet(self) -> bool:
         return True
 
+    def state(self) -> object:
+        return [*self.messages], [*self.answers], dict(self.is_up)
+
     def calm(self, rounds: int) -> None:
         """Every host that is up takes what waits, at most 16 things a round."""
         for _ in range(rounds):

@@ -3,9 +3,10 @@
 from __future__ import annotations
 
 from dorydate.model.packets import CHANNELS, Carried, Packet
+from dorydate.model.resting import Kept
 
 
-class Channels:
+class Channels(Kept):
     """The channels of a line's end: the packets that it sends, and the bits that it expects."""
 
     def __init__(self) -> None:

@@ -136,3 +136,7 @@ class Carrier(ABC):
     @abstractmethod
     def is_quiet(self) -> bool:
         """Whether a quiet round is known to change nothing."""
+
+    @abstractmethod
+    def state(self) -> object:
+        """All that decides what comes, equal to another such copy where a round between them changed nothing."""

@@ -13,6 +13,7 @@ from dorydate.model.channels import Channels
 from dorydate.model.crossings import Reply
 from dorydate.model.names import Flow, HostName, Refused
 from dorydate.model.packets import INFINITE, MOST_IMPS, REQUESTS, Content, Kind, Packet
+from dorydate.model.resting import Kept
 
 SLOTS, STORE, QUEUE = 8, 32, 16
 FARTHER: list[int] = [*range(1, INFINITE + 1), INFINITE]  # of each distance: that from one line farther away
@@ -47,7 +48,7 @@ class Arrived(NamedTuple):
     text: Bits
 
 
-class HostPort:
+class HostPort(Kept):
     """What an IMP keeps of one of its hosts: whether it is up, and the answers and messages that wait for it, the oldest first."""
 
     def __init__(self) -> None:
@@ -56,8 +57,10 @@ class HostPort:
         self.messages: list[Arrived] = []
 
 
-class Port:
+class Port(Kept):
     """An end of a line: whether it is up, its channels, and the distances that its neighbour sent last."""
+
+    ASIDE = ("accepted",)
 
     def __init__(self) -> None:
         self.accepted: set[tuple[Kind, Flow, int, int]] = set()  # what came in since the IMP started: no rule looks at it, only those who report repeats
@@ -72,8 +75,10 @@ class Port:
 Pieces = dict[int, tuple[bool, Bits]]  # of each place: whether it is the last, and its bits
 
 
-class ImpState:
+class ImpState(Kept):
     """What one IMP keeps."""
+
+    ASIDE = ("frames", "lost")
 
     def __init__(self, number: int, hosts: int, ports: int, numbers: Numbers = NUMBERS) -> None:
         self.number, self.numbers = number, numbers

@@ -6,6 +6,7 @@ definitions. `check model` compares the program with it. Each event prints what 
 
 from __future__ import annotations
 
+import copy
 from collections.abc import Callable, Iterable, Sequence
 from typing import Protocol, TypeVar
 
@@ -15,6 +16,7 @@ from dorydate.model.imp import Imp
 from dorydate.model.imp_state import NUMBERS, Numbers
 from dorydate.model.names import Flow, HostName, Refused
 from dorydate.model.packets import REQUESTS, Carried, Frame
+from dorydate.model.resting import is_looked_at
 
 PLACES = 256  # frames that are live on a line, each way
 TAKES = 16  # takings of a host in a round of `calm`
@@ -261,6 +263,9 @@ class Subnet(Carrier):
     def is_quiet(self) -> bool:
         return False
 
+    def state(self) -> object:
+        return copy.deepcopy((self.imps, self.live))
+
     def quiet_round(self) -> None:
         for number, imp in self.imps.items():
             if imp is not None:
@@ -273,13 +278,16 @@ class Subnet(Carrier):
                     self.drop(line, direction, 0)
 
     def calm(self, rounds: int) -> None:
-        """Rounds, in each of which every host that is up then takes what waits. Refusals are not printed."""
-        for _ in range(rounds):
+        """Rounds, in each of which every host that is up then takes what waits, until one changes nothing. Refusals are not printed."""
+        for round_of in range(1, rounds + 1):
+            before = self.state() if is_looked_at(round_of) else None
             self.quiet_round()
             for number, imp in self.imps.items():
                 for place, host in enumerate(imp.hosts if imp is not None else []):
                     if host.is_up:
                         self.take_all(HostName(place, number))
+            if before is not None and before == self.state():
+                break
 
     def take_all(self, host: HostName) -> None:
         """A host takes what waits for it, as often as it may in a round."""

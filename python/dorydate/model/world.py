@@ -16,6 +16,7 @@ from dorydate.model.book import Book
 from dorydate.model.crossings import Carrier, Turned
 from dorydate.model.host import Host
 from dorydate.model.names import HostName, Refused, spell_host
+from dorydate.model.resting import is_looked_at
 from dorydate.model.services import Machine, Report, Request, Running, Server, Terminal, User, program_after
 
 TAKES, OFFERS = 16, 32  # so often a host takes and offers in a round of `calm` at most
@@ -118,14 +119,15 @@ class World:
 
     def calm(self, rounds: int) -> None:
         """Rounds, in each of which every host that is up takes what waits and then offers what it has. Refusals are not printed."""
-        for _ in range(rounds):
+        for round_of in range(1, rounds + 1):
             before = len(self.carrier.log)
+            state = self.carrier.state() if is_looked_at(round_of) else None
             self.carry(self.carrier.quiet_round)
             for host in [host for host, program in self.hosts.items() if program is not None]:
                 self.repeat(self.take, host, TAKES)
                 self.repeat(self.offer, host, OFFERS)
-            if len(self.carrier.log) == before and self.carrier.is_quiet():
-                break  # nothing is left for a later round
+            if len(self.carrier.log) == before and (self.carrier.is_quiet() or state is not None and state == self.carrier.state()):
+                break  # nothing is left for a later round: nothing crossed, so no program has changed either
 
     def repeat(self, event: Callable[[HostName], bool], host: HostName, times: int) -> None:
         """Lets an event of a host happen as long as something comes of it, so often at most."""
