@@ -1,11 +1,13 @@
 -- The bits of the channels, which are kept beside them.
-use Rattle.std.proofs.Common.{arith, Bool, true, false, cond, List, [], ◌∷◌, Some, length, map, set, get_or, replicate, count_by, ℕ, ◌+◌, ◌<◌, ◌≡◌, ◌∙◌, refl, ap, sym, is_some}
+use Rattle.std.specs.Prelude.{if◌then◌else◌, not}
+use Rattle.std.proofs.Common.{arith, Bool, true, false, cond, List, [], ◌∷◌, Option, Some, None, length, map, set, get_or, replicate, count_by, ℕ, ◌+◌, ◌<◌, ◌≡◌, ◌∙◌, refl, ap, sym, is_some}
 use Rattle.std.proofs.lemmas.List.{get_or-map, map-set}
 use Rattle.std.proofs.lemmas.List.Sums.{sum_by-set}
 use Rattle.std.proofs.Math.Seq.{map-set_same}
 use Rattle.packetiser.specs.PacketFields.{PacketFields}
 use Rattle.imp_channel.specs.declared.channel.Channel.{Channel}
 use Rattle.imp_channel.specs.Line.{opening_channel, differs, acknowledged, all_acknowledged}
+use Rattle.imp_channel.proofs.Calls.{none_busy_in}
 
 abbrev bit_of : Channel → Bool
 bit_of ch = ch.bit
@@ -66,3 +68,20 @@ own (ch ∷ chs) =
 -- the channels' own bits free none
 pub own_acknowledged : (acks bits : List Bool) (chs : List Channel) → acks ≡ bits → bits ≡ map (λ ch. ch.bit) chs → all_acknowledged acks chs ≡ chs
 own_acknowledged acks bits chs same are = ap (λ (given : List Bool). all_acknowledged given chs) (same ∙ are) ∙ own chs
+
+-- no bit changes a free channel
+free_stays : (ack : Bool) (ch : Channel) → ch.packet ≡ None → acknowledged ack ch ≡ ch
+free_stays ack ch free =
+    ap (λ (p : Option PacketFields). if is_some p then (if differs ack ch.bit then record { bit = not ch.bit; packet = None } else ch) else ch) free
+
+-- nor do any bits change channels of which none is busy
+pub none_acknowledged : (acks : List Bool) (chs : List Channel) → count_by (λ ch. is_some ch.packet) chs ≡ 0 → all_acknowledged acks chs ≡ chs
+none_acknowledged acks [] none = refl
+none_acknowledged [] (ch ∷ chs) none =
+    let free = none_busy_in ch chs none in
+    ap (λ (c : Channel). c ∷ all_acknowledged [] chs) (free_stays false ch free.0)
+    ∙ ap (λ (cs : List Channel). ch ∷ cs) (none_acknowledged [] chs free.1)
+none_acknowledged (ack ∷ acks) (ch ∷ chs) none =
+    let free = none_busy_in ch chs none in
+    ap (λ (c : Channel). c ∷ all_acknowledged acks chs) (free_stays ack ch free.0)
+    ∙ ap (λ (cs : List Channel). ch ∷ cs) (none_acknowledged acks chs free.1)

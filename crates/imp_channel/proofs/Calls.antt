@@ -80,7 +80,7 @@ none_busy : (o : Option PacketFields) (count : ℕ) → cond (is_some o) 1 0 + c
 none_busy None count none = (refl, omega (arith, none))
 none_busy (Some p) count none = absurd (omega (arith, none))
 
-none_busy_in : (ch : Channel) (chs : List Channel) → count_by (λ channel. is_some channel.packet) (ch ∷ chs) ≡ 0 → (ch.packet ≡ None) × (count_by (λ channel. is_some channel.packet) chs ≡ 0)
+pub none_busy_in : (ch : Channel) (chs : List Channel) → count_by (λ channel. is_some channel.packet) (ch ∷ chs) ≡ 0 → (ch.packet ≡ None) × (count_by (λ channel. is_some channel.packet) chs ≡ 0)
 none_busy_in ch chs none = none_busy ch.packet (count_by (λ channel. is_some channel.packet) chs) (sym (sum_by-cons (λ (other : Channel). cond (is_some other.packet) 1 0) ch chs) ∙ none)
 
 free_sends : (e : End) (c : ℕ) (bit : Bool) (o : Option PacketFields) → o ≡ None → frames_of e c bit o ≡ []

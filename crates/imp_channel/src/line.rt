@@ -226,10 +226,22 @@ impl Line {
         self.busy
     }
 
-    /// Takes the acknowledgement bit of each channel. They matter to a busy one only. It is all that `receive` does with a frame that
-    /// brings no packet.
-    #[tactic(auto, using(crate::proofs::Acknowledging::own_acknowledged))]
+    /// Takes the acknowledgement bit of each channel. They matter to a busy one only, so that without one they aren't looked
+    /// at. It is all that `receive` does with a frame that brings no packet.
+    #[tactic(auto, using(crate::proofs::Acknowledging::none_acknowledged))]
+    #[inline(always)]
     pub fn acknowledge(&mut self, acks: &[bool; ACKS])
+        ensures { self.new ≡ record self.old { sending = all_acknowledged acks.now self.old.sending } }
+    {
+        if self.busy > 0 {
+            self.acknowledge_some(acks);
+        }
+    }
+
+    /// Does the same, without a look at whether a channel is busy.
+    #[tactic(auto, using(crate::proofs::Acknowledging::own_acknowledged))]
+    #[inline(never)]
+    fn acknowledge_some(&mut self, acks: &[bool; ACKS])
         ensures { self.new ≡ record self.old { sending = all_acknowledged acks.now self.old.sending } }
     {
         if are_same(acks, &self.bits) {
