@@ -81,8 +81,9 @@ class Edit:
         if found is None or len(found) != 1:
             return None
         ((trait, owner, name),) = found
-        if owner != "}":  # named by the module of its type, which may be another
-            modules = modules_of(self.crate, owner)
+        if owner != "}":
+            # named by the module of its type, which may be another; where another crate has the type, by that of the file
+            modules = modules_of(self.crate, owner) or [module_at(self.files[0][len("src/") :])]
             # a trait's method is under the names of type, trait and the trait's argument, as in LineFaultFromAllocError::from
             of_trait = re.match(r"(?:\w+::)*(\w+)(?:<(?:\w+::)*(\w+))?", trait)
             of_type = owner + "".join(of_trait.groups("") if of_trait else [])
