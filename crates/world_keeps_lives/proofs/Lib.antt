@@ -10,12 +10,13 @@ pub mod Owners
 pub mod Asks
 pub mod Moments
 pub mod Laws
-pub mod Drained
 pub mod Requests
 pub mod RequestCalls
 pub mod Grounds
 pub mod DataTold
 pub mod Formed
+pub mod Pairs
+pub mod Drained
 pub mod Notices
 pub mod FirstLists
 pub mod Texts

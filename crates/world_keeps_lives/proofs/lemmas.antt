@@ -1,7 +1,7 @@
 -- The lemmas of this crate that others may use: the proofs of headline and world_keeps_streams do. All others in proofs/ are its own.
 pub use Rattle.world_keeps_lives.proofs.Books.{all_told_append}
 pub use Rattle.world_keeps_lives.proofs.Desks.{AreAside, At, Elsewhere, IsLess, Near, Place, at_aside, clash, open_mine, open_parts}
-pub use Rattle.world_keeps_lives.proofs.Drained.{world_drained}
+pub use Rattle.world_keeps_lives.proofs.Drained.{drained, world_drained}
 pub use Rattle.world_keeps_lives.proofs.Ends.{IsRefusing, found_changed, none_changed, refusing_found}
 pub use Rattle.world_keeps_lives.proofs.FirstBooks.{firsts, world_firsts}
 pub use Rattle.world_keeps_lives.proofs.FirstEnds.{HasOwner, Together}

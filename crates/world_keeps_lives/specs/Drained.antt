@@ -1,7 +1,8 @@
 -- What a sending life has sent once its CLS is queued (NIC 8246, CLS).
 use Rattle.std.specs.Prelude.{◌≡◌, Bool, false, true, List, [], ◌∷◌, ◌++◌}
+use Rattle.std.specs.List.{Contains}
 use Rattle.host_pairs.specs.Entries.{has_cls}
-use Rattle.net_sim.specs.Safe.{sends}
+use Rattle.net_sim.specs.Safe.{own_request, sends}
 use Rattle.net_sim.specs.Story.{Moment, program}
 use Rattle.net_sim.specs.Told.{kept_in}
 use Rattle.net_sim.specs.declared.life.Life.{Life}
@@ -15,11 +16,21 @@ pub record ClosesFirst (moments : List Moment) (sender : Life) : Type 0 where
   pub closed : has_cls end.end.closing ≡ true
   pub unheard : end.end.partner_closed ≡ false
 
+-- at some moment up to now it was so of this life, which may be over since
+pub record ClosedFirst (moments : List Moment) (life : Life) : Type 0 where
+  pub later : List Moment
+  pub earlier : List Moment
+  pub is : moments ≡ later ++ earlier
+  pub sender : Life
+  pub there : Contains (kept_in earlier).book.lives sender
+  pub first : ClosesFirst earlier sender
+  pub same : own_request life ≡ own_request sender
+
 -- each such life has sent all that was handed over in it
 abbrev pub AllSent : List Moment → List Life → List (List Bool) → Type 0
 AllSent moments [] handed = Unit {0}
 AllSent moments (x ∷ lives) [] = ⊥
-AllSent moments (x ∷ lives) (t ∷ handed) = (ClosesFirst moments x → x.bits ≡ t) × AllSent moments lives handed
+AllSent moments (x ∷ lives) (t ∷ handed) = (ClosedFirst moments x → x.bits ≡ t) × AllSent moments lives handed
 
 -- so it is at every moment
 abbrev pub AllDrained : List Moment → Type 0

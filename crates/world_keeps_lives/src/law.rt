@@ -9,7 +9,8 @@ ghost use Rattle.net_sim.specs.Clean.{HaveAddresses, IsLawful};
 ghost use Rattle.net_sim.specs.Formed.{FormedBook, IsFormed};
 ghost use Rattle.net_sim.specs.Notices.{FormedNotices, data_told};
 ghost use Rattle.net_sim.specs.Safe.{AreHanded, IsGranted, receives};
-ghost use Rattle.net_sim.specs.Story.{Moment, program};
+ghost use Rattle.interface.specs.declared.crossing.Crossing.TheVariants as crossing;
+ghost use Rattle.net_sim.specs.Story.{Crossed, Moment, program};
 ghost use Rattle.net_sim.specs.Timeline.{IsTimeline, crossings_of};
 ghost use Rattle.net_sim.specs.Told.{kept_in};
 ghost use Rattle.net_sim.specs.World.{WorldState};
@@ -23,11 +24,11 @@ ghost use Rattle.host_pairs.specs.declared.notice.Notice.TheVariants as notice;
 ghost use Rattle.sockets.specs.Worked.{first, second, third};
 ghost use Rattle.net_sim.specs.Book.{carried, life_ended, granted, new_life, opening_kept, returned};
 ghost use Rattle.world_keeps_lives.specs.Lives.{AreRefusing, EachOn, HasOpenEnd, IsBounded, IsFreeSocket, IsFresh, IsLifeOf, IsOwned, IsSafe, IsSteady, NoneOf, at_socket, mine_on};
-ghost use Rattle.world_keeps_lives.specs.Drained.{AllDrained, AllSent, ClosesFirst};
+ghost use Rattle.world_keeps_lives.specs.Drained.{AllDrained, AllSent, ClosedFirst, ClosesFirst};
 ghost use Rattle.world_keeps_lives.specs.Firsts.{AreApart, FirstBook, IsFirst};
 ghost use Rattle.world_keeps_lives.specs.Worked.{worked_end, with_one};
 ghost use Rattle.world_keeps_lives.specs.WorkedFormed.{arrived_told, closed_moments, closing_moments, gave, gave_on, sent_log, sent_told, stray_arrived, stray_log, stray_sent, taken_moments, took, took_on, took_second, two_log, untaken_log};
-ghost use Rattle.net_sim.specs.Worked.{crossings, eight_zeros, taker};
+ghost use Rattle.net_sim.specs.Worked.{crossings, eight, eight_zeros, taker};
 ghost use Rattle.net_sim.specs.WorkedMoments.{sent_moments};
 
 use interface::Carrier;
@@ -52,7 +53,7 @@ pub fn programs()
     // what each sending life sent is a prefix of what was handed over in it
     ensures handed { (hosts : List Host) (moments : List Moment) → HaveAddresses hosts → mail.IsRun hosts (crossings_of moments) → IsTimeline hosts moments → AreHanded (kept_in moments).book.lives (kept_in moments).handed }
 
-    // a sending life whose CLS is queued, before its partner's was taken, has sent all that was handed over in it
+    // a sending life whose CLS was queued, before its partner's was taken, has sent all that was handed over in it, also once it is over
     ensures drained { (hosts : List Host) (moments : List Moment) → HaveAddresses hosts → mail.IsRun hosts (crossings_of moments) → IsTimeline hosts moments → AllSent moments (kept_in moments).book.lives (kept_in moments).handed }
 
     // each life is made of messages that crossed: its two requests are in those at its stamps, and its bits are those of its data messages
@@ -200,6 +201,11 @@ pub fn worked_notices()
 /// partner's.
 pub fn worked_drained()
     ensures closed { ClosesFirst closed_moments gave }
+
+    // it is so of this life still once its host has stopped; then all that was handed over is what was sent, and not less
+    ensures stopped { ClosedFirst (Crossed (crossing.Down second) ∷ closed_moments) (life_ended gave) }
+    ensures all { AllSent (Crossed (crossing.Down second) ∷ closed_moments) (life_ended gave ∷ []) (eight ∷ []) }
+    ensures less { AllSent (Crossed (crossing.Down second) ∷ closed_moments) (life_ended gave ∷ []) ([] ∷ []) → ⊥ }
     ensures unanswered { ClosesFirst closing_moments gave → ⊥ }
     ensures taken { ClosesFirst taken_moments gave → ⊥ }
 {}

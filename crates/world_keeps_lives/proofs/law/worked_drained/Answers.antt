@@ -1,5 +1,6 @@
-use Rattle.std.proofs.Common.{◌≡◌, Bool, true, false, List, [], ◌∷◌, Option, Some, refl, ap, ◌∙◌}
+use Rattle.std.proofs.Common.{◌≡◌, Bool, true, false, List, [], ◌∷◌, Option, Some, refl, ap, ◌∙◌, arith}
 use Rattle.bit_messages.specs.Octets.{octets_of}
+use Rattle.interface.specs.declared.crossing.Crossing.TheVariants as crossing
 use Rattle.ncp_control.specs.Packing.{packed_count}
 use Rattle.ncp_control.specs.Reading.{read_of, command_of}
 use Rattle.host_pairs.specs.Control.{orders_of}
@@ -10,8 +11,11 @@ use Rattle.sockets.specs.Accepting.{accepted}
 use Rattle.sockets.specs.Requests.{refusal, served, served_notices}
 use Rattle.sockets.specs.Sending.{next_out, offered}
 use Rattle.sockets.specs.Worked.{first, second}
-use Rattle.net_sim.specs.Story.{program}
-use Rattle.world_keeps_lives.specs.WorkedFormed.{closed_moments}
+use Rattle.net_sim.specs.Book.{life_ended}
+use Rattle.net_sim.specs.Story.{Crossed, program}
+use Rattle.net_sim.specs.Worked.{eight}
+use Rattle.world_keeps_lives.specs.Drained.{ClosedFirst, ClosesFirst}
+use Rattle.world_keeps_lives.specs.WorkedFormed.{closed_moments, gave}
 use Rattle.world_keeps_lives.proofs.Rows.{none_there}
 use Rattle.world_keeps_lives.proofs.law.worked_drained.Goals as goal
 
@@ -23,9 +27,9 @@ first_heard : List Entry → Bool
 first_heard [] = false
 first_heard (e ∷ es) = e.partner_closed
 
-pub returns-clause-closed : goal.returns-clause-closed
+closes_there : ClosesFirst closed_moments gave
 unfolding octets_of orders_of read_of command_of packed_count accepted refusal served served_notices next_out offered
-returns-clause-closed c = record {
+closes_there = record {
   goes = refl;
   sending = refl;
   end = record {
@@ -39,6 +43,30 @@ returns-clause-closed c = record {
   closed = refl;
   unheard = refl;
 }
+
+pub returns-clause-closed : goal.returns-clause-closed
+returns-clause-closed c = closes_there
+
+closed_there : ClosedFirst (Crossed (crossing.Down second) ∷ closed_moments) (life_ended gave)
+unfolding octets_of orders_of read_of command_of packed_count accepted refusal served served_notices next_out offered
+closed_there = record {
+  later = Crossed (crossing.Down second) ∷ [];
+  earlier = closed_moments;
+  is = refl;
+  sender = gave;
+  there = (0, omega arith, refl);
+  first = closes_there;
+  same = refl;
+}
+
+pub returns-clause-stopped : goal.returns-clause-stopped
+returns-clause-stopped c = closed_there
+
+pub returns-clause-all : goal.returns-clause-all
+returns-clause-all c = ((λ f. refl), tt)
+
+pub returns-clause-less : goal.returns-clause-less
+returns-clause-less c h = let none : eight ≡ [] = h.0 closed_there in absurd (cc)
 
 pub returns-clause-unanswered : goal.returns-clause-unanswered
 unfolding octets_of orders_of read_of command_of packed_count accepted refusal served served_notices next_out offered first_closing
