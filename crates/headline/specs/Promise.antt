@@ -6,9 +6,10 @@ use Rattle.net_sim.specs.Notices.{FormedNotices}
 use Rattle.net_sim.specs.Safe.{SafeBook}
 use Rattle.net_sim.specs.World.{WorldState}
 use Rattle.world_keeps_connections.specs.Connections.{JoinedBook}
+use Rattle.world_keeps_lives.specs.Drained.{AllDrained}
 use Rattle.world_keeps_lives.specs.Firsts.{FirstBook}
 use Rattle.world_keeps_streams.specs.Arrivals.{AllArrive}
-use Rattle.world_keeps_streams.specs.Closes.{AllClose}
+use Rattle.world_keeps_streams.specs.Closes.{AllClose, AllHanded}
 use Rattle.world_keeps_streams.specs.Rests.{AllRest}
 
 -- each life is made of messages that crossed: those of its two requests and of its data; and each notice of data reports a message that has just
@@ -16,6 +17,7 @@ use Rattle.world_keeps_streams.specs.Rests.{AllRest}
 -- if anything was, is a prefix of what its one partner sent, and what was sent of what was handed over; and what was taken, and what was sent, is granted. A finished initial connection pairs the right four sockets.
 -- And crossings, notices and lives are what the programs of all hosts make of one list of moments, over a carrier whose log is a run of the mailboxes. In these moments data that were taken where they came for a receiving life whose
 -- end was open arrived there, all of them; a receiving life whose end its partner had closed, and no user of its host, took all that its partner sent, also once it was over; and so did one whose end was open while nothing waited for it and its partner continued.
+-- A sending life whose CLS was queued before its partner's was taken has sent all that was handed over in it, also once it was over.
 -- The crossings determine the bits of all lives: a life's messages are the first on its link after both of its requests, and each message that went out is one of a sending life
 pub record KeepsPromise {C : Type 0} (seen : C → Seen) (w : WorldState C) : Type 0 where
   pub formed : FormedBook w.kept.book.crossings w.kept.book.lives
@@ -26,13 +28,17 @@ pub record KeepsPromise {C : Type 0} (seen : C → Seen) (w : WorldState C) : Ty
   pub arrives : AllArrive lawful.whole.moments
   pub closes : AllClose lawful.whole.moments
   pub rests : AllRest lawful.whole.moments
+  pub drained : AllDrained lawful.whole.moments
+  pub handed : AllHanded lawful.whole.moments
   pub firsts : FirstBook w.kept.book.crossings w.kept.book.lives
 
--- what `Promised` leaves: the world is lawful, in its moments data arrive, and lives agree where their ends close and where they rest; and the crossings
--- determine the bits of all lives
+-- what `Promised` leaves: the world is lawful, in its moments data arrive, lives agree where their ends close and where they rest, and what was handed
+-- over was sent where a sender closes first; and the crossings determine the bits of all lives
 pub record IsExact {C : Type 0} (seen : C → Seen) (w : WorldState C) : Type 0 where
   pub lawful : IsLawful seen (seen w.carrier).hosts w
   pub arrives : AllArrive lawful.whole.moments
   pub closes : AllClose lawful.whole.moments
   pub rests : AllRest lawful.whole.moments
+  pub drained : AllDrained lawful.whole.moments
+  pub handed : AllHanded lawful.whole.moments
   pub firsts : FirstBook w.kept.book.crossings w.kept.book.lives

@@ -5,9 +5,11 @@ pub mod Arrives
 pub mod Books
 pub mod Clauses
 pub mod Closes
+pub mod Counts
 pub mod Firsts
 pub mod Given
 pub mod Goes
+pub mod Handed
 pub mod Later
 pub mod Run
 pub mod Source

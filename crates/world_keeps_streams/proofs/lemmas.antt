@@ -2,5 +2,6 @@
 pub use Rattle.world_keeps_streams.proofs.Books.All.{world_sent, world_source}
 pub use Rattle.world_keeps_streams.proofs.Books.Arrives.{world_arrives}
 pub use Rattle.world_keeps_streams.proofs.Books.Closes.{world_rests}
+pub use Rattle.world_keeps_streams.proofs.Books.Handed.{world_handed_over}
 pub use Rattle.world_keeps_streams.proofs.Books.Later.{world_closes}
 pub use Rattle.world_keeps_streams.proofs.Books.Firsts.{world_firsts}

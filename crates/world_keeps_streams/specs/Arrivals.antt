@@ -1,18 +1,27 @@
 -- What becomes of data that a host takes (BBN Report 1822, RFNM; NIC 8246, messages of data).
-use Rattle.std.specs.Prelude.{◌≡◌, ◌==◌, false, true, List, [], ◌∷◌, ◌++◌, drop, Some}
+use Rattle.std.specs.Prelude.{◌≡◌, ◌⊎◌, ℕ, ◌==◌, false, true, List, [], ◌∷◌, ◌++◌, drop, Some}
 use Rattle.std.specs.List.{Contains}
 use Rattle.interface.specs.declared.crossing.Crossing.TheVariants as crossing
 use Rattle.interface.specs.declared.message.HostMessage.{HostMessage}
 use Rattle.host_pairs.specs.Entries.{is_open}
 use Rattle.host_pairs.specs.declared.notice.Notice.TheVariants as notice
+use Rattle.host_keeps_streams.specs.Histories.{HasClosed, name_now, numbered}
 use Rattle.net_sim.specs.Safe.{receives}
 use Rattle.net_sim.specs.Story.{Moment, Crossed, program}
 use Rattle.net_sim.specs.Told.{kept_in, notices_by}
 use Rattle.net_sim.specs.declared.life.Life.{Life}
 use Rattle.world_keeps_lives.specs.Lives.{HasOpenEnd}
+use Rattle.world_keeps_streams.specs.Calls.{own_calls}
 
--- a message of data comes from the peer of a receiving life that isn't over. The life's end has the message's link, and is open: neither a user here nor the
--- partner has closed it
+-- no user of its host has closed the end of a receiving life, which has this link
+abbrev pub IsUnclosed : ℕ → List Moment → Life → Type 0
+IsUnclosed link moments receiver =
+    HasClosed numbered receiver.peer link (name_now numbered receiver.peer (own_calls receiver.host receiver.peer moments) receiver.socket receiver.foreign)
+    (own_calls receiver.host receiver.peer moments)
+    → ⊥
+
+-- a message of data comes from the peer of a receiving life that isn't over. The life's end has the message's link, and it is open, or at least no user of
+-- its host has closed it
 pub record ComesFor (m : HostMessage) (moments : List Moment) (receiver : Life) : Type 0 where
   pub there : Contains (kept_in moments).book.lives receiver
   pub receiving : receives receiver ≡ true
@@ -20,8 +29,8 @@ pub record ComesFor (m : HostMessage) (moments : List Moment) (receiver : Life) 
   pub host : receiver.host ≡ m.flow.destination
   pub peer : receiver.peer ≡ m.flow.source
   pub end : HasOpenEnd (program receiver.host moments) receiver
-  pub opened : is_open end.end ≡ true
   pub link : end.end.link ≡ Some m.flow.link.0
+  pub unclosed : (is_open end.end ≡ true) ⊎ IsUnclosed m.flow.link.0 moments receiver
   pub off_control : (m.flow.link.0 == 0) ≡ false
 
 -- where it is taken its user is notified of all its data, which are after the 40 bits of its header, and of nothing else

@@ -1,15 +1,14 @@
 -- What the end of a connection by CLS says to the user who receives (NIC 8246, CLS).
-use Rattle.std.specs.Prelude.{◌≡◌, ℕ, false, true, List, ◌++◌, Some}
+use Rattle.std.specs.Prelude.{◌≡◌, ℕ, Bool, false, true, List, [], ◌∷◌, ◌++◌, Some}
 use Rattle.std.specs.List.{Contains}
 use Rattle.interface.specs.declared.crossing.Crossing.{Crossing}
-use Rattle.host_keeps_streams.specs.Histories.{HasClosed, name_now, numbered}
 use Rattle.net_sim.specs.Safe.{Match, own_request, receives}
 use Rattle.net_sim.specs.Story.{Moment, program}
 use Rattle.net_sim.specs.Timeline.{crossings_of}
 use Rattle.net_sim.specs.Told.{kept_in}
 use Rattle.net_sim.specs.declared.life.Life.{Life}
 use Rattle.world_keeps_lives.specs.Lives.{HasOpenEnd}
-use Rattle.world_keeps_streams.specs.Calls.{own_calls}
+use Rattle.world_keeps_streams.specs.Arrivals.{IsUnclosed}
 
 -- a receiving life isn't over, its end has taken the partner's CLS, and none of its host's users has closed it
 pub record IsClosedByPartner (moments : List Moment) (receiver : Life) : Type 0 where
@@ -20,7 +19,7 @@ pub record IsClosedByPartner (moments : List Moment) (receiver : Life) : Type 0 
   pub closed : end.end.partner_closed ≡ true
   pub link : ℕ
   pub linked : end.end.link ≡ Some link
-  pub unclosed : HasClosed numbered receiver.peer link (name_now numbered receiver.peer (own_calls receiver.host receiver.peer moments) receiver.socket receiver.foreign) (own_calls receiver.host receiver.peer moments) → ⊥
+  pub unclosed : IsUnclosed link moments receiver
 
 -- at some moment up to now it was so of this life, which may be over since
 pub record WasClosedByPartner (moments : List Moment) (life : Life) : Type 0 where
@@ -39,3 +38,28 @@ TookAll log lives receiver = (sender : Life) → Contains lives sender → Match
 -- so it is at every moment
 abbrev pub AllClose : List Moment → Type 0
 AllClose moments = (later earlier : List Moment) → moments ≡ later ++ earlier → (receiver : Life) → WasClosedByPartner earlier receiver → TookAll (crossings_of earlier) (kept_in earlier).book.lives receiver
+
+-- ---- what was handed over
+
+-- and of the sending life that it matches: that wasn't over at that moment
+pub record WasClosedBy (moments : List Moment) (sender receiver : Life) : Type 0 where
+  pub closed : WasClosedByPartner moments receiver
+  pub matches : Match (crossings_of moments) receiver sender
+  pub partner : Life
+  pub there : Contains (kept_in closed.earlier).book.lives partner
+  pub goes : partner.ended ≡ false
+  pub same : own_request sender ≡ own_request partner
+
+-- it took all that was handed over in that life
+abbrev pub TookHanded : List Moment → Life → List Life → List (List Bool) → Type 0
+TookHanded moments receiver [] handed = Unit {0}
+TookHanded moments receiver (x ∷ lives) [] = ⊥
+TookHanded moments receiver (x ∷ lives) (t ∷ handed) =
+    (WasClosedBy moments x receiver → receiver.bits ≡ t) × TookHanded moments receiver lives handed
+
+-- so it is for all lives of a book, at every moment
+abbrev pub EachHanded : List Moment → Type 0
+EachHanded moments = (receiver : Life) → TookHanded moments receiver (kept_in moments).book.lives (kept_in moments).handed
+
+abbrev pub AllHanded : List Moment → Type 0
+AllHanded moments = (later earlier : List Moment) → moments ≡ later ++ earlier → EachHanded earlier

@@ -1,6 +1,6 @@
 //! What two programs of a world do on each link. The functions here do nothing: each clause is a law.
 
-ghost use Rattle.std.specs.Prelude.{◌≡◌, ℕ, ◌==◌, true, false, List, [], ◌∷◌, None, Some, length};
+ghost use Rattle.std.specs.Prelude.{◌≡◌, ℕ, ◌==◌, true, false, List, [], ◌∷◌, ◌++◌, None, Some, length};
 ghost use Rattle.std.specs.List.{Contains};
 ghost use Rattle.interface.specs.Host.{Host};
 ghost use Rattle.interface.specs.Mailboxes as mail;
@@ -21,6 +21,7 @@ ghost use Rattle.net_sim.specs.Story.{Asked, Crossed, Moment, events_of, program
 ghost use Rattle.net_sim.specs.Timeline.{IsTimeline, crossings_of};
 ghost use Rattle.net_sim.specs.Told.{kept_in, notices_by};
 ghost use Rattle.net_sim.specs.World.{WorldState};
+ghost use Rattle.net_sim.specs.Worked.{eight};
 ghost use Rattle.net_sim.specs.WorkedMoments.{bits_sent, connected, eight_sent, sent_moments};
 ghost use Rattle.world_keeps_lives.specs.Firsts.{FirstBook};
 ghost use Rattle.world_keeps_streams.specs.Worked.{close_back, ended_moments, over_eight, quit_moments, took, took_eight};
@@ -28,7 +29,7 @@ ghost use Rattle.world_keeps_streams.specs.Arrivals.{AllArrive, Arrives, ComesFo
 ghost use Rattle.world_keeps_streams.specs.Calls.{own_calls, numbered_by_peer};
 ghost use Rattle.world_keeps_streams.specs.Rests.{AllRest, AreAtRest};
 ghost use Rattle.world_keeps_lives.specs.WorkedFormed.{gave};
-ghost use Rattle.world_keeps_streams.specs.Closes.{AllClose, IsClosedByPartner, TookAll, WasClosedByPartner};
+ghost use Rattle.world_keeps_streams.specs.Closes.{AllClose, AllHanded, EachHanded, IsClosedByPartner, TookAll, TookHanded, WasClosedBy, WasClosedByPartner};
 
 use interface::Carrier;
 
@@ -67,11 +68,14 @@ pub fn lives()
     // a receiving life whose end its partner has closed, and no user of its host, took all that its partner sent; it stays so whatever becomes of both lives
     ensures closes { (hosts : List Host) (moments : List Moment) → HaveAddresses hosts → mail.IsRun hosts (crossings_of moments) → IsTimeline hosts moments → (receiver : Life) → WasClosedByPartner moments receiver → TookAll (crossings_of moments) (kept_in moments).book.lives receiver }
 
+    // and all that was handed over in the life that it matches, if that wasn't over when the CLS was taken
+    ensures handed { (hosts : List Host) (moments : List Moment) → HaveAddresses hosts → mail.IsRun hosts (crossings_of moments) → IsTimeline hosts moments → EachHanded moments }
+
     // the messages of each life are the first on its link after both of its requests, and each message that goes out is one of a sending life: so crossings
     // determine the bits of all lives
     ensures firsts { (hosts : List Host) (moments : List Moment) → HaveAddresses hosts → mail.IsRun hosts (crossings_of moments) → IsTimeline hosts moments → FirstBook (crossings_of moments) (kept_in moments).book.lives }
 
-    // data that are taken where they come for a receiving life whose end is open arrive there, all of them
+    // data that are taken where they come for a receiving life whose end is open, or that no user of its host has closed, arrive there, all of them
     ensures arrives { (hosts : List Host) (moments : List Moment) (m : HostMessage) → HaveAddresses hosts → mail.IsRun hosts (crossings_of (Crossed (crossing.In m) ∷ moments)) → IsTimeline hosts (Crossed (crossing.In m) ∷ moments) → (receiver : Life) → ComesFor m moments receiver → Arrives m moments receiver }
 
     // a receiving life at rest, whose end is open and for which nothing waits, took all that its partner sent
@@ -85,6 +89,7 @@ pub fn lives()
 pub fn worlds<C: Carrier>()
     ensures source { (hosts : List Host) (w : WorldState C) → IsLawful C.calls.seen hosts w → (receiver : Life) → Contains w.kept.book.lives receiver → receives receiver ≡ true → (receiver.bits ≡ [] → ⊥) → Source w.kept.book.crossings w.kept.book.lives receiver }
     ensures closes { (hosts : List Host) (w : WorldState C) → (lawful : IsLawful C.calls.seen hosts w) → AllClose lawful.whole.moments }
+    ensures handed { (hosts : List Host) (w : WorldState C) → (lawful : IsLawful C.calls.seen hosts w) → AllHanded lawful.whole.moments }
     ensures firsts { (hosts : List Host) (w : WorldState C) → IsLawful C.calls.seen hosts w → FirstBook w.kept.book.crossings w.kept.book.lives }
     ensures arrives { (hosts : List Host) (w : WorldState C) → (lawful : IsLawful C.calls.seen hosts w) → AllArrive lawful.whole.moments }
     ensures rests { (hosts : List Host) (w : WorldState C) → (lawful : IsLawful C.calls.seen hosts w) → AllRest lawful.whole.moments }
@@ -116,6 +121,11 @@ pub fn worked_closes()
     ensures over { WasClosedByPartner (Crossed (crossing.Out close_back) ∷ ended_moments) over_eight }
     ensures stopped { WasClosedByPartner (Crossed (crossing.Down dialogue.first) ∷ ended_moments) over_eight }
     ensures open { IsClosedByPartner sent_moments took_eight → ⊥ }
+
+    // the life that it matches wasn't over: all that was handed over there is what was taken, and not less
+    ensures whole { WasClosedBy ended_moments gave took_eight }
+    ensures handed { TookHanded ended_moments took_eight (gave ∷ []) (eight ∷ []) }
+    ensures unsent { TookHanded ended_moments took_eight (gave ∷ []) ((eight ++ true ∷ []) ∷ []) → ⊥ }
     ensures quit { IsClosedByPartner quit_moments took → ⊥ }
 {}
 

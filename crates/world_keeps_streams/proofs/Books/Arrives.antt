@@ -1,5 +1,5 @@
--- Data that are taken where they come for a receiving life whose end is open arrive there.
-use Rattle.std.proofs.Common.{◌≡◌, inl, inr, ◌==◌, ◌&&◌, not, ℕ, Bool, true, false, List, [], ◌∷◌, ◌++◌, length, filter, find, drop, Option, Some, refl, ap, sym, subst, ◌∙◌, eq-eqb}
+-- Data that are taken where they come for a receiving life whose end is open, or which no user of its host has closed, arrive there.
+use Rattle.std.proofs.Common.{◌≡◌, ◌⊎◌, inl, inr, ◌==◌, ◌&&◌, not, ℕ, Bool, true, false, List, [], ◌∷◌, ◌++◌, length, filter, find, drop, Option, Some, is_some, refl, ap, sym, subst, ◌∙◌, eq-eqb}
 use Rattle.std.proofs.lemmas.Bool.{eqb-true}
 use Rattle.std.specs.List.{Contains}
 use Rattle.interface.specs.Calls.{Seen}
@@ -17,19 +17,20 @@ use Rattle.stream_law.specs.Words.{covers}
 use Rattle.stream_law.specs.Receivers as receivers
 use Rattle.stream_law.specs.Receivers.{Receiver}
 use Rattle.stream_law.specs.Streams.{Box, Empty, Waiting, Taken}
-use Rattle.stream_law.proofs.lemmas.{acceptable, some_is, waits_of}
+use Rattle.stream_law.specs.Senders.{Sender}
+use Rattle.stream_law.proofs.lemmas.{Inv, acceptable, some_is, waits_of}
 use Rattle.host_pairs.specs.Commands.{Found, found_in}
 use Rattle.host_pairs.specs.Data.{arrived_if, data_found, data_of, data_taken, is_acceptable}
 use Rattle.host_pairs.specs.Desk.{DeskState, desk_of}
-use Rattle.host_pairs.specs.Entries.{is_link, is_mine_on, is_open, receives_on}
+use Rattle.host_pairs.specs.Entries.{has_cls, is_link, is_mine_on, is_open, receives_on}
 use Rattle.ncp_control.specs.Phases as phases
 use Rattle.host_pairs.specs.Turn.{message_taken}
 use Rattle.host_pairs.specs.declared.entry.Entry.{Entry}
 use Rattle.host_pairs.specs.declared.notice.Notice.TheVariants as notice
 use Rattle.host_pairs.proofs.lemmas.{both}
 use Rattle.host_keeps_streams.specs.Ends.{AreReceiver, HasReceiver, IsReceiver}
-use Rattle.host_keeps_streams.specs.Histories.{name_now, numbered}
-use Rattle.host_keeps_streams.proofs.lemmas.{accept_same, bits_there, first_is, open_found, open_same}
+use Rattle.host_keeps_streams.specs.Histories.{HasClosed, name_now, numbered, receiver_now}
+use Rattle.host_keeps_streams.proofs.lemmas.{accept_same, bits_there, closed_first, first_is, open_found, open_same}
 use Rattle.pair_keeps_streams.proofs.lemmas.{IsPosted, Lies, Post}
 use Rattle.reset_law.specs.Boxes as reset
 use Rattle.reset_law.specs.Boxes.{boxes}
@@ -48,7 +49,7 @@ use Rattle.net_sim.proofs.lemmas.{coupled, program_own}
 use Rattle.world_keeps_lives.specs.Lives.{HasOpenEnd}
 use Rattle.world_keeps_lives.proofs.lemmas.{held}
 use Rattle.world_keeps_pairing.proofs.lemmas.{book_run, mail_below, waiting}
-use Rattle.world_keeps_streams.specs.Arrivals.{AllArrive, Arrives, ComesFor}
+use Rattle.world_keeps_streams.specs.Arrivals.{AllArrive, Arrives, ComesFor, IsUnclosed}
 use Rattle.world_keeps_streams.specs.Calls.{own_calls}
 use Rattle.world_keeps_streams.proofs.Books.Run.{below}
 use Rattle.world_keeps_streams.proofs.Deeds.Effects.{Among, among_filter, among_kept}
@@ -191,19 +192,63 @@ module _ (hosts : List Host) (addresses : HaveAddresses hosts) (m : HostMessage)
   abbrev c : ℕ
   c = name_now numbered x.peer (own_calls x.host x.peer ms) f.end.end.own f.end.end.foreign
 
+  -- it waits for an end that the sender hasn't closed, and so the partner's CLS can't have been heard
+  same_connection : in_box.connection ≡ c
+  same_connection =
+      some_is in_box.connection c
+      (sym (waits_of (joined link f.off_control hosts addresses x.host x.peer ms lawful.1 time.1).x (joined link f.off_control hosts addresses x.host x.peer ms lawful.1 time.1).joint.inv_x
+      in_box.connection in_box.size in_box.bits in_box.is) ∙ the_end.1.end)
+
+  inv : Inv (joined link f.off_control hosts addresses x.host x.peer ms lawful.1 time.1).x
+  inv = (joined link f.off_control hosts addresses x.host x.peer ms lawful.1 time.1).joint.inv_x
+
+  sender_open : (joined link f.off_control hosts addresses x.host x.peer ms lawful.1 time.1).x.sender.closed c ≡ false
+  sender_open =
+      subst (λ (k : ℕ). (joined link f.off_control hosts addresses x.host x.peer ms lawful.1 time.1).x.sender.closed k ≡ false) same_connection
+      (waits (joined link f.off_control hosts addresses x.host x.peer ms lawful.1 time.1).x.sender in_box.connection in_box.size (rw in_box.is at inv.waiting)) where
+        waits : (s : Sender) (k z : ℕ) → (s.end ≡ Some k) × (s.opened ≡ true) × (s.closed k ≡ false) × (s.size k ≡ Some z) → s.closed k ≡ false
+        waits s k z w = w.2
+
+  unheard : r.over c ≡ false
+  unheard = by (r.over c) refl where
+    by : (v : Bool) → r.over c ≡ v → v ≡ false
+    by false e = refl
+    by true e = absurd (unlike ((joined link f.off_control hosts addresses x.host x.peer ms lawful.1 time.1).x.sender.closed c) (inv.passed c e) sender_open)
+
+  unsaid : IsUnclosed link ms x → r.closed ≡ false
+  unsaid none = by r.closed refl where
+    by : (v : Bool) → r.closed ≡ v → v ≡ false
+    by false e = refl
+    by true e =
+        let first : (receiver_now numbered x.peer link (own_calls x.host x.peer ms)).first c ≡ true =
+        ap (λ (s : Receiver). s.first c) (sym ((joined link f.off_control hosts addresses x.host x.peer ms lawful.1 time.1).received_a stays)) ∙ inv.firsts c the_end.1.end e unheard in
+        let name : c ≡ name_now numbered x.peer (own_calls x.host x.peer ms) x.socket x.foreign =
+        ap (λ (k : ℕ). name_now numbered x.peer (own_calls x.host x.peer ms) k f.end.end.foreign) own ∙ ap (λ (k : ℕ). name_now numbered x.peer (own_calls x.host x.peer ms) x.socket k) f.end.foreign in
+        absurd (none (subst (λ (k : ℕ). HasClosed numbered x.peer link k (own_calls x.host x.peer ms)) name (closed_first numbered x.peer link c (own_calls x.host x.peer ms) first)))
+
+  open_end : is_open f.end.end ≡ true
+  open_end = elim f.unclosed [
+    | inl is ↦ is
+    | inr none ↦
+        (let asked : is_some f.end.end.asked ≡ true = ap is_some f.end.own in
+        let partner : is_some f.end.end.partner ≡ true = ap is_some f.end.partner in
+        let closed : has_cls f.end.end.closing ≡ false = sym the_end.1.closed ∙ unsaid none in
+        let over : f.end.end.partner_closed ≡ false = sym the_end.1.over ∙ unheard in
+        rw (asked, partner, closed, over) refl)
+  ]
+
   opened : receivers.is_open c r ≡ true
-  opened = open_same c f.end.end r the_end.1 ∙ f.opened
+  opened = open_same c f.end.end r the_end.1 ∙ open_end
 
   fits : (receivers.is_open c r && words.is_size in_box.size (r.size c) && covers r.allocation (length in_box.bits)) ≡ true
   fits =
-      let same : in_box.connection ≡ c = some_is in_box.connection c (sym (waits_of (joined link f.off_control hosts addresses x.host x.peer ms lawful.1 time.1).x (joined link f.off_control hosts addresses x.host x.peer ms lawful.1 time.1).joint.inv_x in_box.connection in_box.size in_box.bits in_box.is) ∙ the_end.1.end) in
       acceptable (joined link f.off_control hosts addresses x.host x.peer ms lawful.1 time.1).x (joined link f.off_control hosts addresses x.host x.peer ms lawful.1 time.1).joint.inv_x c in_box.size in_box.bits
-      (in_box.is ∙ ap (λ (k : ℕ). Waiting k in_box.size in_box.bits) same) (open_parts c r opened).0 (open_parts c r opened).1
+      (in_box.is ∙ ap (λ (k : ℕ). Waiting k in_box.size in_box.bits) same_connection) (open_parts c r opened).0 (open_parts c r opened).1
 
   good : is_acceptable f.end.end in_box.header ≡ true
   good =
       let long : length in_box.bits ≡ data_bits in_box.header = ap length (sym in_box.data_is) ∙ bits_there m.text in_box.header in_box.header_is in
-      sym (accept_same c f.end.end r in_box.header in_box.bits the_end.1 f.opened long) ∙ ap (λ (z : ℕ). receivers.is_open c r && words.is_size z (r.size c) && covers r.allocation (length in_box.bits)) in_box.size_is ∙ fits
+      sym (accept_same c f.end.end r in_box.header in_box.bits the_end.1 open_end long) ∙ ap (λ (z : ℕ). receivers.is_open c r && words.is_size z (r.size c) && covers r.allocation (length in_box.bits)) in_box.size_is ∙ fits
 
   -- ---- what is answered
 
@@ -215,7 +260,7 @@ module _ (hosts : List Host) (addresses : HaveAddresses hosts) (m : HostMessage)
 
   told : (message_taken x.peer (places ms) link m.text (turn_of (program x.host ms) x.peer)).notices ≡ notice.Arrived x.socket (drop 40 m.text) ∷ []
   told =
-      let all : (data_taken link m.text d).notices ≡ notice.Arrived f.end.end.own (data_of (data_bits in_box.header) m.text) ∷ [] = told_open link m.text f.end.end in_box.header d (first_is (receives_on link) f.end.end [] es the_end.0) f.opened in_box.header_is good in
+      let all : (data_taken link m.text d).notices ≡ notice.Arrived f.end.end.own (data_of (data_bits in_box.header) m.text) ∷ [] = told_open link m.text f.end.end in_box.header d (first_is (receives_on link) f.end.end [] es the_end.0) open_end in_box.header_is good in
       let bits : data_of (data_bits in_box.header) m.text ≡ drop 40 m.text = in_box.data_is ∙ sym in_box.whole in
       rw (f.off_control, ready) (all ∙ ap (λ (k : ℕ). notice.Arrived k (data_of (data_bits in_box.header) m.text) ∷ []) own ∙ ap (λ (b : List Bool). notice.Arrived x.socket b ∷ []) bits)
 

@@ -68,7 +68,7 @@ module _ (hosts : List Host) where
     one_sender = one_sender;
     owner = owner;
     arrives = λ ms m l x there kind goes host peer o opened link off.
-        arrives hosts l.0 m ms l.1 l.2 x (record { there = there; receiving = kind; goes = goes; host = host; peer = peer; end = o; opened = opened; link = link; off_control = off });
+        arrives hosts l.0 m ms l.1 l.2 x (record { there = there; receiving = kind; goes = goes; host = host; peer = peer; end = o; link = link; unclosed = inl opened; off_control = off });
   }
 
   pub firsts : (ms : List Moment) → Lawful hosts ms → FirstBook (crossings_of ms) (lives_in ms)

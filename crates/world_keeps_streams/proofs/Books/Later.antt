@@ -56,7 +56,7 @@ none_long (t ∷ ts) l = absurd (omega (arith, l))
 some_long : (t : List Bool) (ts : List (List Bool)) → 1 ≤ length (t ∷ ts)
 some_long t ts = omega arith
 
-named_request : (x y : Life) → Named x y → own_request y ≡ own_request x
+pub named_request : (x y : Life) → Named x y → own_request y ≡ own_request x
 named_request x y n =
     ap (λ (k : ℕ). let r : Name = record { place = k; own = y.socket; foreign = y.foreign } in r) n.own
     ∙ ap (λ (k : ℕ). let r : Name = record { place = x.own_stamp; own = k; foreign = y.foreign } in r) n.socket

@@ -143,7 +143,7 @@ pub record Named (x y : Life) : Type 0 where
   pub own : y.own_stamp ≡ x.own_stamp
   pub partner : y.partner_stamp ≡ x.partner_stamp
 
-named_itself : (x : Life) → Named x x
+pub named_itself : (x : Life) → Named x x
 named_itself x = record { host = refl; socket = refl; peer = refl; foreign = refl; own = refl; partner = refl }
 
 pub record Grown (old new : List Life) : Type 0 where

@@ -39,7 +39,7 @@ heard_stays : (ms : List Mark) (x : Side) → (all_hears ms x).stays ≡ x.stays
 heard_stays [] x = refl
 heard_stays (m ∷ ms) x = heard_stays ms (hears m x)
 
-side_stays : (h p : Host) (spoken heard : List (List Bool) → List Mark) (events : List Event) → (half h p spoken heard events).stays ≡ stay.stays h p events
+pub side_stays : (h p : Host) (spoken heard : List (List Bool) → List Mark) (events : List Event) → (half h p spoken heard events).stays ≡ stay.stays h p events
 side_stays h p spoken heard [] = refl
 side_stays h p spoken heard (e ∷ events) =
     let x : Side = half h p spoken heard events in
@@ -124,7 +124,7 @@ module _ (hosts : List Host) (ms : List Moment) (l : Lawful hosts ms) (s : Socke
 -- ---- both hosts
 
 module _ (hosts : List Host) (ms : List Moment) (l : Lawful hosts ms) (a b : Host) (s : Sockets) (q : IsPair s) where
-  joined_halves : Joined (half a b (at_texts s Receiver) (at_texts s Sender) (law_events ms)) (half b a (at_texts s Sender) (at_texts s Receiver) (law_events ms))
+  pub joined_halves : Joined (half a b (at_texts s Receiver) (at_texts s Sender) (law_events ms)) (half b a (at_texts s Sender) (at_texts s Receiver) (law_events ms))
   joined_halves =
       subst (λ (x : Side). Joined x (half b a (at_texts s Sender) (at_texts s Receiver) (law_events ms))) (receiver_half s a b (law_events ms))
       (subst (λ (y : Side). Joined (receiver s (steps a b (law_events ms))) y) (sender_half s a b (law_events ms)) (law_joined hosts ms l a b s))

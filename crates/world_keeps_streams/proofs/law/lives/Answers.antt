@@ -1,6 +1,7 @@
 use Rattle.world_keeps_streams.proofs.Books.All.{sent, source}
 use Rattle.world_keeps_streams.proofs.Books.Arrives.{arrives}
 use Rattle.world_keeps_streams.proofs.Books.Closes.{rests}
+use Rattle.world_keeps_streams.proofs.Books.Handed.{took_handed}
 use Rattle.world_keeps_streams.proofs.Books.Later.{closes_whole}
 use Rattle.world_keeps_streams.proofs.Books.Firsts.{firsts}
 use Rattle.world_keeps_streams.proofs.law.lives.Goals as goal
@@ -22,3 +23,6 @@ returns-clause-firsts c hosts moments addresses run time = firsts hosts moments 
 
 pub returns-clause-rests : goal.returns-clause-rests
 returns-clause-rests c hosts moments addresses run time receiver sender quiet = rests hosts moments (addresses, run, time) receiver sender quiet
+
+pub returns-clause-handed : goal.returns-clause-handed
+returns-clause-handed c hosts moments addresses run time receiver = took_handed hosts moments (addresses, run, time) receiver

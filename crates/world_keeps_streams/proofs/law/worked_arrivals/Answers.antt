@@ -1,4 +1,4 @@
-use Rattle.std.proofs.Common.{◌≡◌, Bool, true, false, List, [], ◌∷◌, refl, ap, ◌∙◌, arith}
+use Rattle.std.proofs.Common.{◌≡◌, inl, inr, Bool, true, false, List, [], ◌∷◌, refl, ap, ◌∙◌, arith}
 use Rattle.bit_messages.specs.Octets.{octets_of}
 use Rattle.ncp_control.specs.Packing.{packed_count}
 use Rattle.ncp_control.specs.Reading.{read_of, command_of}
@@ -29,8 +29,8 @@ returns-clause-open c = record {
   host = refl;
   peer = refl;
   end = record { end = granted 2 100 (asked_with_size 10 8 (asked_at 6 (receiving_end 16 33 2))); one = refl; others = λ other away. none_there 16 second other (program first bits_sent).peers (refl, tt) away; foreign = refl; own = refl; partner = refl };
-  opened = refl;
   link = refl;
+  unclosed = inl refl;
   off_control = refl;
 }
 
@@ -40,7 +40,10 @@ returns-clause-arrives c = refl
 
 pub returns-clause-closing : goal.returns-clause-closing
 unfolding octets_of orders_of read_of command_of packed_count accepted refusal served served_notices next_out offered first_open
-returns-clause-closing c f = let both : false ≡ true = ap first_open f.end.one ∙ f.opened in absurd (cc)
+returns-clause-closing c f = elim f.unclosed [
+  | inl is ↦ (let both : false ≡ true = ap first_open f.end.one ∙ is in absurd (cc))
+  | inr none ↦ none (inl (refl, refl))
+]
 
 pub returns-clause-dropped : goal.returns-clause-dropped
 unfolding octets_of orders_of read_of command_of packed_count accepted refusal served served_notices next_out offered

@@ -1,4 +1,4 @@
-use Rattle.std.proofs.Common.{◌≡◌, ℕ, Bool, true, false, List, [], ◌∷◌, if◌then◌else◌, Option, None, refl, ap, subst, ◌∙◌, inl, inr, arith}
+use Rattle.std.proofs.Common.{◌≡◌, ℕ, Bool, true, false, List, [], ◌∷◌, ◌++◌, if◌then◌else◌, Option, None, refl, ap, subst, ◌∙◌, inl, inr, arith}
 use Rattle.bit_messages.specs.Octets.{octets_of}
 use Rattle.interface.specs.Host.{Host}
 use Rattle.interface.specs.declared.crossing.Crossing.TheVariants as crossing
@@ -19,9 +19,11 @@ use Rattle.sockets.specs.Requests.{refusal, served, served_notices}
 use Rattle.sockets.specs.Sending.{next_out, offered}
 use Rattle.sockets.specs.Worked.{first, second}
 use Rattle.world_keeps_streams.specs.Calls.{own_calls}
-use Rattle.world_keeps_streams.specs.Closes.{IsClosedByPartner}
+use Rattle.world_keeps_lives.specs.WorkedFormed.{gave}
+use Rattle.world_keeps_streams.specs.Closes.{IsClosedByPartner, WasClosedBy}
 use Rattle.world_keeps_streams.specs.Worked.{close_back, ended_moments, quit_moments, took_eight}
 use Rattle.net_sim.specs.Story.{Crossed, program}
+use Rattle.net_sim.specs.Worked.{eight}
 use Rattle.world_keeps_lives.proofs.lemmas.{none_there}
 use Rattle.world_keeps_streams.proofs.law.worked_closes.Goals as goal
 
@@ -121,6 +123,26 @@ returns-clause-stopped c = record {
   then = closed_there;
   same = refl;
 }
+
+closed_by : WasClosedBy ended_moments gave took_eight
+unfolding octets_of orders_of read_of command_of packed_count accepted refusal served served_notices next_out offered
+closed_by = record {
+  closed = record { there = (1, omega arith, refl); later = []; earlier = ended_moments; is = refl; receiver = took_eight; then = closed_there; same = refl };
+  matches = record { receiving = refl; sending = refl; peers = (refl, refl); sockets = (refl, refl); asked = refl; answered = refl };
+  partner = gave;
+  there = (0, omega arith, refl);
+  goes = refl;
+  same = refl;
+}
+
+pub returns-clause-whole : goal.returns-clause-whole
+returns-clause-whole c = closed_by
+
+pub returns-clause-handed : goal.returns-clause-handed
+returns-clause-handed c = ((λ w. refl), tt)
+
+pub returns-clause-unsent : goal.returns-clause-unsent
+returns-clause-unsent c h = let more : eight ≡ eight ++ true ∷ [] = h.0 closed_by in absurd (cc)
 
 pub returns-clause-open : goal.returns-clause-open
 unfolding octets_of orders_of read_of command_of packed_count accepted refusal served served_notices next_out offered first_closed

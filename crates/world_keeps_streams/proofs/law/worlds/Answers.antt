@@ -1,6 +1,7 @@
 use Rattle.world_keeps_streams.proofs.Books.All.{world_sent, world_source}
 use Rattle.world_keeps_streams.proofs.Books.Arrives.{world_arrives}
 use Rattle.world_keeps_streams.proofs.Books.Closes.{world_rests}
+use Rattle.world_keeps_streams.proofs.Books.Handed.{world_handed_over}
 use Rattle.world_keeps_streams.proofs.Books.Later.{world_closes}
 use Rattle.world_keeps_streams.proofs.Books.Firsts.{world_firsts}
 use Rattle.world_keeps_streams.proofs.law.worlds.Goals as goal
@@ -22,3 +23,6 @@ returns-clause-firsts g c hosts w lawful = world_firsts g.C.Carrier.calls.seen h
 
 pub returns-clause-rests : goal.returns-clause-rests
 returns-clause-rests g c hosts w lawful = world_rests g.C.Carrier.calls.seen hosts w lawful
+
+pub returns-clause-handed : goal.returns-clause-handed
+returns-clause-handed g c hosts w lawful = world_handed_over g.C.Carrier.calls.seen hosts w lawful
