@@ -5,8 +5,10 @@ Runs hosts with their programs over random networks, only in the model, and audi
 The model is the independent model of the rules (python/dorydate/model/world.py). Of each book it is computed whether it keeps its promise,
 from the crossings, the lives and the bits that were handed over (python/dorydate/model/audit.py): at the end of each run, and after each
 event of some; in these it is looked at too whether what had an effect on a host went out after that host's last clean point for
-its sender (python/dorydate/model/clean.py). So this script doesn't try the program. It tries the promise itself, and with it two facts that are stronger: no
-program is ever notified of an error, and two lives that continue and have each other's hosts and sockets are one connection.
+its sender (python/dorydate/model/clean.py). Of each run it is judged too what endings mean, at each moment (python/dorydate/model/endings.py), and
+whether the log determines the bits of its lives (python/dorydate/model/firsts.py). So this script doesn't try the program. It tries the promise itself,
+and with it two facts that are stronger: no program is ever notified of an error, and two lives that continue and have each other's hosts and sockets are
+one connection.
 
 First the audit itself is tried, on books that are right and books that are wrong in one place; and readings of the promise that
 are wrong in one place have to be distinguished from the right one by one of these books.
@@ -19,13 +21,15 @@ import sys
 from collections import Counter
 from collections.abc import Iterable, Iterator
 from dataclasses import replace
-from typing import Any
+from typing import Any, NamedTuple
 
 from dorydate.model.audit import CONTROL, Lives, Log, audit, match, partners_are_kept
 from dorydate.model.book import Life
 from dorydate.model.chance.worlds import reached, some_script
 from dorydate.model.clean import unclean
 from dorydate.model.crossings import Answered, Carrier, Crossing, Passed
+from dorydate.model.endings import EndingWorld
+from dorydate.model.firsts import determined
 from dorydate.model.host import Host
 from dorydate.model.misreadings import MISREADINGS
 from dorydate.model.names import Flow, HostName
@@ -186,20 +190,34 @@ def broken(world: World) -> str | None:
         return "lives that go on and are no connection"
     if any(notice.startswith("error") for _, notice, _ in world.book.notices):
         return "an error"
-    return None
+    if not determined(log, lives):
+        return "what a log says of the bits of its lives"
+    return world.judged() if isinstance(world, EndingWorld) else None
 
 
-def run(seed: int) -> tuple[str | None, Topology, list[str], Counter[str]]:
-    """A random run: what breaks, the script as far as it happened, and what was reached."""
-    network, script = some_script(seed)
-    if seed % CLOSELY:
-        return broken(script.world), network, script.lines, reached(script.world.printed)
+class Ran(NamedTuple):
+    """A random run: what breaks, the script as far as it happened, what was reached, and how often each promise on endings was tried."""
+
+    part: str | None
+    network: Topology
+    lines: list[str]
+    reached: Counter[str]
+    tried: Counter[str]
+
+
+def run(seed: int) -> Ran:
+    """A random run, of which some are looked at after each event."""
+    network, script = some_script(seed, world=EndingWorld)
+    tried = script.world.tried if isinstance(script.world, EndingWorld) else Counter[str]()
+    ran = Ran(broken(script.world), network, script.lines, reached(script.world.printed), tried)
+    if ran.part or seed % CLOSELY:
+        return ran
     world = Watched(opened_carrier(network))
     for at, event in enumerate(script.events):
         world.happen(*event)
         if part := broken(world):
-            return part, network, script.lines[: at + 1], Counter()
-    return None, network, script.lines, reached(world.printed)
+            return ran._replace(part=part, lines=script.lines[: at + 1])
+    return ran
 
 
 def main() -> int:
@@ -215,14 +233,18 @@ def main() -> int:
         print("check worlds: no book by hand tells these wrong readings of the promise:", *missed, sep="\n")
         return 1
     came_to: Counter[str] = Counter()
+    tried: Counter[str] = Counter()
     runs = int(sys.argv[1]) if len(sys.argv) > 1 else RUNS
     for seed in range(runs):
-        part, network, lines, printed = run(seed)
-        if part:
-            print(f"check worlds: run {seed} breaks {part}: {network}", *lines, sep="\n")
+        ran = run(seed)
+        if ran.part:
+            print(f"check worlds: run {seed} breaks {ran.part}: {ran.network}", *ran.lines, sep="\n")
             return 1
-        came_to += printed
+        came_to += ran.reached
+        tried += ran.tried
     print(f"check worlds: {len([*wrong_books(), *wrong_partners()])} books written by hand, each judged rightly, and by {len(MISREADINGS)} wrong readings of the promise not all")
     print("check worlds: the runs came to", ", ".join(f"{count} {name}" for name, count in sorted(came_to.items())))
+    for kind, count in sorted(tried.items()):
+        print(f"check worlds: {kind}: {count} times")
     print(f"check worlds: {runs} runs, and each book keeps its promise")
     return 0

@@ -9,12 +9,13 @@ from __future__ import annotations
 
 import random
 from collections import Counter
-from collections.abc import Iterable
+from collections.abc import Callable, Iterable
 from typing import Any, TypeVar
 
 from dorydate.model.bits import Bits, spell_bits
 from dorydate.model.boxes import Boxes
 from dorydate.model.connections import End
+from dorydate.model.crossings import Carrier
 from dorydate.model.host import Host
 from dorydate.model.names import Flow, HostName, spell_flow, spell_host
 from dorydate.model.packets import Carried
@@ -332,9 +333,9 @@ def reached(printed: Iterable[str]) -> Counter[str]:
     return Counter(" ".join(it[:2]) if it[0] in ("refused", "answer", "done", "failed") else it[0] for it in words)
 
 
-def some_script(seed: int | str, with_services: bool = True, most: int = 300) -> tuple[Topology, Script]:
+def some_script(seed: int | str, with_services: bool = True, most: int = 300, world: Callable[[Carrier], World] = World) -> tuple[Topology, Script]:
     """A network and a script, with the world that it leads to."""
     chance = random.Random(seed)
     network = some_world(chance)
     length = chance.choice([40, 150, most]) // (2 if network[0] == "subnet" else 1)
-    return network, Script(chance, network, length, with_services)
+    return network, Script(chance, network, length, with_services, world(opened_carrier(network)))
