@@ -1,4 +1,5 @@
--- A sending life whose CLS is queued before its partner's was taken has sent all that was handed over in it, also once it is over.
+-- A sending life whose CLS is queued before its partner's was taken has sent all that was handed over in it, also once
+-- it is over.
 use Rattle.std.proofs.Common.{◌≡◌, ◌⊎◌, inl, inr, ℕ, zero, suc, ◌<◌, ◌==◌, ◌&&◌, not, Bool, true, false, if◌then◌else◌, List, [], ◌∷◌, ◌++◌, length, filter, find, slice_index_or, Option, Some, None, refl, ap, sym, subst, ◌∙◌, eq-eqb, arith}
 use Rattle.std.proofs.lemmas.Bool.{eqb-true}
 use Rattle.std.specs.List.{Contains}
@@ -50,7 +51,8 @@ one_is e f h = cc
 passes_one : (test : Entry → Bool) (xs : List Entry) (e : Entry) → filter test xs ≡ e ∷ [] → test e ≡ true
 passes_one test [] e h = absurd (let no : [] ≡ e ∷ [] = h in cc)
 passes_one test (x ∷ xs) e h = by (passes_one test xs e) (test x) refl h where
-  by : (filter test xs ≡ e ∷ [] → test e ≡ true) → (v : Bool) → test x ≡ v → (if v then x ∷ filter test xs else filter test xs) ≡ e ∷ [] → test e ≡ true
+  by : (filter test xs ≡ e ∷ [] → test e ≡ true) → (v : Bool) → test x ≡ v
+      → (if v then x ∷ filter test xs else filter test xs) ≡ e ∷ [] → test e ≡ true
   by rest true t g = let same : x ≡ e = cc in subst (λ (y : Entry). test y ≡ true) same t
   by rest false t g = rest g
 
@@ -64,40 +66,51 @@ in_rest x y lives c = (suc c.0, (let l : c.0 < length lives = c.1 in omega (arit
 module _ (moments : List Moment) where
   -- the lives of a socket that continue are those of no end, or of its one end
   abbrev On : Host → ℕ → List Life → List (List Bool) → Type 0
-  On a k lives handed = EachOn a k NoneOf lives handed ⊎ ((p : Host) × (e : Entry) × (mine_on k (pair_with p (program a moments).peers).entries ≡ e ∷ []) × EachOn a k (IsLifeOf p e) lives handed)
+  On a k lives handed =
+      EachOn a k NoneOf lives handed ⊎
+      ((p : Host) × (e : Entry) × (mine_on k (pair_with p (program a moments).peers).entries ≡ e ∷ []) × EachOn a k (IsLifeOf p e) lives handed)
 
-  on_rest : (a : Host) (k : ℕ) (x : Life) (t : List Bool) (lives : List Life) (handed : List (List Bool)) → On a k (x ∷ lives) (t ∷ handed) → On a k lives handed
+  on_rest : (a : Host) (k : ℕ) (x : Life) (t : List Bool) (lives : List Life) (handed : List (List Bool))
+      → On a k (x ∷ lives) (t ∷ handed) → On a k lives handed
   on_rest a k x t lives handed (inl f) = inl f.1
   on_rest a k x t lives handed (inr o) = inr (o.0, o.1, o.2, o.3.1)
 
-  sent_now : (x : Life) (t : List Bool) (lives : List Life) (handed : List (List Bool)) → ArePaired x → On x.host x.socket (x ∷ lives) (t ∷ handed) → ClosesFirst moments x → x.bits ≡ t
+  sent_now : (x : Life) (t : List Bool) (lives : List Life) (handed : List (List Bool)) → ArePaired x
+      → On x.host x.socket (x ∷ lives) (t ∷ handed) → ClosesFirst moments x → x.bits ≡ t
   sent_now x t lives handed paired (inl f) c = absurd ((f.0 (own_socket x)).1 c.goes)
   sent_now x t lives handed paired (inr o) c = sym (i.drained kind foreign c.sending (ap (λ (e : Entry). has_cls e.closing) same ∙ c.closed) (ap (λ (e : Entry). e.partner_closed) same ∙ c.unheard)) where
     i : IsLifeOf o.0 o.1 x t
     i = (o.3.0 (own_socket x)).1 c.goes
 
     here : mine_on x.socket (pair_with x.peer (program x.host moments).peers).entries ≡ o.1 ∷ []
-    here = subst (λ (p : Host). mine_on x.socket (pair_with p (program x.host moments).peers).entries ≡ o.1 ∷ []) (sym i.peers) o.2
+    here =
+        subst (λ (p : Host). mine_on x.socket (pair_with p (program x.host moments).peers).entries ≡ o.1 ∷ [])
+        (sym i.peers) o.2
 
     same : o.1 ≡ c.end.end
     same = one_is o.1 c.end.end (sym here ∙ c.end.one)
 
     kind : is_send_socket o.1.own ≡ true
-    kind = ap is_send_socket (own_is x.socket o.1 (passes_one (is_mine_on x.socket) (pair_with x.peer (program x.host moments).peers).entries o.1 here)) ∙ c.sending
+    kind =
+        ap is_send_socket
+        (own_is x.socket o.1 (passes_one (is_mine_on x.socket) (pair_with x.peer (program x.host moments).peers).entries o.1 here)) ∙ c.sending
 
     foreign : is_receive_socket o.1.foreign ≡ true
     foreign = ap is_receive_socket i.foreign ∙ receives_foreign x paired c.sending
 
   -- at one place
-  sent_at : (x : Life) (t : List Bool) (lives : List Life) (handed : List (List Bool)) → ((y : Life) → Contains lives y → ArePaired y)
+  sent_at : (x : Life) (t : List Bool) (lives : List Life) (handed : List (List Bool))
+      → ((y : Life) → Contains lives y → ArePaired y)
       → ((a : Host) (k : ℕ) → On a k lives handed) → IsPair x t lives handed → ClosesFirst moments x → x.bits ≡ t
   sent_at x t [] handed paired on i c = absurd i
   sent_at x t (y ∷ lives) [] paired on i c = absurd i
   sent_at x t (y ∷ lives) (u ∷ handed) paired on (inl e) c =
       let d : ClosesFirst moments y = subst (λ (z : Life). ClosesFirst moments z) e.0 c in
-      ap (λ (z : Life). z.bits) e.0 ∙ sent_now y u lives handed (paired y (0, omega arith, refl)) (on y.host y.socket) d ∙ sym e.1
+      ap (λ (z : Life). z.bits) e.0 ∙ sent_now y u lives handed (paired y (0, omega arith, refl))
+      (on y.host y.socket) d ∙ sym e.1
   sent_at x t (y ∷ lives) (u ∷ handed) paired on (inr i) c =
-      sent_at x t lives handed (λ z there. paired z (in_rest y z lives there)) (λ a k. on_rest a k y u lives handed (on a k)) i c
+      sent_at x t lives handed (λ z there. paired z (in_rest y z lives there))
+      (λ a k. on_rest a k y u lives handed (on a k)) i c
 
 -- ---- an end that closes
 
@@ -130,17 +143,25 @@ shut_hears k n here orders = record {
 
 shut_goes : (k n here : ℕ) (cs : List Command) → n < here → Goes (IsShut k n) here cs
 shut_goes k n here cs less = record {
-  rts = λ own foreign link e there even o f shut is asked. absurd (let same : here ≡ n = same_stamp here n asked in omega (arith, less, same));
-  str = λ own foreign size e there odd o f shut is asked. absurd (let same : here ≡ n = same_stamp here n asked in omega (arith, less, same));
+  rts =
+      λ own foreign link e there even o f shut is asked. absurd
+      (let same : here ≡ n = same_stamp here n asked in omega (arith, less, same));
+  str =
+      λ own foreign size e there odd o f shut is asked. absurd
+      (let same : here ≡ n = same_stamp here n asked in omega (arith, less, same));
 }
 
 -- at first: the one own end of the socket, and ends that refuse
-all_shut : (k n : ℕ) (es : List Entry) → AreRefusing es → Each (λ (e : Entry). has_cls e.closing ≡ true) (mine_on k es) → Each (IsShut k n) es
+all_shut : (k n : ℕ) (es : List Entry) → AreRefusing es
+    → Each (λ (e : Entry). has_cls e.closing ≡ true) (mine_on k es) → Each (IsShut k n) es
 all_shut k n [] r h = tt
 all_shut k n (e ∷ es) r h = by (all_shut k n es r.1) (is_mine_on k e) refl h where
-  by : (Each (λ (f : Entry). has_cls f.closing ≡ true) (mine_on k es) → Each (IsShut k n) es) → (b : Bool) → is_mine_on k e ≡ b → Each (λ (f : Entry). has_cls f.closing ≡ true) (mine_on k (e ∷ es)) → Each (IsShut k n) (e ∷ es)
+  by : (Each (λ (f : Entry). has_cls f.closing ≡ true) (mine_on k es) → Each (IsShut k n) es) → (b : Bool)
+      → is_mine_on k e ≡ b → Each (λ (f : Entry). has_cls f.closing ≡ true) (mine_on k (e ∷ es))
+      → Each (IsShut k n) (e ∷ es)
   by rest true is g =
-      let both_parts : (has_cls e.closing ≡ true) × Each (λ (f : Entry). has_cls f.closing ≡ true) (mine_on k es) = rw is at g in
+      let both_parts : (has_cls e.closing ≡ true) × Each (λ (f : Entry). has_cls f.closing ≡ true) (mine_on k es) =
+      rw is at g in
       ((λ own asked. both_parts.0), rest both_parts.1)
   by rest false is g =
       let others : Each (λ (f : Entry). has_cls f.closing ≡ true) (mine_on k es) = rw is at g in
@@ -150,14 +171,16 @@ all_shut k n (e ∷ es) r h = by (all_shut k n es r.1) (is_mine_on k e) refl h w
 
         refused : (b : Bool) → e.mine ≡ b → e.own ≡ k → has_cls e.closing ≡ true
         refused false m own = r.0 m
-        refused true m own = absurd (let no : is_mine_on k e ≡ true = mine_here e m own in let r : true ≡ false = sym no ∙ is in cc)
+        refused true m own =
+            absurd (let no : is_mine_on k e ≡ true = mine_here e m own in let r : true ≡ false = sym no ∙ is in cc)
 
 -- ---- nothing more is handed over
 
 on_mine : (k : ℕ) (es : List Entry) (e : Entry) → find (is_mine_on k) es ≡ Some e → Contains (mine_on k es) e
 on_mine k [] e f = absurd (cc)
 on_mine k (x ∷ xs) e f = by (on_mine k xs e) (is_mine_on k x) refl f where
-  by : (find (is_mine_on k) xs ≡ Some e → Contains (mine_on k xs) e) → (b : Bool) → is_mine_on k x ≡ b → find (is_mine_on k) (x ∷ xs) ≡ Some e → Contains (mine_on k (x ∷ xs)) e
+  by : (find (is_mine_on k) xs ≡ Some e → Contains (mine_on k xs) e) → (b : Bool) → is_mine_on k x ≡ b
+      → find (is_mine_on k) (x ∷ xs) ≡ Some e → Contains (mine_on k (x ∷ xs)) e
   by rest true is g =
       let same : Some x ≡ Some e = rw is at g in
       let one : x ≡ e = cc in
@@ -165,7 +188,10 @@ on_mine k (x ∷ xs) e f = by (on_mine k xs e) (is_mine_on k x) refl f where
   by rest false is g = subst (λ (es : List Entry). Contains es e) (sym (mine_one k x xs false is)) (rest (rw is at g))
 
 none_in : (es : List Entry) (e : Entry) → es ≡ [] → Contains es e → ⊥
-none_in es e none c = let l : c.0 < length es = c.1 in let n : length es ≡ 0 = ap (λ (xs : List Entry). length xs) none in absurd (omega (arith, l, n))
+none_in es e none c =
+    let l : c.0 < length es = c.1 in
+    let n : length es ≡ 0 = ap (λ (xs : List Entry). length xs) none in
+    absurd (omega (arith, l, n))
 
 one_in : (f e : Entry) → Contains (f ∷ []) e → f ≡ e
 one_in f e c = by c.0 c.1 c.2 where
@@ -182,11 +208,14 @@ module _ (s : NcpState) (x : Life) (h : HasOpenEnd s x) where
 
     by : (b : Bool) → same_host g x.peer ≡ b → h.end ≡ e
     by true is =
-        let here : mine_on x.socket (pair_with g s.peers).entries ≡ h.end ∷ [] = subst (λ (p : Host). mine_on x.socket (pair_with p s.peers).entries ≡ h.end ∷ []) (sym (same_host-true g x.peer is)) h.one in
+        let here : mine_on x.socket (pair_with g s.peers).entries ≡ h.end ∷ [] =
+        subst (λ (p : Host). mine_on x.socket (pair_with p s.peers).entries ≡ h.end ∷ [])
+        (sym (same_host-true g x.peer is)) h.one in
         one_in h.end e (subst (λ (es : List Entry). Contains es e) here there)
     by false off = absurd (none_in (mine_on x.socket (pair_with g s.peers).entries) e (h.others g off) there)
 
-  closing_refuses : (bits : List Bool) → AreInOrder s.peers → has_cls h.end.closing ≡ true → refusal s (request.Send x.socket bits) ≡ None → ⊥
+  closing_refuses : (bits : List Bool) → AreInOrder s.peers → has_cls h.end.closing ≡ true
+      → refusal s (request.Send x.socket bits) ≡ None → ⊥
   unfolding refusal
   closing_refuses bits order shut may = by (owner_of x.socket s.peers) refl (not_first (not (is_send_socket x.socket)) _ _ may).1 where
     by : (o : Option (Host × Entry)) → owner_of x.socket s.peers ≡ o → on_open (send_fault (length bits)) o ≡ None → ⊥
@@ -198,13 +227,15 @@ module _ (s : NcpState) (x : Life) (h : HasOpenEnd s x) where
 
 -- ---- one life, from then on
 
-name_is : (x y : Life) → y.socket ≡ x.socket → y.foreign ≡ x.foreign → y.own_stamp ≡ x.own_stamp → own_request y ≡ own_request x
+name_is : (x y : Life) → y.socket ≡ x.socket → y.foreign ≡ x.foreign → y.own_stamp ≡ x.own_stamp
+    → own_request y ≡ own_request x
 name_is x y socket foreign stamp =
     ap (λ (k : ℕ). let r : Name = record { place = k; own = y.socket; foreign = y.foreign } in r) stamp
     ∙ ap (λ (k : ℕ). let r : Name = record { place = x.own_stamp; own = k; foreign = y.foreign } in r) socket
     ∙ ap (λ (k : ℕ). let r : Name = record { place = x.own_stamp; own = x.socket; foreign = k } in r) foreign
 
-pair_at : (x : Life) (lives : List Life) (handed : List (List Bool)) (i : ℕ) → i < length lives → slice_index_or lives i x ≡ x → AreHanded lives handed
+pair_at : (x : Life) (lives : List Life) (handed : List (List Bool)) (i : ℕ) → i < length lives
+    → slice_index_or lives i x ≡ x → AreHanded lives handed
     → (t : List Bool) × IsPair x t lives handed
 pair_at x [] handed i l e h = absurd (omega (arith, l))
 pair_at x (y ∷ lives) [] i l e h = absurd h
@@ -232,7 +263,8 @@ module _ (hosts : List Host) (addresses : HaveAddresses hosts) where
   module _ (ms : List Moment) (run : mail.IsRun hosts (crossings_of ms)) (time : IsTimeline hosts ms) where
     sockets : (a : Host) (k : ℕ) → On ms a k (kept_in ms).book.lives (kept_in ms).handed
     sockets a k = by (holds hosts ms addresses run time a k).socket where
-      by : IsFreeSocket a k (program a ms) (kept_in ms) ⊎ IsOwned a k (program a ms) (kept_in ms) → On ms a k (kept_in ms).book.lives (kept_in ms).handed
+      by : IsFreeSocket a k (program a ms) (kept_in ms) ⊎ IsOwned a k (program a ms) (kept_in ms)
+          → On ms a k (kept_in ms).book.lives (kept_in ms).handed
       by (inl f) = inl f.lives
       by (inr o) = inr (o.peer, o.end, o.one, o.lives)
 
@@ -244,7 +276,8 @@ module _ (hosts : List Host) (addresses : HaveAddresses hosts) where
     placed_first : (r : Life) → Contains (kept_in ms).book.lives r → r.own_stamp < places ms
     placed_first r there =
         let f : IsFormed (crossings_of ms) r = formed hosts addresses ms run time r there in
-        let less : r.own_stamp < length (crossings_of ms) = crossed_below r.own_stamp (going f.own.message) (crossings_of ms) f.own.crossed in
+        let less : r.own_stamp < length (crossings_of ms) =
+        crossed_below r.own_stamp (going f.own.message) (crossings_of ms) f.own.crossed in
         subst (λ (n : ℕ). r.own_stamp < n) (sym (places_same ms)) less
 
     first : (r : Life) → Contains (kept_in ms).book.lives r → ClosesFirst ms r → Whole ms r
@@ -262,7 +295,9 @@ module _ (hosts : List Host) (addresses : HaveAddresses hosts) where
           foreign = refl;
           stamp = refl;
           bits = sent_at ms r i.0 (kept_in ms).book.lives (kept_in ms).handed paired sockets i.1 c;
-          shut = all_shut r.socket r.own_stamp (pair_with r.peer (program r.host ms).peers).entries ((holds hosts ms addresses run time r.host 0).steady.refusing r.peer)
+          shut =
+              all_shut r.socket r.own_stamp (pair_with r.peer (program r.host ms).peers).entries
+              ((holds hosts ms addresses run time r.host 0).steady.refusing r.peer)
               (subst (λ (es : List Entry). Each (λ (e : Entry). has_cls e.closing ≡ true) es) (sym c.end.one) (c.closed, tt));
           placed = placed_first r there;
         }
@@ -272,27 +307,39 @@ module _ (hosts : List Host) (addresses : HaveAddresses hosts) where
     module _ (r : Life) (w : Whole ms r) where
       end_shut : (h : HasOpenEnd (program w.life.host ms) w.life) → has_cls h.end.closing ≡ true
       end_shut h =
-          let own : h.end.own ≡ w.life.socket = own_is w.life.socket h.end (passes_one (is_mine_on w.life.socket) (pair_with w.life.peer (program w.life.host ms).peers).entries h.end h.one) in
-          (subst (λ (es : List Entry). Each (IsShut r.socket r.own_stamp) es) h.one all).0 (own ∙ w.socket) (h.own ∙ ap (λ (n : ℕ). Some n) w.stamp) where
+          let own : h.end.own ≡ w.life.socket =
+          own_is w.life.socket h.end
+          (passes_one (is_mine_on w.life.socket) (pair_with w.life.peer (program w.life.host ms).peers).entries h.end h.one) in
+          (subst (λ (es : List Entry). Each (IsShut r.socket r.own_stamp) es) h.one all).0 (own ∙ w.socket)
+          (h.own ∙ ap (λ (n : ℕ). Some n) w.stamp) where
             here : Each (IsShut r.socket r.own_stamp) (pair_with w.life.peer (program w.life.host ms).peers).entries
             here =
-                subst (λ (g : Host). Each (IsShut r.socket r.own_stamp) (pair_with w.life.peer (program g ms).peers).entries) (sym w.host)
+                subst
+                (λ (g : Host). Each (IsShut r.socket r.own_stamp) (pair_with w.life.peer (program g ms).peers).entries)
+                (sym w.host)
                 (subst (λ (p : Host). Each (IsShut r.socket r.own_stamp) (pair_with p (program r.host ms).peers).entries) (sym w.peer) w.shut)
 
             all : Each (IsShut r.socket r.own_stamp) (mine_on w.life.socket (pair_with w.life.peer (program w.life.host ms).peers).entries)
-            all = each_filter (IsShut r.socket r.own_stamp) (is_mine_on w.life.socket) (pair_with w.life.peer (program w.life.host ms).peers).entries here
+            all =
+                each_filter (IsShut r.socket r.own_stamp) (is_mine_on w.life.socket)
+                (pair_with w.life.peer (program w.life.host ms).peers).entries here
 
-      not_handed : (h : Host) (socket : ℕ) (bits : List Bool) → refusal (program h ms) (request.Send socket bits) ≡ None → lives_at h socket w.life ≡ false
+      not_handed : (h : Host) (socket : ℕ) (bits : List Bool)
+          → refusal (program h ms) (request.Send socket bits) ≡ None → lives_at h socket w.life ≡ false
       not_handed h socket bits may = by (lives_at h socket w.life) refl where
         by : (b : Bool) → lives_at h socket w.life ≡ b → b ≡ false
         by false e = refl
         by true e =
-            let p : ((same_host h w.life.host && w.life.socket == socket) ≡ true) × (not w.life.ended ≡ true) = both (same_host h w.life.host && w.life.socket == socket) (not w.life.ended) e in
-            let q : (same_host h w.life.host ≡ true) × ((w.life.socket == socket) ≡ true) = both (same_host h w.life.host) (w.life.socket == socket) p.0 in
+            let p : ((same_host h w.life.host && w.life.socket == socket) ≡ true) × (not w.life.ended ≡ true) =
+            both (same_host h w.life.host && w.life.socket == socket) (not w.life.ended) e in
+            let q : (same_host h w.life.host ≡ true) × ((w.life.socket == socket) ≡ true) =
+            both (same_host h w.life.host) (w.life.socket == socket) p.0 in
             let goes : w.life.ended ≡ false = not_is w.life.ended p.1 in
             let open_end : HasOpenEnd (program w.life.host ms) w.life =
-            live hosts ms addresses run time w.life (pair_there w.life w.text (kept_in ms).book.lives (kept_in ms).handed w.there) goes in
-            absurd (closing_refuses (program w.life.host ms) w.life open_end bits ((coupled hosts addresses ms run time).order w.life.host) (end_shut open_end)
+            live hosts ms addresses run time w.life
+            (pair_there w.life w.text (kept_in ms).book.lives (kept_in ms).handed w.there) goes in
+            absurd
+            (closing_refuses (program w.life.host ms) w.life open_end bits ((coupled hosts addresses ms run time).order w.life.host) (end_shut open_end)
             (subst (λ (g : Host). refusal (program g ms) (request.Send w.life.socket bits) ≡ None) (same_host-true h w.life.host q.0)
             (subst (λ (k : ℕ). refusal (program h ms) (request.Send k bits) ≡ None) (sym (eqb-true w.life.socket socket q.1)) may)))
 
@@ -317,7 +364,8 @@ module _ (hosts : List Host) (addresses : HaveAddresses hosts) where
         out g parcel.Reply from to next order is = tt
         out g (parcel.Commands count) from to next order is = shut_goes r.socket r.own_stamp (places ms) _ w.placed
         out g (parcel.Bytes e size count) from to next order is = tt
-      may (Crossed (crossing.In m)) on t = λ to from. ((λ zero. shut_hears r.socket r.own_stamp (places ms) (orders_of m.text)), (λ off e k f o h. tt))
+      may (Crossed (crossing.In m)) on t =
+          λ to from. ((λ zero. shut_hears r.socket r.own_stamp (places ms) (orders_of m.text)), (λ off e k f o h. tt))
       may (Crossed (crossing.Answer kind f)) on t = tt
       may (Crossed (crossing.Down h)) on t = tt
       may (Crossed (crossing.Up h)) on t = tt
@@ -329,10 +377,14 @@ module _ (hosts : List Host) (addresses : HaveAddresses hosts) where
 
       next : (y : Moment) → mail.IsRun hosts (crossings_of (y ∷ ms)) → IsTimeline hosts (y ∷ ms) → Whole (y ∷ ms) r
       next y on t =
-          let l : Later w.life w.text (kept_in (y ∷ ms)).book.lives (kept_in (y ∷ ms)).handed = moment_later y ms w.life w.text (unsent y t) w.there in
+          let l : Later w.life w.text (kept_in (y ∷ ms)).book.lives (kept_in (y ∷ ms)).handed =
+          moment_later y ms w.life w.text (unsent y t) w.there in
           let sending : sends l.life ≡ true = ap is_send_socket l.next.socket ∙ w.sending in
-          let within : IsPrefix l.life.bits w.text = pair_front l.life w.text (kept_in (y ∷ ms)).book.lives (kept_in (y ∷ ms)).handed (laws.handed hosts (y ∷ ms) addresses on t) l.there sending in
-          let more : IsPrefix w.text l.life.bits = subst (λ (bs : List Bool). IsPrefix bs l.life.bits) w.bits l.next.front in
+          let within : IsPrefix l.life.bits w.text =
+          pair_front l.life w.text (kept_in (y ∷ ms)).book.lives (kept_in (y ∷ ms)).handed
+          (laws.handed hosts (y ∷ ms) addresses on t) l.there sending in
+          let more : IsPrefix w.text l.life.bits =
+          subst (λ (bs : List Bool). IsPrefix bs l.life.bits) w.bits l.next.front in
           record {
             life = l.life;
             text = w.text;
@@ -344,12 +396,15 @@ module _ (hosts : List Host) (addresses : HaveAddresses hosts) where
             foreign = l.next.foreign ∙ w.foreign;
             stamp = l.next.stamp ∙ w.stamp;
             bits = prefix_same w.text l.life.bits more within;
-            shut = step_ends (IsShut r.socket r.own_stamp) Nothing r.host r.peer (shut_rules r.socket r.own_stamp r.peer) (shut_begins r.socket r.own_stamp) y ms
+            shut =
+                step_ends (IsShut r.socket r.own_stamp) Nothing r.host r.peer (shut_rules r.socket r.own_stamp r.peer)
+                (shut_begins r.socket r.own_stamp) y ms
                 (queued_commands hosts ms addresses run time r.host r.peer) (may y on t) w.shut;
             placed = placed_next y;
           }
 
-  later : (newer ms : List Moment) → mail.IsRun hosts (crossings_of (newer ++ ms)) → IsTimeline hosts (newer ++ ms) → (r : Life)
+  later : (newer ms : List Moment) → mail.IsRun hosts (crossings_of (newer ++ ms)) → IsTimeline hosts (newer ++ ms)
+      → (r : Life)
       → Contains (kept_in ms).book.lives r → ClosesFirst ms r → Whole (newer ++ ms) r
   later [] ms run time r there c = first ms run time r there c
   later (y ∷ newer) ms run time r there c =
@@ -359,34 +414,47 @@ module _ (hosts : List Host) (addresses : HaveAddresses hosts) where
   -- ---- all lives of a book
 
   module _ (ms : List Moment) (run : mail.IsRun hosts (crossings_of ms)) (time : IsTimeline hosts ms) where
-    sent_since : (x : Life) (t : List Bool) → IsPair x t (kept_in ms).book.lives (kept_in ms).handed → ClosedFirst ms x → x.bits ≡ t
+    sent_since : (x : Life) (t : List Bool) → IsPair x t (kept_in ms).book.lives (kept_in ms).handed
+        → ClosedFirst ms x → x.bits ≡ t
     sent_since x t i c =
         let w : Whole ms c.sender = subst (λ (ns : List Moment). Whole ns c.sender) (sym c.is)
-        (later c.later c.earlier (subst (λ (ns : List Moment). mail.IsRun hosts (crossings_of ns)) c.is run) (subst (λ (ns : List Moment). IsTimeline hosts ns) c.is time) c.sender c.there c.first) in
+        (later c.later c.earlier (subst (λ (ns : List Moment). mail.IsRun hosts (crossings_of ns)) c.is run)
+        (subst (λ (ns : List Moment). IsTimeline hosts ns) c.is time) c.sender c.there c.first) in
         let k : Coupled hosts ms = coupled hosts addresses ms run time in
-        let partners : SafePartners (crossings_of ms) (kept_in ms).book.lives = safe_partners hosts ms k.story k.run run (served_in hosts ms time) in
+        let partners : SafePartners (crossings_of ms) (kept_in ms).book.lives =
+        safe_partners hosts ms k.story k.run run (served_in hosts ms time) in
         let same : (x ≡ w.life) × (t ≡ w.text) =
-        pair_one x w.life t w.text (kept_in ms).book.lives (kept_in ms).handed partners.own_once (c.same ∙ sym (name_is c.sender w.life w.socket w.foreign w.stamp)) i w.there in
+        pair_one x w.life t w.text (kept_in ms).book.lives (kept_in ms).handed partners.own_once
+        (c.same ∙ sym (name_is c.sender w.life w.socket w.foreign w.stamp)) i w.there in
         ap (λ (y : Life). y.bits) same.0 ∙ w.bits ∙ sym same.1
 
-    each_sent : (lives : List Life) (ts : List (List Bool)) → AreHanded lives ts → ((x : Life) (t : List Bool) → IsPair x t lives ts → ClosedFirst ms x → x.bits ≡ t) → AllSent ms lives ts
+    each_sent : (lives : List Life) (ts : List (List Bool)) → AreHanded lives ts
+        → ((x : Life) (t : List Bool) → IsPair x t lives ts → ClosedFirst ms x → x.bits ≡ t) → AllSent ms lives ts
     each_sent [] ts h sent = tt
     each_sent (x ∷ lives) [] h sent = h
-    each_sent (x ∷ lives) (t ∷ ts) h sent = (sent x t (inl (refl, refl)), each_sent lives ts h.1 (λ y u i. sent y u (inr i)))
+    each_sent (x ∷ lives) (t ∷ ts) h sent =
+        (sent x t (inl (refl, refl)), each_sent lives ts h.1 (λ y u i. sent y u (inr i)))
 
 -- ---- moments
 
-pub drained : (hosts : List Host) (moments : List Moment) → HaveAddresses hosts → mail.IsRun hosts (crossings_of moments) → IsTimeline hosts moments
+pub drained : (hosts : List Host) (moments : List Moment) → HaveAddresses hosts
+    → mail.IsRun hosts (crossings_of moments) → IsTimeline hosts moments
     → AllSent moments (kept_in moments).book.lives (kept_in moments).handed
 drained hosts moments addresses run time =
-    each_sent hosts addresses moments run time (kept_in moments).book.lives (kept_in moments).handed (laws.handed hosts moments addresses run time) (sent_since hosts addresses moments run time)
+    each_sent hosts addresses moments run time (kept_in moments).book.lives (kept_in moments).handed
+    (laws.handed hosts moments addresses run time) (sent_since hosts addresses moments run time)
 
-all_drained : (hosts : List Host) (later earlier : List Moment) → HaveAddresses hosts → mail.IsRun hosts (crossings_of (later ++ earlier)) → IsTimeline hosts (later ++ earlier) → AllSent earlier (kept_in earlier).book.lives (kept_in earlier).handed
+all_drained : (hosts : List Host) (later earlier : List Moment) → HaveAddresses hosts
+    → mail.IsRun hosts (crossings_of (later ++ earlier)) → IsTimeline hosts (later ++ earlier)
+    → AllSent earlier (kept_in earlier).book.lives (kept_in earlier).handed
 all_drained hosts [] earlier addresses run time = drained hosts earlier addresses run time
-all_drained hosts (y ∷ later) earlier addresses run time = all_drained hosts later earlier addresses (mail_below hosts y (later ++ earlier) run) time.1
+all_drained hosts (y ∷ later) earlier addresses run time =
+    all_drained hosts later earlier addresses (mail_below hosts y (later ++ earlier) run) time.1
 
 -- ---- worlds
 
-pub world_drained : {C : Type 0} (seen : C → Seen) (hosts : List Host) (w : WorldState C) → (lawful : IsLawful seen hosts w) → AllDrained lawful.whole.moments
+pub world_drained : {C : Type 0} (seen : C → Seen) (hosts : List Host) (w : WorldState C)
+    → (lawful : IsLawful seen hosts w) → AllDrained lawful.whole.moments
 world_drained seen hosts w lawful later earlier is =
-    all_drained hosts later earlier lawful.addresses (subst (λ (ms : List Moment). mail.IsRun hosts (crossings_of ms)) is (book_run seen hosts w lawful)) (subst (λ (ms : List Moment). IsTimeline hosts ms) is lawful.whole.timeline)
+    all_drained hosts later earlier lawful.addresses (subst (λ (ms : List Moment). mail.IsRun hosts (crossings_of ms)) is (book_run seen hosts w lawful))
+    (subst (λ (ms : List Moment). IsTimeline hosts ms) is lawful.whole.timeline)

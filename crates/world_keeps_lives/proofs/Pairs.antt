@@ -40,7 +40,8 @@ IsPair x t [] handed = ⊥
 IsPair x t (y ∷ lives) [] = ⊥
 IsPair x t (y ∷ lives) (u ∷ handed) = ((x ≡ y) × (t ≡ u)) ⊎ IsPair x t lives handed
 
-pub pair_there : (x : Life) (t : List Bool) (lives : List Life) (handed : List (List Bool)) → IsPair x t lives handed → Contains lives x
+pub pair_there : (x : Life) (t : List Bool) (lives : List Life) (handed : List (List Bool)) → IsPair x t lives handed
+    → Contains lives x
 pair_there x t [] handed i = absurd i
 pair_there x t (y ∷ lives) [] i = absurd i
 pair_there x t (y ∷ lives) (u ∷ handed) (inl e) = (0, omega arith, sym e.0)
@@ -48,7 +49,8 @@ pair_there x t (y ∷ lives) (u ∷ handed) (inr i) =
     let c : Contains lives x = pair_there x t lives handed i in
     (suc c.0, (let l : c.0 < length lives = c.1 in omega (arith, l)), c.2)
 
-pair_more : (x : Life) (t : List Bool) (lives : List Life) (handed : List (List Bool)) (more : List Life) (rest : List (List Bool))
+pair_more : (x : Life) (t : List Bool) (lives : List Life) (handed : List (List Bool))
+    (more : List Life) (rest : List (List Bool))
     → IsPair x t lives handed → IsPair x t (lives ++ more) (handed ++ rest)
 pair_more x t [] handed more rest i = absurd i
 pair_more x t (y ∷ lives) [] more rest i = absurd i
@@ -56,7 +58,8 @@ pair_more x t (y ∷ lives) (u ∷ handed) more rest (inl e) = inl e
 pair_more x t (y ∷ lives) (u ∷ handed) more rest (inr i) = inr (pair_more x t lives handed more rest i)
 
 -- what was sent is a prefix of what was handed over
-pub pair_front : (x : Life) (t : List Bool) (lives : List Life) (handed : List (List Bool)) → AreHanded lives handed → IsPair x t lives handed
+pub pair_front : (x : Life) (t : List Bool) (lives : List Life) (handed : List (List Bool)) → AreHanded lives handed
+    → IsPair x t lives handed
     → sends x ≡ true → IsPrefix x.bits t
 pair_front x t [] handed h i s = absurd i
 pair_front x t (y ∷ lives) [] h i s = absurd i
@@ -77,22 +80,27 @@ pair_parted x t (y ∷ lives) (u ∷ handed) (inr i) =
     let r : (front : List Life) × (rest : List Life) × (lives ≡ front ++ x ∷ rest) = pair_parted x t lives handed i in
     (y ∷ r.0, r.1, ap (λ (zs : List Life). y ∷ zs) r.2)
 
-two_first : (x y z : Life) (u : List Bool) (lives : List Life) (handed : List (List Bool)) → x ≡ z → IsPair y u lives handed → AreTwo (z ∷ lives) x y
+two_first : (x y z : Life) (u : List Bool) (lives : List Life) (handed : List (List Bool)) → x ≡ z
+    → IsPair y u lives handed → AreTwo (z ∷ lives) x y
 two_first x y z u lives handed e i =
     let p : (front : List Life) × (rest : List Life) × (lives ≡ front ++ y ∷ rest) = pair_parted y u lives handed i in
     ([], p.0, p.1, ap (λ (w : Life). w ∷ lives) (sym e) ∙ ap (λ (ws : List Life). x ∷ ws) p.2)
 
 -- two lives with one own request are at one place
 pub pair_one : (x y : Life) (t u : List Bool) (lives : List Life) (handed : List (List Bool))
-    → ((v w : Life) → AreTwo lives v w → own_request v ≡ own_request w → ⊥) → own_request x ≡ own_request y → IsPair x t lives handed → IsPair y u lives handed
+    → ((v w : Life) → AreTwo lives v w → own_request v ≡ own_request w → ⊥) → own_request x ≡ own_request y
+    → IsPair x t lives handed → IsPair y u lives handed
     → (x ≡ y) × (t ≡ u)
 pair_one x y t u [] handed once e i j = absurd i
 pair_one x y t u (z ∷ lives) [] once e i j = absurd i
 pair_one x y t u (z ∷ lives) (s ∷ handed) once e (inl i) (inl j) = (i.0 ∙ sym j.0, i.1 ∙ sym j.1)
-pair_one x y t u (z ∷ lives) (s ∷ handed) once e (inl i) (inr j) = absurd (once x y (two_first x y z u lives handed i.0 j) e)
-pair_one x y t u (z ∷ lives) (s ∷ handed) once e (inr i) (inl j) = absurd (once y x (two_first y x z t lives handed j.0 i) (sym e))
+pair_one x y t u (z ∷ lives) (s ∷ handed) once e (inl i) (inr j) =
+    absurd (once x y (two_first x y z u lives handed i.0 j) e)
+pair_one x y t u (z ∷ lives) (s ∷ handed) once e (inr i) (inl j) =
+    absurd (once y x (two_first y x z t lives handed j.0 i) (sym e))
 pair_one x y t u (z ∷ lives) (s ∷ handed) once e (inr i) (inr j) =
-    pair_one x y t u lives handed (λ v w two. once v w (z ∷ two.0, two.1, two.2, ap (λ (ws : List Life). z ∷ ws) two.3)) e i j
+    pair_one x y t u lives handed
+    (λ v w two. once v w (z ∷ two.0, two.1, two.2, ap (λ (ws : List Life). z ∷ ws) two.3)) e i j
 
 -- ---- a life later
 
@@ -106,7 +114,15 @@ pub record Next (x y : Life) : Type 0 where
   pub front : IsPrefix x.bits y.bits
 
 next_itself : (x : Life) → Next x x
-next_itself x = record { host = refl; peer = refl; socket = refl; foreign = refl; stamp = refl; over = λ e. refl; front = ([], append-nil x.bits) }
+next_itself x = record {
+  host = refl;
+  peer = refl;
+  socket = refl;
+  foreign = refl;
+  stamp = refl;
+  over = λ e. refl;
+  front = ([], append-nil x.bits);
+}
 
 next_then : (x y z : Life) → Next x y → Next y z → Next x z
 next_then x y z m n = record {
@@ -120,7 +136,8 @@ next_then x y z m n = record {
 }
 
 -- a life that isn't over is changed
-going_then : (x y : Life) → x.ended ≡ false → y.host ≡ x.host → y.peer ≡ x.peer → y.socket ≡ x.socket → y.foreign ≡ x.foreign → y.own_stamp ≡ x.own_stamp
+going_then : (x y : Life) → x.ended ≡ false → y.host ≡ x.host → y.peer ≡ x.peer → y.socket ≡ x.socket
+    → y.foreign ≡ x.foreign → y.own_stamp ≡ x.own_stamp
     → IsPrefix x.bits y.bits → Next x y
 going_then x y goes host peer socket foreign stamp front = record {
   host = host;
@@ -152,9 +169,12 @@ not_both b c t = not_is c (both b (not c) t).1
 goes_at : (h : Host) (socket : ℕ) (x : Life) → lives_at h socket x ≡ true → x.ended ≡ false
 goes_at h socket x t = not_both (same_host h x.host && x.socket == socket) x.ended t
 
-goes_between : (h : Host) (socket : ℕ) (p : Host) (foreign : ℕ) (x : Life) → lives_between h socket p foreign x ≡ true → x.ended ≡ false
+goes_between : (h : Host) (socket : ℕ) (p : Host) (foreign : ℕ) (x : Life) → lives_between h socket p foreign x ≡ true
+    → x.ended ≡ false
 goes_between h socket p foreign x t =
-    goes_at h socket x (both (lives_at h socket x) (same_host p x.peer) (both (lives_at h socket x && same_host p x.peer) (x.foreign == foreign) t).0).0
+    goes_at h socket x
+    (both (lives_at h socket x) (same_host p x.peer)
+    (both (lives_at h socket x && same_host p x.peer) (x.foreign == foreign) t).0).0
 
 goes_with : (h p : Host) (x : Life) → lives_with h p x ≡ true → x.ended ≡ false
 goes_with h p x t = not_both (same_host h x.host && same_host p x.peer) x.ended t
@@ -169,18 +189,23 @@ pub record Later (x : Life) (t : List Bool) (lives : List Life) (handed : List (
   pub there : IsPair life t lives handed
   pub next : Next x life
 
-as_is : (x : Life) (t : List Bool) (lives : List Life) (handed : List (List Bool)) → IsPair x t lives handed → Later x t lives handed
+as_is : (x : Life) (t : List Bool) (lives : List Life) (handed : List (List Bool)) → IsPair x t lives handed
+    → Later x t lives handed
 as_is x t lives handed i = record { life = x; there = i; next = next_itself x }
 
-pair_where : (test : Life → Bool) (f : Life → Life) (x : Life) (t : List Bool) (lives : List Life) (handed : List (List Bool)) → IsPair x t lives handed
+pair_where : (test : Life → Bool) (f : Life → Life) (x : Life) (t : List Bool)
+    (lives : List Life) (handed : List (List Bool))
+    → IsPair x t lives handed
     → IsPair (changed_when (test x) f x) t (where_it test f lives) handed
 pair_where test f x t [] handed i = absurd i
 pair_where test f x t (y ∷ lives) [] i = absurd i
 pair_where test f x t (y ∷ lives) (u ∷ handed) (inl e) = inl (ap (λ (z : Life). changed_when (test z) f z) e.0, e.1)
 pair_where test f x t (y ∷ lives) (u ∷ handed) (inr i) = inr (pair_where test f x t lives handed i)
 
-later_where : (test : Life → Bool) (f : Life → Life) (x : Life) (t : List Bool) (lives : List Life) (handed : List (List Bool))
-    → ((y : Life) → test y ≡ true → y.ended ≡ false) → ((y : Life) → y.ended ≡ false → Next y (f y)) → IsPair x t lives handed
+later_where : (test : Life → Bool) (f : Life → Life) (x : Life) (t : List Bool)
+    (lives : List Life) (handed : List (List Bool))
+    → ((y : Life) → test y ≡ true → y.ended ≡ false) → ((y : Life) → y.ended ≡ false → Next y (f y))
+    → IsPair x t lives handed
     → Later x t (where_it test f lives) handed
 later_where test f x t lives handed goes changes i = record {
   life = changed_when (test x) f x;
@@ -191,15 +216,22 @@ later_where test f x t lives handed goes changes i = record {
   by true e = changes x (goes x e)
   by false e = next_itself x
 
-told_later : (h : Host) (n : Notice) (x : Life) (t : List Bool) (lives : List Life) (handed : List (List Bool)) → IsPair x t lives handed
+told_later : (h : Host) (n : Notice) (x : Life) (t : List Bool) (lives : List Life) (handed : List (List Bool))
+    → IsPair x t lives handed
     → Later x t (lives_told h n lives) (handed_told n handed)
-told_later h (notice.Opened socket peer foreign own partner) x t lives handed i = as_is x t _ _ (pair_more x t lives handed _ _ i)
+told_later h (notice.Opened socket peer foreign own partner) x t lives handed i =
+    as_is x t _ _ (pair_more x t lives handed _ _ i)
 told_later h (notice.Ended socket peer foreign) x t lives handed i =
-    later_where (lives_between h socket peer foreign) life_ended x t lives handed (goes_between h socket peer foreign) ending_then i
-told_later h (notice.PairReset peer) x t lives handed i = later_where (lives_with h peer) life_ended x t lives handed (goes_with h peer) ending_then i
-told_later h (notice.Sent socket bits) x t lives handed i = later_where (lives_at h socket) (carried bits) x t lives handed (goes_at h socket) (carried_then bits) i
-told_later h (notice.Arrived socket bits) x t lives handed i = later_where (lives_at h socket) (carried bits) x t lives handed (goes_at h socket) (carried_then bits) i
-told_later h (notice.Returned socket m n) x t lives handed i = later_where (lives_at h socket) (returned m n) x t lives handed (goes_at h socket) (returned_then m n) i
+    later_where (lives_between h socket peer foreign) life_ended x t lives handed
+    (goes_between h socket peer foreign) ending_then i
+told_later h (notice.PairReset peer) x t lives handed i =
+    later_where (lives_with h peer) life_ended x t lives handed (goes_with h peer) ending_then i
+told_later h (notice.Sent socket bits) x t lives handed i =
+    later_where (lives_at h socket) (carried bits) x t lives handed (goes_at h socket) (carried_then bits) i
+told_later h (notice.Arrived socket bits) x t lives handed i =
+    later_where (lives_at h socket) (carried bits) x t lives handed (goes_at h socket) (carried_then bits) i
+told_later h (notice.Returned socket m n) x t lives handed i =
+    later_where (lives_at h socket) (returned m n) x t lives handed (goes_at h socket) (returned_then m n) i
 told_later h (notice.Ready peer) x t lives handed i = as_is x t lives handed i
 told_later h (notice.ContactFailed peer) x t lives handed i = as_is x t lives handed i
 told_later h (notice.Interrupt socket) x t lives handed i = as_is x t lives handed i
@@ -210,12 +242,16 @@ all_later : (h : Host) (ns : List Notice) (k : Kept) (x : Life) (t : List Bool) 
     → Later x t (all_told h ns k).book.lives (all_told h ns k).handed
 all_later h [] k x t i = as_is x t k.book.lives k.handed i
 all_later h (n ∷ ns) k x t i =
-    let one : Later x t (book_told h n k).book.lives (book_told h n k).handed = told_later h n x t k.book.lives k.handed i in
-    let more : Later one.life t (all_told h ns (book_told h n k)).book.lives (all_told h ns (book_told h n k)).handed = all_later h ns (book_told h n k) one.life t one.there in
+    let one : Later x t (book_told h n k).book.lives (book_told h n k).handed =
+    told_later h n x t k.book.lives k.handed i in
+    let more : Later one.life t (all_told h ns (book_told h n k)).book.lives (all_told h ns (book_told h n k)).handed =
+    all_later h ns (book_told h n k) one.life t one.there in
     record { life = more.life; there = more.there; next = next_then x one.life more.life one.next more.next }
 
-crossed_later : (c : Crossing) (x : Life) (t : List Bool) (lives : List Life) (handed : List (List Bool)) → IsPair x t lives handed → Later x t (lives_crossed c lives) handed
-crossed_later (crossing.Down h) x t lives handed i = later_where (lives_on h) life_ended x t lives handed (goes_on h) ending_then i
+crossed_later : (c : Crossing) (x : Life) (t : List Bool) (lives : List Life) (handed : List (List Bool))
+    → IsPair x t lives handed → Later x t (lives_crossed c lives) handed
+crossed_later (crossing.Down h) x t lives handed i =
+    later_where (lives_on h) life_ended x t lives handed (goes_on h) ending_then i
 crossed_later (crossing.Up h) x t lives handed i = as_is x t lives handed i
 crossed_later (crossing.Out m) x t lives handed i = as_is x t lives handed i
 crossed_later (crossing.In m) x t lives handed i = as_is x t lives handed i
@@ -226,20 +262,26 @@ abbrev pub IsUnsent : Moment → Life → Type 0
 IsUnsent (Asked h (request.Send socket bits)) x = lives_at h socket x ≡ false
 IsUnsent y x = Unit {0}
 
-pair_handed : (test : Life → Bool) (bits : List Bool) (x : Life) (t : List Bool) (lives : List Life) (handed : List (List Bool)) → test x ≡ false
+pair_handed : (test : Life → Bool) (bits : List Bool) (x : Life) (t : List Bool)
+    (lives : List Life) (handed : List (List Bool))
+    → test x ≡ false
     → IsPair x t lives handed → IsPair x t lives (handed_to test bits lives handed)
 pair_handed test bits x t [] handed off i = absurd i
 pair_handed test bits x t (y ∷ lives) [] off i = absurd i
 pair_handed test bits x t (y ∷ lives) (u ∷ handed) off (inl e) = by (test y) refl where
-  by : (b : Bool) → test y ≡ b → ((x ≡ y) × (t ≡ (if b then u ++ bits else u))) ⊎ IsPair x t lives (handed_to test bits lives handed)
+  by : (b : Bool) → test y ≡ b
+      → ((x ≡ y) × (t ≡ (if b then u ++ bits else u))) ⊎ IsPair x t lives (handed_to test bits lives handed)
   by true is = absurd (let no : true ≡ false = sym is ∙ ap test (sym e.0) ∙ off in cc)
   by false is = inl e
 pair_handed test bits x t (y ∷ lives) (u ∷ handed) off (inr i) = inr (pair_handed test bits x t lives handed off i)
 
-asked_later : (h : Host) (r : Request) (x : Life) (t : List Bool) (lives : List Life) (handed : List (List Bool)) → IsUnsent (Asked h r) x → IsPair x t lives handed
+asked_later : (h : Host) (r : Request) (x : Life) (t : List Bool) (lives : List Life) (handed : List (List Bool))
+    → IsUnsent (Asked h r) x → IsPair x t lives handed
     → Later x t (lives_asked h r lives) (handed_asked h r lives handed)
-asked_later h (request.Send socket bits) x t lives handed off i = as_is x t lives _ (pair_handed (lives_at h socket) bits x t lives handed off i)
-asked_later h (request.Grant socket m n) x t lives handed off i = later_where (lives_at h socket) (granted m n) x t lives handed (goes_at h socket) (granted_then m n) i
+asked_later h (request.Send socket bits) x t lives handed off i =
+    as_is x t lives _ (pair_handed (lives_at h socket) bits x t lives handed off i)
+asked_later h (request.Grant socket m n) x t lives handed off i =
+    later_where (lives_at h socket) (granted m n) x t lives handed (goes_at h socket) (granted_then m n) i
 asked_later h (request.Contact peer) x t lives handed off i = as_is x t lives handed i
 asked_later h (request.Listen socket size) x t lives handed off i = as_is x t lives handed i
 asked_later h (request.OpenSend peer own foreign size) x t lives handed off i = as_is x t lives handed i
@@ -254,9 +296,12 @@ kept_later : (y : Moment) (k : Kept) (x : Life) (t : List Bool) → IsUnsent y x
 kept_later (Crossed c) k x t off i = crossed_later c x t k.book.lives k.handed i
 kept_later (Asked h r) k x t off i = asked_later h r x t k.book.lives k.handed off i
 
-pub moment_later : (y : Moment) (ms : List Moment) (x : Life) (t : List Bool) → IsUnsent y x → IsPair x t (kept_in ms).book.lives (kept_in ms).handed
+pub moment_later : (y : Moment) (ms : List Moment) (x : Life) (t : List Bool) → IsUnsent y x
+    → IsPair x t (kept_in ms).book.lives (kept_in ms).handed
     → Later x t (kept_in (y ∷ ms)).book.lives (kept_in (y ∷ ms)).handed
 moment_later y ms x t off i =
-    let one : Later x t (kept_by y (kept_in ms)).book.lives (kept_by y (kept_in ms)).handed = kept_later y (kept_in ms) x t off i in
-    let more : Later one.life t (kept_in (y ∷ ms)).book.lives (kept_in (y ∷ ms)).handed = all_later (host_in y) (notices_by y ms) (kept_by y (kept_in ms)) one.life t one.there in
+    let one : Later x t (kept_by y (kept_in ms)).book.lives (kept_by y (kept_in ms)).handed =
+    kept_later y (kept_in ms) x t off i in
+    let more : Later one.life t (kept_in (y ∷ ms)).book.lives (kept_in (y ∷ ms)).handed =
+    all_later (host_in y) (notices_by y ms) (kept_by y (kept_in ms)) one.life t one.there in
     record { life = more.life; there = more.there; next = next_then x one.life more.life one.next more.next }
