@@ -5,3 +5,4 @@
 #![tactic(auto)]
 
 pub mod law;
+pub mod worked;

@@ -1,0 +1,126 @@
+use Rattle.std.proofs.Common.{◌≡◌, ◌⊎◌, inl, inr, ◌<◌, ℕ, zero, suc, Bool, true, false, List, [], ◌∷◌, ◌++◌, if◌then◌else◌, Option, None, drop, length, slice_index_or, refl, ap, sym, subst, ◌∙◌, arith}
+use Rattle.std.specs.List.{Contains}
+use Rattle.bit_messages.specs.Octets.{octets_of}
+use Rattle.interface.specs.declared.crossing.Crossing.TheVariants as crossing
+use Rattle.ncp_control.specs.Numbers.{is_receive_socket}
+use Rattle.ncp_control.specs.Packing.{packed_count}
+use Rattle.ncp_control.specs.Reading.{read_of, command_of}
+use Rattle.stream_law.proofs.lemmas.{some_is}
+use Rattle.host_pairs.specs.Control.{orders_of}
+use Rattle.host_pairs.specs.declared.entry.Entry.{Entry}
+use Rattle.host_keeps_streams.specs.Histories.{HasClosed, name_now, numbered}
+use Rattle.sockets.specs.Accepting.{accepted}
+use Rattle.sockets.specs.Pairs.{pair_with}
+use Rattle.sockets.specs.Requests.{refusal, served, served_notices}
+use Rattle.sockets.specs.Sending.{next_out, offered}
+use Rattle.sockets.specs.Worked.{first, second}
+use Rattle.net_sim.specs.Safe.{receives}
+use Rattle.net_sim.specs.Story.{Crossed, Moment, program}
+use Rattle.net_sim.specs.Told.{kept_in}
+use Rattle.net_sim.specs.WorkedMoments.{sent_moments}
+use Rattle.net_sim.specs.declared.life.Life.{Life}
+use Rattle.world_keeps_lives.specs.Lives.{mine_on}
+use Rattle.world_keeps_streams.specs.Calls.{own_calls}
+use Rattle.world_keeps_streams.specs.Closes.{IsClosedByPartner, WasClosedByPartner}
+use Rattle.world_keeps_streams.specs.Worked.{close_sent, quit_moments, took}
+use Rattle.world_keeps_streams.proofs.worked.worked_past_closes.Goals as goal
+
+-- ---- whether the partner of a life has closed its end
+
+first_closed : List Entry → Bool
+first_closed [] = false
+first_closed (e ∷ es) = e.partner_closed
+
+has_closed : List Moment → Life → Bool
+has_closed ms x = first_closed (mine_on x.socket (pair_with x.peer (program x.host ms).peers).entries)
+
+none_closed : List Moment → List Life → Bool
+none_closed ms [] = true
+none_closed ms (x ∷ xs) = if has_closed ms x then false else none_closed ms xs
+
+-- of no life up to now
+never_closed : List Moment → Bool
+never_closed [] = true
+never_closed (m ∷ ms) = if none_closed (m ∷ ms) (kept_in (m ∷ ms)).book.lives then never_closed ms else false
+
+-- ---- what these say
+
+by_two : (a b : Bool) → (if a then b else false) ≡ true → (a ≡ true) × (b ≡ true)
+by_two true b e = (refl, e)
+by_two false b e = absurd (cc)
+
+not_one : (closed others : Bool) → (if closed then false else others) ≡ true → (closed ≡ false) × (others ≡ true)
+not_one true others e = absurd (cc)
+not_one false others e = (refl, e)
+
+none_of : (ms : List Moment) (xs : List Life) (x : Life) → none_closed ms xs ≡ true → Contains xs x → has_closed ms x ≡ false
+unfolding none_closed
+none_of ms [] x none (k, lt, is) = absurd (omega (arith, lt))
+none_of ms (y ∷ ys) x none (zero, lt, is) = subst (λ (z : Life). has_closed ms z ≡ false) is (not_one (has_closed ms y) (none_closed ms ys) none).0
+none_of ms (y ∷ ys) x none (suc k, lt, is) = none_of ms ys x (not_one (has_closed ms y) (none_closed ms ys) none).1 (k, omega (arith, lt), is)
+
+none_now : (ms : List Moment) (x : Life) → never_closed ms ≡ true → Contains (kept_in ms).book.lives x → has_closed ms x ≡ false
+unfolding never_closed
+none_now [] x never (k, lt, is) = absurd (omega (arith, lt))
+none_now (m ∷ ms) x never there = none_of (m ∷ ms) (kept_in (m ∷ ms)).book.lives x (by_two (none_closed (m ∷ ms) (kept_in (m ∷ ms)).book.lives) (never_closed ms) never).0 there
+
+earlier_too : (m : Moment) (ms : List Moment) → never_closed (m ∷ ms) ≡ true → never_closed ms ≡ true
+unfolding never_closed
+earlier_too m ms never = (by_two (none_closed (m ∷ ms) (kept_in (m ∷ ms)).book.lives) (never_closed ms) never).1
+
+all_earlier : (later earlier : List Moment) → never_closed (later ++ earlier) ≡ true → never_closed earlier ≡ true
+all_earlier [] earlier never = never
+all_earlier (m ∷ later) earlier never = all_earlier later earlier (earlier_too m (later ++ earlier) never)
+
+not_then : (ms : List Moment) (x : Life) → never_closed ms ≡ true → IsClosedByPartner ms x → ⊥
+unfolding has_closed first_closed
+not_then ms x never f =
+    let unclosed : has_closed ms x ≡ false = none_now ms x never f.there in
+    let both : false ≡ true = sym unclosed ∙ ap first_closed f.end.one ∙ f.closed in
+    absurd (cc)
+
+not_so_far : (ms : List Moment) (x : Life) → never_closed ms ≡ true → WasClosedByPartner ms x → ⊥
+not_so_far ms x never f = not_then f.earlier f.receiver (all_earlier f.later f.earlier (subst (λ (all : List Moment). never_closed all ≡ true) f.is never)) f.then
+
+-- it is so now, or it was
+since : (m : Moment) (ms later earlier : List Moment) → m ∷ ms ≡ later ++ earlier → (m ∷ ms ≡ earlier) ⊎ ((more : List Moment) × (ms ≡ more ++ earlier))
+since m ms [] earlier is = inl is
+since m ms (x ∷ later) earlier is = inr (later, ap (drop 1) is)
+
+-- ---- the two connections
+
+pub returns-clause-never : goal.returns-clause-never
+unfolding octets_of orders_of read_of command_of packed_count accepted refusal served served_notices next_out offered first_closed has_closed none_closed never_closed
+returns-clause-never c = not_so_far sent_moments _ refl
+
+first_link : List Entry → Option ℕ
+first_link [] = None
+first_link (e ∷ es) = e.link
+
+-- the receiving life, whose user closed before its partner's CLS came in
+quit_life : IsClosedByPartner quit_moments (slice_index_or (kept_in quit_moments).book.lives 1 took) → ⊥
+unfolding octets_of orders_of read_of command_of packed_count accepted refusal served served_notices next_out offered first_link
+quit_life f =
+    let link_is : 2 ≡ f.link = some_is 2 f.link (ap first_link f.end.one ∙ f.linked) in
+    f.unclosed (subst (λ (k : ℕ). HasClosed numbered second k (name_now numbered second (own_calls first second quit_moments) 16 33) (own_calls first second quit_moments)) link_is (inr (inr (inl (refl, refl)))))
+
+-- and the other life sends
+quit_there : (k : ℕ) (x : Life) → k < length (kept_in quit_moments).book.lives → slice_index_or (kept_in quit_moments).book.lives k x ≡ x → IsClosedByPartner quit_moments x → ⊥
+unfolding octets_of orders_of read_of command_of packed_count accepted refusal served served_notices next_out offered
+quit_there zero x lt is f = let both : false ≡ true = ap receives is ∙ f.receiving in absurd (cc)
+quit_there (suc zero) x lt is f = quit_life (subst (λ (y : Life). IsClosedByPartner quit_moments y) (sym is) f)
+quit_there (suc (suc k)) x lt is f = absurd (omega (arith, lt))
+
+pub returns-clause-quit : goal.returns-clause-quit
+unfolding octets_of orders_of read_of command_of packed_count accepted refusal served served_notices next_out offered first_closed has_closed none_closed never_closed
+returns-clause-quit c f = elim (since (Crossed (crossing.In close_sent)) (drop 1 quit_moments) f.later f.earlier f.is) [
+  | inl now ↦
+      let g : IsClosedByPartner quit_moments f.receiver = subst (λ (ms : List Moment). IsClosedByPartner ms f.receiver) (sym now) f.then in
+      quit_there g.there.0 f.receiver g.there.1 g.there.2 g
+  | inr (more, is) ↦
+      let never : never_closed (drop 1 quit_moments) ≡ true = refl in
+      not_then f.earlier f.receiver (all_earlier more f.earlier (subst (λ (all : List Moment). never_closed all ≡ true) is never)) f.then
+]
+
+pub returns-clause-sending : goal.returns-clause-sending
+returns-clause-sending c = λ ms x f. ap (λ n. is_receive_socket n.own) f.same ∙ f.then.receiving
