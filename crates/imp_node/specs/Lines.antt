@@ -40,10 +40,6 @@ told_from distances k (port ∷ ports) = told_by distances k port ++ told_from d
 abbrev pub route : State → ImpTurn
 route s = pump (told_from (vector_of s.routes) 0 s.ports) s
 
--- the frame that announces its distances at a port; none where the end there is down
-abbrev pub told_at : State → ℕ → Option Frame
-told_at s k = if (port_at s.ports k).up then Some (routes_frame (port_at s.ports k).line (vector_of s.routes)) else None
-
 -- ---- an end goes down or up
 
 abbrev pub end_refusal : State → ℕ → Option CarrierFault → Option CarrierFault

@@ -1,10 +1,10 @@
 //! Calls on the ends of lines: what is sent again, the distances that are announced, and ends that go down and up.
 
-ghost use Rattle.std.specs.Prelude.{◌≡◌, ◌==◌, ◌<◌, ◌++◌, ◌∷◌, [], true, false, length, map, nat_lt, slice_set, IfOk, OnOk, OnErr, IsSome};
+ghost use Rattle.std.specs.Prelude.{◌≡◌, ◌<◌, ◌++◌, ◌∷◌, [], true, false, length, map, nat_lt, slice_set, IfOk, OnOk, OnErr, IsSome};
 ghost use Rattle.imp_channel.specs.Holding.{packets_in};
 ghost use Rattle.imp_channel.specs.Line.{resent, opening_end, frames_of, channel_at};
 ghost use Rattle.imp_channel.specs.declared.frame.TheConstants.{ACKS};
-ghost use Rattle.routing.specs.RouteTable.{vector_of, loses};
+ghost use Rattle.routing.specs.RouteTable.{loses};
 ghost use Rattle.imp_node.specs.State.{port_at, down_port, with_port};
 ghost use Rattle.imp_node.specs.Lines as lines;
 ghost use Rattle.imp_node.specs.Lines.{on_port};
@@ -13,7 +13,7 @@ ghost use Rattle.imp_node.specs.Turns.{Turned, Takes, sends, resend_grows, route
 use crate::outgoing::push_frame;
 use crate::port::Port;
 use crate::{Imp, Outgoing};
-use imp_channel::{CHANNELS, Frame, Line};
+use imp_channel::{CHANNELS, Line};
 use interface::CarrierFault;
 use routing::Vector;
 use std::alloc::{AllocError, Global};
@@ -67,33 +67,11 @@ impl Imp {
         self.pump(frames)
     }
 
-    /// Returns whether no packet waits for a channel: `route` then changes nothing, and only sends the distances. This
-    /// takes no memory.
-    #[tactic(auto, using(crate::proofs::RestingLemmas::telling_alone))]
-    pub fn only_tells(&self) -> bool
-        ensures answer { result ≡ (length self.now.store == 0) }
-        ensures told { result ≡ true → lines.route self.now ≡ record { state = self.now; frames = lines.told_from (vector_of self.now.routes) 0 self.now.ports } }
-    {
-        self.store.is_empty()
-    }
-
     /// Returns how many ports it has.
     pub fn port_count(&self) -> u8
         ensures { result ≡ length self.now.ports }
     {
         self.ports.len() as u8
-    }
-
-    /// Returns the frame with its distances at a port; `None` where the end there is down or isn't there. This
-    /// takes no memory.
-    pub fn told_at(&self, port: u8) -> Option<Frame>
-        ensures { result ≡ lines.told_at self.now port }
-    {
-        if !self.is_live(port) {
-            return None;
-        }
-        let distances = self.routes.vector();
-        Some(self.ports[port as usize].line.routes_frame(distances))
     }
 
     /// Returns whether its end at this port is up; an end that isn't there is not.

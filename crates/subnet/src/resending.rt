@@ -10,7 +10,7 @@ ghost use Rattle.subnet.specs.Calls.{grows_at};
 ghost use Rattle.subnet.specs.Events as events;
 ghost use Rattle.subnet.specs.declared.imp_call.ImpCall.TheVariants as call;
 ghost use Rattle.subnet.specs.Inside.Calling.{AreLive, SameLog, call_turn, call_grows};
-ghost use Rattle.subnet.specs.Inside.Telling.{OnlyResends, resent};
+ghost use Rattle.subnet.specs.Inside.Telling.{resent};
 
 use crate::imp_call::ImpCall;
 use crate::lines::Lines;
@@ -32,19 +32,10 @@ impl Parts {
         ensures memory { OnErr result (grows_at (imp_at self.old.imps imp) (call_grows call.Resend) ≡ true) }
         ensures keeps { SameLog self.old self.new }
     {
-        if !self.only_resends(imp) {
+        if !self.only_puts(imp) {
             return self.attempt(imp, ImpCall::Resend);
         }
         self.put_resent(imp)
-    }
-
-    /// Returns whether the IMP of this number is up and would send again and do nothing else.
-    fn only_resends(&self, imp: u8) -> bool
-        ensures sends { result ≡ true → OnlyResends (imp_at self.now.imps imp) }
-        ensures there { result ≡ true → imp < length self.now.imps }
-    {
-        let at = imp as usize;
-        at < self.imps.len() && only_resends(&self.imps[at])
     }
 
     /// Puts the frames that an IMP sends again on the lines at its ports, if it is up.
@@ -58,17 +49,6 @@ impl Parts {
         ensures keeps { SameLog self.old self.new }
     {
         resend_at(&mut self.lines, imp, &self.imps[imp as usize])
-    }
-}
-
-/// Returns whether the IMP of a place is up and would send again and do nothing else.
-#[tactic(auto, using(crate::proofs::Calls::Resending::resends_alone))]
-fn only_resends(place: &Option<Imp>) -> bool
-    ensures { result ≡ true → OnlyResends place.now }
-{
-    match place {
-        Some(imp) => imp.store().is_empty(),
-        None => false,
     }
 }
 

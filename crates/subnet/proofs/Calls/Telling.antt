@@ -3,12 +3,12 @@ use Rattle.std.specs.Prelude.{if◌then◌else◌}
 use Rattle.std.proofs.Common.{◌≡◌, ℕ, ◌+◌, ◌<◌, ◌≤◌, zero, suc, Bool, true, false, List, [], ◌∷◌, ◌++◌, length, drop, set, nat_lt, Option, Some, None, Result, Ok, Err, OnOk, OnErr, refl, ap, sym, subst, ◌∙◌, arith}
 use Rattle.std.proofs.lemmas.List.{drop_more, set-get_or, length-append}
 use Rattle.std.proofs.lemmas.Bool.Decides.{nat_tests}
-use Rattle.imp_channel.specs.declared.frame.Frame.{Frame}
 use Rattle.imp_channel.specs.Line.{routes_frame}
 use Rattle.routing.specs.RouteTable.{vector_of}
 use Rattle.imp_node.specs.declared.outgoing.Outgoing.{Outgoing}
 use Rattle.imp_node.specs.declared.port.Port.{Port}
-use Rattle.imp_node.specs.Lines.{on_port, told_at, told_by, told_from, route}
+use Rattle.imp_node.specs.Lines.{on_port, told_by, told_from, route}
+use Rattle.imp_node.proofs.lemmas.{pump_with}
 use Rattle.imp_node.specs.State.{State, ImpTurn, port_at, down_port}
 use Rattle.subnet.specs.Net.{Net, Wire, imp_at, put_one, put_all, with_turn}
 use Rattle.subnet.specs.Events.{at_imp}
@@ -20,25 +20,21 @@ use Rattle.imp_node.specs.Turns.{sends}
 
 -- ---- one port
 
-abbrev frames_of : ℕ → Option Frame → List Outgoing
-frames_of k None = []
-frames_of k (Some f) = on_port k f ∷ []
+-- the frame with these distances at a port, if it is live
+abbrev told_if : List ℕ → ℕ → Port → Bool → List Outgoing
+told_if distances k port live = if live then on_port k (routes_frame port.line distances) ∷ [] else []
 
-by_up : (up : Bool) (k : ℕ) (tells : Frame) → (if up then on_port k tells ∷ [] else []) ≡ frames_of k (if up then Some tells else None)
-by_up true k tells = refl
-by_up false k tells = refl
+pub one_told : (distances : List ℕ) (k i : ℕ) (port : Port) (lines : List Wire) → port.up ≡ true
+    → put_one lines i (on_port k (routes_frame port.line distances)) ≡ put_all lines i (told_by distances k port)
+one_told distances k i port lines up = ap (λ (live : Bool). put_all lines i (told_if distances k port live)) (sym up)
 
-told_here : (s : State) (k : ℕ) (o : Option Frame) → told_at s k ≡ o → told_by (vector_of s.routes) k (port_at s.ports k) ≡ frames_of k o
-told_here s k o is = by_up (port_at s.ports k).up k (routes_frame (port_at s.ports k).line (vector_of s.routes)) ∙ ap (frames_of k) is
+pub one_some : (distances : List ℕ) (k : ℕ) (port : Port) → port.up ≡ true → 0 < length (told_by distances k port)
+one_some distances k port up = omega (arith, ap (λ (live : Bool). length (told_if distances k port live)) up)
 
-pub one_told : (s : State) (k i : ℕ) (f : Frame) (lines : List Wire) → told_at s k ≡ Some f → put_one lines i (on_port k f) ≡ put_all lines i (told_by (vector_of s.routes) k (port_at s.ports k))
-one_told s k i f lines is = ap (put_all lines i) (sym (told_here s k (Some f) is))
-
-pub one_some : (s : State) (k : ℕ) (f : Frame) → told_at s k ≡ Some f → 0 < length (told_by (vector_of s.routes) k (port_at s.ports k))
-one_some s k f is = omega (arith, ap (λ (outs : List Outgoing). length outs) (told_here s k (Some f) is))
-
-pub none_told : (s : State) (k i : ℕ) (lines : List Wire) → told_at s k ≡ None → lines ≡ put_all lines i (told_by (vector_of s.routes) k (port_at s.ports k))
-none_told s k i lines is = ap (put_all lines i) (sym (told_here s k None is))
+pub none_told : (distances : List ℕ) (k i : ℕ) (port : Port) (lines : List Wire) → port.up ≡ false
+    → lines ≡ put_all lines i (told_by distances k port)
+none_told distances k i port lines down =
+    ap (λ (live : Bool). put_all lines i (told_if distances k port live)) (sym down)
 
 -- ---- one port after the other
 
@@ -83,6 +79,11 @@ pub some_told : (s : State) (k : ℕ) → k < length s.ports → 0 < length (tol
 some_told s k within some = some_of_all (told_by (vector_of s.routes)) s.ports (told_from (vector_of s.routes) 0 s.ports) k (all_told (vector_of s.routes) 0 s.ports) within some
 
 -- ---- the subnet
+
+-- where no packet waits, it does nothing else
+pub tells_alone : (s : State) → length s.store ≡ 0
+    → route s ≡ record { state = s; frames = told_from (vector_of s.routes) 0 s.ports }
+tells_alone s none = pump_with (told_from (vector_of s.routes) 0 s.ports) s none
 
 turned : (turn : State → ImpTurn) (frames : State → List Outgoing) (n : Net) (i : ℕ) (o : Option State) → imp_at n.imps i ≡ o → OnlyPuts turn frames o → record n { lines = put_all n.lines i (frames_by_up frames o) } ≡ at_imp o i turn n
 turned turn frames n i None at only = refl
