@@ -220,9 +220,14 @@ fn rewind(frames: &mut VecDeque<Frame>)
 fn follow(frames: &mut VecDeque<Frame>, frame: Frame) -> Result<(), AllocError>
     ensures { OnOk result (frames.new.items ≡ followed_by frames.old.items frame) }
 {
-    if frames.len() < LINE_PLACES {
-        frames.reserve(1)?;
-        frames.push_back_reserved(frame);
+    if frames.len() >= LINE_PLACES {
+        return Ok(());
     }
+    if frames.len() < frames.capacity() {
+        frames.push_back_reserved(frame);
+        return Ok(());
+    }
+    frames.reserve(1)?;
+    frames.push_back_reserved(frame);
     Ok(())
 }
