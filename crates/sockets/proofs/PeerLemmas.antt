@@ -2,7 +2,6 @@
 use Rattle.std.proofs.Common.{◌≡◌, ℕ, ◌<◌, ◌≤◌, ◌-◌, ◌++◌, Bool, true, false, not, ◌&&◌, ◌==◌, List, [], ◌∷◌, length, find, Option, Some, None, Result, Ok, Err, OnOk, slice_set, slice_index_or, refl, ap, sym, subst, ◌∙◌, arith, suc, zero, nat_lt, eq-eqb}
 use Rattle.std.specs.List.{count_by}
 use Rattle.std.proofs.lemmas.List.Sums.{length-filter, count_by-le-length}
-use Rattle.std.specs.List.{insert, remove}
 use Rattle.std.specs.List.Sorted.{IsPartitionPoint, IsPartitionedBy}
 use Rattle.std.proofs.lemmas.Bool.{eqb-true, ltb-true, ltb-false}
 use Rattle.interface.specs.Host.{Host, IsAddress, same_host, address_octet}
@@ -12,16 +11,12 @@ use Rattle.ncp_control.specs.declared.command.Command.{Command}
 use Rattle.host_pairs.specs.Asked.{commanded, requested, with_end, with_more_bits}
 use Rattle.host_pairs.specs.Commands.{granted}
 use Rattle.host_pairs.specs.Pair.{PairState, is_opening}
-use Rattle.ncp_control.specs.Phases.{is_closed, is_ready}
-use Rattle.host_pairs.specs.Turn.{freed, is_quiet}
-use Rattle.ncp_control.specs.declared.phase.Phase.{Phase}
-use Rattle.ncp_control.specs.declared.phase.Phase.TheVariants as phase
 use Rattle.host_pairs.specs.Entries.{changed_first, is_mine_on}
 use Rattle.host_pairs.specs.declared.entry.Entry.{Entry}
 use Rattle.sockets.specs.Memory.{newly_known}
 use Rattle.sockets.specs.Pairs.{NcpState, owner_of, pair_in, pair_with, placed, without_peer, with_pair}
 use Rattle.sockets.specs.Requests.{at_owner}
-use Rattle.sockets.specs.Peers.{StandAbove, AreInOrder}
+use Rattle.sockets.specs.Peers.{AreInOrder, IsMissing, StandAbove, StandsAt}
 use Rattle.sockets.specs.declared.peer.Peer.{Peer}
 
 -- ---- hosts
@@ -100,12 +95,6 @@ differs_below h p lt false e = refl
 other_below : (h : Host) (p : Peer) → below h p ≡ true → same_host h p.host ≡ false
 other_below h p lt = differs_below h p lt (same_host h p.host) refl
 
--- a host that is here is found here, goes from here, and is placed here
-pub record StandsAt (h : Host) (ps : List Peer) (at : ℕ) : Type 0 where
-  pub found : (d : Peer) → find (λ (p : Peer). same_host h p.host) ps ≡ Some (slice_index_or ps at d)
-  pub removed : remove ps at ≡ without_peer h ps
-  pub placed : (q : PairState) → slice_set ps at (record { host = h; pair = q }) ≡ placed (record { host = h; pair = q }) ps
-
 each_above : (n : ℕ) (ps : List Peer) → StandAbove n ps → (j : ℕ) (d : Peer) → j < length ps → n < address_octet (slice_index_or ps j d).host
 each_above n [] s j d lt = absurd (omega (arith, lt))
 each_above n (p ∷ ps) s zero d lt = s.0
@@ -118,6 +107,8 @@ less_by m n lt false e = absurd (omega (arith, lt, ltb-false m n e))
 pub stands_at : (h : Host) (n : ℕ) (ps : List Peer) (at : ℕ) (d : Peer) → StandAbove n ps → at < length ps → same_host h (slice_index_or ps at d).host ≡ true → StandsAt h ps at
 stands_at h n [] at d s lt e = absurd (omega (arith, lt))
 stands_at h n (p ∷ ps) zero d s lt e = record {
+  there = lt;
+  host = λ x. sym (same_host-true h p.host e);
   found = λ x. rw e refl;
   removed = rw e (sym (kept_above h (address_octet p.host) ps (omega (arith, same_octet h p.host e)) s.2));
   placed = λ q. rw (not_less (address_octet p.host) (address_octet h) (omega (arith, same_octet h p.host e)), e) refl;
@@ -129,6 +120,8 @@ stands_at h n (p ∷ ps) (suc at) d s lt e =
     let less : below h p ≡ true = less_by (address_octet p.host) (address_octet h) before (nat_lt (address_octet p.host) (address_octet h)) refl in
     let o : same_host h p.host ≡ false = other_below h p less in
     record {
+      there = lt;
+      host = λ x. r.host x;
       found = λ x. rw o (r.found x);
       removed = rw o (ap (λ (qs : List Peer). p ∷ qs) r.removed);
       placed = λ q. rw less (ap (λ (qs : List Peer). p ∷ qs) (r.placed q));
@@ -137,21 +130,16 @@ stands_at h n (p ∷ ps) (suc at) d s lt e =
 less_of : (m n : ℕ) → n ≤ m → (n ≡ m → ⊥) → n < m
 less_of m n le ne = omega (arith, le, ne)
 
--- a host that isn't here, where it would be, is nowhere, and is placed here
-pub record IsMissing (h : Host) (ps : List Peer) (at : ℕ) : Type 0 where
-  pub found : find (λ (p : Peer). same_host h p.host) ps ≡ None
-  pub removed : without_peer h ps ≡ ps
-  pub placed : (q : PairState) → insert ps at (record { host = h; pair = q }) ≡ placed (record { host = h; pair = q }) ps
-
 pub is_missing : (h : Host) (n : ℕ) (ps : List Peer) (at : ℕ) → IsAddress h → StandAbove n ps → Parts h ps at → at ≤ length ps
     → (at < length ps → (d : Peer) → same_host h (slice_index_or ps at d).host ≡ false) → IsMissing h ps at
-is_missing h n [] zero a s t le e = record { found = refl; removed = refl; placed = λ q. refl }
+is_missing h n [] zero a s t le e = record { within = le; found = refl; removed = refl; placed = λ q. refl }
 is_missing h n [] (suc at) a s t le e = absurd (omega (arith, le))
 is_missing h n (p ∷ ps) zero a s t le e =
     let o : same_host h p.host ≡ false = e (omega arith) p in
     let not_same : (address_octet h ≡ address_octet p.host) → ⊥ = λ w. (let y : same_host h p.host ≡ true = octet_names h p.host a s.1 w in absurd (cc)) in
     let above : address_octet h < address_octet p.host = less_of (address_octet p.host) (address_octet h) (ltb-false (address_octet p.host) (address_octet h) (first_not h p ps t)) not_same in
     record {
+      within = le;
       found = rw o (none_above h (address_octet p.host) ps (omega (arith, above)) s.2);
       removed = rw o (ap (λ (qs : List Peer). p ∷ qs) (kept_above h (address_octet p.host) ps (omega (arith, above)) s.2));
       placed = λ q. rw (first_not h p ps t, o) refl;
@@ -160,10 +148,21 @@ is_missing h n (p ∷ ps) (suc at) a s t le e =
     let r : IsMissing h ps at = is_missing h (address_octet p.host) ps at a s.2 (rest_parts h p ps at t) (omega (arith, le)) (λ lt d. e (omega (arith, lt)) d) in
     let o : same_host h p.host ≡ false = other_below h p (first_below h p ps at t) in
     record {
+      within = le;
       found = rw o r.found;
       removed = rw o (ap (λ (qs : List Peer). p ∷ qs) r.removed);
       placed = λ q. rw (first_below h p ps at t) (ap (λ (qs : List Peer). p ∷ qs) (r.placed q));
     }
+
+-- what is known of a host is at its place
+pub pair_at : (h : Host) (ps : List Peer) (at : ℕ) (p : Peer) → StandsAt h ps at → p ≡ slice_index_or ps at p → pair_with h ps ≡ p.pair
+pair_at h ps at p s is = ap (λ (o : Option Peer). pair_in o) (s.found p) ∙ ap (λ (q : Peer). q.pair) (sym is)
+
+-- another pair there is the pair of that host
+pub set_at : (h : Host) (ps : List Peer) (at : ℕ) (p : Peer) → StandsAt h ps at → p.host ≡ (slice_index_or ps at p).host
+    → slice_set ps at p ≡ placed (record { host = h; pair = p.pair }) ps
+set_at h ps at p s same =
+    ap (λ (g : Host). slice_set ps at (record { host = g; pair = p.pair })) (same ∙ s.host p) ∙ s.placed p.pair
 
 -- ---- the order is kept
 
@@ -248,22 +247,6 @@ swapped_by h o q ps false e = rw e (placed_twice h o q ps)
 pub again_swapped : (h : Host) (o q : PairState) (ps qs : List Peer) → qs ≡ placed (peer_at h o) ps → with_pair h q qs ≡ with_pair h q ps
 again_swapped h o q ps qs e = ap (λ (rs : List Peer). with_pair h q rs) e ∙ swapped_by h o q ps (is_opening q) refl
 
-more_step : (h : Host) (q : PairState) (p : Peer) (ps : List Peer) → find (λ (p : Peer). same_host h p.host) (p ∷ ps) ≡ None
-    → (find (λ (p : Peer). same_host h p.host) ps ≡ None → length ps < length (placed (peer_at h q) ps))
-    → (below same : Bool) → nat_lt (address_octet p.host) (address_octet h) ≡ below → same_host h p.host ≡ same → length (p ∷ ps) < length (placed (peer_at h q) (p ∷ ps))
-more_step h q p ps none rest below true e f = absurd (let some : Some p ≡ None = rw f at none in cc)
-more_step h q p ps none rest true false e f =
-    let later : find (λ (p : Peer). same_host h p.host) ps ≡ None = rw f at none in
-    let more : length ps < length (placed (peer_at h q) ps) = rest later in
-    rw e (omega (arith, more))
-more_step h q p ps none rest false false e f = rw (e, f) (omega arith)
-
--- one host more is known
-pub missing_more : (h : Host) (q : PairState) (ps : List Peer) → find (λ (p : Peer). same_host h p.host) ps ≡ None → length ps < length (placed (record { host = h; pair = q }) ps)
-missing_more h q [] none = omega arith
-missing_more h q (p ∷ ps) none =
-    more_step h q p ps none (λ later. missing_more h q ps later) (nat_lt (address_octet p.host) (address_octet h)) (same_host h p.host) refl refl
-
 -- ---- the search
 
 partitioned_at : (h : Host) (n : ℕ) (ps : List Peer) → StandAbove n ps → (i j : ℕ) (d : Peer) → i ≤ j → j < length ps
@@ -343,31 +326,18 @@ order_removed h ps qs s e = subst (λ (rs : List Peer). AreInOrder rs) (sym e) (
 pub order_placed : (p : Peer) (ps qs : List Peer) → IsAddress p.host → AreInOrder ps → qs ≡ placed p ps → AreInOrder qs
 order_placed p ps qs a s e = subst (λ (rs : List Peer). AreInOrder rs) (sym e) (placed_above 0 p ps (omega (arith, a.imp_from)) a s)
 
--- ---- a link that is freed where the pair is
+-- ---- a pair that changes where it is
 
-ready_not_closed : (p : Phase) → is_ready p ≡ true → is_closed p ≡ false
-ready_not_closed phase.Closed e = absurd (cc)
-ready_not_closed phase.Want e = absurd (cc)
-ready_not_closed (phase.Gone early) e = absurd (cc)
-ready_not_closed phase.Heard e = absurd (cc)
-ready_not_closed phase.Ready e = refl
+-- a pair that isn't in the initial state is kept
+changes_to : (h : Host) (change : PairState → PairState) (q : PairState) (ps qs : List Peer) → is_opening (change (pair_with h ps)) ≡ false
+    → q ≡ change (pair_with h ps) → qs ≡ placed (record { host = h; pair = q }) ps → qs ≡ with_pair h (change (pair_with h ps)) ps
+changes_to h change q ps qs stays is put = rw stays (put ∙ ap (λ (r : PairState). placed (record { host = h; pair = r }) ps) is)
 
-quiet_stays : (link : ℕ) (q : PairState) → is_quiet q ≡ true → is_opening (freed link q) ≡ false
-quiet_stays link q quiet = rw (ready_not_closed q.phase (and_both _ _ quiet).0) refl
-
-pub quiet_there : (h : Host) (at : ℕ) (p : Peer) (ps : List Peer) → ((d : Peer) → find (λ (p : Peer). same_host h p.host) ps ≡ Some (slice_index_or ps at d)) → p ≡ slice_index_or ps at p
-    → is_quiet p.pair ≡ true → is_quiet (pair_with h ps) ≡ true
-quiet_there h at p ps found stands quiet =
-    let pair : pair_with h ps ≡ p.pair = ap (λ (o : Option Peer). pair_in o) (found p) ∙ ap (λ (q : Peer). q.pair) (sym stands) in
-    rw pair quiet
-
-pub freed_there : (h : Host) (link at : ℕ) (p : Peer) (ps qs : List Peer) → ((d : Peer) → find (λ (p : Peer). same_host h p.host) ps ≡ Some (slice_index_or ps at d)) → p ≡ slice_index_or ps at p
-    → is_quiet p.pair ≡ true → ((d : Peer) → qs ≡ placed (record { host = h; pair = freed link (slice_index_or ps at d).pair }) ps)
-    → qs ≡ with_pair h (freed link (pair_with h ps)) ps
-freed_there h link at p ps qs found stands quiet is =
-    let pair : pair_with h ps ≡ p.pair = ap (λ (o : Option Peer). pair_in o) (found p) ∙ ap (λ (q : Peer). q.pair) (sym stands) in
-    let put : qs ≡ placed (record { host = h; pair = freed link p.pair }) ps = is p ∙ ap (λ (q : Peer). placed (record { host = h; pair = freed link q.pair }) ps) (sym stands) in
-    rw (pair, quiet_stays link p.pair quiet) put
+pub done_to : (h : Host) (change : PairState → PairState) (done : Result (Unit {0}) AllocError) (q : PairState) (ps qs : List Peer)
+    → is_opening (change (pair_with h ps)) ≡ false → OnOk done (q ≡ change (pair_with h ps)) → qs ≡ placed (record { host = h; pair = q }) ps
+    → OnOk done (qs ≡ with_pair h (change (pair_with h ps)) ps)
+done_to h change (Err e) q ps qs stays is put = tt
+done_to h change (Ok x) q ps qs stays is put = changes_to h change q ps qs stays is put
 
 -- ---- a command that waits where the pair is
 
@@ -383,50 +353,14 @@ and_last : (b : Bool) → (b && false) ≡ false
 and_last true = refl
 and_last false = refl
 
-command_stays : (c : Command) (q : PairState) → is_opening (commanded c q) ≡ false
+pub command_stays : (c : Command) (q : PairState) → is_opening (commanded c q) ≡ false
 command_stays c q = rw (more_commands c q.queue) (and_last _)
 
-changed_at : (h : Host) (change : PairState → PairState) (at : ℕ) (d : Peer) (ps qs : List Peer) → ((q : PairState) → is_opening (change q) ≡ false)
-    → ((d : Peer) → find (λ (p : Peer). same_host h p.host) ps ≡ Some (slice_index_or ps at d))
-    → qs ≡ placed (record { host = h; pair = change (slice_index_or ps at d).pair }) ps → qs ≡ with_pair h (change (pair_with h ps)) ps
-changed_at h change at d ps qs stays found put =
-    let pair : pair_with h ps ≡ (slice_index_or ps at d).pair = ap (λ (o : Option Peer). pair_in o) (found d) in
-    rw (pair, stays (slice_index_or ps at d).pair) put
-
-changed_there : (h : Host) (change : PairState → PairState) (at : ℕ) (ps qs : List Peer) (done : Result (Unit {0}) AllocError) → ((q : PairState) → is_opening (change q) ≡ false)
-    → at < length ps → ((d : Peer) → find (λ (p : Peer). same_host h p.host) ps ≡ Some (slice_index_or ps at d))
-    → OnOk done ((d : Peer) → qs ≡ placed (record { host = h; pair = change (slice_index_or ps at d).pair }) ps)
-    → OnOk done (qs ≡ with_pair h (change (pair_with h ps)) ps)
-changed_there h change at ps qs (Err e) stays there found is = tt
-changed_there h change at [] qs (Ok x) stays there found is = absurd (omega (arith, there))
-changed_there h change at (p ∷ ps) qs (Ok x) stays there found is = changed_at h change at p (p ∷ ps) qs stays found (is p)
-
-pub commanded_there : (h : Host) (c : Command) (at : ℕ) (ps qs : List Peer) (done : Result (Unit {0}) AllocError) → at < length ps
-    → ((d : Peer) → find (λ (p : Peer). same_host h p.host) ps ≡ Some (slice_index_or ps at d))
-    → OnOk done ((d : Peer) → qs ≡ placed (record { host = h; pair = commanded c (slice_index_or ps at d).pair }) ps)
-    → OnOk done (qs ≡ with_pair h (commanded c (pair_with h ps)) ps)
-commanded_there h c at ps qs done there found is = changed_there h (commanded c) at ps qs done (command_stays c) there found is
-
-request_stays : (e : Entry) (c : Command) (q : PairState) → is_opening (requested e c q) ≡ false
+pub request_stays : (e : Entry) (c : Command) (q : PairState) → is_opening (requested e c q) ≡ false
 request_stays e c q = rw (more_commands c q.queue) (and_last _)
 
--- and so with a new end and its request
-pub requested_there : (h : Host) (e : Entry) (c : Command) (at : ℕ) (ps qs : List Peer) (done : Result (Unit {0}) AllocError) → at < length ps
-    → ((d : Peer) → find (λ (p : Peer). same_host h p.host) ps ≡ Some (slice_index_or ps at d))
-    → OnOk done ((d : Peer) → qs ≡ placed (record { host = h; pair = requested e c (slice_index_or ps at d).pair }) ps)
-    → OnOk done (qs ≡ with_pair h (requested e c (pair_with h ps)) ps)
-requested_there h e c at ps qs done there found is = changed_there h (requested e c) at ps qs done (request_stays e c) there found is
-
-grant_stays : (s messages bits : ℕ) (c : Command) (q : PairState) → is_opening (commanded c (with_end s (granted messages bits) q)) ≡ false
+pub grant_stays : (s messages bits : ℕ) (c : Command) (q : PairState) → is_opening (commanded c (with_end s (granted messages bits) q)) ≡ false
 grant_stays s messages bits c q = rw (more_commands c q.queue) (and_last _)
-
--- and so with more that is granted
-pub granted_there : (h : Host) (s messages bits : ℕ) (c : Command) (at : ℕ) (ps qs : List Peer) (done : Result (Unit {0}) AllocError) → at < length ps
-    → ((d : Peer) → find (λ (p : Peer). same_host h p.host) ps ≡ Some (slice_index_or ps at d))
-    → OnOk done ((d : Peer) → qs ≡ placed (record { host = h; pair = commanded c (with_end s (granted messages bits) (slice_index_or ps at d).pair) }) ps)
-    → OnOk done (qs ≡ with_pair h (commanded c (with_end s (granted messages bits) (pair_with h ps))) ps)
-granted_there h s messages bits c at ps qs done there found is =
-    changed_there h (λ (q : PairState). commanded c (with_end s (granted messages bits) q)) at ps qs done (grant_stays s messages bits c) there found is
 
 -- ---- bits that wait where the pair is
 
@@ -439,16 +373,5 @@ as_many : (test : Entry → Bool) (change : Entry → Entry) (es : List Entry) �
 as_many test change [] = refl
 as_many test change (e ∷ es) = as_many_by test change e es (as_many test change es) (test e) refl
 
-bits_stay : (s : ℕ) (bits : List Bool) (q : PairState) → is_opening q ≡ false → is_opening (with_end s (with_more_bits bits) q) ≡ false
+pub bits_stay : (s : ℕ) (bits : List Bool) (q : PairState) → is_opening q ≡ false → is_opening (with_end s (with_more_bits bits) q) ≡ false
 bits_stay s bits q other = rw (as_many (is_mine_on s) (with_more_bits bits) q.entries) other
-
-pub added_there : (h : Host) (s : ℕ) (bits : List Bool) (at : ℕ) (p : Peer) (ps qs : List Peer) (done : Result (Unit {0}) AllocError)
-    → ((d : Peer) → find (λ (p : Peer). same_host h p.host) ps ≡ Some (slice_index_or ps at d)) → p ≡ slice_index_or ps at p → is_opening p.pair ≡ false
-    → OnOk done ((d : Peer) → qs ≡ placed (record { host = h; pair = with_end s (with_more_bits bits) (slice_index_or ps at d).pair }) ps)
-    → OnOk done (qs ≡ with_pair h (with_end s (with_more_bits bits) (pair_with h ps)) ps)
-added_there h s bits at p ps qs (Err e) found stands other is = tt
-added_there h s bits at p ps qs (Ok x) found stands other is =
-    let pair : pair_with h ps ≡ p.pair = ap (λ (o : Option Peer). pair_in o) (found p) ∙ ap (λ (q : Peer). q.pair) (sym stands) in
-    let put : qs ≡ placed (record { host = h; pair = with_end s (with_more_bits bits) p.pair }) ps =
-    is p ∙ ap (λ (q : Peer). placed (record { host = h; pair = with_end s (with_more_bits bits) q.pair }) ps) (sym stands) in
-    rw (pair, bits_stay s bits p.pair other) put

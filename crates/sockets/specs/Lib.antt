@@ -1,3 +1,4 @@
+pub mod Peer
 pub mod Pairs
 pub mod Peers
 pub mod Accepting

@@ -1,16 +1,13 @@
-use Rattle.std.proofs.Common.{◌≡◌, ◌<◌, List, find, length, Some, OnOk, slice_index_or, rules, subst}
-use Rattle.interface.specs.Host.{same_host}
+use Rattle.std.proofs.Common.{◌≡◌, OnOk, rules}
 use Rattle.host_pairs.specs.Asked.{commanded, with_end}
 use Rattle.host_pairs.specs.Commands.{granted}
-use Rattle.sockets.specs.Pairs.{pair_with, with_pair}
-use Rattle.sockets.specs.declared.peer.Peer.{Peer}
-use Rattle.sockets.proofs.PeerLemmas.{granted_there}
+use Rattle.host_pairs.specs.Pair.{PairState}
+use Rattle.sockets.specs.Pairs.{pair_with}
+use Rattle.sockets.proofs.PeerLemmas.{done_to, grant_stays}
 use Rattle.sockets.proofs.peers.Peers.grant.Goals as goal
 
 pub returns-in-Ok : goal.returns-in-Ok
 returns-in-Ok c =
-    let ps : List Peer = c.self.inside.peers.items in
-    let there : c.in-Ok.at < length ps = search rules in
-    let found : (d : Peer) → find (λ (p : Peer). same_host c.args.host p.host) ps ≡ Some (slice_index_or ps c.in-Ok.at d) = λ d. search rules in
-    subst (λ (qs : List Peer). OnOk c.grant_at-done.result (c.grant_at-done.new.peers.items ≡ with_pair c.args.host (commanded c.args.command (with_end c.args.socket (granted c.args.messages c.args.bits) (pair_with c.args.host qs))) qs)) c.self.view_is
-    (granted_there c.args.host c.args.socket c.args.messages c.args.bits c.args.command c.in-Ok.at ps c.grant_at-done.new.peers.items c.grant_at-done.result there found c.grant_at-done.ensures.granted)
+    let is : OnOk c.change.result (c.change.ensures.0 ≡ commanded c.args.command (with_end c.args.socket (granted c.args.messages c.args.bits) (pair_with c.args.host c.args.self.now))) = search rules in
+    done_to c.args.host (λ (q : PairState). commanded c.args.command (with_end c.args.socket (granted c.args.messages c.args.bits) q)) c.change.result c.change.ensures.0 c.args.self.now c.change.new.self
+    (grant_stays c.args.socket c.args.messages c.args.bits c.args.command (pair_with c.args.host c.args.self.now)) is c.change.ensures.2
