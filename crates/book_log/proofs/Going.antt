@@ -4,7 +4,7 @@ use Rattle.std.proofs.lemmas.Bool.{eqb-true, false≢true}
 use Rattle.std.proofs.lemmas.List.{length-append, map-append}
 use Rattle.std.proofs.lemmas.List.Elements.{All-cons, All-head, All-nil, All-tail}
 use Rattle.std.specs.List.{All}
-use Rattle.net_sim.specs.declared.life.Life.{Life}
+use Rattle.promise.specs.declared.life.Life.{Life}
 use Rattle.script.specs.Steps.{Lacks}
 use Rattle.book_log.specs.Log.{Book, IsBadLine, IsBook, IsCrossing, IsHanded, IsLife, IsLog, text_of_lines}
 use Rattle.book_log.specs.Steps.{IsLine, added, is_bare, line_text, opening_book}

@@ -10,7 +10,7 @@ use Rattle.interface.specs.declared.crossing.Answer.{Answer}
 use Rattle.interface.specs.declared.crossing.Answer.TheVariants as answer
 use Rattle.interface.specs.declared.crossing.Crossing.TheVariants as crossing
 use Rattle.interface.specs.declared.message.HostMessage.{HostMessage}
-use Rattle.net_sim.specs.declared.life.Life.{Life}
+use Rattle.promise.specs.declared.life.Life.{Life}
 use Rattle.script.specs.Spelling.{IsFlow, IsHost, IsMessage, ReadsAs, octets_text}
 use Rattle.script.specs.Steps.{Lacks}
 use Rattle.script.proofs.lemmas.{unmarked_where}

@@ -10,8 +10,8 @@ use Rattle.interface.specs.declared.crossing.Answer.{Answer}
 use Rattle.interface.specs.declared.crossing.Answer.TheVariants as answer
 use Rattle.interface.specs.declared.crossing.Crossing.{Crossing}
 use Rattle.interface.specs.declared.message.HostMessage.{HostMessage}
-use Rattle.net_sim.specs.declared.life.Amount.{Amount}
-use Rattle.net_sim.specs.declared.life.Life.{Life}
+use Rattle.promise.specs.declared.life.Amount.{Amount}
+use Rattle.promise.specs.declared.life.Life.{Life}
 use Rattle.script.specs.Input.{ended_line}
 use Rattle.script.specs.Spelling.{IsFlow, IsMessage, octets_text}
 use Rattle.script.specs.Steps.{Lacks}

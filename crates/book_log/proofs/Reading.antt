@@ -4,7 +4,7 @@ use Rattle.std.specs.Prelude.{IsTrue, ◌↔◌}
 use Rattle.std.specs.Fmt.{decimal}
 use Rattle.interface.specs.declared.address.Flow.{Flow}
 use Rattle.interface.specs.declared.message.HostMessage.{HostMessage}
-use Rattle.net_sim.specs.declared.life.Life.{Life}
+use Rattle.promise.specs.declared.life.Life.{Life}
 use Rattle.script.specs.Spelling.{IsMessage, octets_text}
 use Rattle.world_replay.specs.Printed.{kind_text}
 use Rattle.book_log.specs.Log.{IsHanded, IsLife}

@@ -10,8 +10,8 @@ use Rattle.interface.specs.declared.address.Flow.{Flow}
 use Rattle.interface.specs.declared.crossing.Answer.{Answer}
 use Rattle.interface.specs.declared.crossing.Crossing.TheVariants as crossing
 use Rattle.interface.specs.declared.message.HostMessage.{HostMessage}
-use Rattle.net_sim.specs.declared.life.Amount.{Amount}
-use Rattle.net_sim.specs.declared.life.Life.{Life}
+use Rattle.promise.specs.declared.life.Amount.{Amount}
+use Rattle.promise.specs.declared.life.Life.{Life}
 use Rattle.script.specs.Spelling.{IsFlow, IsHost, octets_text}
 use Rattle.std.specs.declared.alloc.AllocError.{AllocError}
 use Rattle.world_replay.specs.Printed.{kind_text, state_text}

@@ -5,7 +5,7 @@ use Rattle.book_log.specs.Log.{log_text}
 use Rattle.interface.specs.declared.crossing.Crossing.{Crossing}
 use Rattle.net_sim.specs.Carriers.{shown}
 use Rattle.net_sim.specs.World.{WorldState, opening_world}
-use Rattle.net_sim.specs.declared.life.Life.{Life}
+use Rattle.promise.specs.declared.life.Life.{Life}
 use Rattle.replay.specs.Output.{Shown, crossings_of, output}
 use Rattle.interface.specs.Calls.{Calls}
 use Rattle.replay.specs.Settled.{AreSettled}

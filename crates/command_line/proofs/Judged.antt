@@ -7,7 +7,7 @@ use Rattle.book_log.specs.Log.{Book, IsLog}
 use Rattle.interface.specs.declared.crossing.Crossing.{Crossing}
 use Rattle.net_sim.specs.Audit.{Says, part_text}
 use Rattle.net_sim.specs.declared.auditing.said.Audit.{Audit}
-use Rattle.net_sim.specs.declared.life.Life.{Life}
+use Rattle.promise.specs.declared.life.Life.{Life}
 use Rattle.net_sim.specs.declared.auditing.said.Audit.TheVariants as audit
 use Rattle.book_judge.specs.Runs.{IsSomeRun, StraysAt}
 use Rattle.command_line.specs.Audits.{Audited, AuditsLog, IsAuditFault, IsBookFault, IsLogReadFault, IsSomeLog, SaysOf, WritesSaid, WritesVerdict, kept_text, lines_of, lines_text, run_text}

@@ -3,7 +3,7 @@ use Rattle.std.proofs.Common.{◌≡◌, Bool, List, ◌++◌, Some, codes, sym,
 use Rattle.std.proofs.lemmas.List.{append_assoc}
 use Rattle.net_sim.specs.Carriers.{shown}
 use Rattle.net_sim.specs.World.{WorldState, opening_world}
-use Rattle.net_sim.specs.declared.life.Life.{Life}
+use Rattle.promise.specs.declared.life.Life.{Life}
 use Rattle.replay.specs.Output.{Shown, output}
 use Rattle.interface.specs.Calls.{Calls}
 use Rattle.replay.specs.Settled.{AreSettled}

@@ -11,14 +11,14 @@ use Rattle.interface.specs.Host.{Host}
 use Rattle.interface.specs.Mailboxes.{IsRun}
 use Rattle.interface.specs.Messages.{SafeMessages}
 use Rattle.interface.specs.declared.crossing.Crossing.{Crossing}
-use Rattle.net_sim.specs.Book.{Book}
-use Rattle.net_sim.specs.declared.book.Told.{Told}
-use Rattle.net_sim.specs.Formed.{FormedBook}
-use Rattle.net_sim.specs.Notices.{FormedNotices}
-use Rattle.net_sim.specs.Safe.{AreTwo, Match, SafeBook}
+use Rattle.promise.specs.Book.{Book}
+use Rattle.promise.specs.declared.book.Told.{Told}
+use Rattle.promise.specs.Formed.{FormedBook}
+use Rattle.promise.specs.Notices.{FormedNotices}
+use Rattle.promise.specs.Safe.{AreTwo, Match, SafeBook}
 use Rattle.net_sim.specs.World.{WorldState}
 use Rattle.net_sim.specs.declared.event.WorldFault.TheVariants.{Carrier}
-use Rattle.net_sim.specs.declared.life.Life.{Life}
+use Rattle.promise.specs.declared.life.Life.{Life}
 use Rattle.host_services.specs.declared.report.Reported.{Reported}
 use Rattle.icp.specs.declared.outcome.Outcome.TheVariants as outcome
 use Rattle.host_services.specs.declared.report.Report.TheVariants as report
@@ -29,7 +29,7 @@ use Rattle.script.specs.Input.{ended_line}
 use Rattle.topology.specs.Topology.{TopologyFields}
 use Rattle.topology.specs.declared.network.CarrierKind.{CarrierKind}
 use Rattle.topology.specs.declared.network.CarrierKind.TheVariants as kind
-use Rattle.world_keeps_connections.specs.Connections.{HasReported, IsConnected, IsEnd, JoinedBook}
+use Rattle.promise.specs.Connections.{HasReported, IsConnected, IsEnd, JoinedBook}
 use Rattle.world_replay.specs.Output as lines
 use Rattle.world_script.specs.declared.event.WorldEvent.{WorldEvent}
 use Rattle.subnet.specs.Working.{subnet_calls}

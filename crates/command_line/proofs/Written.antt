@@ -8,7 +8,7 @@ use Rattle.interface.specs.Messages.{SafeMessages}
 use Rattle.net_sim.specs.Book.{opening_kept}
 use Rattle.net_sim.specs.Carriers.{shown}
 use Rattle.net_sim.specs.World.{WorldState, opening_world}
-use Rattle.net_sim.specs.declared.life.Life.{Life}
+use Rattle.promise.specs.declared.life.Life.{Life}
 use Rattle.replay.specs.Output.{Writes, crossings_of, output}
 use Rattle.replay.specs.Replay.{EndsIn, Replays, StopsIn}
 use Rattle.interface.specs.Calls.{Calls}

@@ -1,7 +1,7 @@
 -- That several outputs are of one replay.
 use Rattle.std.specs.Prelude.{◌≡◌, ℕ, Bool, List, ◌++◌, codes}
 use Rattle.book_log.specs.Log.{Book, IsLog}
-use Rattle.net_sim.specs.declared.life.Life.{Life}
+use Rattle.promise.specs.declared.life.Life.{Life}
 use Rattle.replay.specs.declared.print.Detail.{Detail}
 use Rattle.world_replay.specs.Output.{Shown, crossings_of, output}
 use Rattle.command_line.specs.Replayed.{book_text}

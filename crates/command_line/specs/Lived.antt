@@ -2,8 +2,8 @@
 use Rattle.std.specs.Prelude.{◌≡◌, ℕ, suc, ◌==◌, if◌then◌else◌, List, [], ◌∷◌, map, length}
 use Rattle.interface.specs.declared.crossing.Crossing.{Crossing}
 use Rattle.net_sim.specs.Book.{lives_crossed, lives_told, nothing}
-use Rattle.net_sim.specs.declared.book.Told.{Told}
-use Rattle.net_sim.specs.declared.life.Life.{Life}
+use Rattle.promise.specs.declared.book.Told.{Told}
+use Rattle.promise.specs.declared.life.Life.{Life}
 
 -- a life without what its user granted, of which no line is printed
 abbrev pub ungranted : Life → Life

@@ -4,13 +4,13 @@ use Rattle.std.specs.Io.KnownBytes.{Appends}
 use Rattle.interface.specs.Host.{Host}
 use Rattle.interface.specs.Mailboxes.{IsRun}
 use Rattle.interface.specs.declared.crossing.Crossing.{Crossing}
-use Rattle.net_sim.specs.Book.{Book}
-use Rattle.net_sim.specs.Formed.{FormedBook}
-use Rattle.net_sim.specs.Notices.{FormedNotices}
-use Rattle.net_sim.specs.Safe.{SafeBook}
-use Rattle.net_sim.specs.declared.life.Life.{Life}
+use Rattle.promise.specs.Book.{Book}
+use Rattle.promise.specs.Formed.{FormedBook}
+use Rattle.promise.specs.Notices.{FormedNotices}
+use Rattle.promise.specs.Safe.{SafeBook}
+use Rattle.promise.specs.declared.life.Life.{Life}
 use Rattle.replay.specs.declared.print.Detail.{Detail}
-use Rattle.world_keeps_connections.specs.Connections.{JoinedBook}
+use Rattle.promise.specs.Connections.{JoinedBook}
 use Rattle.world_replay.specs.Output.{Shown, crossings_of, notices_of, output, reports_of}
 use Rattle.command_line.specs.Lived.{AreLived}
 use Rattle.command_line.specs.Replayed.{book_text}

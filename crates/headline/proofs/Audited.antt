@@ -4,12 +4,12 @@ use Rattle.std.specs.Prelude.{IsSome}
 use Rattle.interface.specs.declared.crossing.Crossing.{Crossing}
 use Rattle.interface.specs.Host.{Host}
 use Rattle.net_sim.specs.Audit.{IsWellFormed, Says}
-use Rattle.net_sim.specs.Book.{Book}
-use Rattle.headline.specs.Promised.{Promised}
+use Rattle.promise.specs.Book.{Book}
+use Rattle.promise.specs.Promised.{Promised}
 use Rattle.net_sim.specs.declared.auditing.said.Audit.TheVariants as said
-use Rattle.net_sim.specs.declared.life.Life.{Life}
-use Rattle.net_sim.specs.Formed.{FormedBook}
-use Rattle.net_sim.specs.Safe.{AreHanded, SafeBook, before, control_flow, last_out, named}
+use Rattle.promise.specs.declared.life.Life.{Life}
+use Rattle.promise.specs.Formed.{FormedBook}
+use Rattle.promise.specs.Safe.{AreHanded, SafeBook, before, control_flow, last_out, named}
 
 as_long : (lives : List Life) (handed : List (List Bool)) → AreHanded lives handed → length lives ≡ length handed
 as_long [] handed h = ap (λ (xs : List (List Bool)). length xs) (sym h)

@@ -8,7 +8,7 @@ use Rattle.net_sim.specs.Book.{Kept}
 use Rattle.net_sim.specs.Clean.{IsLawful}
 use Rattle.net_sim.specs.World.{WorldState}
 use Rattle.net_sim.proofs.lemmas.{booked_messages}
-use Rattle.headline.specs.Promised.{Promised}
+use Rattle.promise.specs.Promised.{Promised}
 use Rattle.headline.specs.Promise.{IsExact, KeepsPromise}
 use Rattle.world_keeps_connections.proofs.lemmas.{world_joined}
 use Rattle.world_keeps_lives.proofs.lemmas.{world_drained, world_formed, world_handed, world_taken, world_told}

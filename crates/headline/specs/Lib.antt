@@ -1,2 +1,1 @@
-pub mod Promised
 pub mod Promise

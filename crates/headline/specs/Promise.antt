@@ -1,11 +1,11 @@
 -- What the book of a world promises, and what ties it to the programs of all hosts.
 use Rattle.interface.specs.Calls.{Seen}
 use Rattle.net_sim.specs.Clean.{IsLawful}
-use Rattle.net_sim.specs.Formed.{FormedBook}
-use Rattle.net_sim.specs.Notices.{FormedNotices}
-use Rattle.net_sim.specs.Safe.{SafeBook}
+use Rattle.promise.specs.Formed.{FormedBook}
+use Rattle.promise.specs.Notices.{FormedNotices}
+use Rattle.promise.specs.Safe.{SafeBook}
 use Rattle.net_sim.specs.World.{WorldState}
-use Rattle.world_keeps_connections.specs.Connections.{JoinedBook}
+use Rattle.promise.specs.Connections.{JoinedBook}
 use Rattle.world_keeps_lives.specs.Drained.{AllDrained}
 use Rattle.world_keeps_lives.specs.Firsts.{FirstBook}
 use Rattle.world_keeps_streams.specs.Arrivals.{AllArrive}

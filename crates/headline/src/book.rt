@@ -2,7 +2,7 @@
 
 ghost use Rattle.std.specs.Prelude.{◌≡◌};
 ghost use Rattle.headline.specs.Promise.{IsExact};
-ghost use Rattle.headline.specs.Promised.{Promised};
+ghost use Rattle.promise.specs.Promised.{Promised};
 
 use interface::Carrier;
 use net_sim::{Book, World};

@@ -1,7 +1,7 @@
 //! That the two clauses of [`book_of`](crate::book_of) are one promise.
 
 ghost use Rattle.headline.specs.Promise.{IsExact, KeepsPromise};
-ghost use Rattle.headline.specs.Promised.{Promised};
+ghost use Rattle.promise.specs.Promised.{Promised};
 ghost use Rattle.net_sim.specs.World.{WorldState};
 
 use interface::Carrier;

@@ -6,9 +6,9 @@ use Rattle.interface.specs.Messages.{SafeMessages}
 use Rattle.interface.specs.declared.address.Flow.{Flow}
 use Rattle.interface.specs.declared.crossing.Crossing.{Crossing}
 use Rattle.interface.specs.declared.message.HostMessage.{HostMessage}
-use Rattle.net_sim.specs.Book.{Life}
-use Rattle.net_sim.specs.Formed.{CrossedAt, going, coming}
-use Rattle.net_sim.specs.Safe.{SafeBook, SafePartners, SafeStreams, SafeGrants, before, control_flow, last_out}
+use Rattle.promise.specs.declared.life.Life.{Life}
+use Rattle.promise.specs.Formed.{CrossedAt, going, coming}
+use Rattle.promise.specs.Safe.{SafeBook, SafePartners, SafeStreams, SafeGrants, before, control_flow, last_out}
 use Rattle.net_sim.specs.declared.auditing.said.Audit.{Audit}
 use Rattle.net_sim.specs.declared.auditing.said.Audit.TheVariants as audit
 use Rattle.net_sim.specs.declared.auditing.said.Part.{Part}

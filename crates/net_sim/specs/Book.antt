@@ -4,11 +4,11 @@ use Rattle.std.specs.Prelude.{ℕ, ◌+◌, ◌==◌, ◌&&◌, Bool, true, fals
 use Rattle.interface.specs.Host.{Host, same_host}
 use Rattle.interface.specs.declared.crossing.Crossing.{Crossing}
 use Rattle.interface.specs.declared.crossing.Crossing.TheVariants as crossing
-pub use Rattle.net_sim.specs.declared.book.Called.{Called}
-pub use Rattle.net_sim.specs.declared.book.Told.{Told}
-pub use Rattle.net_sim.specs.declared.life.Amount.{Amount}
-pub use Rattle.net_sim.specs.declared.life.Life.{Life}
-pub use Rattle.host_services.specs.declared.report.Reported.{Reported}
+use Rattle.promise.specs.Book.{Book}
+use Rattle.promise.specs.declared.life.Life.{Life}
+use Rattle.promise.specs.declared.life.Amount.{Amount}
+use Rattle.promise.specs.declared.book.Called.{Called}
+use Rattle.host_services.specs.declared.report.Reported.{Reported}
 use Rattle.host_pairs.specs.declared.notice.Notice.{Notice}
 use Rattle.host_pairs.specs.declared.notice.Notice.TheVariants as notice
 use Rattle.sockets.specs.declared.request.Request.{Request}
@@ -113,14 +113,6 @@ handed_asked h (request.Send socket bits) lives handed = handed_to (lives_at h s
 handed_asked h r lives handed = handed
 
 -- ---- the book
-
--- the crossings newest first; all else oldest first
-pub record Book : Type 0 where
-  pub crossings : List Crossing
-  pub notices : List Told
-  pub contacts : List Called
-  pub reports : List Reported
-  pub lives : List Life
 
 abbrev pub opening_book : Book
 opening_book = record { crossings = []; notices = []; contacts = []; reports = []; lives = [] }

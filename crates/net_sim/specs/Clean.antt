@@ -10,11 +10,11 @@ use Rattle.host_pairs.specs.declared.notice.Notice.{Notice}
 use Rattle.reset_law.specs.Events.{Other}
 use Rattle.reset_law.specs.Monitor.{monitor, IsAfter}
 use Rattle.reset_law.specs.Stays.{ready}
-use Rattle.net_sim.specs.Book.{Called}
+use Rattle.promise.specs.declared.book.Called.{Called}
 use Rattle.net_sim.specs.Carriers.{IsBooked}
 use Rattle.net_sim.specs.Projection.{message_on}
 use Rattle.net_sim.specs.Reports.{AreReported}
-use Rattle.net_sim.specs.Safe.{last_out}
+use Rattle.promise.specs.Safe.{last_out}
 use Rattle.net_sim.specs.Timeline.{events_in}
 use Rattle.net_sim.specs.Whole.{IsWhole}
 use Rattle.net_sim.specs.World.{WorldState}

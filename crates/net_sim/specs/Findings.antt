@@ -4,8 +4,8 @@ use Rattle.std.specs.List.{Contains, slice_get}
 use Rattle.interface.specs.Messages.{SafeMessages}
 use Rattle.interface.specs.declared.crossing.Crossing.{Crossing}
 use Rattle.net_sim.specs.Audit.{IsStamped}
-use Rattle.net_sim.specs.Book.{Life}
-use Rattle.net_sim.specs.Safe.{AreHanded, IsGranted, Match, SafePartners, Source, before, receives}
+use Rattle.promise.specs.declared.life.Life.{Life}
+use Rattle.promise.specs.Safe.{AreHanded, IsGranted, Match, SafePartners, Source, before, receives}
 use Rattle.net_sim.specs.declared.auditing.findings.Finding.{Finding}
 use Rattle.net_sim.specs.declared.auditing.findings.Finding.TheVariants as finding
 use Rattle.net_sim.specs.declared.auditing.said.Audit.{Audit}

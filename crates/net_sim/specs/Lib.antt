@@ -1,8 +1,5 @@
 pub mod Projection
 pub mod Book
-pub mod Safe
-pub mod Formed
-pub mod Notices
 pub mod Audit
 pub mod Findings
 pub mod Handed

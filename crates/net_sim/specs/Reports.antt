@@ -11,7 +11,8 @@ use Rattle.host_services.specs.declared.report.Report.{Report}
 use Rattle.host_services.specs.declared.report.Report.TheVariants as report
 use Rattle.host_services.specs.declared.service.Service.{Service}
 use Rattle.host_services.specs.declared.service.Service.TheVariants as service
-use Rattle.net_sim.specs.Book.{Reported, Told}
+use Rattle.promise.specs.declared.book.Told.{Told}
+use Rattle.host_services.specs.declared.report.Reported.{Reported}
 use Rattle.net_sim.specs.World.{ServiceSeat, WorldState}
 
 -- the notices to a host, by the notices of all hosts

@@ -6,7 +6,8 @@ use Rattle.interface.specs.declared.crossing.Crossing.TheVariants as crossing
 use Rattle.interface.specs.declared.message.HostMessage.{HostMessage}
 use Rattle.host_pairs.specs.declared.notice.Notice.TheVariants as notice
 use Rattle.sockets.specs.Worked.{first, second, on_link}
-use Rattle.net_sim.specs.Book.{Life, Told}
+use Rattle.promise.specs.declared.life.Life.{Life}
+use Rattle.promise.specs.declared.book.Told.{Told}
 use Rattle.net_sim.specs.Worked.{eight, giver, taker}
 use Rattle.net_sim.specs.WorkedMoments.{eight_sent, rts, str}
 

@@ -10,7 +10,8 @@ use Rattle.sockets.specs.Requests.{refusal}
 use Rattle.sockets.specs.Sending.{next_out}
 use Rattle.reset_law.specs.Boxes.{Box, Empty, Waiting, Taken}
 use Rattle.reset_law.specs.Events.{Event, Contact}
-use Rattle.net_sim.specs.Book.{Called, contacts_asked}
+use Rattle.promise.specs.declared.book.Called.{Called}
+use Rattle.net_sim.specs.Book.{contacts_asked}
 use Rattle.net_sim.specs.Projection.{event_of, message_on}
 use Rattle.net_sim.specs.Story.{Moment, Crossed, Asked, program, places}
 

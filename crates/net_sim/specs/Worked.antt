@@ -10,7 +10,9 @@ use Rattle.sockets.specs.Pairs.{opening_state}
 use Rattle.host_pairs.specs.declared.notice.Notice.TheVariants as notice
 use Rattle.sockets.specs.declared.request.Request.TheVariants as request
 use Rattle.sockets.specs.Worked.{first, second, third, on_link}
-use Rattle.net_sim.specs.Book.{Life, Kept, Told, opening_kept, all_crossed, book_told, asked}
+use Rattle.promise.specs.declared.life.Life.{Life}
+use Rattle.promise.specs.declared.book.Told.{Told}
+use Rattle.net_sim.specs.Book.{Kept, opening_kept, all_crossed, book_told, asked}
 use Rattle.net_sim.specs.World.{WorldState, opening_world, changed, served_at}
 
 -- ---- books

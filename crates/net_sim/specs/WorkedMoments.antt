@@ -8,7 +8,7 @@ use Rattle.host_pairs.specs.declared.notice.Notice.{Notice}
 use Rattle.sockets.specs.Worked as sockets
 use Rattle.sockets.specs.Worked.{control, first, second, on_link}
 use Rattle.sockets.specs.declared.request.Request.TheVariants as request
-use Rattle.net_sim.specs.Book.{Told}
+use Rattle.promise.specs.declared.book.Told.{Told}
 use Rattle.net_sim.specs.Story.{Moment, Crossed, Asked}
 use Rattle.net_sim.specs.Worked.{eight}
 use Rattle.net_sim.specs.WorkedResets.{rst, rrp}

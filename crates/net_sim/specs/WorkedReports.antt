@@ -5,7 +5,8 @@ use Rattle.host_pairs.specs.declared.notice.Notice.{Notice}
 use Rattle.host_pairs.specs.declared.notice.Notice.TheVariants as notice
 use Rattle.host_services.specs.declared.report.Report.{Report}
 use Rattle.icp.specs.Sockets.{socket_bits}
-use Rattle.net_sim.specs.Book.{Reported, Told}
+use Rattle.promise.specs.declared.book.Told.{Told}
+use Rattle.host_services.specs.declared.report.Reported.{Reported}
 use Rattle.sockets.specs.Worked.{first, second}
 
 abbrev pub said_to : Host → Notice → Told

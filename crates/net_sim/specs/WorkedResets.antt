@@ -9,7 +9,7 @@ use Rattle.ncp_control.specs.Command.{spelling}
 use Rattle.ncp_control.specs.declared.command.Command.TheVariants as command
 use Rattle.host_pairs.specs.Control.{control_text}
 use Rattle.sockets.specs.Worked.{first, second, on_link}
-use Rattle.net_sim.specs.Book.{Called}
+use Rattle.promise.specs.declared.book.Called.{Called}
 use Rattle.net_sim.specs.Worked.{message}
 
 abbrev pub call : Host → ℕ → Host → Called

@@ -14,11 +14,12 @@ ghost use Rattle.sockets.specs.declared.fault.NcpFault.{NcpFault};
 ghost use Rattle.sockets.specs.declared.fault.NcpFault.TheVariants as problem;
 
 use crate::WorldFault;
-use crate::book::{Book, Called, Page};
+use crate::book::{Book, Page};
 use crate::hosting::{tend, told_by, write_crossing};
 use crate::seat::{Seat, ServiceSeat};
 use host_services::{Deeds, ServiceDesk, copy_of};
 use interface::HostAddr;
+use promise::Called;
 use sockets::{Ncp, NcpFault, Notice, Request};
 use std::alloc::{AllocError, Global};
 

@@ -16,10 +16,9 @@ mod said;
 mod stamps;
 mod streams;
 
-use crate::bit_log::BitLog;
-use crate::life::Life;
 pub use findings::{Finding, locate};
 use interface::Crossing;
+use promise::{BitLog, Life};
 pub use said::{Audit, Part};
 
 /// Returns whether a log, its lives and what was handed over in each of them are a safe book. The log is the oldest

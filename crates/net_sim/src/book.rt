@@ -5,37 +5,14 @@ ghost use Rattle.net_sim.specs.Book.{all_crossed, all_told, asked, opening_kept}
 ghost use Rattle.net_sim.specs.Inside.Lives.{told_at, written};
 
 use crate::asking::add_called;
-use crate::bit_log::BitLog;
 use crate::hosting::copy_of;
-use crate::life::Life;
 use crate::lives::Lives;
 use host_services::Reported;
 use interface::{Crossing, HostAddr};
+use promise::{BitLog, Called, Life, Told};
 use sockets::{Notice, Request};
 use std::alloc::{AllocError, Global};
 use std::marker::Model;
-
-/// A notice to the user of a host.
-#[derive(Debug, Drop)]
-pub struct Told {
-    /// The host whose user it was.
-    pub host: HostAddr,
-    /// How many crossings there were.
-    pub place: usize,
-    /// The notice.
-    pub notice: Notice,
-}
-
-/// A contact that the user of a host asked for.
-#[derive(Clone, Copy, Debug, PartialEq, Eq)]
-pub struct Called {
-    /// The host whose user it was.
-    pub host: HostAddr,
-    /// How many crossings there were.
-    pub place: usize,
-    /// The peer that is contacted.
-    pub peer: HostAddr,
-}
 
 /// What happened in one step after something crossed, in this order.
 #[derive(Drop)]

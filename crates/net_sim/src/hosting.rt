@@ -14,10 +14,11 @@ ghost use Rattle.sockets.specs.Pairs.{NcpState};
 ghost use Rattle.sockets.specs.Sending.{offered};
 
 use crate::asking::called_in;
-use crate::book::{Book, Page, Told};
+use crate::book::{Book, Page};
 use crate::seat::{Seat, ServiceSeat};
 use host_services::{Deeds, ServiceDesk, Services};
 use interface::{Crossing, HostAddr, Inbound};
+use promise::Told;
 use sockets::{Ncp, Notice};
 use std::alloc::{AllocError, Global};
 

@@ -1,7 +1,7 @@
 //! Hosts with their programs over a carrier, and the book of all that happens to them.
 //!
-//! A world runs the program of each host (crate `sockets`) over any carrier (crate `leader1822`). Here it is defined, with
-//! its book and what that book promises of all connections. Proved for every carrier are the promise's part about
+//! A world runs the program of each host (crate `sockets`) over any carrier (crate `interface`). Here it is defined, with
+//! its book; what that promises of all connections is the crate `promise`. Proved for every carrier are its part about
 //! messages, and clean resets: the book is a run of the law of resets (crate `reset_law`), so a host that is through a reset
 //! with a peer takes of it, RST and RRP aside, only what went out after its last clean point.
 //!
@@ -12,7 +12,6 @@
 
 mod asking;
 mod auditing;
-mod bit_log;
 mod book;
 mod calm;
 mod event;
@@ -34,10 +33,9 @@ pub mod worked_resets;
 mod world;
 
 pub use auditing::{Audit, Finding, Part, audit, locate};
-pub use bit_log::BitLog;
-pub use book::{Book, Called, Told};
+pub use book::Book;
 pub use event::{Event, WorldFault};
 pub use host_services::{Report, Reported, TypedLine};
-pub use life::{Amount, Life};
+pub use promise::{Amount, BitLog, Called, Life, Told};
 pub use seat::{Seat, ServiceSeat};
 pub use world::World;

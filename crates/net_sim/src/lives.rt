@@ -11,14 +11,14 @@ ghost use Rattle.net_sim.specs.Inside.Lives.{LivesState};
 ghost use Rattle.net_sim.specs.Inside.Open.{AreKept, Holds};
 ghost use Rattle.net_sim.specs.Inside.Undo.{all_undone, GoesBack};
 
-use crate::bit_log::BitLog;
-use crate::book::{Page, Told};
-use crate::life::{Amount, Ending, Life};
+use crate::book::Page;
+use crate::life::{Ending, carry_at, end_at, give_back_at, grant_at, hand_at, nothing};
 use crate::open::Open;
 use crate::tally::Tally;
 use crate::undo::{Undo, take_back};
 use bit_messages::Bits;
 use interface::{Crossing, HostAddr};
+use promise::{Amount, BitLog, Life, Told};
 use sockets::{Notice, Request};
 use std::alloc::{AllocError, Global};
 use std::marker::Model;
@@ -65,7 +65,7 @@ fn end(
     ensures back { (handed : List (List Bool)) → GoesBack done.old.items (record { lives = lives.old; handed = handed }) done.new.items (record { lives = lives.new; handed = handed }) }
 {
     for at in places {
-        lives[*at].end_at(*at, ending, done)?;
+        end_at(&mut lives[*at], *at, ending, done)?;
     }
     Ok(())
 }
@@ -88,7 +88,7 @@ fn carry(
     ensures back { (handed : List (List Bool)) → GoesBack done.old.items (record { lives = lives.old; handed = handed }) done.new.items (record { lives = lives.new; handed = handed }) }
 {
     for at in places {
-        lives[*at].carry_at(*at, host, socket, bits, changes, done)?;
+        carry_at(&mut lives[*at], *at, host, socket, bits, changes, done)?;
     }
     Ok(())
 }
@@ -112,7 +112,16 @@ fn grant(
     ensures back { (handed : List (List Bool)) → GoesBack done.old.items (record { lives = lives.old; handed = handed }) done.new.items (record { lives = lives.new; handed = handed }) }
 {
     for at in places {
-        lives[*at].grant_at(*at, host, socket, messages, bits, changes, done)?;
+        grant_at(
+            &mut lives[*at],
+            *at,
+            host,
+            socket,
+            messages,
+            bits,
+            changes,
+            done,
+        )?;
     }
     Ok(())
 }
@@ -136,7 +145,16 @@ fn give_back(
     ensures back { (handed : List (List Bool)) → GoesBack done.old.items (record { lives = lives.old; handed = handed }) done.new.items (record { lives = lives.new; handed = handed }) }
 {
     for at in places {
-        lives[*at].give_back_at(*at, host, socket, messages, bits, changes, done)?;
+        give_back_at(
+            &mut lives[*at],
+            *at,
+            host,
+            socket,
+            messages,
+            bits,
+            changes,
+            done,
+        )?;
     }
     Ok(())
 }
@@ -157,7 +175,7 @@ fn hand(
 {
     for at in places {
         if *at < handed.len() {
-            lives[*at].hand_at(*at, host, socket, bits, &mut handed[*at], done)?;
+            hand_at(&lives[*at], *at, host, socket, bits, &mut handed[*at], done)?;
         }
     }
     Ok(())
@@ -366,8 +384,8 @@ impl Lives {
                     partner_stamp: *partner_stamp,
                     bits: BitLog::new(self.alloc),
                     messages: 0,
-                    granted: Amount::nothing(),
-                    returned: Amount::nothing(),
+                    granted: nothing(),
+                    returned: nothing(),
                     ended: false,
                 };
                 self.begin(life, done)

@@ -3,10 +3,11 @@
 ghost use Rattle.std.specs.Prelude.{◌≡◌, ◌<◌, ◌++◌, ℕ, false, List, [], ◌∷◌, filter, length, slice_index_or, OnErr, OnOk};
 ghost use Rattle.net_sim.specs.Inside.Open.{AreKnown, Covers, Extends, host_key, places_at, places_of, socket_key};
 ghost use Rattle.net_sim.specs.Inside.Places.{is_open_at};
-ghost use Rattle.net_sim.specs.declared.life.Life.{Life};
+ghost use Rattle.promise.specs.declared.life.Life.{Life};
 
-use crate::life::{Ending, Life};
+use crate::life::Ending;
 use interface::HostAddr;
+use promise::Life;
 use std::alloc::{AllocError, Global};
 use std::marker::Model;
 

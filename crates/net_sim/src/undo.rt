@@ -4,8 +4,8 @@ ghost use Rattle.std.specs.Prelude.{◌≡◌};
 ghost use Rattle.net_sim.specs.Inside.Lives.{LivesState};
 ghost use Rattle.net_sim.specs.Inside.Undo.{all_undone, undone};
 
-use crate::bit_log::BitLog;
-use crate::life::{Amount, Life};
+use crate::life::put_back;
+use promise::{Amount, BitLog, Life};
 
 /// The counts of a life.
 #[derive(Clone, Copy)]
@@ -70,7 +70,7 @@ fn take_one_back(lives: &mut Vec<Life>, handed: &mut Vec<BitLog>, undo: Undo)
         }
         Undo::Changed { at, was } => {
             if at < lives.len() {
-                lives[at].put_back(&was);
+                put_back(&mut lives[at], &was);
             }
         }
         Undo::Handed { at, bits } => {

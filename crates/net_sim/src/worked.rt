@@ -9,7 +9,7 @@ ghost use Rattle.interface.specs.declared.crossing.Crossing.TheVariants as cross
 ghost use Rattle.interface.specs.declared.event.NetEvent.TheVariants as event;
 ghost use Rattle.net_sim.specs.Book.{opening_kept, book_told, asked, crossed, all_crossed};
 ghost use Rattle.net_sim.specs.Handed.{AreUnhanded};
-ghost use Rattle.net_sim.specs.Safe.{SafeBook, SafePartners, SafeStreams, SafeGrants, Match, own_request, partner_request, last_out, before, control_flow};
+ghost use Rattle.promise.specs.Safe.{SafeBook, SafePartners, SafeStreams, SafeGrants, Match, own_request, partner_request, last_out, before, control_flow};
 ghost use Rattle.net_sim.specs.Worked.{eight, eight_zeros, four, crossings, message, opened_kept, used, receiver, sender, taker, giver, elsewhere, asker, stranger, over, any_carrier, fresh, down, busy, halted, lacking, stamp_of};
 ghost use Rattle.net_sim.specs.Carriers.{IsBooked};
 ghost use Rattle.net_sim.specs.World.{WorldState, WorldFault, Carrier, Program, Net, Quiet, Offer, Take, Ask, StepGives, RunGives, all_turned, seat_of, up_in, served_at, changed};

@@ -4,8 +4,8 @@
 ghost use Rattle.std.specs.Prelude.{[], ◌∷◌};
 ghost use Rattle.host_pairs.specs.declared.notice.Notice.TheVariants as notice;
 ghost use Rattle.interface.specs.declared.crossing.Crossing.TheVariants as crossing;
-ghost use Rattle.net_sim.specs.Formed.{IsFormed};
-ghost use Rattle.net_sim.specs.Notices.{FormedNotices};
+ghost use Rattle.promise.specs.Formed.{IsFormed};
+ghost use Rattle.promise.specs.Notices.{FormedNotices};
 ghost use Rattle.net_sim.specs.SmallLogs.{given_log, given_told, moved, one_given, one_taken, taken_log, taken_told};
 ghost use Rattle.net_sim.specs.Worked.{eight, eight_zeros, message};
 ghost use Rattle.net_sim.specs.WorkedMoments.{eight_sent, rts, str};

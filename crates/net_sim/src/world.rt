@@ -11,12 +11,12 @@ ghost use Rattle.net_sim.specs.Inside.Parts.{IsOnce, hosts_of};
 ghost use Rattle.net_sim.specs.World as world;
 ghost use Rattle.net_sim.specs.World.{opening_world, StepGives, RunGives, Offer, Take};
 
-use crate::bit_log::BitLog;
 use crate::book::Book;
 use crate::events::{follow, is_named, offer, take};
 use crate::seat::{Seat, ServiceSeat, opening_seats, opening_services};
 use crate::{Event, WorldFault};
 use interface::{Carrier, CarrierFault, HostAddr};
+use promise::BitLog;
 use sockets::NcpFault;
 use std::alloc::{AllocError, Global};
 use std::marker::Model;

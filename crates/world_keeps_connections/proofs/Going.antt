@@ -16,7 +16,7 @@ use Rattle.pairing_law.specs.Partners.{IsIn}
 use Rattle.pairing_law.specs.Sides.{Life}
 use Rattle.host_keeps_pairing.specs.Known.{all_known, known_after}
 use Rattle.net_sim.specs.Book.{Kept, all_told, carried, changed_when, life_ended, granted, lives_asked, lives_at, lives_between, lives_on, lives_told, lives_with, new_life, returned, book_told, where_it}
-use Rattle.net_sim.specs.declared.life.Life as book
+use Rattle.promise.specs.declared.life.Life as book
 use Rattle.net_sim.specs.Story.{Moment, Crossed, Asked}
 use Rattle.net_sim.specs.Timeline.{IsTimeline, crossings_of}
 use Rattle.net_sim.specs.Told.{kept_by, kept_in, notices_by}

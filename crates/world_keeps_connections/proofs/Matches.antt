@@ -11,11 +11,11 @@ use Rattle.interface.specs.declared.crossing.Crossing.{Crossing}
 use Rattle.net_sim.specs.Clean.{HaveAddresses, IsLawful}
 use Rattle.net_sim.specs.World.{WorldState}
 use Rattle.world_keeps_pairing.proofs.lemmas.{between_itself, book_lives, book_run, life_matches, partner_named, served_in}
-use Rattle.net_sim.specs.Safe.{Match, before, control_flow, last_out, named, own_request, receives, sends}
+use Rattle.promise.specs.Safe.{Match, before, control_flow, last_out, named, own_request, receives, sends}
 use Rattle.net_sim.specs.Story.{Moment}
 use Rattle.net_sim.specs.Timeline.{IsTimeline, crossings_of}
 use Rattle.net_sim.specs.Told.{kept_in}
-use Rattle.net_sim.specs.declared.life.Life as book
+use Rattle.promise.specs.declared.life.Life as book
 use Rattle.net_sim.proofs.lemmas.{Coupled, coupled}
 use Rattle.world_keeps_pairing.specs.Free.{origin_in, place_or}
 use Rattle.world_keeps_pairing.specs.Lives.{is_between, life_of}

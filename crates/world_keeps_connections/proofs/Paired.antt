@@ -13,10 +13,10 @@ use Rattle.host_services.specs.declared.report.Report.{Report}
 use Rattle.host_services.specs.declared.report.Report.TheVariants as report
 use Rattle.net_sim.specs.Clean.{IsLawful}
 use Rattle.net_sim.specs.Reports.{AreReported, IsBacked, IsSo, ServerIsDone, UserIsDone, told_to}
-use Rattle.net_sim.specs.Safe.{Match, receives, sends}
+use Rattle.promise.specs.Safe.{Match, receives, sends}
 use Rattle.net_sim.specs.World.{WorldState}
-use Rattle.net_sim.specs.declared.life.Life.{Life}
-use Rattle.world_keeps_connections.specs.Connections.{HasReported, IsConnected, IsEnd, JoinedBook}
+use Rattle.promise.specs.declared.life.Life.{Life}
+use Rattle.promise.specs.Connections.{HasReported, IsConnected, IsEnd, JoinedBook}
 use Rattle.world_keeps_connections.specs.Users.{AreOpposite}
 use Rattle.world_keeps_connections.proofs.Matches.{world_match}
 

@@ -1,3 +1,2 @@
 pub mod Users
-pub mod Connections
 pub mod WorkedConnections

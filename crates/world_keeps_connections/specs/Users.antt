@@ -4,7 +4,7 @@ use Rattle.interface.specs.Host.{Host, same_host}
 use Rattle.interface.specs.declared.crossing.Crossing.TheVariants as crossing
 use Rattle.pairing_law.specs.Sides.{Life}
 use Rattle.host_keeps_pairing.specs.Known.{all_known}
-use Rattle.net_sim.specs.declared.life.Life as book
+use Rattle.promise.specs.declared.life.Life as book
 use Rattle.net_sim.specs.Story.{Moment, Crossed}
 use Rattle.net_sim.specs.Told.{host_in, notices_by}
 

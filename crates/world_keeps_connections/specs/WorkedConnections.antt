@@ -4,8 +4,9 @@ use Rattle.host_pairs.specs.declared.notice.Notice.TheVariants as notice
 use Rattle.host_services.specs.declared.report.Report.TheVariants as report
 use Rattle.icp.specs.Sockets.{socket_bits}
 use Rattle.icp.specs.declared.outcome.Outcome.TheVariants as outcome
-use Rattle.net_sim.specs.Book.{Book, Kept, all_crossed, all_reported, new_life, opening_kept, book_told}
-use Rattle.net_sim.specs.declared.life.Life.{Life}
+use Rattle.promise.specs.Book.{Book}
+use Rattle.net_sim.specs.Book.{Kept, all_crossed, all_reported, new_life, opening_kept, book_told}
+use Rattle.promise.specs.declared.life.Life.{Life}
 use Rattle.net_sim.specs.Worked.{crossings}
 use Rattle.sockets.specs.Worked.{first, second}
 

@@ -3,15 +3,15 @@
 ghost use Rattle.std.specs.Prelude.{◌≡◌, ℕ, true, List, All};
 ghost use Rattle.interface.specs.Host.{Host};
 ghost use Rattle.ncp_control.specs.Numbers.{is_receive_socket};
-ghost use Rattle.net_sim.specs.Book.{Book};
+ghost use Rattle.promise.specs.Book.{Book};
 ghost use Rattle.net_sim.specs.Clean.{IsLawful};
-ghost use Rattle.net_sim.specs.declared.life.Life.{Life};
+ghost use Rattle.promise.specs.declared.life.Life.{Life};
 ghost use Rattle.net_sim.specs.Reports.{IsBacked};
-ghost use Rattle.net_sim.specs.Safe.{Match};
+ghost use Rattle.promise.specs.Safe.{Match};
 ghost use Rattle.net_sim.specs.World.{WorldState};
 ghost use Rattle.sockets.specs.Worked.{first, second};
 ghost use Rattle.world_keeps_connections.specs.WorkedConnections as worked;
-ghost use Rattle.world_keeps_connections.specs.Connections.{IsConnected, IsEnd, JoinedBook};
+ghost use Rattle.promise.specs.Connections.{IsConnected, IsEnd, JoinedBook};
 
 use interface::Carrier;
 

@@ -25,10 +25,10 @@ use Rattle.sockets.specs.Requests.{at_owner, closed_socket, grant_fault, is_take
 use Rattle.sockets.specs.declared.request.Request.{Request}
 use Rattle.sockets.specs.declared.request.Request.TheVariants as request
 use Rattle.sockets.proofs.lemmas.{not_first, pair_changed}
-use Rattle.net_sim.specs.declared.life.Life.{Life}
+use Rattle.promise.specs.declared.life.Life.{Life}
 use Rattle.net_sim.specs.Book as book
 use Rattle.net_sim.specs.Book.{Kept, all_told, asked, handed_to, lives_at, where_it}
-use Rattle.net_sim.specs.Safe.{IsPrefix, receives}
+use Rattle.promise.specs.Safe.{IsPrefix, receives}
 use Rattle.world_keeps_lives.specs.Lives.{AddsUp, AreRefusing, EachIn, EachOn, IsFresh, IsLifeOf, IsOwned, IsSafe, NoneOf, has_opened, mine_on}
 use Rattle.world_keeps_lives.proofs.Ends.{IsRefusing, mine_append, mine_one, refusing_append, refusing_changed, refusing_mapped, split}
 use Rattle.world_keeps_lives.proofs.Books.{each_apart, each_handed, each_weaker, other_socket, there_at}

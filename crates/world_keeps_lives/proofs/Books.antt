@@ -6,7 +6,7 @@ use Rattle.interface.proofs.lemmas.{same_host-refl, same_host-true}
 use Rattle.host_pairs.specs.declared.notice.Notice.{Notice}
 use Rattle.host_pairs.specs.declared.notice.Notice.TheVariants as notice
 use Rattle.host_pairs.proofs.lemmas.{both, not_is}
-use Rattle.net_sim.specs.declared.life.Life.{Life}
+use Rattle.promise.specs.declared.life.Life.{Life}
 use Rattle.net_sim.specs.Book.{Kept, all_told, carried, changed_when, life_ended, handed_to, handed_told, lives_at, lives_between, lives_told, lives_with, new_life, returned, book_told, where_it}
 use Rattle.world_keeps_lives.specs.Lives.{EachIn, EachOn, IsSafe, at_socket}
 

@@ -11,8 +11,8 @@ use Rattle.sockets.specs.declared.request.Request.TheVariants as request
 use Rattle.net_sim.specs.Book.{Kept, all_told, book_told, changed_when, granted, life_ended, lives_asked, lives_at, lives_between, lives_crossed, lives_on, lives_told, lives_with, more, new_life, returned, where_it}
 use Rattle.net_sim.specs.Story.{Asked, Crossed, Moment}
 use Rattle.net_sim.specs.Told.{host_in, kept_by, kept_in, notices_by}
-use Rattle.net_sim.specs.declared.life.Amount.{Amount}
-use Rattle.net_sim.specs.declared.life.Life.{Life}
+use Rattle.promise.specs.declared.life.Amount.{Amount}
+use Rattle.promise.specs.declared.life.Life.{Life}
 use Rattle.world_keeps_lives.proofs.Grounds.{Opens, Tells}
 use Rattle.world_keeps_lives.proofs.Requests.{Each, each_append, each_map}
 use Rattle.world_keeps_lives.proofs.Stamps.{Now, Stamped}

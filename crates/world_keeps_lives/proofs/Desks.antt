@@ -10,12 +10,12 @@ use Rattle.host_pairs.specs.declared.entry.Entry.{Entry}
 use Rattle.host_pairs.specs.declared.listener.Listener.{Listener}
 use Rattle.host_pairs.specs.declared.notice.Notice.{Notice}
 use Rattle.host_pairs.proofs.lemmas.{both, not_is}
-use Rattle.net_sim.specs.declared.life.Life.{Life}
+use Rattle.promise.specs.declared.life.Life.{Life}
 use Rattle.net_sim.specs.Book as book
 use Rattle.net_sim.specs.Book.{Kept, all_told, lives_between, lives_told, new_life}
 use Rattle.ncp_control.specs.Numbers.{is_receive_socket, is_send_socket}
 use Rattle.ncp_control.specs.declared.allocation.Allocation.{Allocation}
-use Rattle.net_sim.specs.Safe.{sends}
+use Rattle.promise.specs.Safe.{sends}
 use Rattle.world_keeps_lives.specs.Lives.{AddsUp, EachIn, IsFresh, IsLifeOf, NoneOf, has_opened, mine_on}
 use Rattle.world_keeps_lives.proofs.Ends.{IsRefusing, IsSplit, mine_append, mine_one, none_changed, split}
 use Rattle.world_keeps_lives.proofs.Books.{IsAside, each_aside, each_weaker}

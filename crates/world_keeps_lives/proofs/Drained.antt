@@ -23,13 +23,13 @@ use Rattle.sockets.specs.declared.request.Request.TheVariants as request
 use Rattle.sockets.proofs.lemmas.{not_first}
 use Rattle.net_sim.specs.Book.{lives_at}
 use Rattle.net_sim.specs.Clean.{HaveAddresses, IsLawful}
-use Rattle.net_sim.specs.Formed.{IsFormed, going}
-use Rattle.net_sim.specs.Safe.{AreHanded, IsPrefix, Name, SafePartners, own_request, sends}
+use Rattle.promise.specs.Formed.{IsFormed, going}
+use Rattle.promise.specs.Safe.{AreHanded, IsPrefix, Name, SafePartners, own_request, sends}
 use Rattle.net_sim.specs.Story.{Asked, Crossed, Moment, places, program}
 use Rattle.net_sim.specs.Timeline.{IsTimeline, crossings_of}
 use Rattle.net_sim.specs.Told.{kept_in}
 use Rattle.net_sim.specs.World.{WorldState}
-use Rattle.net_sim.specs.declared.life.Life.{Life}
+use Rattle.promise.specs.declared.life.Life.{Life}
 use Rattle.net_sim.proofs.lemmas.{Coupled, coupled, places_same}
 use Rattle.world_keeps_pairing.specs.Lives.{ArePaired}
 use Rattle.world_keeps_pairing.proofs.lemmas.{book_run, even_odd, life_paired, mail_below, queued_commands, safe_partners, served_in}

@@ -32,13 +32,13 @@ use Rattle.sockets.specs.declared.request.Request.{Request}
 use Rattle.sockets.proofs.lemmas.{next_is, next_pair}
 use Rattle.net_sim.specs.Book.{all_told, carried, lives_at, where_it}
 use Rattle.net_sim.specs.Clean.{IsLawful}
-use Rattle.net_sim.specs.Formed.{data_by, flow_of}
-use Rattle.net_sim.specs.Safe.{receives}
+use Rattle.promise.specs.Formed.{data_by, flow_of}
+use Rattle.promise.specs.Safe.{receives}
 use Rattle.net_sim.specs.Story.{Asked, Crossed, Follows, IsNext, Moment, places, program}
 use Rattle.net_sim.specs.Timeline.{crossings_of}
 use Rattle.net_sim.specs.Told.{host_in, kept_by, kept_in, notices_by}
 use Rattle.net_sim.specs.World.{WorldState}
-use Rattle.net_sim.specs.declared.life.Life.{Life}
+use Rattle.promise.specs.declared.life.Life.{Life}
 use Rattle.net_sim.proofs.lemmas.{coupled, places_same}
 use Rattle.world_keeps_pairing.proofs.lemmas.{book_lives, book_run}
 use Rattle.world_keeps_lives.specs.Firsts.{AreAfter, AreApart, FirstBook, Linked, data_in, text_of}

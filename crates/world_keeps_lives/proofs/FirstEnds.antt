@@ -27,12 +27,12 @@ use Rattle.sockets.specs.Peers.{AreInOrder}
 use Rattle.sockets.specs.Sending.{message_for, next_in}
 use Rattle.sockets.specs.declared.peer.Peer.{Peer}
 use Rattle.net_sim.specs.Clean.{HaveAddresses}
-use Rattle.net_sim.specs.Formed.{CrossedAt, IsFormed, coming, flow_of, going, request}
-use Rattle.net_sim.specs.Safe.{Name, before, own_request, receives}
+use Rattle.promise.specs.Formed.{CrossedAt, IsFormed, coming, flow_of, going, request}
+use Rattle.promise.specs.Safe.{Name, before, own_request, receives}
 use Rattle.net_sim.specs.Story.{Asked, Crossed, IsNext, Moment, places, program}
 use Rattle.net_sim.specs.Timeline.{IsTimeline, crossings_of}
 use Rattle.net_sim.specs.Told.{kept_in, notices_by}
-use Rattle.net_sim.specs.declared.life.Life.{Life}
+use Rattle.promise.specs.declared.life.Life.{Life}
 use Rattle.world_keeps_lives.specs.Firsts.{IsFirst, IsSentIn, Linked, begun, texts_for}
 use Rattle.world_keeps_lives.specs.Lives.{HasOpenEnd}
 use Rattle.world_keeps_lives.proofs.Desks.{open_mine}

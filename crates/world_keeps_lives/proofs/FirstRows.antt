@@ -2,11 +2,11 @@
 use Rattle.std.proofs.Common.{◌≡◌, inl, inr, ℕ, ◌<◌, ◌≤◌, Bool, true, false, List, [], ◌∷◌, map, length, Some, refl, ap, sym, subst, arith}
 use Rattle.std.specs.List.{Contains}
 use Rattle.interface.specs.declared.address.Flow.{Flow}
-use Rattle.net_sim.specs.Formed.{CrossedAt, IsFormed, coming, flow_of, going}
-use Rattle.net_sim.specs.Safe.{before}
+use Rattle.promise.specs.Formed.{CrossedAt, IsFormed, coming, flow_of, going}
+use Rattle.promise.specs.Safe.{before}
 use Rattle.net_sim.specs.Worked.{eight_zeros}
 use Rattle.net_sim.specs.WorkedMoments.{rts, str}
-use Rattle.net_sim.specs.declared.life.Life.{Life}
+use Rattle.promise.specs.declared.life.Life.{Life}
 use Rattle.world_keeps_lives.specs.Firsts.{AreApart, FirstBook, IsFirst, IsSentIn, Linked, texts_for}
 use Rattle.world_keeps_lives.specs.WorkedFormed.{gave, gave_on, sent_log, took, took_on, took_second, two_log, zeros_sent}
 use Rattle.world_keeps_lives.proofs.FirstLists.{life_of, mapped}

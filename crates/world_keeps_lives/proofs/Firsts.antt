@@ -14,12 +14,12 @@ use Rattle.host_pairs.specs.Entries.{is_mine_on, is_open}
 use Rattle.host_pairs.specs.declared.entry.Entry.{Entry}
 use Rattle.host_pairs.proofs.lemmas.{both}
 use Rattle.net_sim.specs.Book.{carried, changed_when, lives_at, where_it}
-use Rattle.net_sim.specs.Formed.{Carries, CrossedAt, IsFormed, coming, flow_of, going}
-use Rattle.net_sim.specs.Safe.{AreTwo, Name, SafePartners, before, own_request, receives}
+use Rattle.promise.specs.Formed.{Carries, CrossedAt, IsFormed, coming, flow_of, going}
+use Rattle.promise.specs.Safe.{AreTwo, Name, SafePartners, before, own_request, receives}
 use Rattle.net_sim.specs.Story.{Asked, Crossed, IsNext, Moment, places, program}
 use Rattle.net_sim.specs.Timeline.{crossings_of}
-use Rattle.net_sim.specs.declared.life.Amount.{Amount}
-use Rattle.net_sim.specs.declared.life.Life.{Life}
+use Rattle.promise.specs.declared.life.Amount.{Amount}
+use Rattle.promise.specs.declared.life.Life.{Life}
 use Rattle.net_sim.proofs.lemmas.{Coupled, coupled, places_same}
 use Rattle.world_keeps_pairing.proofs.lemmas.{queued_commands, safe_partners, served_in}
 use Rattle.world_keeps_lives.specs.Firsts.{IsFirst, IsSentIn, Linked, all_data, begun, data_in, text_of, texts_for}

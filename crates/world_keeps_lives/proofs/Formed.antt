@@ -35,13 +35,13 @@ use Rattle.sockets.specs.declared.request.Request.TheVariants as request
 use Rattle.sockets.proofs.lemmas.{next_is, next_pair}
 use Rattle.net_sim.specs.Book.{Kept, all_told, book_told, carried, changed_when, granted, life_ended, lives_asked, lives_at, lives_between, lives_crossed, lives_on, lives_told, lives_with, new_life, returned, where_it}
 use Rattle.net_sim.specs.Clean.{HaveAddresses, IsLawful}
-use Rattle.net_sim.specs.Formed.{AreCarried, AreData, Carries, FormedBook, HasCrossed, IsFormed, coming, crossing_of, data_by, flow_of, going, request}
-use Rattle.net_sim.specs.Safe.{receives}
+use Rattle.promise.specs.Formed.{AreCarried, AreData, Carries, FormedBook, HasCrossed, IsFormed, coming, crossing_of, data_by, flow_of, going, request}
+use Rattle.promise.specs.Safe.{receives}
 use Rattle.net_sim.specs.Story.{Asked, Crossed, Follows, IsNext, Moment, places, program}
 use Rattle.net_sim.specs.Timeline.{IsTimeline, crossings_of}
 use Rattle.net_sim.specs.Told.{host_in, kept_by, kept_in, notices_by}
 use Rattle.net_sim.specs.World.{WorldState}
-use Rattle.net_sim.specs.declared.life.Life.{Life}
+use Rattle.promise.specs.declared.life.Life.{Life}
 use Rattle.net_sim.proofs.lemmas.{coupled, places_same}
 use Rattle.world_keeps_pairing.proofs.lemmas.{book_lives, book_run}
 use Rattle.world_keeps_pairing.proofs.lemmas.{queued_commands}

@@ -11,10 +11,10 @@ use Rattle.ncp_control.specs.Reading.{command_of, read_of}
 use Rattle.ncp_control.specs.declared.command.Command.TheVariants as command
 use Rattle.host_pairs.specs.Control.{Legal, Order, Wrong, orders_of}
 use Rattle.sockets.specs.Worked.{first, second}
-use Rattle.net_sim.specs.Formed.{AreCarried, Carries, CrossedAt, IsFormed, coming, going, request}
+use Rattle.promise.specs.Formed.{AreCarried, Carries, CrossedAt, IsFormed, coming, going, request}
 use Rattle.net_sim.specs.Worked.{crossings, eight, message, taker}
 use Rattle.net_sim.specs.WorkedMoments.{all_given, eight_sent, rts, str}
-use Rattle.net_sim.specs.declared.life.Life.{Life}
+use Rattle.promise.specs.declared.life.Life.{Life}
 use Rattle.world_keeps_lives.specs.WorkedFormed.{gave, sent_log, stray, stray_log, took}
 use Rattle.world_keeps_lives.proofs.Requests.{Each, each_in}
 use Rattle.world_keeps_lives.proofs.Grounds.{crossed_below}

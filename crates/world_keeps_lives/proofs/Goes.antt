@@ -20,9 +20,9 @@ use Rattle.host_keeps_pairing.specs.Ends.{Standing, Stand, at, standing}
 use Rattle.host_keeps_pairing.specs.Words.{mark_of, marks}
 use Rattle.host_keeps_pairing.proofs.lemmas.{Found, found_at, heads, none_at, one_gone}
 use Rattle.host_keeps_ranges.specs.Ranges.{AreCommands}
-use Rattle.net_sim.specs.declared.life.Life.{Life}
+use Rattle.promise.specs.declared.life.Life.{Life}
 use Rattle.net_sim.specs.Book.{Kept, all_told, carried}
-use Rattle.net_sim.specs.Safe.{receives, sends}
+use Rattle.promise.specs.Safe.{receives, sends}
 use Rattle.world_keeps_lives.specs.Lives.{IsLifeOf, IsSafe, has_opened, mine_on}
 use Rattle.world_keeps_lives.proofs.Ends.{none_changed, refusing_changed, refusing_found, split}
 use Rattle.world_keeps_lives.proofs.Desks.{At, Place, at_less, clash, open_mine, open_opened, open_parts, own_off}

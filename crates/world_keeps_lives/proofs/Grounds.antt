@@ -34,8 +34,8 @@ use Rattle.sockets.specs.Sending.{message_for, next_in, offered}
 use Rattle.sockets.specs.declared.peer.Peer.{Peer}
 use Rattle.sockets.proofs.lemmas.{answer_leaves, message_leaves, next_pair, offer_leaves}
 use Rattle.net_sim.specs.Clean.{HaveAddresses}
-use Rattle.net_sim.specs.Formed.{CrossedAt, HasCrossed, coming, going, request}
-use Rattle.net_sim.specs.Safe.{control_flow}
+use Rattle.promise.specs.Formed.{CrossedAt, HasCrossed, coming, going, request}
+use Rattle.promise.specs.Safe.{control_flow}
 use Rattle.net_sim.specs.Story.{Asked, Crossed, IsNext, Moment, places, program}
 use Rattle.net_sim.specs.Timeline.{IsTimeline, crossings_of}
 use Rattle.net_sim.proofs.lemmas.{coupled, flow_of, places_same, program_own}

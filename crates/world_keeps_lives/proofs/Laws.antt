@@ -6,10 +6,10 @@ use Rattle.interface.specs.Host.{Host, same_host}
 use Rattle.interface.specs.Mailboxes as mail
 use Rattle.interface.proofs.lemmas.{same_host-refl}
 use Rattle.sockets.specs.Pairs.{pair_with}
-use Rattle.net_sim.specs.declared.life.Life.{Life}
+use Rattle.promise.specs.declared.life.Life.{Life}
 use Rattle.net_sim.specs.Book.{Kept}
 use Rattle.net_sim.specs.Clean.{HaveAddresses, IsLawful}
-use Rattle.net_sim.specs.Safe.{AreHanded, IsGranted, receives}
+use Rattle.promise.specs.Safe.{AreHanded, IsGranted, receives}
 use Rattle.net_sim.specs.Story.{Moment, program}
 use Rattle.net_sim.specs.Timeline.{IsTimeline, crossings_of}
 use Rattle.net_sim.specs.Told.{kept_in}

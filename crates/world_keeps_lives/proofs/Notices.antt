@@ -28,12 +28,12 @@ use Rattle.sockets.specs.Pairs.{pair_with}
 use Rattle.sockets.specs.declared.request.Request.{Request}
 use Rattle.sockets.specs.Sending.{message_for, next_in}
 use Rattle.sockets.proofs.lemmas.{next_is, next_pair}
-use Rattle.net_sim.specs.declared.book.Told.{Told}
+use Rattle.promise.specs.declared.book.Told.{Told}
 use Rattle.net_sim.specs.Book.{Kept, all_told, asked, book_told, crossed}
 use Rattle.net_sim.specs.Clean.{HaveAddresses, IsLawful}
-use Rattle.net_sim.specs.Formed.{HasCrossed, coming, data_by, going, request}
-use Rattle.net_sim.specs.Notices.{AreTold, FormedNotices, HasLink, MayBeUntold, TellsOf, data_told, is_data}
-use Rattle.net_sim.specs.Notices as notices
+use Rattle.promise.specs.Formed.{HasCrossed, coming, data_by, going, request}
+use Rattle.promise.specs.Notices.{AreTold, FormedNotices, HasLink, MayBeUntold, TellsOf, data_told, is_data}
+use Rattle.promise.specs.Notices as notices
 use Rattle.net_sim.specs.Projection.{Agrees}
 use Rattle.net_sim.specs.Story.{Asked, Crossed, IsNext, IsStory, Moment, places, program, events_of}
 use Rattle.net_sim.specs.Timeline.{IsTimeline, crossings_of}

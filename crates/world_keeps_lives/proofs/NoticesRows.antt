@@ -16,10 +16,10 @@ use Rattle.sockets.specs.Accepting.{accepted}
 use Rattle.sockets.specs.Requests.{refusal, served, served_notices}
 use Rattle.sockets.specs.Sending.{next_out, offered}
 use Rattle.sockets.specs.Worked.{first, second, third}
-use Rattle.net_sim.specs.declared.book.Told.{Told}
-use Rattle.net_sim.specs.Formed.{CrossedAt, going}
-use Rattle.net_sim.specs.Notices.{AreTold, FormedNotices, HasLink, Tells, data_told}
-use Rattle.net_sim.specs.Safe.{control_flow}
+use Rattle.promise.specs.declared.book.Told.{Told}
+use Rattle.promise.specs.Formed.{CrossedAt, going}
+use Rattle.promise.specs.Notices.{AreTold, FormedNotices, HasLink, Tells, data_told}
+use Rattle.promise.specs.Safe.{control_flow}
 use Rattle.net_sim.specs.Told.{kept_in}
 use Rattle.net_sim.specs.Worked.{eight, eight_zeros}
 use Rattle.net_sim.specs.WorkedMoments.{eight_sent, rts, sent_moments, str}

@@ -11,10 +11,10 @@ use Rattle.host_pairs.proofs.lemmas.{both, not_is}
 use Rattle.sockets.specs.declared.request.Request.{Request}
 use Rattle.sockets.specs.declared.request.Request.TheVariants as request
 use Rattle.net_sim.specs.Book.{Kept, all_told, book_told, carried, changed_when, granted, handed_asked, handed_to, handed_told, life_ended, lives_asked, lives_at, lives_between, lives_crossed, lives_on, lives_told, lives_with, returned, where_it}
-use Rattle.net_sim.specs.Safe.{AreHanded, AreTwo, IsPrefix, own_request, sends}
+use Rattle.promise.specs.Safe.{AreHanded, AreTwo, IsPrefix, own_request, sends}
 use Rattle.net_sim.specs.Story.{Asked, Crossed, Moment}
 use Rattle.net_sim.specs.Told.{host_in, kept_by, kept_in, notices_by}
-use Rattle.net_sim.specs.declared.life.Life.{Life}
+use Rattle.promise.specs.declared.life.Life.{Life}
 
 -- ---- prefixes
 

@@ -10,7 +10,7 @@ use Rattle.host_pairs.specs.declared.entry.Entry.{Entry}
 use Rattle.sockets.specs.Pairs.{opening_state, pair_in, pair_with}
 use Rattle.sockets.specs.declared.peer.Peer.{Peer}
 use Rattle.sockets.specs.Worked.{first, second}
-use Rattle.net_sim.specs.declared.life.Life.{Life}
+use Rattle.promise.specs.declared.life.Life.{Life}
 use Rattle.net_sim.specs.Book.{carried, life_ended, granted, new_life, opening_kept, returned}
 use Rattle.world_keeps_lives.specs.Worked.{worked_end, with_one}
 use Rattle.world_keeps_lives.specs.Lives.{EachOn, HasOpenEnd, IsBounded, IsFreeSocket, IsFresh, IsLifeOf, IsOwned, IsSafe, IsSteady, NoneOf, mine_on}

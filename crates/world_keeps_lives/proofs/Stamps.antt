@@ -18,7 +18,7 @@ use Rattle.net_sim.specs.Clean.{HaveAddresses}
 use Rattle.net_sim.specs.Story.{Asked, Crossed, IsNext, Moment, places, program}
 use Rattle.net_sim.specs.Timeline.{IsTimeline, crossings_of}
 use Rattle.net_sim.specs.Told.{notices_by}
-use Rattle.net_sim.specs.declared.life.Life.{Life}
+use Rattle.promise.specs.declared.life.Life.{Life}
 use Rattle.world_keeps_pairing.proofs.lemmas.{queued_commands}
 use Rattle.world_keeps_lives.proofs.Desks.{IsAnOpen, open_parts}
 use Rattle.world_keeps_lives.proofs.Requests.{Begins, Each, Goes, Hears, IsOther, MayTell, Quiet, Rules}

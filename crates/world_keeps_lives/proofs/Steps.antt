@@ -21,7 +21,7 @@ use Rattle.host_pairs.specs.declared.notice.Notice.{Notice}
 use Rattle.host_pairs.specs.declared.notice.Notice.TheVariants as notice
 use Rattle.host_pairs.proofs.lemmas.{both}
 use Rattle.host_keeps_streams.proofs.lemmas.{odd_is}
-use Rattle.net_sim.specs.declared.life.Life.{Life}
+use Rattle.promise.specs.declared.life.Life.{Life}
 use Rattle.net_sim.specs.Book.{Kept, all_told, lives_between, new_life}
 use Rattle.world_keeps_lives.specs.Lives.{AddsUp, AreRefusing, EachIn, IsFresh, IsLifeOf, IsSafe, NoneOf, at_socket, has_opened, mine_on}
 use Rattle.world_keeps_lives.proofs.Ends.{IsRefusing, split, found_changed, mine_append, mine_one, refusing_append, refusing_changed, refusing_filtered, refusing_found, refusing_mapped}

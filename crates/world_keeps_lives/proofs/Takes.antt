@@ -22,10 +22,10 @@ use Rattle.host_pairs.specs.declared.entry.Entry.{Entry}
 use Rattle.host_pairs.specs.declared.listener.Listener.{Listener}
 use Rattle.host_pairs.specs.declared.notice.Notice.TheVariants as notice
 use Rattle.host_pairs.proofs.lemmas.{both, not_is}
-use Rattle.net_sim.specs.declared.life.Life.{Life}
+use Rattle.promise.specs.declared.life.Life.{Life}
 use Rattle.net_sim.specs.Book as book
 use Rattle.net_sim.specs.Book.{Kept, all_told, carried, lives_at, where_it}
-use Rattle.net_sim.specs.Safe.{receives, sends}
+use Rattle.promise.specs.Safe.{receives, sends}
 use Rattle.world_keeps_lives.specs.Lives.{AddsUp, EachOn, IsLifeOf, IsSafe, at_socket, has_opened}
 use Rattle.world_keeps_lives.proofs.Ends.{IsRefusing, refusing_found, split}
 use Rattle.world_keeps_lives.proofs.Books.{each_here, each_weaker}

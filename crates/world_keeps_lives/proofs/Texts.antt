@@ -5,9 +5,9 @@ use Rattle.std.proofs.lemmas.List.{append_assoc, length-append, take-append-le}
 use Rattle.interface.specs.declared.address.Flow.{Flow}
 use Rattle.interface.specs.declared.crossing.Crossing.{Crossing}
 use Rattle.net_sim.specs.Book.{carried}
-use Rattle.net_sim.specs.Formed.{coming, flow_of, going, request}
-use Rattle.net_sim.specs.Safe.{before, receives}
-use Rattle.net_sim.specs.declared.life.Life.{Life}
+use Rattle.promise.specs.Formed.{coming, flow_of, going, request}
+use Rattle.promise.specs.Safe.{before, receives}
+use Rattle.promise.specs.declared.life.Life.{Life}
 use Rattle.world_keeps_lives.specs.Firsts.{IsFirst, Linked, all_data, data_in, joined, text_of, texts_for, texts_of}
 use Rattle.world_keeps_lives.proofs.Grounds.{still_crossed}
 

@@ -21,7 +21,7 @@ use Rattle.host_pairs.specs.declared.notice.Notice.TheVariants as notice
 use Rattle.ncp_control.specs.declared.phase.Phase.{Phase}
 use Rattle.ncp_control.specs.declared.phase.Phase.TheVariants as phase
 use Rattle.host_keeps_pairing.proofs.lemmas.{reply_idle, rfnm_idle}
-use Rattle.net_sim.specs.declared.life.Life.{Life}
+use Rattle.promise.specs.declared.life.Life.{Life}
 use Rattle.net_sim.specs.Book.{Kept, all_told, lives_with}
 use Rattle.world_keeps_lives.specs.Lives.{AreRefusing, IsLifeOf, NoneOf, at_socket, mine_on}
 use Rattle.world_keeps_lives.proofs.Books.{all_told_append, each_ended}

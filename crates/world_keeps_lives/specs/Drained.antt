@@ -2,10 +2,10 @@
 use Rattle.std.specs.Prelude.{◌≡◌, Bool, false, true, List, [], ◌∷◌, ◌++◌}
 use Rattle.std.specs.List.{Contains}
 use Rattle.host_pairs.specs.Entries.{has_cls}
-use Rattle.net_sim.specs.Safe.{own_request, sends}
+use Rattle.promise.specs.Safe.{own_request, sends}
 use Rattle.net_sim.specs.Story.{Moment, program}
 use Rattle.net_sim.specs.Told.{kept_in}
-use Rattle.net_sim.specs.declared.life.Life.{Life}
+use Rattle.promise.specs.declared.life.Life.{Life}
 use Rattle.world_keeps_lives.specs.Lives.{HasOpenEnd}
 
 -- a sending life isn't over, its end's CLS is queued or has gone out, and the partner's CLS wasn't taken before

@@ -8,9 +8,9 @@ use Rattle.interface.specs.declared.crossing.Crossing.{Crossing}
 use Rattle.interface.specs.declared.crossing.Crossing.TheVariants as crossing
 use Rattle.interface.specs.declared.message.HostMessage.{HostMessage}
 use Rattle.ncp_control.specs.DataHeader.{header_of}
-use Rattle.net_sim.specs.Formed.{CrossedAt, HasCrossed, coming, data_by, flow_of, going, request}
-use Rattle.net_sim.specs.Safe.{before, receives}
-use Rattle.net_sim.specs.declared.life.Life.{Life}
+use Rattle.promise.specs.Formed.{CrossedAt, HasCrossed, coming, data_by, flow_of, going, request}
+use Rattle.promise.specs.Safe.{before, receives}
+use Rattle.promise.specs.declared.life.Life.{Life}
 
 -- ---- the messages on a link
 

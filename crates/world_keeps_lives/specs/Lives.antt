@@ -11,8 +11,8 @@ use Rattle.host_pairs.specs.declared.entry.Entry.{Entry}
 use Rattle.sockets.specs.Pairs.{NcpState, pair_with}
 pub use Rattle.host_keeps_streams.specs.Ends.{has_opened}
 use Rattle.net_sim.specs.Book.{Kept}
-use Rattle.net_sim.specs.declared.life.Life.{Life}
-use Rattle.net_sim.specs.Safe.{IsPrefix, IsGranted, receives, sends}
+use Rattle.promise.specs.declared.life.Life.{Life}
+use Rattle.promise.specs.Safe.{IsPrefix, IsGranted, receives, sends}
 
 -- ---- the ends of a host's own
 

@@ -7,13 +7,13 @@ use Rattle.interface.specs.declared.message.HostMessage.{HostMessage}
 use Rattle.host_pairs.specs.declared.notice.Notice.TheVariants as notice
 use Rattle.sockets.specs.Worked as sockets
 use Rattle.sockets.specs.Worked.{first, second}
-use Rattle.net_sim.specs.declared.book.Told.{Told}
+use Rattle.promise.specs.declared.book.Told.{Told}
 use Rattle.sockets.specs.declared.request.Request.TheVariants as request
 use Rattle.net_sim.specs.Story.{Asked, Crossed, Moment}
 use Rattle.net_sim.specs.Timeline.{crossings_of}
 use Rattle.net_sim.specs.Worked.{eight, eight_zeros, giver, taker}
 use Rattle.net_sim.specs.WorkedMoments.{connected, sent_moments}
-use Rattle.net_sim.specs.declared.life.Life.{Life}
+use Rattle.promise.specs.declared.life.Life.{Life}
 use Rattle.world_keeps_lives.specs.Firsts.{Linked}
 
 abbrev pub sent_log : List Crossing

@@ -4,11 +4,11 @@ ghost use Rattle.std.specs.Prelude.{◌≡◌, ◌⊎◌, ℕ, true, false, List
 ghost use Rattle.std.specs.List.{Contains};
 ghost use Rattle.interface.specs.Host.{Host};
 ghost use Rattle.interface.specs.Mailboxes as mail;
-ghost use Rattle.net_sim.specs.declared.life.Life.{Life};
+ghost use Rattle.promise.specs.declared.life.Life.{Life};
 ghost use Rattle.net_sim.specs.Clean.{HaveAddresses, IsLawful};
-ghost use Rattle.net_sim.specs.Formed.{FormedBook, IsFormed};
-ghost use Rattle.net_sim.specs.Notices.{FormedNotices, data_told};
-ghost use Rattle.net_sim.specs.Safe.{AreHanded, IsGranted, receives};
+ghost use Rattle.promise.specs.Formed.{FormedBook, IsFormed};
+ghost use Rattle.promise.specs.Notices.{FormedNotices, data_told};
+ghost use Rattle.promise.specs.Safe.{AreHanded, IsGranted, receives};
 ghost use Rattle.interface.specs.declared.crossing.Crossing.TheVariants as crossing;
 ghost use Rattle.net_sim.specs.Story.{Crossed, Moment, program};
 ghost use Rattle.net_sim.specs.Timeline.{IsTimeline, crossings_of};

@@ -13,8 +13,8 @@ use Rattle.pairing_law.specs.Sides.{Life, Side, both}
 use Rattle.pairing_law.specs.Links.{Receiver, Sender, Sockets, events_at, receiver, sender}
 use Rattle.pairing_law.proofs.lemmas.{run_at, safe_run}
 use Rattle.reset_law.specs.Runs.{IsRun}
-use Rattle.net_sim.specs.declared.life.Life as book
-use Rattle.net_sim.specs.Safe.{AreTwo, Match, Name, SafePartners, before, control_flow, last_out, named, own_request, partner_request, receives}
+use Rattle.promise.specs.declared.life.Life as book
+use Rattle.promise.specs.Safe.{AreTwo, Match, Name, SafePartners, before, control_flow, last_out, named, own_request, partner_request, receives}
 use Rattle.net_sim.specs.Story.{Moment, IsStory, events_of}
 use Rattle.net_sim.specs.Timeline.{crossings_of}
 use Rattle.net_sim.specs.Told.{kept_in}

@@ -13,7 +13,7 @@ use Rattle.sockets.specs.declared.request.Request.{Request}
 use Rattle.sockets.specs.declared.request.Request.TheVariants as request
 use Rattle.host_keeps_pairing.specs.Openings.{with_opening, with_openings}
 use Rattle.pairing_law.specs.Sides.{Life}
-use Rattle.net_sim.specs.declared.life.Life as book
+use Rattle.promise.specs.declared.life.Life as book
 use Rattle.net_sim.specs.Book.{Kept, all_told, changed_when, life_ended, carried, granted, returned, lives_asked, lives_at, lives_between, lives_crossed, lives_on, lives_told, lives_with, new_life, book_told, where_it}
 use Rattle.net_sim.specs.Story.{Moment, Crossed, Asked}
 use Rattle.net_sim.specs.Told.{host_in, kept_by, kept_in, notices_by}

@@ -6,8 +6,8 @@ use Rattle.interface.proofs.lemmas.{same_host-refl}
 use Rattle.host_keeps_pairing.specs.Openings.{AreAmong}
 use Rattle.pairing_law.specs.Partners.{IsIn, NoneOwns, NoneTook, OwnOnce, PartnerOnce}
 use Rattle.pairing_law.specs.Sides.{Life}
-use Rattle.net_sim.specs.declared.life.Life as book
-use Rattle.net_sim.specs.Safe.{AreTwo}
+use Rattle.promise.specs.declared.life.Life as book
+use Rattle.promise.specs.Safe.{AreTwo}
 use Rattle.world_keeps_pairing.specs.Lives.{is_between, life_of, with_life, with_lives}
 
 -- ---- lives of the law

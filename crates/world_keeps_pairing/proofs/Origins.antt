@@ -13,8 +13,8 @@ use Rattle.reset_law.specs.Boxes.{Box, Empty, Waiting, Taken}
 use Rattle.reset_law.specs.Events.{Message}
 use Rattle.pairing_law.specs.Links.{Receiver, Sender}
 use Rattle.net_sim.specs.Projection.{message_on}
-use Rattle.net_sim.specs.Safe as book
-use Rattle.net_sim.specs.Safe.{control_flow, last_out}
+use Rattle.promise.specs.Safe as book
+use Rattle.promise.specs.Safe.{control_flow, last_out}
 use Rattle.net_sim.specs.Story.{Moment, Crossed, Asked, places}
 use Rattle.net_sim.specs.Timeline.{crossings_of, seen_box}
 use Rattle.net_sim.proofs.lemmas.{box_same, flow_of, places_same, waiting_out}

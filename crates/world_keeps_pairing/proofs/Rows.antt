@@ -6,7 +6,7 @@ use Rattle.host_pairs.specs.Control.{orders_of}
 use Rattle.interface.specs.declared.crossing.Crossing.TheVariants as crossing
 use Rattle.interface.specs.declared.message.HostMessage.{HostMessage}
 use Rattle.ncp_control.specs.Reading.{command_of, read_of}
-use Rattle.net_sim.specs.Safe.{control_flow}
+use Rattle.promise.specs.Safe.{control_flow}
 use Rattle.pairing_law.specs.Example.{first_sockets}
 use Rattle.pairing_law.specs.Links.{Receiver, Says, Sender, heard_words}
 use Rattle.pairing_law.specs.Marks.{Ask, Close}

@@ -15,8 +15,8 @@ use Rattle.pairing_law.specs.Links.{Sockets, Who}
 use Rattle.reset_law.specs.Events.{Event, place}
 use Rattle.reset_law.specs.Stays as stay
 use Rattle.net_sim.specs.Projection.{event_of}
-use Rattle.net_sim.specs.Safe as book
-use Rattle.net_sim.specs.Safe.{last_out}
+use Rattle.promise.specs.Safe as book
+use Rattle.promise.specs.Safe.{last_out}
 use Rattle.net_sim.specs.Story.{Moment, Crossed, Asked, event_in, events_of}
 use Rattle.net_sim.specs.Timeline.{crossings_of}
 use Rattle.net_sim.proofs.lemmas.{by_request, place_same}

@@ -13,7 +13,7 @@ use Rattle.pairing_law.specs.Links.{Word, Receiver, Sender, Step, Says, NamesFre
 use Rattle.reset_law.specs.Events.{Event}
 use Rattle.reset_law.specs.Stays as stay
 use Rattle.net_sim.specs.Story.{Moment, Crossed, event_in, events_of, places, program}
-use Rattle.net_sim.specs.Safe.{before, control_flow, last_out}
+use Rattle.promise.specs.Safe.{before, control_flow, last_out}
 use Rattle.world_keeps_pairing.specs.Steps.{all_said, steps, words_of}
 
 -- a place, or this number where there is none

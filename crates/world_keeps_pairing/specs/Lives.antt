@@ -4,7 +4,7 @@ use Rattle.interface.specs.Host.{Host, same_host}
 use Rattle.ncp_control.specs.Numbers.{is_receive_socket, is_send_socket}
 use Rattle.pairing_law.specs.Sides.{Life}
 use Rattle.pairing_law.specs.Links.{receiver, sender}
-use Rattle.net_sim.specs.declared.life.Life as book
+use Rattle.promise.specs.declared.life.Life as book
 use Rattle.net_sim.specs.Story.{Moment}
 use Rattle.world_keeps_pairing.specs.Free.{law_events}
 use Rattle.world_keeps_pairing.specs.Steps.{steps}

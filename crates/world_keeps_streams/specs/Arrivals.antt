@@ -6,10 +6,10 @@ use Rattle.interface.specs.declared.message.HostMessage.{HostMessage}
 use Rattle.host_pairs.specs.Entries.{is_open}
 use Rattle.host_pairs.specs.declared.notice.Notice.TheVariants as notice
 use Rattle.host_keeps_streams.specs.Histories.{HasClosed, name_now, numbered}
-use Rattle.net_sim.specs.Safe.{receives}
+use Rattle.promise.specs.Safe.{receives}
 use Rattle.net_sim.specs.Story.{Moment, Crossed, program}
 use Rattle.net_sim.specs.Told.{kept_in, notices_by}
-use Rattle.net_sim.specs.declared.life.Life.{Life}
+use Rattle.promise.specs.declared.life.Life.{Life}
 use Rattle.world_keeps_lives.specs.Lives.{HasOpenEnd}
 use Rattle.world_keeps_streams.specs.Calls.{own_calls}
 

@@ -5,11 +5,11 @@ use Rattle.interface.specs.Mailboxes.{Waiting, box_of}
 use Rattle.interface.specs.declared.address.Flow.{Flow}
 use Rattle.interface.specs.declared.crossing.Crossing.{Crossing}
 use Rattle.host_pairs.specs.Entries.{is_open}
-use Rattle.net_sim.specs.Safe.{Match}
+use Rattle.promise.specs.Safe.{Match}
 use Rattle.net_sim.specs.Story.{Moment, program}
 use Rattle.net_sim.specs.Timeline.{crossings_of}
 use Rattle.net_sim.specs.Told.{kept_in}
-use Rattle.net_sim.specs.declared.life.Life.{Life}
+use Rattle.promise.specs.declared.life.Life.{Life}
 use Rattle.world_keeps_lives.specs.Lives.{HasOpenEnd}
 
 -- no message of a flow waits to be taken

@@ -8,7 +8,7 @@ use Rattle.sockets.specs.declared.request.Request.TheVariants as request
 use Rattle.net_sim.specs.Story.{Asked, Crossed, Moment}
 use Rattle.net_sim.specs.Worked.{eight, receiver}
 use Rattle.net_sim.specs.WorkedMoments.{bits_sent, eight_sent, sent_moments}
-use Rattle.net_sim.specs.declared.life.Life.{Life}
+use Rattle.promise.specs.declared.life.Life.{Life}
 
 -- before anything was taken: the RTS of the first host's socket 16 went out at place 6, and the STR of the second's socket 33 came in at place 10. Two
 -- messages and 100 bits are granted

@@ -1,10 +1,10 @@
 //! Lives that their partner had not closed. The function here does nothing: each clause is a row.
 
 ghost use Rattle.std.specs.Prelude.{◌≡◌, true, List};
-ghost use Rattle.net_sim.specs.Safe.{receives};
+ghost use Rattle.promise.specs.Safe.{receives};
 ghost use Rattle.net_sim.specs.Story.{Moment};
 ghost use Rattle.net_sim.specs.WorkedMoments.{sent_moments};
-ghost use Rattle.net_sim.specs.declared.life.Life.{Life};
+ghost use Rattle.promise.specs.declared.life.Life.{Life};
 ghost use Rattle.world_keeps_streams.specs.Closes.{WasClosedByPartner};
 ghost use Rattle.world_keeps_streams.specs.Worked.{quit_moments, took, took_eight};
 

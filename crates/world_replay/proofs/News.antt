@@ -5,7 +5,7 @@ use Rattle.std.proofs.Math.Seq.{drop-append-add, take-append-add}
 use Rattle.std.specs.Io.KnownBytes.{Appends}
 use Rattle.host_services.specs.declared.report.Reported.{Reported}
 use Rattle.interface.specs.declared.crossing.Crossing.{Crossing}
-use Rattle.net_sim.specs.declared.book.Told.{Told}
+use Rattle.promise.specs.declared.book.Told.{Told}
 use Rattle.replay.proofs.lemmas.{appends_more, appends_none, text_of-append}
 use Rattle.replay.specs.InTurn.{text_of}
 use Rattle.replay.specs.Output.{crossing_line}

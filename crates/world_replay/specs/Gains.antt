@@ -3,7 +3,7 @@ use Rattle.std.specs.Prelude.{◌≡◌, List, ◌++◌, length, reverse}
 use Rattle.host_services.specs.declared.report.Reported.{Reported}
 use Rattle.interface.specs.declared.crossing.Crossing.{Crossing}
 use Rattle.net_sim.specs.Book.{Kept}
-use Rattle.net_sim.specs.declared.book.Told.{Told}
+use Rattle.promise.specs.declared.book.Told.{Told}
 use Rattle.world_replay.specs.Output.{Shown, shown_in_turn, told_in_turn}
 
 -- what the book of a world has more than it had before: crossings, notices and reports, oldest first

@@ -2,8 +2,8 @@
 use Rattle.std.specs.Prelude.{ℕ, ◌-◌, List, [], ◌∷◌, ◌++◌, map, take, drop, max, Option, Result, Ok, Err}
 use Rattle.host_services.specs.declared.report.Reported.{Reported}
 use Rattle.interface.specs.declared.crossing.Crossing.{Crossing}
-use Rattle.net_sim.specs.declared.book.Told.{Told}
-use Rattle.net_sim.specs.declared.life.Life.{Life}
+use Rattle.promise.specs.declared.book.Told.{Told}
+use Rattle.promise.specs.declared.life.Life.{Life}
 use Rattle.net_sim.specs.declared.event.WorldFault.{WorldFault}
 use Rattle.replay.specs.InTurn.{WritesLines, text_of}
 use Rattle.replay.specs.Output.{crossing_line}

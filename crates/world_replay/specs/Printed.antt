@@ -10,8 +10,8 @@ use Rattle.icp.specs.declared.outcome.Outcome.{Outcome}
 use Rattle.icp.specs.declared.outcome.Outcome.TheVariants as outcome
 use Rattle.interface.specs.Host.{Host}
 use Rattle.interface.specs.Printed.{host_text}
-use Rattle.net_sim.specs.declared.book.Told.{Told}
-use Rattle.net_sim.specs.declared.life.Life.{Life}
+use Rattle.promise.specs.declared.book.Told.{Told}
+use Rattle.promise.specs.declared.life.Life.{Life}
 use Rattle.net_sim.specs.declared.event.WorldFault.{WorldFault}
 use Rattle.net_sim.specs.declared.event.WorldFault.TheVariants.{Carrier, Program}
 use Rattle.replay.specs.Output.{fault_name}

@@ -7,7 +7,7 @@ use Rattle.interface.specs.declared.crossing.Crossing.TheVariants as crossing
 use Rattle.net_sim.specs.Worked.{message}
 use Rattle.net_sim.specs.World.{WorldState, opening_world}
 use Rattle.interface.specs.Calls.{Calls}
-use Rattle.net_sim.specs.declared.book.Told.{Told}
+use Rattle.promise.specs.declared.book.Told.{Told}
 use Rattle.sockets.specs.Worked.{first, second}
 use Rattle.host_pairs.specs.declared.notice.Notice.TheVariants as notice
 

@@ -154,7 +154,8 @@ def unknown_clauses() -> Iterator[str]:
         crate = None
         for name in names_in(line):
             first = name.split("::")[0]
-            crate = first if os.path.isdir(f"{ROOT}/crates/{first}") else crate
+            is_clause = crate is not None and name in declared_in(crate)[0]  # a clause may have the name of a crate
+            crate = first if os.path.isdir(f"{ROOT}/crates/{first}") and not is_clause else crate
             if crate and not is_known(name, crate):
                 yield f"docs/PROVED.md: {crate} has no `{name}`"
 

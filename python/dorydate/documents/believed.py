@@ -17,10 +17,10 @@ from dorydate.parts import ROOT
 
 PAGE = f"{ROOT}/docs/measured/promise.md"
 MOST_LINES = 400  # without comments, imports and empty lines
-FIRST = ("headline", "Promised", "Promised")
+FIRST = ("promise", "Promised", "Promised")
 # the files in the order in which they are read: what is promised, what crosses, what is written down of it, and how texts are read
-ORDER = ("headline", "interface", "leader1822", "net_sim", "world_keeps_connections", "host_pairs", "ncp_control", "bit_messages")
-WITHIN = ("Promised", "Mailboxes", "Messages", "Book", "Safe", "Formed", "Notices")
+ORDER = ("interface", "promise", "host_pairs", "ncp_control", "bit_messages")
+WITHIN = ("Mailboxes", "Messages", "Promised", "Book", "Safe", "Formed", "Notices", "Connections")
 HEAD = """# What must be believed of the headline
 
 `./check docs --write` makes this page from the sources. It has, in reading order, all definitions by which the clause `promise` of `headline::book_of` says anything: {definitions} definitions of {files} files, in {lines} lines without comments; `./check docs` wants at most {most}. No host program, packet, route or buffer occurs in them, and no other line of any `specs/` changes what is promised. [The headline](../headline.md) says what the words mean, and what the clause `lawful` adds by the rules of a host's program.

@@ -10,7 +10,7 @@ use Rattle.interface.specs.declared.crossing.Crossing.TheVariants as crossing
 use Rattle.interface.specs.declared.message.HostMessage.{HostMessage}
 use Rattle.interface.proofs.lemmas.{and_true, or_false, same_flow-true, same_flow-refl}
 use Rattle.net_sim.specs.Inside.Audit.{is_fresh, was_taken, answer_holds, crossing_holds, messages_hold, Found}
-use Rattle.net_sim.specs.Safe.{before}
+use Rattle.promise.specs.Safe.{before}
 use Rattle.std.specs.Prelude.{is_none}
 use Rattle.std.proofs.lemmas.Bool.{cases_lt}
 use Rattle.std.proofs.lemmas.List.{take-append-drop, take_all, reverse-append, length-reverse}

@@ -14,10 +14,10 @@ use Rattle.interface.specs.declared.crossing.Crossing.TheVariants as crossing
 use Rattle.interface.specs.declared.message.HostMessage.{HostMessage}
 use Rattle.interface.proofs.lemmas.{and_true}
 use Rattle.net_sim.specs.Audit.{IsStamped}
-use Rattle.net_sim.specs.Book.{Life}
+use Rattle.promise.specs.declared.life.Life.{Life}
 use Rattle.net_sim.specs.Findings.{AreAtPeace, AreStamped}
 use Rattle.net_sim.specs.Inside.Audit.{asked_at, is_place, same_own, same_asked, are_mates, differ, is_one_way, are_at_odds, may_both, partners_hold, Found, FoundTwo}
-use Rattle.net_sim.specs.Safe.{AreTwo, SafePartners, control_flow, own_request, partner_request}
+use Rattle.promise.specs.Safe.{AreTwo, SafePartners, control_flow, own_request, partner_request}
 use Rattle.net_sim.proofs.Audits.Elements.{all_at, all_fewer, all_from, false_not, and_is, contains_cases, contains_head, contains_none, contains_split, contains_take, is_false, none_of, not_is, or_cases}
 use Rattle.net_sim.proofs.Audits.Requests.{WentAt, asked_is, asked_true, asked_went, crossed_one, named_is, named_some, own_is, own_true, place_is, place_true, same_host-is, some_named}
 

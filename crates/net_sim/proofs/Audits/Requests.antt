@@ -10,10 +10,10 @@ use Rattle.interface.specs.declared.crossing.Crossing.{Crossing}
 use Rattle.interface.specs.declared.crossing.Crossing.TheVariants as crossing
 use Rattle.interface.specs.declared.message.HostMessage.{HostMessage}
 use Rattle.interface.proofs.lemmas.{and_true, same_flow-true, same_host-true, same_host-refl}
-use Rattle.net_sim.specs.Book.{Life}
-use Rattle.net_sim.specs.Formed.{CrossedAt}
+use Rattle.promise.specs.declared.life.Life.{Life}
+use Rattle.promise.specs.Formed.{CrossedAt}
 use Rattle.net_sim.specs.Inside.Audit.{asked_at, is_place, is_asked, same_place, same_own, same_ends, same_asked, is_partner}
-use Rattle.net_sim.specs.Safe.{Name, before, control_flow, last_out, own_request, partner_request, named}
+use Rattle.promise.specs.Safe.{Name, before, control_flow, last_out, own_request, partner_request, named}
 use Rattle.net_sim.proofs.Audits.Elements.{and_is}
 
 -- ---- the log before a place, read from its end

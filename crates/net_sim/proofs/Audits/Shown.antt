@@ -5,10 +5,10 @@ use Rattle.std.proofs.lemmas.List.{take_all}
 use Rattle.interface.specs.Messages.{SafeMessages}
 use Rattle.interface.specs.declared.crossing.Crossing.{Crossing}
 use Rattle.net_sim.specs.Audit.{IsWellFormed, Says}
-use Rattle.net_sim.specs.Book.{Life}
+use Rattle.promise.specs.declared.life.Life.{Life}
 use Rattle.net_sim.specs.Findings.{AreAtPeace, AreFed, AreStamped, HaveGranted, Shows, ShowsCrossing, ShowsLife, ShowsMalformed, ShowsTwo, WithMatch, AreUnmatched, first_fed, first_granted}
 use Rattle.net_sim.specs.Inside.Audit.{Found, FoundTwo, messages_hold, partners_hold, is_stamped, has_granted, is_unmatched, may_both, some_fed}
-use Rattle.net_sim.specs.Safe.{SafePartners, before}
+use Rattle.promise.specs.Safe.{SafePartners, before}
 use Rattle.net_sim.specs.declared.auditing.findings.Finding.{Finding}
 use Rattle.net_sim.specs.declared.auditing.findings.Finding.TheVariants as finding
 use Rattle.net_sim.specs.declared.auditing.said.Audit.TheVariants as audit

@@ -9,11 +9,11 @@ use Rattle.interface.specs.declared.crossing.Crossing.{Crossing}
 use Rattle.interface.specs.declared.crossing.Crossing.TheVariants as crossing
 use Rattle.interface.proofs.lemmas.{and_true, same_flow-true}
 use Rattle.net_sim.specs.Audit.{Passes, IsStamped, IsWellFormed}
-use Rattle.net_sim.specs.Book.{Life}
+use Rattle.promise.specs.declared.life.Life.{Life}
 use Rattle.net_sim.specs.Findings.{AreStamped}
-use Rattle.net_sim.specs.Formed.{CrossedAt, going, coming}
+use Rattle.promise.specs.Formed.{CrossedAt, going, coming}
 use Rattle.net_sim.specs.Inside.Audit.{asked_at, is_there, crossed_at, is_out, is_in, is_stamped, is_well_formed}
-use Rattle.net_sim.specs.Safe.{control_flow}
+use Rattle.promise.specs.Safe.{control_flow}
 use Rattle.net_sim.proofs.Audits.Elements.{and_is, all_at, all_from, is_false}
 use Rattle.net_sim.proofs.Audits.Messages.{same_yes}
 use Rattle.net_sim.proofs.Audits.Requests.{crossed_below}

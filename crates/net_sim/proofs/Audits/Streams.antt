@@ -8,9 +8,9 @@ use Rattle.net_sim.specs.Findings.{AreFed, AreUnmatched}
 use Rattle.std.proofs.lemmas.Bool.{eqb-true, cases_lt}
 use Rattle.interface.specs.declared.crossing.Crossing.{Crossing}
 use Rattle.interface.proofs.lemmas.{and_true}
-use Rattle.net_sim.specs.Book.{Life}
+use Rattle.promise.specs.declared.life.Life.{Life}
 use Rattle.net_sim.specs.Inside.Audit.{asked_at, is_asked, is_partner, is_match, same_bit, same_found, is_prefix, is_source, is_fed, is_handed, handed_at, are_handed, is_unmatched, some_fed, streams_hold, Found}
-use Rattle.net_sim.specs.Safe.{Name, SafePartners, SafeStreams, Match, Source, IsPrefix, AreHanded, own_request, partner_request, receives, sends}
+use Rattle.promise.specs.Safe.{Name, SafePartners, SafeStreams, Match, Source, IsPrefix, AreHanded, own_request, partner_request, receives, sends}
 use Rattle.net_sim.proofs.Audits.Elements.{and_false, and_is, or_cases, or_right, when_true, when_is, not_is, not_true, all_at, all_from, all_take, any_at, any_from, is_false}
 use Rattle.net_sim.proofs.Audits.Searches.{none_found}
 use Rattle.net_sim.proofs.Audits.Requests.{asks, asks_is, asked_sockets, partner_true, partner_is}

@@ -11,7 +11,8 @@ use Rattle.reset_law.specs.Boxes.{Box, WaitsWith, Fits, boxes, post_of, posted}
 use Rattle.reset_law.specs.Events.{Event, Contact, Out, In, Told, Down, Up, Idle, is_up, part_of, place, up_after_event}
 use Rattle.reset_law.specs.Pairs.{Pair, MaySend, pair_moved, pair}
 use Rattle.reset_law.specs.Runs.{Needs, Allowed, IsRun}
-use Rattle.net_sim.specs.Book.{Called, contacts_asked}
+use Rattle.promise.specs.declared.book.Called.{Called}
+use Rattle.net_sim.specs.Book.{contacts_asked}
 use Rattle.net_sim.specs.Projection.{event_of, event_by}
 use Rattle.net_sim.specs.Story.{Moment, Crossed, Asked, events_of, places}
 use Rattle.net_sim.specs.Timeline.{called_at, contacts_of, crossings_of, events_in}

@@ -8,7 +8,10 @@ use Rattle.net_sim.specs.Inside.Seats.{emptied_in_order, turned_in_order}
 use Rattle.host_pairs.specs.declared.notice.Notice.{Notice}
 use Rattle.interface.specs.Host.{Host}
 use Rattle.sockets.specs.declared.request.Request.{Request}
-use Rattle.net_sim.specs.Book.{Kept, Told, Called, Reported, crossed, all_crossed, book_told, all_told, asked, all_asked, all_reported, contacts_asked}
+use Rattle.promise.specs.declared.book.Told.{Told}
+use Rattle.promise.specs.declared.book.Called.{Called}
+use Rattle.host_services.specs.declared.report.Reported.{Reported}
+use Rattle.net_sim.specs.Book.{Kept, crossed, all_crossed, book_told, all_told, asked, all_asked, all_reported, contacts_asked}
 use Rattle.net_sim.specs.Inside.Lives as all
 use Rattle.net_sim.specs.Inside.Lives.{LivesState, of_kept, followed, written, told_at}
 use Rattle.net_sim.specs.World.{Seat, ServiceSeat, seats_turned, all_turned, emptied, all_emptied}

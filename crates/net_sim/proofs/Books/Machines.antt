@@ -27,7 +27,9 @@ use Rattle.host_services.specs.declared.report.Report.{Report}
 use Rattle.host_services.specs.declared.report.Report.TheVariants as report
 use Rattle.host_services.specs.declared.service.Service.{Service}
 use Rattle.host_services.specs.declared.service.Service.TheVariants as service
-use Rattle.net_sim.specs.Book.{Kept, Reported, Told, all_told, book_told}
+use Rattle.promise.specs.declared.book.Told.{Told}
+use Rattle.host_services.specs.declared.report.Reported.{Reported}
+use Rattle.net_sim.specs.Book.{Kept, all_told, book_told}
 use Rattle.net_sim.specs.Reports.{BegunServer, BegunUser, IsBacked, IsRunning, IsSo, ServerIsDone, UserIsDone, told_to}
 
 -- ---- one notice more

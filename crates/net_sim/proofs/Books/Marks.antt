@@ -5,7 +5,8 @@ use Rattle.std.proofs.lemmas.List.{map-append}
 use Rattle.std.proofs.Math.Seq.{take-append_seam}
 use Rattle.interface.specs.Host.{Host, same_host}
 use Rattle.interface.proofs.lemmas.{same_host-true}
-use Rattle.net_sim.specs.Book.{Life, changed_when, where_it, handed_to, lives_at}
+use Rattle.promise.specs.declared.life.Life.{Life}
+use Rattle.net_sim.specs.Book.{changed_when, where_it, handed_to, lives_at}
 use Rattle.net_sim.specs.Inside.Endings.{Ending, ends}
 use Rattle.net_sim.specs.Inside.Open.{AreKept, AreMarked, Covers, Extends, Holds, IsKept, has_host, has_socket, host_key, marked, places_at, places_of, socket_key}
 use Rattle.net_sim.specs.Inside.Places.{changed_at, is_open_at}

@@ -24,7 +24,9 @@ use Rattle.sockets.specs.declared.request.Request.TheVariants as request
 use Rattle.host_services.specs.Services.{ServiceDeskState, ServicesState, no_services, opening_desk}
 use Rattle.host_services.specs.Turns.{server_begun, user_begun}
 use Rattle.host_services.specs.TypedLines.{line_bits}
-use Rattle.net_sim.specs.Book.{Kept, Reported, Told, all_asked, all_crossed, all_told, asked, book_told, crossed}
+use Rattle.promise.specs.declared.book.Told.{Told}
+use Rattle.host_services.specs.declared.report.Reported.{Reported}
+use Rattle.net_sim.specs.Book.{Kept, all_asked, all_crossed, all_told, asked, book_told, crossed}
 use Rattle.net_sim.specs.Reports.{AreReported, AreRunning, IsBacked, IsRunning, told_to}
 use Rattle.net_sim.specs.Whole.{Each}
 use Rattle.net_sim.specs.World.{WorldState, WorldFault, Carrier, Program, Event, Net, Quiet, Offer, Take, Ask, Server, User, Typed, Seat, ServiceSeat, all_emptied, changed, noticed, opening_services, opening_world, seat_of, served_at, serviced, services_in, services_of, tended, turn_of, with_carrier, with_server, with_services, with_user, world_heard, world_moved, AskGives, AtProgram, AtSeat, CalmGives, Does, DoesOrHalts, EventGives, Halts, NetEnds, OfferEnds, OfferGives, Passes, QuietEnds, Refuses, RunGives, StepGives, TakeEnds, TakeGives, TypeGives}

@@ -3,8 +3,8 @@ use Rattle.std.proofs.Common.{◌≡◌, true, false, [], ◌∷◌, ◌++◌, l
 use Rattle.interface.specs.Mailboxes.{IsRun}
 use Rattle.interface.proofs.lemmas.{safe_messages}
 use Rattle.sockets.specs.Worked.{first, second}
-use Rattle.net_sim.specs.Book.{Life}
-use Rattle.net_sim.specs.Safe.{Name, SafeBook, SafePartners, SafeStreams, SafeGrants, IsGranted, Source, AreTwo, receives, sends, own_request, partner_request}
+use Rattle.promise.specs.declared.life.Life.{Life}
+use Rattle.promise.specs.Safe.{Name, SafeBook, SafePartners, SafeStreams, SafeGrants, IsGranted, Source, AreTwo, receives, sends, own_request, partner_request}
 use Rattle.net_sim.specs.Worked.{eight, crossings, taker, giver}
 use Rattle.net_sim.proofs.Books.Unsafe.{two_there, not_sending, place_of}
 

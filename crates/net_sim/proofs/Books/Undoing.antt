@@ -2,7 +2,7 @@
 use Rattle.std.proofs.Common.{◌≡◌, inl, inr, ℕ, ◌+◌, ◌<◌, ◌≤◌, Bool, zero, suc, List, [], ◌∷◌, ◌++◌, length, take, drop, slice_index_or, slice_set, refl, ap, sym, ◌∙◌, arith}
 use Rattle.std.proofs.lemmas.List.{drop_more}
 use Rattle.std.proofs.Math.Seq.{take-append_seam}
-use Rattle.net_sim.specs.Book.{Life}
+use Rattle.promise.specs.declared.life.Life.{Life}
 use Rattle.net_sim.specs.Inside.Lives.{LivesState}
 use Rattle.net_sim.specs.Inside.Places.{changed_here}
 use Rattle.net_sim.specs.Inside.Undo.{Undo, life_back, reopened, cut_here, undone, all_undone, GoesBack, IsEndNoted, IsNoted, AreNoted}

@@ -10,8 +10,8 @@ use Rattle.ncp_control.specs.Reading.{command_of, read_of}
 use Rattle.ncp_control.specs.declared.command.Command.TheVariants as command
 use Rattle.host_pairs.specs.Control.{Legal, Order, Wrong, orders_of}
 use Rattle.sockets.specs.Worked.{first, second, third}
-use Rattle.net_sim.specs.Book.{Life}
-use Rattle.net_sim.specs.Formed.{AreCarried, AreData, Carries, CrossedAt, IsFormed, request}
+use Rattle.promise.specs.declared.life.Life.{Life}
+use Rattle.promise.specs.Formed.{AreCarried, AreData, Carries, CrossedAt, IsFormed, request}
 use Rattle.net_sim.specs.SmallLogs.{given_log, moved, one_given, one_taken, taken_log}
 use Rattle.net_sim.specs.Worked.{eight, eight_zeros, message}
 use Rattle.net_sim.specs.WorkedMoments.{eight_sent, rts, str}

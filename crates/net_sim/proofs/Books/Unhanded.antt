@@ -13,7 +13,8 @@ use Rattle.sockets.specs.Pairs.{NcpState}
 use Rattle.sockets.specs.Requests.{refusal}
 use Rattle.sockets.specs.declared.request.Request.{Request}
 use Rattle.sockets.specs.declared.request.Request.TheVariants as request
-use Rattle.net_sim.specs.Book.{Kept, Life, all_told, book_told, carried, changed_when, granted, handed_asked, handed_told, handed_to, life_ended, lives_asked, lives_at, lives_between, lives_crossed, lives_on, lives_told, lives_with, new_life, returned, where_it}
+use Rattle.promise.specs.declared.life.Life.{Life}
+use Rattle.net_sim.specs.Book.{Kept, all_told, book_told, carried, changed_when, granted, handed_asked, handed_told, handed_to, life_ended, lives_asked, lives_at, lives_between, lives_crossed, lives_on, lives_told, lives_with, new_life, returned, where_it}
 use Rattle.net_sim.specs.Handed.{AreUnhanded}
 use Rattle.net_sim.specs.Story.{Moment, Crossed, Asked, program}
 use Rattle.net_sim.specs.Timeline.{Happens, IsTimeline}

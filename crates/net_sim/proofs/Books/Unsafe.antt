@@ -6,8 +6,8 @@ use Rattle.interface.specs.declared.crossing.Answer.TheVariants as answer
 use Rattle.interface.specs.declared.crossing.Crossing.{Crossing}
 use Rattle.interface.specs.declared.crossing.Crossing.TheVariants as crossing
 use Rattle.sockets.specs.Worked.{first, second, third, on_link}
-use Rattle.net_sim.specs.Book.{Life}
-use Rattle.net_sim.specs.Safe.{Name, SafeBook, IsGranted, Source, Match, IsPrefix, sends, own_request, partner_request}
+use Rattle.promise.specs.declared.life.Life.{Life}
+use Rattle.promise.specs.Safe.{Name, SafeBook, IsGranted, Source, Match, IsPrefix, sends, own_request, partner_request}
 use Rattle.net_sim.specs.Worked.{eight, eight_zeros, four, crossings, message, receiver, sender, taker, giver, elsewhere, asker, stranger}
 
 -- ---- where a life is

@@ -3,8 +3,8 @@ use Rattle.std.proofs.Common.{◌≡◌, ◌≤◌, [], ◌∷◌, ◌++◌, Som
 use Rattle.interface.specs.declared.crossing.Crossing.TheVariants as crossing
 use Rattle.interface.specs.Host.{Host}
 use Rattle.sockets.specs.Worked.{first, second, third}
-use Rattle.net_sim.specs.Book.{Life}
-use Rattle.net_sim.specs.Safe.{SafeBook, IsGranted, Source, Match, IsPrefix, sends, own_request, partner_request}
+use Rattle.promise.specs.declared.life.Life.{Life}
+use Rattle.promise.specs.Safe.{SafeBook, IsGranted, Source, Match, IsPrefix, sends, own_request, partner_request}
 use Rattle.net_sim.specs.Worked.{eight, four, crossings, message, receiver, sender, taker, giver, elsewhere, asker, stranger, over}
 use Rattle.net_sim.proofs.Books.Unsafe.{one_there, not_sending, place_of}
 

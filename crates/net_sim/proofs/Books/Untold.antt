@@ -11,9 +11,9 @@ use Rattle.host_pairs.specs.Control.{Legal, Order, orders_of}
 use Rattle.host_pairs.specs.declared.notice.Notice.{Notice}
 use Rattle.host_pairs.specs.declared.notice.Notice.TheVariants as notice
 use Rattle.sockets.specs.Worked.{first, second, third}
-use Rattle.net_sim.specs.Book.{Told}
-use Rattle.net_sim.specs.Formed.{CrossedAt}
-use Rattle.net_sim.specs.Notices.{AreTold, FormedNotices, HasLink, TellsOf}
+use Rattle.promise.specs.declared.book.Told.{Told}
+use Rattle.promise.specs.Formed.{CrossedAt}
+use Rattle.promise.specs.Notices.{AreTold, FormedNotices, HasLink, TellsOf}
 use Rattle.net_sim.specs.SmallLogs.{given_log, given_told, moved, taken_log, taken_told}
 use Rattle.net_sim.specs.Worked.{eight, eight_zeros}
 use Rattle.net_sim.specs.WorkedMoments.{eight_sent, rts, str}

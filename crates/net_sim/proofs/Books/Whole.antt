@@ -29,7 +29,8 @@ use Rattle.host_services.specs.Named.{HasAsked, MayAsk, NamePeers, NoneRefused}
 use Rattle.host_services.specs.Services.{ServiceDeskState, ServicesState, opening_desk}
 use Rattle.host_services.specs.Turns.{server_begun, user_begun}
 use Rattle.host_services.specs.TypedLines.{line_bits}
-use Rattle.net_sim.specs.Book.{Called, Kept, contacts_asked, crossed, all_crossed, book_told, all_told, asked}
+use Rattle.promise.specs.declared.book.Called.{Called}
+use Rattle.net_sim.specs.Book.{Kept, contacts_asked, crossed, all_crossed, book_told, all_told, asked}
 use Rattle.net_sim.specs.Carriers.{shown}
 use Rattle.net_sim.specs.Story.{Moment, Crossed, Asked, program, places}
 use Rattle.net_sim.specs.Timeline.{Happens, IsAddressed, IsAsked, IsTimeline, contacts_of, crossings_of}

@@ -12,7 +12,8 @@ use Rattle.sockets.specs.Requests.{refusal, served}
 use Rattle.sockets.specs.declared.request.Request.{Request}
 use Rattle.host_services.specs.Named.{MayAsk, NamePeers, NamesPeer, NoneRefused}
 use Rattle.host_services.specs.Services.{ServicesState, no_services}
-use Rattle.net_sim.specs.Book.{Called, Kept, all_asked, asked, contacts_asked}
+use Rattle.promise.specs.declared.book.Called.{Called}
+use Rattle.net_sim.specs.Book.{Kept, all_asked, asked, contacts_asked}
 use Rattle.net_sim.specs.Story.{Moment, Asked, program, places}
 use Rattle.net_sim.specs.Timeline.{IsTimeline, contacts_of, crossings_of}
 use Rattle.net_sim.specs.Whole.{AreServed, seat_in}

@@ -5,7 +5,8 @@ use Rattle.interface.specs.Host.{Host}
 use Rattle.host_pairs.specs.declared.notice.Notice.{Notice}
 use Rattle.host_services.specs.Services.{ServiceDeskState, ServicesState, opening_desk}
 use Rattle.host_services.specs.Turns.{passed_by, services_told}
-use Rattle.net_sim.specs.Book.{Kept, Reported, all_asked, all_reported, all_told}
+use Rattle.host_services.specs.declared.report.Reported.{Reported}
+use Rattle.net_sim.specs.Book.{Kept, all_asked, all_reported, all_told}
 use Rattle.net_sim.specs.Inside.Parts.{AreDone, IsDone, IsSettled, Serves, Sits}
 use Rattle.net_sim.specs.World.{ServiceSeat, Seat, WorldFault, turn_of}
 use Rattle.sockets.specs.Calls.{Turns}

@@ -17,10 +17,10 @@ use Rattle.reset_law.specs.Pairs.{Pair, pair}
 use Rattle.reset_law.specs.Runs.{IsRun, WaitsAfterClean}
 use Rattle.reset_law.specs.Stays.{IsPrefix, heard_in_stay, said_in_stay}
 use Rattle.reset_law.proofs.lemmas.{clean_run, heard_front, ready_phase}
-use Rattle.net_sim.specs.Book.{Called}
+use Rattle.promise.specs.declared.book.Called.{Called}
 use Rattle.net_sim.specs.Clean.{HaveAddresses, IsFresh, IsLawful, IsText, is_through}
 use Rattle.net_sim.specs.Projection.{Agrees, event_of}
-use Rattle.net_sim.specs.Safe.{last_out}
+use Rattle.promise.specs.Safe.{last_out}
 use Rattle.net_sim.specs.Story.{events_of, program}
 use Rattle.net_sim.specs.Timeline.{contacts_of, crossings_of, events_in, seen_box}
 use Rattle.net_sim.specs.Carriers.{shown}

@@ -9,8 +9,8 @@ use Rattle.interface.specs.declared.crossing.Answer.TheVariants as answer
 use Rattle.interface.specs.declared.crossing.Crossing.{Crossing}
 use Rattle.interface.specs.declared.crossing.Crossing.TheVariants as crossing
 use Rattle.interface.specs.declared.message.HostMessage.{HostMessage}
-use Rattle.net_sim.specs.Book.{Life}
-use Rattle.net_sim.specs.Safe.{control_flow, last_out, before, receives, sends}
+use Rattle.promise.specs.declared.life.Life.{Life}
+use Rattle.promise.specs.Safe.{control_flow, last_out, before, receives, sends}
 use Rattle.net_sim.specs.declared.auditing.said.Audit.{Audit}
 use Rattle.net_sim.specs.declared.auditing.said.Audit.TheVariants as audit
 use Rattle.net_sim.specs.declared.auditing.said.Part.TheVariants as part

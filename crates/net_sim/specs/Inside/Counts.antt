@@ -1,7 +1,7 @@
 -- How far the counts of lives have come.
 use Rattle.std.specs.Prelude.{ℕ, ◌*◌, ◌≤◌, List}
 use Rattle.std.specs.List.{All}
-use Rattle.net_sim.specs.Book.{Life}
+use Rattle.promise.specs.declared.life.Life.{Life}
 
 -- the counts of a life after this many changes of lives: each change adds at most 4294967295 to a count
 pub record IsWithin (changes : ℕ) (x : Life) : Type 0 where

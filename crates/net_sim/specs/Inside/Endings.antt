@@ -1,6 +1,7 @@
 -- Which lives end.
 use Rattle.std.specs.Prelude.{Bool}
-use Rattle.net_sim.specs.Book.{Life, lives_between, lives_with, lives_on}
+use Rattle.promise.specs.declared.life.Life.{Life}
+use Rattle.net_sim.specs.Book.{lives_between, lives_with, lives_on}
 pub use Rattle.net_sim.specs.declared.life.Ending.{Ending}
 use Rattle.net_sim.specs.declared.life.Ending.TheVariants as ending
 

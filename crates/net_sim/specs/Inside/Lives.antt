@@ -5,7 +5,11 @@ use Rattle.interface.specs.declared.crossing.Crossing.{Crossing}
 use Rattle.host_pairs.specs.declared.notice.Notice.{Notice}
 use Rattle.sockets.specs.declared.request.Request.{Request}
 use Rattle.net_sim.specs.Book as book
-use Rattle.net_sim.specs.Book.{Life, Told, Called, Reported, Kept, where_it, lives_crossed, lives_told, lives_asked, handed_told, handed_asked}
+use Rattle.promise.specs.declared.life.Life.{Life}
+use Rattle.promise.specs.declared.book.Told.{Told}
+use Rattle.promise.specs.declared.book.Called.{Called}
+use Rattle.host_services.specs.declared.report.Reported.{Reported}
+use Rattle.net_sim.specs.Book.{Kept, where_it, lives_crossed, lives_told, lives_asked, handed_told, handed_asked}
 use Rattle.net_sim.specs.Inside.Endings.{Ending, ends}
 
 pub record LivesState : Type 0 where

@@ -1,7 +1,7 @@
 -- Which places are known of the lives that haven't ended.
 use Rattle.std.specs.Prelude.{◌≡◌, ◌⊎◌, ℕ, ◌+◌, ◌*◌, ◌/◌, ◌%◌, ◌==◌, ◌&&◌, suc, Bool, true, false, not, if◌then◌else◌, List, [], ◌∷◌, ◌++◌, filter, map, slice_index_or}
 use Rattle.interface.specs.Host.{Host, address_octet}
-use Rattle.net_sim.specs.Book.{Life}
+use Rattle.promise.specs.declared.life.Life.{Life}
 use Rattle.net_sim.specs.Inside.Endings.{Ending}
 use Rattle.net_sim.specs.Inside.Places.{is_open_at}
 use Rattle.net_sim.specs.declared.life.Ending.TheVariants as ending

@@ -1,6 +1,6 @@
 -- Lives at places.
 use Rattle.std.specs.Prelude.{ℕ, zero, suc, Bool, false, not, List, [], ◌∷◌, Option, Some, None, slice_get}
-use Rattle.net_sim.specs.Book.{Life}
+use Rattle.promise.specs.declared.life.Life.{Life}
 
 -- whether a life is there and hasn't ended
 abbrev pub is_open : Option Life → Bool

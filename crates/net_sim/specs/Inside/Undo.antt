@@ -1,6 +1,7 @@
 -- How what was done to the lives is taken back.
 use Rattle.std.specs.Prelude.{◌≡◌, ◌⊎◌, ℕ, zero, suc, Bool, false, List, [], ◌∷◌, ◌++◌, length, min, take}
-use Rattle.net_sim.specs.Book.{Amount, Life}
+use Rattle.promise.specs.declared.life.Life.{Life}
+use Rattle.promise.specs.declared.life.Amount.{Amount}
 use Rattle.net_sim.specs.Inside.Lives.{LivesState}
 use Rattle.net_sim.specs.Inside.Places.{changed_here}
 pub use Rattle.net_sim.specs.declared.undo.Mark.{Mark}

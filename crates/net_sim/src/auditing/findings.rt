@@ -3,7 +3,7 @@
 ghost use Rattle.std.specs.Prelude.{◌≡◌, ◌<◌, MatchOption, length, reverse};
 ghost use Rattle.net_sim.specs.Audit.{IsWellFormed, Says};
 ghost use Rattle.net_sim.specs.Findings.{AreFed, AreStamped, HaveGranted, Shows, ShowsCrossing, ShowsLife, ShowsMalformed, ShowsTwo, WithMatch, first_fed, first_granted};
-ghost use Rattle.net_sim.specs.Safe.{SafePartners};
+ghost use Rattle.promise.specs.Safe.{SafePartners};
 ghost use Rattle.interface.specs.Messages.{SafeMessages};
 ghost use Rattle.net_sim.specs.declared.auditing.said.Audit.TheVariants as answer;
 
@@ -14,9 +14,8 @@ use super::requests::match_at;
 use super::said::{Audit, Part};
 use super::stamps::unstamped_at;
 use super::streams::unfed_at;
-use crate::bit_log::BitLog;
-use crate::life::Life;
 use interface::Crossing;
+use promise::{BitLog, Life};
 
 /// Where it shows that a book isn't safe. Places are counted from 0, each in its own list.
 #[derive(Clone, Copy, Debug, PartialEq, Eq)]

@@ -6,8 +6,8 @@ ghost use Rattle.net_sim.specs.Inside.Audit as tests;
 ghost use Rattle.net_sim.specs.Inside.Audit.{Found};
 
 use super::requests::{asked_at, is_match, receives};
-use crate::life::Life;
 use interface::Crossing;
+use promise::Life;
 
 /// Returns whether this much, with what was returned, is no more than what was granted.
 fn is_within(used: u128, returned: u128, granted: u128) -> bool

@@ -6,8 +6,8 @@ ghost use Rattle.net_sim.specs.Inside.Audit as tests;
 ghost use Rattle.net_sim.specs.Inside.Audit.{Found, FoundTwo};
 
 use super::requests::{are_at_odds, asked_at};
-use crate::life::Life;
 use interface::Crossing;
+use promise::Life;
 
 /// Returns the place of the first life before a place that is at odds with the one there.
 fn odds_with(log: &[Crossing], lives: &[Life], second: usize, y: &Life) -> Option<usize>

@@ -4,10 +4,10 @@ ghost use Rattle.std.specs.Prelude.{◌≡◌, length, reverse, take};
 ghost use Rattle.std.specs.List.{list_all};
 ghost use Rattle.net_sim.specs.Inside.Audit as tests;
 ghost use Rattle.net_sim.specs.Inside.Audit.{Found};
-ghost use Rattle.net_sim.specs.Safe as safe;
+ghost use Rattle.promise.specs.Safe as safe;
 
-use crate::life::Life;
 use interface::{Crossing, Flow, HostAddr, Link};
+use promise::Life;
 
 /// Returns the flow of requests from one host to another.
 pub(super) fn control_flow(source: HostAddr, destination: HostAddr) -> Flow

@@ -6,9 +6,8 @@ ghost use Rattle.net_sim.specs.Inside.Audit as tests;
 ghost use Rattle.net_sim.specs.Inside.Audit.{Found};
 
 use super::requests::{asked_at, control_flow};
-use crate::bit_log::BitLog;
-use crate::life::Life;
 use interface::{Crossing, Flow};
+use promise::{BitLog, Life};
 
 /// Returns whether this is a message of this flow that went out.
 fn is_out(crossing: &Crossing, flow: Flow) -> bool

@@ -6,9 +6,8 @@ ghost use Rattle.net_sim.specs.Inside.Audit as tests;
 ghost use Rattle.net_sim.specs.Inside.Audit.{Found};
 
 use super::requests::{asked_at, is_match, receives, sends};
-use crate::bit_log::BitLog;
-use crate::life::Life;
 use interface::Crossing;
+use promise::{BitLog, Life};
 
 /// Returns whether there are two bits, and they are alike.
 fn same_found(bit: Option<bool>, other: Option<bool>) -> bool

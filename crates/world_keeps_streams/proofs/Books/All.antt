@@ -5,12 +5,12 @@ use Rattle.interface.specs.Calls.{Seen}
 use Rattle.interface.specs.Host.{Host}
 use Rattle.interface.specs.Mailboxes as mail
 use Rattle.net_sim.specs.Clean.{HaveAddresses, IsLawful}
-use Rattle.net_sim.specs.Safe.{IsGranted, Match, Source, receives}
+use Rattle.promise.specs.Safe.{IsGranted, Match, Source, receives}
 use Rattle.net_sim.specs.Story.{Moment}
 use Rattle.net_sim.specs.Timeline.{IsTimeline, crossings_of}
 use Rattle.net_sim.specs.Told.{kept_in}
 use Rattle.net_sim.specs.World.{WorldState}
-use Rattle.net_sim.specs.declared.life.Life.{Life}
+use Rattle.promise.specs.declared.life.Life.{Life}
 use Rattle.world_keeps_streams.proofs.Carried.World.{carries_numbered, carries_turned}
 use Rattle.world_keeps_streams.proofs.Books.Books as books
 use Rattle.world_keeps_streams.proofs.Books.Given.{Lives, given}

@@ -5,11 +5,11 @@ use Rattle.interface.specs.Calls.{Seen}
 use Rattle.interface.specs.Host.{Host}
 use Rattle.interface.specs.declared.crossing.Crossing.{Crossing}
 use Rattle.net_sim.specs.Clean.{IsLawful}
-use Rattle.net_sim.specs.Safe.{IsGranted, Match, Name, SafePartners, Source, own_request, receives}
+use Rattle.promise.specs.Safe.{IsGranted, Match, Name, SafePartners, Source, own_request, receives}
 use Rattle.net_sim.specs.Story.{Moment}
 use Rattle.net_sim.specs.Timeline.{crossings_of}
 use Rattle.net_sim.specs.World.{WorldState}
-use Rattle.net_sim.specs.declared.life.Life.{Life}
+use Rattle.promise.specs.declared.life.Life.{Life}
 use Rattle.net_sim.proofs.lemmas.{Coupled}
 use Rattle.world_keeps_pairing.proofs.lemmas.{book_lives, book_run, safe_partners, served_in}
 use Rattle.world_keeps_lives.proofs.lemmas.{taken}

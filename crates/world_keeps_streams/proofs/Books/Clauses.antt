@@ -4,11 +4,11 @@ use Rattle.interface.specs.Host.{Host}
 use Rattle.ncp_control.specs.Numbers.{is_receive_socket, is_send_socket}
 use Rattle.pairing_law.proofs.lemmas.{Fresh, begins_fresh}
 use Rattle.reset_law.specs.Stays as stay
-use Rattle.net_sim.specs.Safe as book
-use Rattle.net_sim.specs.Safe.{IsGranted, Match, Source, own_request, partner_request, receives, sends}
+use Rattle.promise.specs.Safe as book
+use Rattle.promise.specs.Safe.{IsGranted, Match, Source, own_request, partner_request, receives, sends}
 use Rattle.net_sim.specs.Story.{Moment, Crossed, Asked, event_in, events_of}
 use Rattle.net_sim.specs.Timeline.{crossings_of}
-use Rattle.net_sim.specs.declared.life.Life.{Life}
+use Rattle.promise.specs.declared.life.Life.{Life}
 use Rattle.world_keeps_streams.proofs.Lives.Lists.{IsOf, Grown, contains, grown, of_drop, of_left, of_map, of_mapped, of_parts, of_take, take_grown}
 use Rattle.world_keeps_streams.proofs.Requests.Names.{request_grows}
 use Rattle.world_keeps_streams.proofs.Requests.Sides.{Lawful, coupled_in, lives_in}

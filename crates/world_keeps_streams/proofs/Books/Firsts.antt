@@ -14,7 +14,7 @@ use Rattle.net_sim.specs.Clean.{IsLawful}
 use Rattle.net_sim.specs.Story.{Moment, program}
 use Rattle.net_sim.specs.Timeline.{crossings_of}
 use Rattle.net_sim.specs.World.{WorldState}
-use Rattle.net_sim.specs.declared.life.Life.{Life}
+use Rattle.promise.specs.declared.life.Life.{Life}
 use Rattle.world_keeps_lives.specs.Firsts.{FirstBook}
 use Rattle.world_keeps_lives.proofs.lemmas as books
 use Rattle.world_keeps_lives.proofs.lemmas.{HasOwner, Together}

@@ -5,9 +5,9 @@ use Rattle.interface.specs.Host.{Host}
 use Rattle.host_keeps_streams.specs.Histories.{numbered, receiver_now, sender_now}
 use Rattle.host_keeps_streams.proofs.lemmas.{numbered_tells}
 use Rattle.reset_law.specs.Stays as stay
-use Rattle.net_sim.specs.Safe.{receives, sends}
+use Rattle.promise.specs.Safe.{receives, sends}
 use Rattle.net_sim.specs.Story.{Moment, event_in, events_of}
-use Rattle.net_sim.specs.declared.life.Life.{Life}
+use Rattle.promise.specs.declared.life.Life.{Life}
 use Rattle.world_keeps_streams.specs.Calls.{own_calls, numbered_by_peer}
 use Rattle.world_keeps_streams.proofs.Lives.Lists.{IsOf}
 use Rattle.world_keeps_streams.proofs.Requests.Now.{Counts}

@@ -6,9 +6,9 @@ use Rattle.ncp_control.specs.declared.allocation.Allocation.{Allocation}
 use Rattle.host_keeps_streams.specs.Histories.{numbered}
 use Rattle.reset_law.specs.Stays as stay
 use Rattle.net_sim.specs.Book.{life_ended}
-use Rattle.net_sim.specs.Safe.{receives, sends}
+use Rattle.promise.specs.Safe.{receives, sends}
 use Rattle.net_sim.specs.Story.{Moment, event_in, events_of}
-use Rattle.net_sim.specs.declared.life.Life.{Life}
+use Rattle.promise.specs.declared.life.Life.{Life}
 use Rattle.world_keeps_streams.proofs.Steps.Joined.{IsSettled, Joined, Keeps}
 use Rattle.world_keeps_streams.proofs.Carried.Streams.{all_bits}
 use Rattle.world_keeps_streams.proofs.Lives.Lists.{IsOf, Grown, grown, of_drop}

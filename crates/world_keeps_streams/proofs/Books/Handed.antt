@@ -12,12 +12,12 @@ use Rattle.host_pairs.proofs.lemmas.{both}
 use Rattle.reset_law.specs.Stays as stay
 use Rattle.sockets.specs.Pairs.{NcpState, pair_with}
 use Rattle.net_sim.specs.Clean.{IsLawful}
-use Rattle.net_sim.specs.Safe.{Match, own_request, sends}
+use Rattle.promise.specs.Safe.{Match, own_request, sends}
 use Rattle.net_sim.specs.Story.{Moment, events_of, program}
 use Rattle.net_sim.specs.Timeline.{crossings_of}
 use Rattle.net_sim.specs.Told.{kept_in}
 use Rattle.net_sim.specs.World.{WorldState}
-use Rattle.net_sim.specs.declared.life.Life.{Life}
+use Rattle.promise.specs.declared.life.Life.{Life}
 use Rattle.world_keeps_lives.specs.Drained.{AllSent, ClosedFirst, ClosesFirst}
 use Rattle.world_keeps_lives.specs.Lives.{HasOpenEnd}
 use Rattle.world_keeps_lives.proofs.lemmas.{drained, live}

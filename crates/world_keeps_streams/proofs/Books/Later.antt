@@ -16,11 +16,11 @@ use Rattle.pairing_law.specs.Links.{receiver}
 use Rattle.pairing_law.proofs.lemmas.{Fresh, asks_once, begins_fresh}
 use Rattle.reset_law.specs.Stays as stay
 use Rattle.net_sim.specs.Clean.{IsLawful}
-use Rattle.net_sim.specs.Safe.{Match, Name, own_request, partner_request, receives, sends}
+use Rattle.promise.specs.Safe.{Match, Name, own_request, partner_request, receives, sends}
 use Rattle.net_sim.specs.Story.{Asked, Crossed, Moment, event_in, events_of}
 use Rattle.net_sim.specs.Timeline.{crossings_of}
 use Rattle.net_sim.specs.World.{WorldState}
-use Rattle.net_sim.specs.declared.life.Life.{Life}
+use Rattle.promise.specs.declared.life.Life.{Life}
 use Rattle.world_keeps_pairing.specs.Free.{law_events}
 use Rattle.world_keeps_pairing.specs.Steps.{keeps, steps}
 use Rattle.world_keeps_pairing.proofs.lemmas.{book_run}

@@ -9,10 +9,10 @@ use Rattle.stream_law.specs.Streams.{Stream}
 use Rattle.host_keeps_streams.specs.Histories.{numbered, receiver_now, sender_now}
 use Rattle.reset_law.specs.Stays as stay
 use Rattle.reset_law.proofs.lemmas.{begins_either}
-use Rattle.net_sim.specs.Safe.{Match, receives, sends}
+use Rattle.promise.specs.Safe.{Match, receives, sends}
 use Rattle.net_sim.specs.Story.{Moment, event_in, events_of}
 use Rattle.net_sim.specs.Timeline.{IsTimeline, crossings_of}
-use Rattle.net_sim.specs.declared.life.Life.{Life}
+use Rattle.promise.specs.declared.life.Life.{Life}
 use Rattle.world_keeps_pairing.proofs.lemmas.{mail_below}
 use Rattle.world_keeps_streams.specs.Calls.{own_calls}
 use Rattle.world_keeps_streams.proofs.Steps.Joined.{Joined, Keeps, numbered_by_peer}

@@ -6,11 +6,11 @@ use Rattle.stream_law.specs.Within.{IsSafe, message_bits}
 use Rattle.stream_law.proofs.lemmas.{safe_inv}
 use Rattle.host_keeps_streams.specs.Histories.{numbered}
 use Rattle.host_keeps_streams.proofs.lemmas.{numbered_tells}
-use Rattle.net_sim.specs.Safe as book
-use Rattle.net_sim.specs.Safe.{IsGranted, Match, receives, sends}
+use Rattle.promise.specs.Safe as book
+use Rattle.promise.specs.Safe.{IsGranted, Match, receives, sends}
 use Rattle.net_sim.specs.Story.{Moment}
 use Rattle.net_sim.specs.Timeline.{crossings_of}
-use Rattle.net_sim.specs.declared.life.Life.{Life}
+use Rattle.promise.specs.declared.life.Life.{Life}
 use Rattle.world_keeps_streams.proofs.Steps.Joined.{Joined}
 use Rattle.world_keeps_streams.proofs.Carried.Streams.{all_bits}
 use Rattle.world_keeps_streams.proofs.Lives.Lists.{IsOf, of_drop}

@@ -1,7 +1,7 @@
 -- Bits of messages, and prefixes of them.
 use Rattle.std.proofs.Common.{◌≡◌, ℕ, ◌+◌, Bool, List, [], ◌∷◌, ◌++◌, length, refl, ap, sym, ◌∙◌}
 use Rattle.std.proofs.lemmas.List.{append_assoc, length-append}
-use Rattle.net_sim.specs.Safe as book
+use Rattle.promise.specs.Safe as book
 use Rattle.stream_law.specs.Within.{message_bits, IsPrefix}
 use Rattle.world_keeps_streams.proofs.Carried.Streams.{all_bits}
 

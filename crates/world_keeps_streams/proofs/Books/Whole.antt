@@ -8,10 +8,10 @@ use Rattle.host_keeps_streams.specs.Histories.{gone_now, numbered, receiver_now,
 use Rattle.reset_law.specs.Stays as stay
 use Rattle.sockets.specs.Pairs.{pair_with}
 use Rattle.net_sim.specs.Book.{life_ended}
-use Rattle.net_sim.specs.Safe as book
-use Rattle.net_sim.specs.Safe.{IsGranted, Match, receives, sends}
+use Rattle.promise.specs.Safe as book
+use Rattle.promise.specs.Safe.{IsGranted, Match, receives, sends}
 use Rattle.net_sim.specs.Story.{Moment, event_in, events_of, program}
-use Rattle.net_sim.specs.declared.life.Life.{Life}
+use Rattle.promise.specs.declared.life.Life.{Life}
 use Rattle.world_keeps_streams.specs.Calls.{own_calls}
 use Rattle.world_keeps_streams.proofs.Steps.Joined.{Joined, numbered_by_peer}
 use Rattle.world_keeps_streams.proofs.Carried.Streams.{all_bits}

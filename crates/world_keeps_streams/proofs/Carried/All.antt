@@ -13,9 +13,9 @@ use Rattle.host_keeps_streams.specs.Ends.{has_opened}
 use Rattle.host_keeps_streams.specs.Histories.{IsTelling, gone_by}
 use Rattle.host_keeps_streams.specs.Names.{named}
 use Rattle.host_keeps_streams.proofs.lemmas.{is_there, name_of}
-use Rattle.net_sim.specs.declared.life.Life.{Life}
+use Rattle.promise.specs.declared.life.Life.{Life}
 use Rattle.net_sim.specs.Book.{new_life}
-use Rattle.net_sim.specs.Safe.{receives, sends}
+use Rattle.promise.specs.Safe.{receives, sends}
 use Rattle.world_keeps_lives.proofs.lemmas.{clash, open_parts}
 use Rattle.world_keeps_pairing.proofs.lemmas.{odd_send}
 use Rattle.world_keeps_streams.proofs.Deeds.Effects as deeds

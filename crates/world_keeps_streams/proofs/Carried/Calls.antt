@@ -11,8 +11,8 @@ use Rattle.host_keeps_streams.proofs.lemmas.{Holds, holds_now, name_of}
 use Rattle.host_keeps_streams.specs.Names.{AreApart, is_among, named, numbers}
 use Rattle.pairing_law.specs.Marks.{Ask, Asks, Close, Mark}
 use Rattle.sockets.specs.Pairs.{pair_with}
-use Rattle.net_sim.specs.declared.life.Life.{Life}
-use Rattle.net_sim.specs.Safe.{receives, sends}
+use Rattle.promise.specs.declared.life.Life.{Life}
+use Rattle.promise.specs.Safe.{receives, sends}
 use Rattle.net_sim.specs.Story.{Moment, event_in, events_of, program}
 use Rattle.net_sim.specs.Told.{kept_in}
 use Rattle.world_keeps_lives.specs.Lives.{AreRefusing}

@@ -13,7 +13,7 @@ use Rattle.host_pairs.specs.declared.notice.Notice.{Notice}
 use Rattle.host_keeps_streams.specs.Histories as calls
 use Rattle.host_keeps_streams.specs.Histories.{AreAllowed, Hears, IsHistory, IsTelling, ends_after, gone_now, receiver_now, sender_now}
 use Rattle.host_keeps_streams.proofs.lemmas.{Holds, holds_now}
-use Rattle.net_sim.specs.declared.life.Life.{Life}
+use Rattle.promise.specs.declared.life.Life.{Life}
 use Rattle.net_sim.specs.Book.{Kept, all_told}
 use Rattle.world_keeps_lives.specs.Lives.{AreRefusing}
 use Rattle.world_keeps_lives.proofs.lemmas.{GoodTurn, Place, all_told_append, good_queued, good_ready, good_taken}

@@ -12,7 +12,7 @@ use Rattle.host_keeps_streams.specs.Histories as calls
 use Rattle.host_keeps_streams.specs.Histories.{IsHistory, IsTelling, ends_after}
 use Rattle.sockets.specs.Accepting.{turn_of}
 use Rattle.sockets.specs.Pairs.{NcpState, pair_with}
-use Rattle.net_sim.specs.declared.life.Life.{Life}
+use Rattle.promise.specs.declared.life.Life.{Life}
 use Rattle.net_sim.specs.Book.{Kept}
 use Rattle.net_sim.specs.Clean.{HaveAddresses}
 use Rattle.net_sim.specs.Story.{Moment, event_in, events_of, program}

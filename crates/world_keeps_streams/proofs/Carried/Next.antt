@@ -13,9 +13,9 @@ use Rattle.host_keeps_streams.specs.Ends.{has_opened}
 use Rattle.host_keeps_streams.specs.Histories.{IsTelling, gone_by}
 use Rattle.host_keeps_streams.specs.Names.{named}
 use Rattle.host_keeps_streams.proofs.lemmas.{is_there, name_of, odd_is}
-use Rattle.net_sim.specs.declared.life.Life.{Life}
+use Rattle.promise.specs.declared.life.Life.{Life}
 use Rattle.net_sim.specs.Book.{lives_at}
-use Rattle.net_sim.specs.Safe.{receives, sends}
+use Rattle.promise.specs.Safe.{receives, sends}
 use Rattle.world_keeps_lives.proofs.lemmas.{clash}
 use Rattle.world_keeps_streams.proofs.Deeds.Effects.{Among, Deed, From, Receives, Sends, among_front, among_mapped, at_receiver, at_sender, granted_by, life_by, new_by, taken_by}
 use Rattle.world_keeps_streams.proofs.Deeds.Ends.{Does, IsAt}

@@ -19,7 +19,7 @@ use Rattle.host_pairs.specs.declared.listener.Listener.{Listener}
 use Rattle.host_pairs.specs.declared.notice.Notice.{Notice}
 use Rattle.host_keeps_streams.specs.Histories as calls
 use Rattle.host_keeps_streams.specs.Histories.{AreAllowed, IsHistory, IsTelling, Says}
-use Rattle.net_sim.specs.declared.life.Life.{Life}
+use Rattle.promise.specs.declared.life.Life.{Life}
 use Rattle.net_sim.specs.Book.{Kept, all_told}
 use Rattle.world_keeps_lives.proofs.lemmas.{G, IsOfTwo, Place, Waits, all_go, all_told_append, unasked_by}
 use Rattle.world_keeps_streams.specs.Calls.{called, commands_said}

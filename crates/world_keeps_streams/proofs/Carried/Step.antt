@@ -8,10 +8,10 @@ use Rattle.host_pairs.specs.Entries.{is_open}
 use Rattle.host_pairs.specs.declared.entry.Entry.{Entry}
 use Rattle.host_pairs.proofs.lemmas.{both}
 use Rattle.host_keeps_streams.proofs.lemmas.{is_there}
-use Rattle.net_sim.specs.declared.life.Life.{Life}
+use Rattle.promise.specs.declared.life.Life.{Life}
 use Rattle.net_sim.specs.Book as book
 use Rattle.net_sim.specs.Book.{changed_when, life_ended, lives_at, lives_between, new_life}
-use Rattle.net_sim.specs.Safe.{receives, sends}
+use Rattle.promise.specs.Safe.{receives, sends}
 use Rattle.world_keeps_lives.proofs.lemmas.{clash}
 use Rattle.world_keeps_streams.proofs.Deeds.Effects as deeds
 use Rattle.world_keeps_streams.proofs.Deeds.Effects.{Among, Becomes, Deed, From, HasLink, IsLinked, IsNew, OpensAs, Receives, Sends, among_either, among_front, among_behind, among_map, among_mapped, at_receiver, at_sender, granted_by, life_by, life_ends, new_by, returned_by, sent_by, taken_by}

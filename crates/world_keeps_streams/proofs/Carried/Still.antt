@@ -5,7 +5,7 @@ use Rattle.host_pairs.specs.declared.entry.Entry.{Entry}
 use Rattle.host_keeps_streams.specs.Histories as calls
 use Rattle.host_keeps_streams.specs.Histories.{gone_now, receiver_now, sender_now}
 use Rattle.sockets.specs.Pairs.{pair_with}
-use Rattle.net_sim.specs.declared.life.Life.{Life}
+use Rattle.promise.specs.declared.life.Life.{Life}
 use Rattle.net_sim.specs.Story.{Moment, event_in, events_of, program}
 use Rattle.net_sim.specs.Told.{kept_in}
 use Rattle.world_keeps_pairing.specs.Steps.{keeps}

@@ -13,7 +13,7 @@ use Rattle.host_pairs.proofs.lemmas.{both}
 use Rattle.host_keeps_streams.specs.Ends.{has_opened}
 use Rattle.host_keeps_streams.specs.Histories.{gone_by}
 use Rattle.host_keeps_streams.proofs.lemmas.{is_there}
-use Rattle.net_sim.specs.declared.life.Life.{Life}
+use Rattle.promise.specs.declared.life.Life.{Life}
 use Rattle.net_sim.specs.Book as book
 use Rattle.net_sim.specs.Book.{changed_when, life_ended, lives_at, lives_between}
 use Rattle.world_keeps_lives.specs.Lives.{mine_on}

@@ -4,7 +4,7 @@ use Rattle.interface.specs.Host.{Host}
 use Rattle.reset_law.specs.Stays as stay
 use Rattle.net_sim.specs.Book.{life_ended}
 use Rattle.net_sim.specs.Story.{Moment, events_of}
-use Rattle.net_sim.specs.declared.life.Life.{Life}
+use Rattle.promise.specs.declared.life.Life.{Life}
 use Rattle.world_keeps_streams.proofs.Lives.Lists.{Grown, IsOf, grown, of_left, of_map}
 use Rattle.world_keeps_streams.proofs.Lives.Left.{over_when_left}
 use Rattle.world_keeps_streams.proofs.Books.Run.{below}

@@ -27,7 +27,7 @@ use Rattle.net_sim.specs.Projection.{IsApart, message_on}
 use Rattle.net_sim.specs.Story.{Moment, Crossed, Asked, event_in, events_of, places, program}
 use Rattle.net_sim.specs.Timeline.{crossings_of}
 use Rattle.net_sim.specs.Told.{host_in, notices_by}
-use Rattle.net_sim.specs.declared.life.Life.{Life}
+use Rattle.promise.specs.declared.life.Life.{Life}
 use Rattle.net_sim.proofs.lemmas.{Coupled}
 use Rattle.world_keeps_lives.proofs.lemmas.{clash}
 use Rattle.world_keeps_pairing.specs.Free.{origin_in}

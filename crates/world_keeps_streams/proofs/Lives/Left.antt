@@ -17,7 +17,7 @@ use Rattle.reset_law.specs.Stays as stay
 use Rattle.sockets.specs.Pairs.{pair_with}
 use Rattle.net_sim.specs.Story.{Moment, events_of, program}
 use Rattle.net_sim.specs.Timeline.{crossings_of}
-use Rattle.net_sim.specs.declared.life.Life.{Life}
+use Rattle.promise.specs.declared.life.Life.{Life}
 use Rattle.net_sim.proofs.lemmas.{Coupled}
 use Rattle.world_keeps_lives.specs.Lives.{HasOpenEnd, mine_on}
 use Rattle.world_keeps_lives.proofs.lemmas.{live}

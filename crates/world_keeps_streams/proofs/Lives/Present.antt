@@ -9,10 +9,10 @@ use Rattle.pairing_law.specs.Marks.{Asks, Mark}
 use Rattle.pairing_law.specs.Sides.{Side}
 use Rattle.reset_law.specs.Stays as stay
 use Rattle.sockets.specs.Pairs.{pair_with}
-use Rattle.net_sim.specs.Safe.{receives, sends}
+use Rattle.promise.specs.Safe.{receives, sends}
 use Rattle.net_sim.specs.Story.{Moment, events_of, program}
 use Rattle.net_sim.specs.Timeline.{crossings_of}
-use Rattle.net_sim.specs.declared.life.Life.{Life}
+use Rattle.promise.specs.declared.life.Life.{Life}
 use Rattle.net_sim.proofs.lemmas.{Coupled}
 use Rattle.world_keeps_pairing.specs.Free.{law_events, origin_in}
 use Rattle.world_keeps_pairing.specs.Lives.{ArePaired}

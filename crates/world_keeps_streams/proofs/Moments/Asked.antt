@@ -22,7 +22,7 @@ use Rattle.sockets.specs.Requests.{grant_fault, on_open, refusal, served_notices
 use Rattle.sockets.specs.declared.request.Request.{Request}
 use Rattle.sockets.specs.declared.request.Request.TheVariants as request
 use Rattle.sockets.proofs.lemmas.{not_first}
-use Rattle.net_sim.specs.declared.life.Life.{Life}
+use Rattle.promise.specs.declared.life.Life.{Life}
 use Rattle.net_sim.specs.Book as book
 use Rattle.net_sim.specs.Book.{asked, changed_when, life_ended, lives_asked, lives_at, lives_with, where_it}
 use Rattle.net_sim.specs.Clean.{HaveAddresses}

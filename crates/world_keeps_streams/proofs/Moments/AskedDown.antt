@@ -5,7 +5,7 @@ use Rattle.interface.specs.Mailboxes as mail
 use Rattle.interface.specs.declared.crossing.Crossing.TheVariants as crossing
 use Rattle.reset_law.specs.Pairs.{pair}
 use Rattle.host_keeps_streams.specs.Histories.{AreAllowed, IsTelling}
-use Rattle.net_sim.specs.declared.life.Life.{Life}
+use Rattle.promise.specs.declared.life.Life.{Life}
 use Rattle.net_sim.specs.Book.{life_ended, lives_on}
 use Rattle.net_sim.specs.Clean.{HaveAddresses}
 use Rattle.net_sim.specs.Story.{Crossed, Moment, event_in, events_of}

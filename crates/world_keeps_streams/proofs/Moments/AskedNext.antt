@@ -6,7 +6,7 @@ use Rattle.host_pairs.specs.declared.entry.Entry.{Entry}
 use Rattle.host_keeps_streams.specs.Histories as calls
 use Rattle.host_keeps_streams.specs.Histories.{AreAllowed, IsHistory, IsTelling, ends_after, ends_now}
 use Rattle.sockets.specs.Pairs.{pair_with}
-use Rattle.net_sim.specs.declared.life.Life.{Life}
+use Rattle.promise.specs.declared.life.Life.{Life}
 use Rattle.net_sim.specs.Book.{changed_when, where_it}
 use Rattle.net_sim.specs.Clean.{HaveAddresses}
 use Rattle.net_sim.specs.Story.{Moment, event_in, events_of, program}

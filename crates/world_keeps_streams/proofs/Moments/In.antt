@@ -25,7 +25,7 @@ use Rattle.reset_law.specs.Events.{In, Message, Reset, Other, are}
 use Rattle.reset_law.specs.Stays as stay
 use Rattle.sockets.specs.Accepting.{accepted, turn_of}
 use Rattle.sockets.specs.Pairs.{NcpState, pair_with}
-use Rattle.net_sim.specs.declared.life.Life.{Life}
+use Rattle.promise.specs.declared.life.Life.{Life}
 use Rattle.net_sim.specs.Book.{all_told, crossed}
 use Rattle.net_sim.specs.Clean.{HaveAddresses}
 use Rattle.net_sim.specs.Projection.{IsApart, message_on}

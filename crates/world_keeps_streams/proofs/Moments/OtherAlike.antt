@@ -6,7 +6,7 @@ use Rattle.host_pairs.specs.declared.entry.Entry.{Entry}
 use Rattle.host_pairs.specs.declared.notice.Notice.{Notice}
 use Rattle.host_pairs.specs.declared.notice.Notice.TheVariants as notice
 use Rattle.host_pairs.proofs.lemmas.{both}
-use Rattle.net_sim.specs.declared.life.Life.{Life}
+use Rattle.promise.specs.declared.life.Life.{Life}
 use Rattle.net_sim.specs.Book as book
 use Rattle.net_sim.specs.Book.{changed_when, lives_at, lives_between, lives_on, lives_told, lives_with, new_life, where_it}
 use Rattle.world_keeps_lives.proofs.lemmas.{clash}

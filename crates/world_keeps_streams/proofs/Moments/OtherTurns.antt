@@ -24,7 +24,7 @@ use Rattle.ncp_control.specs.declared.phase.Phase.{Phase}
 use Rattle.ncp_control.specs.declared.phase.Phase.TheVariants as phase
 use Rattle.host_keeps_pairing.proofs.lemmas.{reply_idle}
 use Rattle.host_keeps_streams.specs.Histories.{Call, Hears, Takes}
-use Rattle.net_sim.specs.declared.life.Life.{Life}
+use Rattle.promise.specs.declared.life.Life.{Life}
 use Rattle.net_sim.specs.Book.{Kept, all_told}
 use Rattle.host_pairs.proofs.lemmas.{both, not_is}
 use Rattle.world_keeps_lives.specs.Lives.{AreRefusing, IsLifeOf, at_socket, mine_on}

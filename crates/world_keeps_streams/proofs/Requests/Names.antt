@@ -7,8 +7,8 @@ use Rattle.pairing_law.specs.Links.{events_at}
 use Rattle.pairing_law.specs.Partners.{IsIn, OwnOnce}
 use Rattle.pairing_law.specs.Sides.{Life}
 use Rattle.pairing_law.proofs.lemmas.{run_at, safe_run}
-use Rattle.net_sim.specs.declared.life.Life as book
-use Rattle.net_sim.specs.Safe.{Match, SafePartners, before, control_flow, last_out, named, own_request, partner_request, receives}
+use Rattle.promise.specs.declared.life.Life as book
+use Rattle.promise.specs.Safe.{Match, SafePartners, before, control_flow, last_out, named, own_request, partner_request, receives}
 use Rattle.net_sim.specs.Story.{Moment}
 use Rattle.net_sim.specs.Timeline.{crossings_of}
 use Rattle.net_sim.proofs.lemmas.{Coupled}

@@ -9,8 +9,8 @@ use Rattle.pairing_law.specs.Partners.{IsIn}
 use Rattle.pairing_law.specs.Sides as law
 use Rattle.pairing_law.specs.Sides.{Side}
 use Rattle.pairing_law.proofs.lemmas.{Joined, Stands, Stood, asks_once, asks_said, every_in, from_asks}
-use Rattle.net_sim.specs.declared.life.Life.{Life}
-use Rattle.net_sim.specs.Safe.{receives}
+use Rattle.promise.specs.declared.life.Life.{Life}
+use Rattle.promise.specs.Safe.{receives}
 use Rattle.net_sim.specs.Story.{Moment}
 use Rattle.net_sim.specs.Timeline.{crossings_of}
 use Rattle.net_sim.proofs.lemmas.{Coupled}

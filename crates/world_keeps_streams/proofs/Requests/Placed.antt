@@ -2,10 +2,10 @@
 use Rattle.std.proofs.Common.{◌≡◌, ℕ, true, false, List, [], ◌∷◌, Option, Some, None, refl, ap, subst}
 use Rattle.interface.specs.Host.{Host}
 use Rattle.reset_law.specs.Stays as stay
-use Rattle.net_sim.specs.Safe.{Match, receives}
+use Rattle.promise.specs.Safe.{Match, receives}
 use Rattle.net_sim.specs.Story.{Moment, Crossed, Asked, event_in, events_of}
 use Rattle.net_sim.specs.Timeline.{crossings_of}
-use Rattle.net_sim.specs.declared.life.Life.{Life}
+use Rattle.promise.specs.declared.life.Life.{Life}
 use Rattle.world_keeps_pairing.specs.Free.{origin_in}
 use Rattle.world_keeps_streams.proofs.Lives.Lists.{IsOf, contains}
 use Rattle.world_keeps_streams.proofs.Requests.Names.{matched, origin_grows}

@@ -16,7 +16,7 @@ use Rattle.net_sim.specs.Clean.{HaveAddresses}
 use Rattle.net_sim.specs.Story.{Moment, event_in, events_of}
 use Rattle.net_sim.specs.Timeline.{IsTimeline, crossings_of}
 use Rattle.net_sim.specs.Told.{kept_in}
-use Rattle.net_sim.specs.declared.life.Life as book
+use Rattle.promise.specs.declared.life.Life as book
 use Rattle.net_sim.proofs.lemmas.{Coupled, coupled}
 use Rattle.world_keeps_pairing.specs.Free.{law_events, origin_in}
 use Rattle.world_keeps_pairing.specs.Steps.{keeps, steps}

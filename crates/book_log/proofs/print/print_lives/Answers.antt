@@ -3,7 +3,7 @@ use Rattle.std.proofs.lemmas.List.Elements.{All-more}
 use Rattle.std.specs.Io.KnownBytes.{Appends}
 use Rattle.replay.proofs.lemmas.{text_more}
 use Rattle.script.specs.Input.{ended_line}
-use Rattle.net_sim.specs.declared.life.Life.{Life}
+use Rattle.promise.specs.declared.life.Life.{Life}
 use Rattle.book_log.specs.Log.{IsLife, life_line}
 use Rattle.book_log.proofs.print.print_lives.Goals as goal
 

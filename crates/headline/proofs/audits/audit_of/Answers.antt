@@ -4,8 +4,8 @@ use Rattle.interface.specs.Host.{Host}
 use Rattle.interface.specs.declared.crossing.Crossing.{Crossing}
 use Rattle.net_sim.specs.Audit.{Says}
 use Rattle.net_sim.specs.Book.{Kept}
-use Rattle.net_sim.specs.declared.life.Life.{Life}
-use Rattle.headline.specs.Promised.{Promised}
+use Rattle.promise.specs.declared.life.Life.{Life}
+use Rattle.promise.specs.Promised.{Promised}
 use Rattle.net_sim.specs.declared.auditing.said.Audit.TheVariants as said
 use Rattle.headline.proofs.Audited.{kept_promise}
 use Rattle.headline.proofs.audits.audit_of.Goals as goal

@@ -1,6 +1,6 @@
 use Rattle.std.proofs.Common.{sym, subst}
 use Rattle.net_sim.specs.Book.{Kept}
-use Rattle.headline.specs.Promised.{Promised}
+use Rattle.promise.specs.Promised.{Promised}
 use Rattle.headline.proofs.Promise.{exact, promised}
 use Rattle.headline.proofs.book.book_of.Goals as goal
 

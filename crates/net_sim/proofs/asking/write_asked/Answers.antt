@@ -1,7 +1,9 @@
 use Rattle.std.proofs.Common.{rules, ◌≡◌, ℕ, ◌++◌, List, [], Some, OnOk, map, length, ap, subst, ◌∙◌}
 use Rattle.std.specs.List.{flat_map}
 use Rattle.std.proofs.lemmas.List.{length-reverse}
-use Rattle.net_sim.specs.Book.{Kept, Told, Called, all_asked, all_reported, all_told, asked, contacts_asked}
+use Rattle.promise.specs.declared.book.Told.{Told}
+use Rattle.promise.specs.declared.book.Called.{Called}
+use Rattle.net_sim.specs.Book.{Kept, all_asked, all_reported, all_told, asked, contacts_asked}
 use Rattle.net_sim.specs.Inside.Lives.{told_at, written}
 use Rattle.net_sim.proofs.Books.InOrder.{written_asked}
 use Rattle.net_sim.proofs.asking.write_asked.Goals as goal

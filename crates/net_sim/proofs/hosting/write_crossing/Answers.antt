@@ -1,6 +1,8 @@
 use Rattle.std.proofs.Common.{rules, ◌≡◌, ◌+◌, List, None, Some, OnOk, map, reverse, length, ap, subst, ◌∙◌}
 use Rattle.std.specs.List.{flat_map}
-use Rattle.net_sim.specs.Book.{Kept, Told, Called, contacts_asked, all_asked, all_reported, all_told, all_crossed}
+use Rattle.promise.specs.declared.book.Told.{Told}
+use Rattle.promise.specs.declared.book.Called.{Called}
+use Rattle.net_sim.specs.Book.{Kept, contacts_asked, all_asked, all_reported, all_told, all_crossed}
 use Rattle.net_sim.specs.Inside.Lives.{told_at, written}
 use Rattle.net_sim.proofs.Books.InOrder.{written_both}
 use Rattle.net_sim.proofs.hosting.write_crossing.Goals as goal

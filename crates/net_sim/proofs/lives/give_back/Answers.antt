@@ -22,14 +22,14 @@ loop-at-init c = record { rest = refl; kept = kept_same c.args.lives.now; within
 
 pub loop-at-preserved : goal.loop-at-preserved
 loop-at-preserved c = record {
-  rest = next_changed (where_here (lives_at c.args.host c.args.socket) (returned c.args.messages c.args.bits)) c.args.places.now c.loop-at.at-index c.loop-at.lives _ c.index-lives-at.result c.give_back_at.new.self (search rules) (search rules) c.loop-at.invariant.rest;
-  kept = kept_set c.args.lives.now c.loop-at.lives (slice_index_or c.args.places.now c.loop-at.at-index 0) c.index-lives-at.result _ c.give_back_at.new.self c.loop-at.invariant.kept refl (noted_kept (slice_index_or c.args.places.now c.loop-at.at-index 0) c.loop-at.done.items c.give_back_at.new.done.items _ c.give_back_at.new.self c.give_back_at.ensures.noted);
-  within = counts_set c.loop-at.changes c.give_back_at.new.changes c.loop-at.lives (slice_index_or c.args.places.now c.loop-at.at-index 0) c.give_back_at.new.self c.give_back_at.ensures.more c.loop-at.invariant.within c.give_back_at.ensures.within;
-  back = λ handed. noted_back c.loop-at.done.items c.give_back_at.new.done.items (slice_index_or c.args.places.now c.loop-at.at-index 0) c.loop-at.lives handed c.index-lives-at.result _ c.give_back_at.new.self refl c.give_back_at.ensures.noted ∙ c.loop-at.invariant.back handed;
+  rest = next_changed (where_here (lives_at c.args.host c.args.socket) (returned c.args.messages c.args.bits)) c.args.places.now c.loop-at.at-index c.loop-at.lives _ c.index-lives-at.result c.give_back_at.new.life (search rules) (search rules) c.loop-at.invariant.rest;
+  kept = kept_set c.args.lives.now c.loop-at.lives (slice_index_or c.args.places.now c.loop-at.at-index 0) c.index-lives-at.result _ c.give_back_at.new.life c.loop-at.invariant.kept refl (noted_kept (slice_index_or c.args.places.now c.loop-at.at-index 0) c.loop-at.done.items c.give_back_at.new.done.items _ c.give_back_at.new.life c.give_back_at.ensures.noted);
+  within = counts_set c.loop-at.changes c.give_back_at.new.changes c.loop-at.lives (slice_index_or c.args.places.now c.loop-at.at-index 0) c.give_back_at.new.life c.give_back_at.ensures.more c.loop-at.invariant.within c.give_back_at.ensures.within;
+  back = λ handed. noted_back c.loop-at.done.items c.give_back_at.new.done.items (slice_index_or c.args.places.now c.loop-at.at-index 0) c.loop-at.lives handed c.index-lives-at.result _ c.give_back_at.new.life refl c.give_back_at.ensures.noted ∙ c.loop-at.invariant.back handed;
 }
 
 pub returns-in_err-give_back_at-clause-kept : goal.returns-in_err-give_back_at-clause-kept
-returns-in_err-give_back_at-clause-kept c = kept_set c.args.lives.now c.loop-at.lives (slice_index_or c.args.places.now c.loop-at.at-index 0) c.index-lives-at.result _ c.give_back_at.new.self c.loop-at.invariant.kept refl (noted_kept (slice_index_or c.args.places.now c.loop-at.at-index 0) c.loop-at.done.items c.give_back_at.new.done.items _ c.give_back_at.new.self c.give_back_at.ensures.noted)
+returns-in_err-give_back_at-clause-kept c = kept_set c.args.lives.now c.loop-at.lives (slice_index_or c.args.places.now c.loop-at.at-index 0) c.index-lives-at.result _ c.give_back_at.new.life c.loop-at.invariant.kept refl (noted_kept (slice_index_or c.args.places.now c.loop-at.at-index 0) c.loop-at.done.items c.give_back_at.new.done.items _ c.give_back_at.new.life c.give_back_at.ensures.noted)
 
 pub returns-clause-done : goal.returns-clause-done
 returns-clause-done c =
@@ -39,13 +39,13 @@ pub returns-clause-kept : goal.returns-clause-kept
 returns-clause-kept c = c.loop-at.invariant.kept
 
 pub returns-in_err-give_back_at-clause-back : goal.returns-in_err-give_back_at-clause-back
-returns-in_err-give_back_at-clause-back c = λ handed. noted_back c.loop-at.done.items c.give_back_at.new.done.items (slice_index_or c.args.places.now c.loop-at.at-index 0) c.loop-at.lives handed c.index-lives-at.result _ c.give_back_at.new.self refl c.give_back_at.ensures.noted ∙ c.loop-at.invariant.back handed
+returns-in_err-give_back_at-clause-back c = λ handed. noted_back c.loop-at.done.items c.give_back_at.new.done.items (slice_index_or c.args.places.now c.loop-at.at-index 0) c.loop-at.lives handed c.index-lives-at.result _ c.give_back_at.new.life refl c.give_back_at.ensures.noted ∙ c.loop-at.invariant.back handed
 
 pub returns-clause-back : goal.returns-clause-back
 returns-clause-back c = λ handed. c.loop-at.invariant.back handed
 
 pub returns-in_err-give_back_at-clause-within : goal.returns-in_err-give_back_at-clause-within
-returns-in_err-give_back_at-clause-within c = counts_set c.loop-at.changes c.give_back_at.new.changes c.loop-at.lives (slice_index_or c.args.places.now c.loop-at.at-index 0) c.give_back_at.new.self c.give_back_at.ensures.more c.loop-at.invariant.within c.give_back_at.ensures.within
+returns-in_err-give_back_at-clause-within c = counts_set c.loop-at.changes c.give_back_at.new.changes c.loop-at.lives (slice_index_or c.args.places.now c.loop-at.at-index 0) c.give_back_at.new.life c.give_back_at.ensures.more c.loop-at.invariant.within c.give_back_at.ensures.within
 
 pub returns-clause-within : goal.returns-clause-within
 returns-clause-within c = c.loop-at.invariant.within

@@ -1,5 +1,5 @@
 use Rattle.std.proofs.Common.{◌≡◌, rules, Bool, List, slice_index_or, ap, sym, ◌∙◌}
-use Rattle.net_sim.specs.Book.{Life}
+use Rattle.promise.specs.declared.life.Life.{Life}
 use Rattle.net_sim.specs.Inside.Undo.{Undo, life_back, reopened, undone}
 use Rattle.net_sim.proofs.Books.Places.{set_here}
 use Rattle.net_sim.proofs.Books.Undoing.{state, cut_past, cut_set, here_past}
@@ -18,7 +18,7 @@ returns-else-at-len c =
 
 pub returns-then-at-len-2 : goal.returns-then-at-len-2
 returns-then-at-len-2 c =
-    ap (λ (xs : List Life). state xs c.args.handed.now.items) (set_here (life_back c.in-Changed.was) c.in-Changed.at c.args.lives.now.items c.index_mut-then-at-len-2.result.now c.put_back.new.self (search rules))
+    ap (λ (xs : List Life). state xs c.args.handed.now.items) (set_here (life_back c.in-Changed.was) c.in-Changed.at c.args.lives.now.items c.index_mut-then-at-len-2.result.now c.put_back.new.life (search rules))
     ∙ ap (λ (u : Undo). undone u (state c.args.lives.now.items c.args.handed.now.items)) (sym c.in-Changed.is)
 
 pub returns-else-at-len-2 : goal.returns-else-at-len-2

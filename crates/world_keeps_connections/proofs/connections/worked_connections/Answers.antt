@@ -4,9 +4,9 @@ use Rattle.bit_messages.specs.Octets.{octets_of}
 use Rattle.host_services.specs.declared.report.Report.TheVariants as report
 use Rattle.host_services.specs.declared.report.Reported.{Reported}
 use Rattle.icp.specs.declared.outcome.Outcome.TheVariants as outcome
-use Rattle.net_sim.specs.declared.book.Told.{Told}
+use Rattle.promise.specs.declared.book.Told.{Told}
 use Rattle.net_sim.specs.Reports.{IsBacked}
-use Rattle.net_sim.specs.Safe.{own_request}
+use Rattle.promise.specs.Safe.{own_request}
 use Rattle.sockets.specs.Worked.{first, second}
 use Rattle.world_keeps_connections.specs.WorkedConnections.{joined_kept, older, older_at_server, server_receives, server_sends, user_receives, user_sends}
 use Rattle.world_keeps_connections.proofs.connections.worked_connections.Goals as goal

@@ -6,7 +6,7 @@ use Rattle.host_pairs.specs.Control.{orders_of}
 use Rattle.sockets.specs.Accepting.{accepted}
 use Rattle.sockets.specs.Requests.{refusal, served, served_notices}
 use Rattle.sockets.specs.Sending.{next_out, offered}
-use Rattle.net_sim.specs.declared.life.Life as book
+use Rattle.promise.specs.declared.life.Life as book
 use Rattle.world_keeps_connections.proofs.law.worked_lives.Goals as goal
 
 first_or : book.Life → List book.Life → book.Life

@@ -14,11 +14,11 @@ use Rattle.sockets.specs.Pairs.{pair_with}
 use Rattle.sockets.specs.Requests.{refusal, served, served_notices}
 use Rattle.sockets.specs.Sending.{next_out, offered}
 use Rattle.sockets.specs.Worked.{first, second}
-use Rattle.net_sim.specs.Safe.{receives}
+use Rattle.promise.specs.Safe.{receives}
 use Rattle.net_sim.specs.Story.{Crossed, Moment, program}
 use Rattle.net_sim.specs.Told.{kept_in}
 use Rattle.net_sim.specs.WorkedMoments.{sent_moments}
-use Rattle.net_sim.specs.declared.life.Life.{Life}
+use Rattle.promise.specs.declared.life.Life.{Life}
 use Rattle.world_keeps_lives.specs.Lives.{mine_on}
 use Rattle.world_keeps_streams.specs.Calls.{own_calls}
 use Rattle.world_keeps_streams.specs.Closes.{IsClosedByPartner, WasClosedByPartner}

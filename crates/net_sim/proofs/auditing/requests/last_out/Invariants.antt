@@ -1,5 +1,5 @@
 use Rattle.std.proofs.Common.{◌≡◌, ◌≤◌, length, take, reverse}
-use Rattle.net_sim.specs.Safe.{last_out}
+use Rattle.promise.specs.Safe.{last_out}
 use Rattle.net_sim.proofs.auditing.requests.last_out.Given as goal
 
 abbrev pub invariant-back : goal.invariant-back

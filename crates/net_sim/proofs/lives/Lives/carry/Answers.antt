@@ -1,5 +1,6 @@
 use Rattle.std.proofs.Common.{◌≡◌, rules, ℕ, List, ◌++◌, take, drop, length, sym, subst}
-use Rattle.net_sim.specs.Book.{Life, lives_at}
+use Rattle.promise.specs.declared.life.Life.{Life}
+use Rattle.net_sim.specs.Book.{lives_at}
 use Rattle.net_sim.specs.Inside.Counts.{AreWithin}
 use Rattle.net_sim.specs.Inside.Open.{AreKept, Covers, Holds}
 use Rattle.net_sim.proofs.Books.Counts.{counts_put}

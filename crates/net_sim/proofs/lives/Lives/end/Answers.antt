@@ -1,5 +1,5 @@
 use Rattle.std.proofs.Common.{◌≡◌, rules, ℕ, List, ◌++◌, take, drop, length, sym, subst}
-use Rattle.net_sim.specs.Book.{Life}
+use Rattle.promise.specs.declared.life.Life.{Life}
 use Rattle.net_sim.specs.Inside.Counts.{AreWithin}
 use Rattle.net_sim.specs.Inside.Endings.{ends}
 use Rattle.net_sim.specs.Inside.Open.{AreKept, Covers, Holds}

@@ -1,5 +1,5 @@
 use Rattle.std.proofs.Common.{◌≡◌, ◌∙◌, true, false, List, ap, sym, subst}
-use Rattle.net_sim.specs.Book.{Life}
+use Rattle.promise.specs.declared.life.Life.{Life}
 use Rattle.net_sim.specs.Inside.Counts.{AreWithin}
 use Rattle.net_sim.specs.Inside.Lives.{LivesState}
 use Rattle.net_sim.specs.Inside.Undo.{all_undone}

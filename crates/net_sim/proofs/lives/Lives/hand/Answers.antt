@@ -1,5 +1,6 @@
 use Rattle.std.proofs.Common.{◌≡◌, rules, ℕ, List, sym, subst}
-use Rattle.net_sim.specs.Book.{Life, lives_at}
+use Rattle.promise.specs.declared.life.Life.{Life}
+use Rattle.net_sim.specs.Book.{lives_at}
 use Rattle.net_sim.specs.Inside.Open.{Covers, Holds}
 use Rattle.net_sim.proofs.Books.Marks.{look_at}
 use Rattle.net_sim.proofs.lives.Lives.hand.Goals as goal

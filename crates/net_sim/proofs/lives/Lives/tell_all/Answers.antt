@@ -1,5 +1,5 @@
 use Rattle.std.proofs.Common.{refl, rules, ◌∙◌}
-use Rattle.net_sim.specs.Book.{Told}
+use Rattle.promise.specs.declared.book.Told.{Told}
 use Rattle.net_sim.specs.Inside.Lives as all
 use Rattle.net_sim.proofs.Books.Undoing.{next_of}
 use Rattle.net_sim.proofs.lives.Lives.tell_all.Goals as goal

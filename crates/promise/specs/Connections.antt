@@ -6,9 +6,9 @@ use Rattle.icp.specs.declared.outcome.Outcome.TheVariants as outcome
 use Rattle.host_services.specs.declared.report.Report.{Report}
 use Rattle.host_services.specs.declared.report.Report.TheVariants as report
 use Rattle.host_services.specs.declared.report.Reported.{Reported}
-use Rattle.net_sim.specs.Book.{Book}
-use Rattle.net_sim.specs.Safe.{Match}
-use Rattle.net_sim.specs.declared.life.Life.{Life}
+use Rattle.promise.specs.Book.{Book}
+use Rattle.promise.specs.Safe.{Match}
+use Rattle.promise.specs.declared.life.Life.{Life}
 
 -- a service of this host has reported this
 pub record HasReported (host : Host) (what : Report) (reports : List Reported) : Type 0 where

@@ -8,7 +8,7 @@ use Rattle.interface.specs.declared.address.Flow.{Flow}
 use Rattle.interface.specs.declared.crossing.Crossing.{Crossing}
 use Rattle.interface.specs.declared.crossing.Crossing.TheVariants as crossing
 use Rattle.ncp_control.specs.Numbers.{is_receive_socket, is_send_socket}
-use Rattle.net_sim.specs.Book.{Life}
+use Rattle.promise.specs.declared.life.Life.{Life}
 
 -- ---- requests
 

@@ -13,8 +13,8 @@ use Rattle.ncp_control.specs.declared.command.Command.TheVariants as command
 use Rattle.ncp_control.specs.declared.data_header.DataHeader.{DataHeader}
 use Rattle.host_pairs.specs.Control.{Legal, orders_of}
 use Rattle.host_pairs.specs.Data.{data_of}
-use Rattle.net_sim.specs.Book.{Life}
-use Rattle.net_sim.specs.Safe.{control_flow, receives}
+use Rattle.promise.specs.declared.life.Life.{Life}
+use Rattle.promise.specs.Safe.{control_flow, receives}
 
 -- this crossed at a place, counted from 0
 abbrev pub CrossedAt : ℕ → Crossing → List Crossing → Type 0

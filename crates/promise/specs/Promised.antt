@@ -2,11 +2,11 @@
 use Rattle.std.specs.Prelude.{Bool, List}
 use Rattle.interface.specs.Host.{Host}
 use Rattle.interface.specs.Mailboxes.{IsRun}
-use Rattle.net_sim.specs.Book.{Book}
-use Rattle.net_sim.specs.Formed.{FormedBook}
-use Rattle.net_sim.specs.Notices.{FormedNotices}
-use Rattle.net_sim.specs.Safe.{SafeBook}
-use Rattle.world_keeps_connections.specs.Connections.{JoinedBook}
+use Rattle.promise.specs.Book.{Book}
+use Rattle.promise.specs.Formed.{FormedBook}
+use Rattle.promise.specs.Notices.{FormedNotices}
+use Rattle.promise.specs.Safe.{SafeBook}
+use Rattle.promise.specs.Connections.{JoinedBook}
 
 -- between these hosts, what crossed is a run of the mailboxes. Each life is made of messages that crossed, and each notice of data reports a message that
 -- has just crossed. The book is safe, with what was handed over to be sent. And a finished initial connection pairs the

@@ -7,8 +7,8 @@ use Rattle.interface.specs.declared.message.HostMessage.{HostMessage}
 use Rattle.ncp_control.specs.Numbers.{is_receive_socket}
 use Rattle.host_pairs.specs.declared.notice.Notice.{Notice}
 use Rattle.host_pairs.specs.declared.notice.Notice.TheVariants as notice
-use Rattle.net_sim.specs.Book.{Told}
-use Rattle.net_sim.specs.Formed.{AreData, HasCrossed, coming, going, request}
+use Rattle.promise.specs.declared.book.Told.{Told}
+use Rattle.promise.specs.Formed.{AreData, HasCrossed, coming, going, request}
 
 -- ---- notices of data
 

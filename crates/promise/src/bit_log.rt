@@ -28,7 +28,7 @@ impl Model for BitLog {
 
 impl BitLog {
     /// Returns the empty list.
-    pub(crate) fn new(alloc: Global) -> BitLog
+    pub fn new(alloc: Global) -> BitLog
         ensures { result ≡ [] }
     {
         BitLog {
@@ -64,7 +64,7 @@ impl BitLog {
     }
 
     /// Puts these bits at the end.
-    pub(crate) fn append(&mut self, more: &Bits) -> Result<(), AllocError>
+    pub fn append(&mut self, more: &Bits) -> Result<(), AllocError>
         ensures done { OnOk result (self.new ≡ self.old ++ more.now) }
         ensures kept { OnErr result (self.new ≡ self.old) }
     {
@@ -82,7 +82,7 @@ impl BitLog {
     }
 
     /// Keeps only the first `len` bits.
-    pub(crate) fn cut(&mut self, len: usize)
+    pub fn cut(&mut self, len: usize)
         ensures { self.new ≡ take len self.old }
     {
         if len < self.len {

@@ -1,0 +1,25 @@
+//! The promise of the book of a world: all that a reader must believe of the headline, and the records that it speaks
+//! of.
+//!
+//! Read in this order. No host program, packet, route or buffer occurs in any of it, and nothing else has to be read.
+//! 1. What crosses between hosts and the network: `specs/Mailboxes.antt` of `interface`, and `specs/Messages.antt`
+//!    there, which says what is safe of messages.
+//! 2. What is promised, in five parts: `specs/Promised.antt`.
+//! 3. What is written down of a world: `specs/Book.antt`, with [`Life`], [`Told`] and [`Called`].
+//! 4. The parts: a safe book (`specs/Safe.antt`), the messages that a life is made of (`specs/Formed.antt`) and that a
+//!    notice reports (`specs/Notices.antt`), and the sockets that an initial connection pairs
+//!    (`specs/Connections.antt`).
+//! 5. How the text of a message is read: `Control` and `Data` of `host_pairs`, `DataHeader`, `Numbers` and `Reading` of
+//!    `ncp_control`, `Octets` of `bit_messages`.
+//!
+//! `docs/measured/promise.md` has these definitions on one page. `net_sim` writes the book, the crates from there to
+//! `headline` prove its parts, and `headline::book_of` ensures them of the book of every world.
+#![tactic(auto)]
+
+mod bit_log;
+mod book;
+mod life;
+
+pub use bit_log::BitLog;
+pub use book::{Called, Told};
+pub use life::{Amount, Life};
