@@ -34,5 +34,6 @@ pub use inspect::Inspect;
 pub use numbers::event_lines;
 pub use opening::print_network;
 pub use parts::{print_parts, print_whole};
+pub use spelling::print_net_event;
 pub use turn::Turn;
 pub use values::{answer_word, print_answer, print_octets};

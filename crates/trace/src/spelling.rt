@@ -73,8 +73,10 @@ fn print_frame<W: Output>(
     write!(writer, "{word} {line} {way} {frame}")
 }
 
-/// Prints what happens inside a network.
-fn print_net_event<W: Output>(event: &NetEvent, writer: &mut W) -> Result<(), WriteFailed>
+/// Prints an event inside a network as a line of a script, without its end.
+///
+/// Errors: `WriteFailed`.
+pub fn print_net_event<W: Output>(event: &NetEvent, writer: &mut W) -> Result<(), WriteFailed>
     requires { W.failed writer.old ≡ false }
     ensures written { OnOk result (Appends (W.contents writer.old) (W.contents writer.new) (net_spelling event.now)) }
     ensures failed { TellsFailure result (W.failed writer.new) }

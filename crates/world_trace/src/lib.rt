@@ -10,7 +10,6 @@
 
 mod commands;
 mod line;
-mod net_events;
 mod pairs;
 mod services;
 mod spelling;

@@ -10,12 +10,12 @@ ghost use Rattle.world_script.specs.WorldSpelling.{request_spelling};
 ghost use Rattle.world_script.specs.declared.event.WorldEvent.TheVariants as world;
 ghost use Rattle.world_trace.specs.Texts.{escaped, event_text, lines_octet, lines_text};
 
-use crate::net_events::print_net_event;
 use bit_messages::Bits;
 use interface::HostAddr;
 use net_sim::Event;
 use replay::{Output, WriteFailed, print_bits};
 use sockets::Request;
+use trace::print_net_event;
 use world_script::WorldEvent;
 
 /// Prints octets of a string, with a backslash before quotation marks and backslashes.
