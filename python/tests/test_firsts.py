@@ -43,7 +43,7 @@ class Firsts(unittest.TestCase):
     def test_a_message_that_no_life_counts(self) -> None:
         for book, life in lives():
             first = messages_of(book.log, life)[: life.messages - 1]
-            shorter = replace(life, messages=life.messages - 1, bits="".join(bits for _, bits in first))
+            shorter = replace(life, messages=life.messages - 1, bits="".join(bits or "" for _, bits in first))
             others = [shorter if it is life else it for it in book.lives]
             # a receiver may have dropped the last message while its end closed; a sender counts all of its own
             self.assertEqual(determined(book.log, others), life.receives())

@@ -1,4 +1,7 @@
 pub mod SameText
 pub mod Mailboxes
+pub mod Named
+pub mod Matched
+pub mod Made
 pub mod Worked
 pub mod lemmas

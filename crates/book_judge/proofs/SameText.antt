@@ -12,13 +12,13 @@ use Rattle.bit_messages.proofs.lemmas.{bits_again}
 use Rattle.interface.proofs.lemmas.{and_true, both_ways}
 use Rattle.book_judge.specs.Inside.{same_bit, same_text}
 
-same_bit-true : (x y : Bool) → same_bit x y ≡ true → x ≡ y
+pub same_bit-true : (x y : Bool) → same_bit x y ≡ true → x ≡ y
 same_bit-true true true h = refl
 same_bit-true true false h = absurd (cc)
 same_bit-true false true h = absurd (cc)
 same_bit-true false false h = refl
 
-same_bit-refl : (x : Bool) → same_bit x x ≡ true
+pub same_bit-refl : (x : Bool) → same_bit x x ≡ true
 same_bit-refl true = refl
 same_bit-refl false = refl
 

@@ -1,7 +1,7 @@
 -- The rows.
-use Rattle.std.proofs.Common.{◌≡◌, ℕ, Bool, true, false, ◌||◌, List, [], ◌∷◌, refl, ap, sym, ◌∙◌}
-use Rattle.interface.specs.Host.{Host, is_host, same_host}
-use Rattle.interface.specs.Mailboxes.{Empty, Fits, IsRun}
+use Rattle.std.proofs.Common.{◌≡◌, true, false, List, [], ◌∷◌, refl, sym, ◌∙◌}
+use Rattle.interface.specs.Host.{Host, is_host}
+use Rattle.interface.specs.Mailboxes.{Empty, Fits}
 use Rattle.interface.specs.declared.address.Flow.{Flow}
 use Rattle.interface.specs.declared.crossing.Answer.{Answer}
 use Rattle.interface.specs.declared.crossing.Answer.TheVariants as answer

@@ -1,4 +1,5 @@
 -- What the contracts of private functions say. No public clause cites this file.
+pub mod Made
 use Rattle.std.specs.Prelude.{ℕ, Bool, true, false, not, ◌&&◌, nat_le, if◌then◌else◌, List, [], ◌∷◌, slice_get, Option, Some, None}
 use Rattle.std.specs.FinMap as map
 use Rattle.interface.specs.Flow.{flow_cmp}

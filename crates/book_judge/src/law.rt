@@ -1,4 +1,5 @@
-//! Logs that are runs between some hosts, and logs that stop being one. The functions here do nothing: each clause is a row.
+//! Logs that are runs between some hosts, and logs that stop being one; and lives that are made of what crossed, and one that isn't. The
+//! functions here do nothing: each clause is a row.
 
 ghost use Rattle.std.specs.Prelude.{[], ◌∷◌};
 ghost use Rattle.interface.specs.Host.{Host};
@@ -7,7 +8,12 @@ ghost use Rattle.interface.specs.declared.crossing.Answer.{Answer};
 ghost use Rattle.interface.specs.declared.crossing.Answer.TheVariants as answer;
 ghost use Rattle.interface.specs.declared.crossing.Crossing.TheVariants as crossing;
 ghost use Rattle.interface.specs.declared.message.HostMessage.{HostMessage};
+ghost use Rattle.promise.specs.declared.life.Life.{Life};
+ghost use Rattle.world_keeps_lives.specs.WorkedFormed.{gave, sent_log, took};
+ghost use Rattle.book_judge.specs.Lives.{AreMade, UnmadeAt};
 ghost use Rattle.book_judge.specs.Runs.{IsSomeRun, StraysAt};
+
+use world_keeps_lives::law::worked_firsts;
 
 /// Logs of one crossing.
 pub fn worked_runs()
@@ -27,3 +33,15 @@ pub fn worked_strays()
     ensures earlier { (m : HostMessage) → StraysAt (crossing.Out m ∷ crossing.Answer answer.Dead m.flow ∷ crossing.Answer answer.Dead m.flow ∷ crossing.Out m ∷ []) 1 → ⊥ }
     ensures later { (m : HostMessage) → StraysAt (crossing.Out m ∷ crossing.Answer answer.Dead m.flow ∷ crossing.Answer answer.Dead m.flow ∷ crossing.Out m ∷ []) 3 → ⊥ }
 {}
+
+/// Lives of small logs, the newest crossing first.
+pub fn worked_lives()
+    // those of a world in which eight bits were sent
+    ensures made { AreMade sent_log (took ∷ gave ∷ []) }
+
+    // no life is made of nothing
+    ensures nothing { (x : Life) → UnmadeAt [] (x ∷ []) 0 }
+    ensures none { AreMade [] [] }
+{
+    worked_firsts();
+}

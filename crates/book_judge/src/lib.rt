@@ -6,10 +6,14 @@
 //! Nothing here reads lines: a log is a list of crossings, the oldest first.
 #![tactic(auto)]
 
+mod data;
 mod flow_map;
 pub mod law;
+mod lives;
 mod mail;
+mod requests;
 mod runs;
 mod texts;
 
+pub use lives::unmade_at;
 pub use runs::stray_at;

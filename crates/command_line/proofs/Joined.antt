@@ -18,7 +18,8 @@ use Rattle.topology.specs.Topology.{TopologyFields}
 use Rattle.topology.specs.declared.network.CarrierKind.{CarrierKind}
 use Rattle.topology.specs.declared.network.CarrierKind.TheVariants as kind
 use Rattle.book_judge.specs.Runs.{IsSomeRun, StraysAt}
-use Rattle.book_judge.proofs.lemmas.{run_front}
+use Rattle.book_judge.specs.Lives.{AreMade, UnmadeAt}
+use Rattle.book_judge.proofs.lemmas.{made_front, made_twice, run_front}
 use Rattle.command_line.specs.Audits.{AuditsLog, IsAuditFault, IsKeptLog, IsSomeLog, SaysKept, SaysOf, kept}
 use Rattle.command_line.specs.declared.verdict.Verdict.{Verdict}
 use Rattle.leader1822.specs.Boxes.{plain_calls}
@@ -48,6 +49,7 @@ kept_from calls opening (Raw events) octets h = record {
   log = record { spelled = h.written; valid = h.valid };
   says = record {
     run = run_twice (calls.seen h.last).hosts (calls.seen h.last).log h.run;
+    lives = λ x there. absurd (none_there x there);
     book = turned audit.Kept (calls.seen h.last).log [] [] (kept_alone (calls.seen h.last).log h.messages);
   };
 }
@@ -56,6 +58,7 @@ kept_from calls opening (World events) octets h = record {
   log = record { spelled = h.written; valid = h.valid };
   says = record {
     run = run_twice (calls.seen h.last.carrier).hosts h.last.kept.book.crossings (world_run calls.seen h.last h.promise.lawful);
+    lives = made_twice h.last.kept.book.crossings h.last.kept.book.lives h.promise.firsts;
     book = turned audit.Kept h.last.kept.book.crossings h.last.kept.book.lives h.last.kept.handed (kept_promise (calls.seen h.last.carrier).hosts h.last.kept.book h.last.kept.handed (parted calls.seen h.last h.promise).0);
   };
 }
@@ -83,14 +86,21 @@ never_stray : (crossings : List Crossing) (stray : Option ℕ) → IsSomeRun (re
 never_stray crossings None run strays = refl
 never_stray crossings (Some place) run strays = absurd (strays.1 (run_front crossings (place + 1) run))
 
+-- and no life is another than the crossings make
+never_unmade : (log : List Crossing) (lives : List Life) (unmade : Option ℕ) → AreMade log lives
+    → MatchOption unmade (AreMade log lives) (λ place. UnmadeAt log lives place) → unmade ≡ None
+never_unmade log lives None made found = refl
+never_unmade log lives (Some place) made found = absurd (found.1 (made_front log lives (place + 1) made))
+
 said_kept : (octets : List ℕ) (v : Verdict) (before after : Option (List ℕ)) → AuditsLog octets v before after → IsKeptLog octets → v ≡ kept
 said_kept octets v before after a k =
     let same : a.book ≡ k.book = book_once octets a.book k.book a.log k.log in
     let says : SaysOf v k.book = subst (λ (b : Book). SaysOf v b) same a.says in
     let run : v.stray ≡ None = never_stray k.book.crossings v.stray k.says.run says.run in
     let book : v.said ≡ audit.Kept = only_kept v.said (reverse k.book.crossings) k.book.lives k.book.handed k.says.book says.book in
-    let both : Option ℕ → Audit → Verdict = λ o a. record { stray = o; said = a } in
-    ap (λ (o : Option ℕ). both o v.said) run ∙ ap (λ (a : Audit). both None a) book
+    let lives : v.unmade ≡ None =
+    never_unmade (reverse k.book.crossings) k.book.lives v.unmade k.says.lives says.lives in
+    (λ i. record { stray = run i; unmade = lives i; said = book i })
 
 -- where octets are a log, its lines are not bad
 never_bad : (octets : List ℕ) (f : AuditFault) → IsAuditFault octets f → IsKeptLog octets → SaysKept octets (Err f)

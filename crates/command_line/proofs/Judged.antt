@@ -9,8 +9,9 @@ use Rattle.net_sim.specs.Audit.{Says, part_text}
 use Rattle.net_sim.specs.declared.auditing.said.Audit.{Audit}
 use Rattle.promise.specs.declared.life.Life.{Life}
 use Rattle.net_sim.specs.declared.auditing.said.Audit.TheVariants as audit
+use Rattle.book_judge.specs.Lives.{AreMade, UnmadeAt}
 use Rattle.book_judge.specs.Runs.{IsSomeRun, StraysAt}
-use Rattle.command_line.specs.Audits.{Audited, AuditsLog, IsAuditFault, IsBookFault, IsLogReadFault, IsSomeLog, SaysOf, WritesSaid, WritesVerdict, kept_text, lines_of, lines_text, run_text}
+use Rattle.command_line.specs.Audits.{Audited, AuditsLog, IsAuditFault, IsBookFault, IsLogReadFault, IsSomeLog, SaysOf, WritesSaid, WritesVerdict, kept_text, lines_of, lines_text, lives_text, run_text}
 use Rattle.command_line.specs.declared.verdict.Verdict.{Verdict}
 use Rattle.command_line.specs.declared.auditing.AuditFault.{AuditFault}
 use Rattle.command_line.specs.declared.auditing.AuditFault.TheVariants as fault
@@ -30,10 +31,19 @@ some_log None octets b same log = tt
 some_log (Some k) octets b same log = subst IsSomeLog same (b, log)
 
 -- what is written is what was read
-pub says_of : (b : Book) (v : Verdict) (looked crossings : List Crossing) (lives : List Life) (handed : List (List Bool)) → looked ≡ b.crossings → crossings ≡ b.crossings → lives ≡ b.lives → handed ≡ b.handed
-    → MatchOption v.stray (IsSomeRun (reverse looked)) (λ place. StraysAt looked place) → ((s : Audit) → (v.said ≡ s) ↔ Says s (reverse crossings) lives handed) → SaysOf v b
-says_of b v looked crossings lives handed o p q r strays tells = record {
+pub says_of : (b : Book) (v : Verdict) (looked seen crossings : List Crossing) (ends lives : List Life)
+    (handed : List (List Bool)) → looked ≡ b.crossings → seen ≡ b.crossings → ends ≡ b.lives
+    → crossings ≡ b.crossings → lives ≡ b.lives → handed ≡ b.handed
+    → MatchOption v.stray (IsSomeRun (reverse looked)) (λ place. StraysAt looked place)
+    → MatchOption v.unmade (AreMade (reverse seen) ends) (λ place. UnmadeAt (reverse seen) ends place)
+    → ((s : Audit) → (v.said ≡ s) ↔ Says s (reverse crossings) lives handed) → SaysOf v b
+says_of b v looked seen crossings ends lives handed o s t p q r strays made tells = record {
   run = subst (λ (cs : List Crossing). MatchOption v.stray (IsSomeRun (reverse cs)) (λ place. StraysAt cs place)) o strays;
+  lives =
+      subst (λ (cs : List Crossing). MatchOption v.unmade (AreMade (reverse cs) b.lives)
+      (λ place. UnmadeAt (reverse cs) b.lives place)) s
+      (subst (λ (xs : List Life). MatchOption v.unmade (AreMade (reverse seen) xs)
+      (λ place. UnmadeAt (reverse seen) xs place)) t made);
   book =
       subst (λ (cs : List Crossing). Says v.said (reverse cs) b.lives b.handed) p
       (subst (λ (xs : List Life). Says v.said (reverse crossings) xs b.handed) q (subst (λ (hs : List (List Bool)). Says v.said (reverse crossings) lives hs) r ((tells v.said).0 refl)));
@@ -50,14 +60,19 @@ stays (Some x) None c text h k = absurd h
 stays (Some x) (Some y) None text h k = absurd k
 stays (Some x) (Some y) (Some z) text h k = k ∙ h
 
-said_stays : (b : Book) (stray : Option ℕ) (said : Audit) (before after last : Option (List ℕ)) → WritesSaid b stray said before after → Keeps after last → WritesSaid b stray said before last
-said_stays b stray audit.Kept before after last h k = stays before after last (kept_text stray) h k
-said_stays b stray audit.Malformed before after last h k = (h.0, h.1, stays before after last (codes "malformed " ++ (lines_text (lines_of b h.0) ++ codes "\n")) h.2 k)
-said_stays b stray (audit.Broken p) before after last h k =
+said_stays : (b : Book) (stray unmade : Option ℕ) (said : Audit) (before after last : Option (List ℕ))
+    → WritesSaid b stray unmade said before after → Keeps after last → WritesSaid b stray unmade said before last
+said_stays b stray unmade audit.Kept before after last h k = stays before after last (kept_text stray unmade) h k
+said_stays b stray unmade audit.Malformed before after last h k =
+    (h.0, h.1, stays before after last (codes "malformed " ++ (lines_text (lines_of b h.0) ++ codes "\n")) h.2 k)
+said_stays b stray unmade (audit.Broken p) before after last h k =
     (h.0, h.1, stays before after last ((codes "broken " ++ (part_text p ++ codes " ")) ++ (lines_text (lines_of b h.0) ++ codes "\n")) h.2 k)
 
-pub verdict_stays : (b : Book) (v : Verdict) (before mid after last : Option (List ℕ)) → Appends before mid (run_text v.stray) → WritesSaid b v.stray v.said mid after → Keeps after last → WritesVerdict b v before last
-verdict_stays b v before mid after last run said k = (mid, run, said_stays b v.stray v.said mid after last said k)
+pub verdict_stays : (b : Book) (v : Verdict) (before mid next after last : Option (List ℕ))
+    → Appends before mid (run_text v.stray) → Appends mid next (lives_text b v.unmade)
+    → WritesSaid b v.stray v.unmade v.said next after → Keeps after last → WritesVerdict b v before last
+verdict_stays b v before mid next after last run lives said k =
+    (mid, next, run, lives, said_stays b v.stray v.unmade v.said next after last said k)
 
 -- ---- faults
 

@@ -3,6 +3,7 @@ use Rattle.std.specs.Prelude.{◌≡◌, ℕ, ◌+◌, List, [], ◌++◌, lengt
 use Rattle.std.specs.Fmt.{decimal}
 use Rattle.std.specs.Io.KnownBytes.{Appends}
 use Rattle.book_log.specs.Log.{Book, IsBadLine, IsLog}
+use Rattle.book_judge.specs.Lives.{AreMade, UnmadeAt}
 use Rattle.book_judge.specs.Runs.{IsSomeRun, StraysAt}
 use Rattle.net_sim.specs.Audit.{Says, part_text}
 use Rattle.net_sim.specs.Findings.{Shows}
@@ -16,14 +17,16 @@ use Rattle.command_line.specs.declared.verdict.Lines.{Lines}
 use Rattle.command_line.specs.declared.verdict.Lines.TheVariants as lines
 use Rattle.command_line.specs.declared.auditing.AuditFault.TheVariants as fault
 
--- what is said of a book: whether what crossed is a run of the mailboxes, or where it stops being one, and what the audit says
+-- what is said of a book: whether what crossed is a run of the mailboxes, or where it stops being one; whether its lives are made of what crossed, or which is
+-- the first that isn't; and what the audit says
 pub record SaysOf (v : Verdict) (b : Book) : Type 0 where
   pub run : MatchOption v.stray (IsSomeRun (reverse b.crossings)) (λ place. StraysAt b.crossings place)
+  pub lives : MatchOption v.unmade (AreMade (reverse b.crossings) b.lives) (λ place. UnmadeAt (reverse b.crossings) b.lives place)
   pub book : Says v.said (reverse b.crossings) b.lives b.handed
 
 -- nothing is wrong with it
 abbrev pub kept : Verdict
-kept = record { stray = None; said = audit.Kept }
+kept = record { stray = None; unmade = None; said = audit.Kept }
 
 -- ---- what is written
 
@@ -48,20 +51,27 @@ abbrev pub run_text : Option ℕ → List ℕ
 run_text None = []
 run_text (Some place) = codes "broken run line " ++ (decimal (place + 1) ++ codes "\n")
 
+-- of lives that aren't made of what crossed, the line of the first
+abbrev pub lives_text : Book → Option ℕ → List ℕ
+lives_text b None = []
+lives_text b (Some place) = codes "broken lives line " ++ (decimal (length b.crossings + place + 1) ++ codes "\n")
+
 -- that a book is kept, unless something was said already
-abbrev pub kept_text : Option ℕ → List ℕ
-kept_text None = codes "kept\n"
-kept_text (Some place) = []
+abbrev pub kept_text : Option ℕ → Option ℕ → List ℕ
+kept_text None None = codes "kept\n"
+kept_text None (Some place) = []
+kept_text (Some place) unmade = []
 
 -- one line for each answer of the audit: of a book that is not kept it names the lines where it shows
-abbrev pub WritesSaid : Book → Option ℕ → Audit → Option (List ℕ) → Option (List ℕ) → Type 0
-WritesSaid b stray audit.Kept before after = Appends before after (kept_text stray)
-WritesSaid b stray audit.Malformed before after = TellsWhere b audit.Malformed (codes "malformed ") before after
-WritesSaid b stray (audit.Broken p) before after = TellsWhere b (audit.Broken p) (codes "broken " ++ (part_text p ++ codes " ")) before after
+abbrev pub WritesSaid : Book → Option ℕ → Option ℕ → Audit → Option (List ℕ) → Option (List ℕ) → Type 0
+WritesSaid b stray unmade audit.Kept before after = Appends before after (kept_text stray unmade)
+WritesSaid b stray unmade audit.Malformed before after = TellsWhere b audit.Malformed (codes "malformed ") before after
+WritesSaid b stray unmade (audit.Broken p) before after = TellsWhere b (audit.Broken p) (codes "broken " ++ (part_text p ++ codes " ")) before after
 
--- first what is wrong with the run, then what is with the book
+-- what is wrong with the run, then what is with the lives, then what is with the book
 abbrev pub WritesVerdict : Book → Verdict → Option (List ℕ) → Option (List ℕ) → Type 0
-WritesVerdict b v before after = (mid : Option (List ℕ)) × Appends before mid (run_text v.stray) × WritesSaid b v.stray v.said mid after
+WritesVerdict b v before after =
+    (mid next : Option (List ℕ)) × Appends before mid (run_text v.stray) × Appends mid next (lives_text b v.unmade) × WritesSaid b v.stray v.unmade v.said next after
 
 -- octets are a log, and what is said of its book is written
 pub record AuditsLog (octets : List ℕ) (said : Verdict) (before after : Option (List ℕ)) : Type 0 where
@@ -121,14 +131,15 @@ audit_text fault.OutOfMemory = codes "arpasim: stopped"
 audit_text fault.CannotWrite = codes "arpasim: stopped"
 
 -- the exit status after an audit
-abbrev pub status_by : Option ℕ → Audit → ℕ
-status_by None audit.Kept = 0
-status_by (Some place) audit.Kept = 4
-status_by stray audit.Malformed = 4
-status_by stray (audit.Broken p) = 4
+abbrev pub status_by : Option ℕ → Option ℕ → Audit → ℕ
+status_by None None audit.Kept = 0
+status_by None (Some place) audit.Kept = 4
+status_by (Some place) unmade audit.Kept = 4
+status_by stray unmade audit.Malformed = 4
+status_by stray unmade (audit.Broken p) = 4
 
 abbrev pub status_said : Verdict → ℕ
-status_said v = status_by v.stray v.said
+status_said v = status_by v.stray v.unmade v.said
 
 -- ---- what the contracts of private functions say
 

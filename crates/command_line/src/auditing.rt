@@ -7,7 +7,7 @@ ghost use Rattle.command_line.specs.Logs.{Logged};
 
 use crate::source::{ReadFailed, Source};
 use crate::verdict::{Verdict, write_found};
-use book_judge::stray_at;
+use book_judge::{stray_at, unmade_at};
 use book_log::{LogFault, LoggedBook, read_log};
 use net_sim::{Audit, audit};
 use replay::{Output, WriteFailed};
@@ -102,15 +102,19 @@ impl From<WriteFailed> for AuditFault {
 pub fn audit_status(found: Verdict) -> u8
     ensures { result ≡ status_said found }
 {
-    match (found.stray, found.said) {
-        (None, Audit::Kept) => 0,
-        (Some(_), Audit::Kept) | (_, Audit::Malformed | Audit::Broken(_)) => 4,
+    match (found.stray, found.unmade, found.said) {
+        (None, None, Audit::Kept) => 0,
+        (Some(_), _, Audit::Kept)
+        | (None, Some(_), Audit::Kept)
+        | (_, _, Audit::Malformed | Audit::Broken(_)) => 4,
     }
 }
 
-/// Reads a log, and writes `kept` where its book is safe and what crossed is a run of the mailboxes. Else it writes what isn't so:
+/// Reads a log, and writes `kept` where its book is safe, what crossed is a run of the mailboxes, and its lives are made of the messages that
+/// crossed. Else it writes what isn't so, a line each:
 ///
 /// - `broken run line N`, the line of the first crossing that finds no box as it needs it;
+/// - `broken lives line N`, the line of the first life whose messages aren't the first on its link;
 /// - `malformed line N` where line `N` shows that it is no book, or `broken PART line N` or `broken PART lines M N` with the first part of
 ///   a safe book that fails, and the lines of the crossing or of the one or two lives that show it.
 ///
@@ -156,8 +160,13 @@ pub fn run_audit<R: Source, W: Output>(
     let octets = read_octets(alloc, reader)?;
     let book = read_book(alloc, &octets)?;
     let stray = stray_at(alloc, book.crossings())?;
+    let unmade = unmade_at(alloc, book.crossings(), book.lives())?;
     let said = audit(book.crossings(), book.lives(), book.handed());
-    let found = Verdict { stray, said };
+    let found = Verdict {
+        stray,
+        unmade,
+        said,
+    };
     write_found(&book, found, writer)?;
     Ok(found)
 }

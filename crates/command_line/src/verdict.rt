@@ -3,7 +3,7 @@
 ghost use Rattle.std.specs.Prelude.{◌≡◌, OnOk, false, true};
 ghost use Rattle.replay.specs.Failing.{TellsFailure};
 ghost use Rattle.std.specs.Io.KnownBytes.{Appends};
-ghost use Rattle.command_line.specs.Audits.{SaysOf, WritesSaid, WritesVerdict, kept_text, lines_of, run_text};
+ghost use Rattle.command_line.specs.Audits.{SaysOf, WritesSaid, WritesVerdict, kept_text, lines_of, lives_text, run_text};
 
 use book_log::LoggedBook;
 use net_sim::{Audit, Finding, locate};
@@ -15,6 +15,8 @@ use std::fmt;
 pub struct Verdict {
     /// The place of the first crossing with which what crossed is no run of the mailboxes, counted from 0; `None` where it is one.
     pub stray: Option<usize>,
+    /// The place of the first life that isn't made of the messages that crossed, counted from 0; `None` where all are.
+    pub unmade: Option<usize>,
     /// What the audit says of its book.
     pub said: Audit,
 }
@@ -75,6 +77,7 @@ pub(crate) fn write_found<W: Output>(
     ensures flushed { OnOk result (W.flushed writer.new ≡ true) }
 {
     write_run(found.stray, writer)?;
+    write_lives(book, found.unmade, writer)?;
     write_said(book, found, writer)?;
     writer.flush()
 }
@@ -96,17 +99,42 @@ fn write_run<W: Output>(stray: Option<usize>, writer: &mut W) -> Result<(), Writ
     }
 }
 
+/// Writes the line of a life that isn't made of the messages that crossed, if there is one.
+///
+/// Errors: `WriteFailed`.
+fn write_lives<W: Output>(
+    book: &LoggedBook,
+    unmade: Option<usize>,
+    writer: &mut W,
+) -> Result<(), WriteFailed>
+    requires whole { W.failed writer.old ≡ false }
+    ensures written { OnOk result (Appends (W.contents writer.old) (W.contents writer.new) (lives_text book.now unmade)) }
+    ensures failed { TellsFailure result (W.failed writer.new) }
+{
+    match unmade {
+        Some(place) => {
+            let line = book.crossings().len() as u128 + place as u128 + 1;
+            writeln!(writer, "broken lives line {line}")
+        }
+        None => Ok(()),
+    }
+}
+
 /// Writes that a book is kept, unless something was said already.
 ///
 /// Errors: `WriteFailed`.
-fn write_kept<W: Output>(stray: Option<usize>, writer: &mut W) -> Result<(), WriteFailed>
+fn write_kept<W: Output>(
+    stray: Option<usize>,
+    unmade: Option<usize>,
+    writer: &mut W,
+) -> Result<(), WriteFailed>
     requires whole { W.failed writer.old ≡ false }
-    ensures written { OnOk result (Appends (W.contents writer.old) (W.contents writer.new) (kept_text stray)) }
+    ensures written { OnOk result (Appends (W.contents writer.old) (W.contents writer.new) (kept_text stray unmade)) }
     ensures failed { TellsFailure result (W.failed writer.new) }
 {
-    match stray {
-        Some(_) => Ok(()),
-        None => writer.write_all(b"kept\n"),
+    match (stray, unmade) {
+        (None, None) => writer.write_all(b"kept\n"),
+        (Some(_), _) | (None, Some(_)) => Ok(()),
     }
 }
 
@@ -120,16 +148,16 @@ fn write_said<W: Output>(
 ) -> Result<(), WriteFailed>
     requires says { SaysOf found book.now }
     requires whole { W.failed writer.old ≡ false }
-    ensures written { OnOk result (WritesSaid book.now found.stray found.said (W.contents writer.old) (W.contents writer.new)) }
+    ensures written { OnOk result (WritesSaid book.now found.stray found.unmade found.said (W.contents writer.old) (W.contents writer.new)) }
     ensures failed { TellsFailure result (W.failed writer.new) }
 {
     let said = found.said;
     let Some(shown) = locate(said, book.crossings(), book.lives(), book.handed()) else {
-        return write_kept(found.stray, writer);
+        return write_kept(found.stray, found.unmade, writer);
     };
     let lines = lines_of(book, shown);
     match said {
-        Audit::Kept => write_kept(found.stray, writer),
+        Audit::Kept => write_kept(found.stray, found.unmade, writer),
         Audit::Malformed => writeln!(writer, "malformed {lines}"),
         Audit::Broken(part) => writeln!(writer, "broken {part} {lines}"),
     }

@@ -23,6 +23,9 @@ const LOG: &[u8] = b"out 0/1 0/2 5 24 414243\nin 0/1 0/2 5 24 414243\nend\n";
 /// A log in which a message comes in that never went out.
 const BROKEN: &[u8] = b"in 0/1 0/2 5 24 414243\nend\n";
 
+/// A log with a life, and with nothing of which it could be made.
+const UNMADE: &[u8] = b"life 0/1 16 0/2 33 0 0 receive 0 0 0 0 0 0 open -\nhanded 0 -\nend\n";
+
 /// A log with a bad second line.
 const BAD_LOG: &[u8] = b"out 0/1 0/2 5 24 414243\nout 0/1 0/2 5 024 414243\nend\n";
 
@@ -35,7 +38,7 @@ type Row = (
     u8,
 );
 
-const ROWS: [Row; 18] = [
+const ROWS: [Row; 19] = [
     (&[], RAW, b"out 0/1 0/2 5 24\nin 0/1 0/2 5 24\nend\n", "", 0),
     (
         &["--texts"],
@@ -52,6 +55,13 @@ const ROWS: [Row; 18] = [
         &["--audit"],
         BROKEN,
         b"broken run line 1\nbroken messages line 1\n",
+        "",
+        4,
+    ),
+    (
+        &["--audit"],
+        UNMADE,
+        b"broken lives line 1\nmalformed line 1\n",
         "",
         4,
     ),

@@ -19,12 +19,46 @@ with open(f"{ROOT}/logs/two-octets", encoding="utf-8") as log, open(f"{ROOT}/doc
 RECEIVER, SENDER = SHORT.splitlines()[9:11]
 LIST, LISTS, LISTS_TURNED = "handed 0 -\n", "handed 0 -\nhanded 24 484950\n", "handed 24 484950\nhanded 0 -\n"
 BOTH = f"{RECEIVER}\n{SENDER}\n{LISTS}"
+ASKS, OFFERS, DATA = ("".join(f"{line}\n" for line in SHORT.splitlines()[at : at + 3]) for at in (0, 3, 6))
+MORE = DATA.replace("56 00080002004849", "48 000800010051")
+
+
+def asks(commands: str) -> str:
+    """The first three lines with other commands in the message of host 0/1."""
+    count = len(commands) // 2
+    return ASKS.replace("120 0008000A0001000000100000002105", f"{40 + 8 * count} 0008{count:04X}00{commands}")
+
+
+RTS, RTS_6 = "01000000100000002105", "01000000100000002106"
+REQUESTS = [  # what host 0/1 says in the place of its request, and the verdict
+    (RTS, "kept"),
+    (f"00{RTS}", "kept"),
+    (RTS + RTS_6, "kept"),
+    (RTS_6 + RTS, "kept"),
+    (f"01000000100000002101{RTS}", "kept"),
+    (RTS_6, "broken lives line 10"),
+    ("01000000100000002120", "broken lives line 10"),
+    ("02000000100000002105", "broken lives line 10"),
+    (RTS.replace("10", "12"), "broken lives line 10"),
+    (f"0E{RTS}", "broken lives line 10"),
+    (f"{RTS[:-2]}", "broken lives line 10"),
+]
+
+
+def again(request: str, crossed: str, took: str, sent: str) -> str:
+    """The data, then the requests of a second connection of the same sockets, what crossed then, and all lives."""
+    lives = f"{RECEIVER}\n{SENDER}\nlife 0/1 16 0/2 33 9 13 receive {took}\nlife 0/2 33 0/1 16 12 10 send {sent}\n"
+    return f"{DATA}{asks(request)}{OFFERS}{crossed}{lives}{LISTS}handed 0 -\nhanded 8 51\n"
+
+
+NOTHING, ONE = ("0 0 1 100 0 0 open -", "0 0 0 0 0 0 open -"), ("1 8 1 100 0 0 open 51", "1 8 0 0 0 0 open 51")
+ON_6 = MORE.replace("0/1 5", "0/1 6")
 VERDICTS = [
     ("", "", "kept"),
     # what isn't promised
     ("484950\n", "4849FF\n", "kept"),
     ("1 100 0 0 open", "2 999 0 0 ended", "kept"),
-    ("1 16 1 100 0 0 open 4849\n", "1 7 1 100 0 0 open 48\n", "kept"),
+    ("1 16 1 100 0 0 open 4849\n", "1 7 1 100 0 0 open 48\n", "broken lives line 10"),
     ("receive 1 16 1 100 0 0 open 4849", "receive 0 0 1 16 0 0 open -", "kept"),
     (LIST, "handed 8 FF\n", "kept"),
     # the run of the mailboxes
@@ -35,21 +69,35 @@ VERDICTS = [
     ("answer rfnm 0/2 0/1 5", "down 0/2", "kept"),
     ("answer rfnm 0/2 0/1 5\n", "down 0/2\nanswer rfnm 0/2 0/1 5\n", "broken run line 10"),
     ("answer rfnm 0/2 0/1 5\n", "down 0/2\nup 0/2\nanswer rfnm 0/2 0/1 5\n", "broken run line 11"),
+    # lives of the messages that crossed: none crossed, others did, not all of one, and none but the second counts
+    (DATA, "", "broken lives line 7"),
+    (DATA, DATA.replace("4849", "4142"), "broken lives line 10"),
+    ("receive 1 16 1 100 0 0 open 4849", "receive 1 8 1 100 0 0 open 48", "broken lives line 10"),
+    (DATA, MORE + DATA, "broken lives line 13"),
+    (DATA, DATA + MORE, "kept"),
+    *((ASKS, asks(commands), wanted) for commands, wanted in REQUESTS),
+    (OFFERS, OFFERS.replace("1008", "1000"), "broken lives line 10"),
+    # sockets that are used again: a life has the messages of its own link, after its own requests
+    (DATA + BOTH, again(RTS_6, "", *NOTHING), "kept"),
+    (DATA + BOTH, again(RTS_6, ON_6, *ONE), "kept"),
+    (DATA + BOTH, again(RTS, MORE, *ONE), "kept"),
+    (DATA + BOTH, again(RTS_6, MORE, *ONE), "broken lives line 21"),
+    (DATA + BOTH, again(RTS, "", "1 16 1 100 0 0 open 4849", "1 16 0 0 0 0 open 4849"), "broken lives line 18\nbroken streams line 19"),
     # messages
     ("answer rfnm 0/2 0/1 5", "in 0/2 0/1 5 56 00080002004849", "broken run line 9\nbroken messages line 9"),
-    ("in 0/2 0/1 5 56 00080002004849", "in 0/2 0/1 5 56 00080002004848", "broken run line 8\nbroken messages line 8"),
-    ("in 0/2 0/1 5 56 00080002004849", "in 0/2 0/1 6 56 00080002004849", "broken run line 8\nbroken messages line 8"),
-    ("in 0/2 0/1 5 56 00080002004849\n", "", "broken run line 8\nbroken messages line 8"),
+    ("in 0/2 0/1 5 56 00080002004849", "in 0/2 0/1 5 56 00080002004848", "broken run line 8\nbroken lives line 10\nbroken messages line 8"),
+    ("in 0/2 0/1 5 56 00080002004849", "in 0/2 0/1 6 56 00080002004849", "broken run line 8\nbroken lives line 10\nbroken messages line 8"),
+    ("in 0/2 0/1 5 56 00080002004849\n", "", "broken run line 8\nbroken lives line 9\nbroken messages line 8"),
     ("answer rfnm 0/2 0/1 5", "answer rfnm 0/2 0/1 4", "broken run line 9\nbroken messages line 9"),
     # stamps: one that names no such message, and which life comes first
-    ("16 0/2 33 0 4", "16 0/2 33 7 4", "malformed line 10"),
-    ("16 0/2 33 0 4", "16 0/2 33 1 4", "malformed line 10"),
-    ("16 0/2 33 0 4", "16 0/2 33 0 3", "malformed line 10"),
-    ("16 0/2 33 0 4", "16 0/2 33 0 9", "malformed line 10"),
-    ("33 0/1 16 3 1", "33 0/1 16 3 7", "malformed line 11"),
-    ("33 0/1 16 3 1", "33 0/1 16 18446744073709551615 1", "malformed line 11"),
-    ("life 0/2 33 0/1", "life 0/3 33 0/1", "malformed line 11"),
-    ("0/2 0/1 0", "0/2 0/1 1", "broken run line 5\nmalformed line 10"),
+    ("16 0/2 33 0 4", "16 0/2 33 7 4", "broken lives line 10\nmalformed line 10"),
+    ("16 0/2 33 0 4", "16 0/2 33 1 4", "broken lives line 10\nmalformed line 10"),
+    ("16 0/2 33 0 4", "16 0/2 33 0 3", "broken lives line 10\nmalformed line 10"),
+    ("16 0/2 33 0 4", "16 0/2 33 0 9", "broken lives line 10\nmalformed line 10"),
+    ("33 0/1 16 3 1", "33 0/1 16 3 7", "broken lives line 11\nmalformed line 11"),
+    ("33 0/1 16 3 1", "33 0/1 16 18446744073709551615 1", "broken lives line 11\nmalformed line 11"),
+    ("life 0/2 33 0/1", "life 0/3 33 0/1", "broken lives line 11\nmalformed line 11"),
+    ("0/2 0/1 0", "0/2 0/1 1", "broken run line 5\nbroken lives line 11\nmalformed line 10"),
     # numbers of lives and lists
     ("handed 24 484950\n", "", "malformed line 11"),
     (LISTS, "", "malformed line 10"),
@@ -59,13 +107,13 @@ VERDICTS = [
     # partners
     (f"{SENDER}\n{LIST}", f"{SENDER}\n{RECEIVER}\n{LIST}{LIST}", "broken partners lines 10 12"),
     (f"{SENDER}\n{LISTS}", f"{SENDER}\n{SENDER}\n{LISTS}handed 24 484950\n", "broken partners lines 11 12"),
-    ("33 0/1 16 3 1", "33 0/1 18 3 1", "broken streams line 10"),
+    ("33 0/1 16 3 1", "33 0/1 18 3 1", "broken lives line 11\nbroken streams line 10"),
     # streams
-    ("open 4849\nlife", "open 4848\nlife", "broken streams lines 10 11"),
-    ("receive 1 16 1 100 0 0 open 4849", "receive 1 17 1 100 0 0 open 484900", "broken streams lines 10 11"),
+    ("open 4849\nlife", "open 4848\nlife", "broken lives line 10\nbroken streams lines 10 11"),
+    ("receive 1 16 1 100 0 0 open 4849", "receive 1 17 1 100 0 0 open 484900", "broken lives line 10\nbroken streams lines 10 11"),
     ("handed 24 484950", "handed 15 4848", "broken streams line 11"),
     ("handed 24 484950", "handed 0 -", "broken streams line 11"),
-    ("send 1 16 0 0 0 0 open 4849", "send 1 17 0 0 0 0 open 484980", "broken streams line 11"),
+    ("send 1 16 0 0 0 0 open 4849", "send 1 17 0 0 0 0 open 484980", "broken lives line 11\nbroken streams line 11"),
     (f"{SENDER}\n{LISTS}", LIST, "broken streams line 10"),
     # grants
     ("receive 1 16 1 100", "receive 1 16 1 15", "broken grants lines 10 11"),
@@ -73,16 +121,16 @@ VERDICTS = [
     ("1 100 0 0", "1 100 0 85", "broken grants lines 10 11"),
     ("1 100 0 0", "1 100 1 0", "broken grants lines 10 11"),
     ("1 100 0 0", "2 100 1 84", "kept"),
-    ("receive 1 16 1 100", "receive 2 16 1 100", "broken grants lines 10 11"),
-    ("send 1 16", "send 2 16", "broken grants lines 10 11"),
+    ("receive 1 16 1 100", "receive 2 16 1 100", "broken lives line 10\nbroken grants lines 10 11"),
+    ("send 1 16", "send 2 16", "broken lives line 11\nbroken grants lines 10 11"),
     # the life that fails is the receiving one, wherever it is
-    (BOTH, f"{SENDER}\n{RECEIVER[:-1]}8\n{LISTS_TURNED}", "broken streams lines 11 10"),
+    (BOTH, f"{SENDER}\n{RECEIVER[:-1]}8\n{LISTS_TURNED}", "broken lives line 11\nbroken streams lines 11 10"),
     (BOTH, f"{SENDER}\n{RECEIVER.replace('1 100', '1 15')}\n{LISTS_TURNED}", "broken grants lines 11 10"),
-    (BOTH, f"{SENDER.replace('send 1', 'send 2')}\n{RECEIVER}\n{LISTS_TURNED}", "broken grants lines 11 10"),
+    (BOTH, f"{SENDER.replace('send 1', 'send 2')}\n{RECEIVER}\n{LISTS_TURNED}", "broken lives line 10\nbroken grants lines 11 10"),
     (BOTH, f"{SENDER}\n{RECEIVER}\n{LISTS_TURNED}", "kept"),
     (BOTH, f"{SENDER}\n{RECEIVER}\n{LISTS}", "broken streams line 10"),
     # the first part that fails is reported
-    ("receive 1 16 1 100 0 0 open 4849", "receive 1 16 0 0 0 0 open 4848", "broken streams lines 10 11"),
+    ("receive 1 16 1 100 0 0 open 4849", "receive 1 16 0 0 0 0 open 4848", "broken lives line 10\nbroken streams lines 10 11"),
 ]
 
 # ---- logs of one line and `end`, and the verdict; those that are bad
@@ -96,7 +144,8 @@ LINES = {
     ],
     "broken run line 1": ["answer dead 0/1 0/2 0", "answer incomplete 3/63 0/1 255", "answer nottaken 0/1 0/2 0", "up 3/63"],
     "broken run line 1\nbroken messages line 1": ["in 0/1 0/2 5 0 -", "answer rfnm 0/1 0/2 5"],
-    "malformed line 1": [LIFE, GREATEST, LIFE.replace("16 1 100", "13 1 100").replace("4849", "4848"), "handed 0 -", "handed 9 FF80"],
+    "broken lives line 1\nmalformed line 1": [LIFE, GREATEST, LIFE.replace("16 1 100", "13 1 100").replace("4849", "4848")],
+    "malformed line 1": ["handed 0 -", "handed 9 FF80"],
 }
 BAD_LINES = [
     *("", " ", "#", "# end", "End", "end ", " end", "end\r", "end\0", "\xef\xbb\xbfend", "kept", "%", "take 0/1"),

@@ -40,8 +40,6 @@ WRITTEN = {  # how a form is shown
 WORDS = {"ANSWER": ["rfnm", "dead", "incomplete", "nottaken"], "KIND": ["send", "receive"], "STATE": ["open", "ended"]}
 BITS_OF = {"PLACE": 64, "LENGTH": 64, "AMOUNT": 128}
 PARTS = [("out", "in", "answer", "down", "up"), ("life",), ("handed",), ("end",)]  # a log's lines, in this order
-MOST_LOOKED_AT = 10_000_000  # crossings times lives
-MOST_UNMADE = 3  # lives that are named
 NAMES = ["crossings", "lives", "what was handed over", "the end"]
 
 
@@ -53,7 +51,7 @@ def explained(octets: bytes, verdict: str) -> str:
         book = read_log(octets)
     except BadLog as line:
         return f"The independent reader in Python finds line {line} bad. No cause was found."
-    return "\n".join([*(part for line in verdict.splitlines() for part in explained_line(octets, book, line)), *unmade(book)])
+    return "\n".join(part for line in verdict.splitlines() for part in explained_line(octets, book, line))
 
 
 def explained_line(octets: bytes, book: Book, verdict: str) -> list[str]:
@@ -62,28 +60,29 @@ def explained_line(octets: bytes, book: Book, verdict: str) -> list[str]:
     return [*shown_lines, why_so(book, verdict)]
 
 
-def unmade(book: Book) -> list[str]:
-    """Which lives aren't made of the messages that crossed, and why: the program doesn't look at that."""
-    if len(book.log) * len(book.lives) > MOST_LOOKED_AT:
-        return ["Whether lives are made of the messages that crossed wasn't looked at: the log is too long for that here."]
-    found = [(number, why) for number, life in enumerate(book.lives, len(book.log) + 1) if (why := why_unmade(book.log, life))]
-    return [f"Line {number} isn't made of the messages that crossed, which the program doesn't judge: {why}" for number, why in found[:MOST_UNMADE]]
+def why_lives(book: Book, numbers: list[int]) -> str:
+    """Why a life isn't made of the messages that crossed."""
+    log, life = book.log, book.lives[numbers[0] - len(book.log) - 1]
+    requests = [("OWN", life.own, "out", Flow(life.host, life.peer, 0), life.socket, life.foreign), ("PARTNER", life.partner, "in", Flow(life.peer, life.host, 0), life.foreign, life.socket)]
+    for word, place, kind, flow, own, foreign in requests:
+        if not firsts.RIGHT.named_at(log, place, kind, flow, own, foreign):
+            where = f"in the `{kind} {spell_flow(flow)}` at its {word}" if place < len(log) and is_passed(log[place], kind, flow) else f"at its {word}: {crossing_at(log, place)}"
+            return f"It isn't made of the messages that crossed: no {'STR' if own % 2 else 'RTS'} of socket {own} with socket {foreign} is {where}."
+    return f"It isn't made of the messages that crossed: {why_other(log, life)}"
 
 
-def why_unmade(log: Log, life: Life) -> str | None:
-    """Why the first messages on a life's link don't make it; None where they do, or where its stamps name no messages."""
-    requests = [log[at] if at < len(log) else None for at in (life.own, life.partner)]
-    if not all(isinstance(it, Passed) and it.flow.link == 0 for it in requests):
-        return None
+def why_other(log: Log, life: Life) -> str:
+    """Why the first messages on a life's link aren't those that it has."""
     flow = firsts.flow_of(log, life)
-    if flow is None:
-        return f"no RTS of sockets {' and '.join(map(str, sorted((life.socket, life.foreign), key=lambda it: it % 2)))} is in the message at its {'OWN' if life.receives() else 'PARTNER'}."
-    bits = [bits for _, bits in firsts.messages_of(log, life)]
-    way = "came in" if life.receives() else "went out"
-    if len(bits) < life.messages:
-        return f"it counts {counted(life.messages, 'message')}, and after its requests {len(bits)} {way} on {spell_flow(flow)}."
-    first = "".join(bits[: life.messages])
-    return None if first == life.bits else f"{difference(life.bits, first, 'what it says', f'what {way} on {spell_flow(flow)}')}"
+    found = firsts.messages_of(log, life)
+    way = f"{'came in' if life.receives() else 'went out'} on {spell_flow(flow)}" if flow else "crossed"
+    if len(found) < life.messages:
+        return f"it counts {counted(life.messages, 'message')}, and after its requests {len(found)} {way}."
+    first = [bits for _, bits in found[: life.messages]]
+    malformed = next((at for at, bits in found[: life.messages] if bits is None), None)
+    if malformed is not None:
+        return f"what came in in line {malformed + 1} is shorter than its header says."
+    return difference(life.bits, "".join(bits or "" for bits in first), "what it says", f"what {way}")
 
 
 def short(octets: bytes, number: int) -> str:
@@ -193,6 +192,7 @@ def why_so(book: Book, verdict: str) -> str:
     numbers = [int(it) for it in re.findall(r"\d+", verdict)]
     parts: dict[str, Callable[[Book, list[int]], str]] = {
         "broken run": why_run,
+        "broken lives": why_lives,
         "malformed": why_malformed,
         "broken messages": why_messages,
         "broken partners": why_partners,
@@ -200,7 +200,7 @@ def why_so(book: Book, verdict: str) -> str:
         "broken grants": why_grants,
     }
     if verdict == "kept":
-        return f"The book is safe: {counted(len(book.log), 'crossing')}, {counted(len(book.lives), 'life', 'lives')}, and what crossed is a run of the mailboxes."
+        return f"The book is safe: {counted(len(book.log), 'crossing')}, a run of the mailboxes, and {counted(len(book.lives), 'life', 'lives')} made of them."
     found = next((tell for name, tell in parts.items() if verdict.startswith(name)), None)
     return found(book, numbers) if found and numbers else "No cause was found."
 

@@ -1,18 +1,21 @@
 """What a log says of the bits of its lives: those of the first messages on each life's link, after both of its requests.
 
-It was written from docs/headline.md, in another language and another form than the definitions.
+It was written from docs/headline.md and docs/audit.md, in another language and another form than the definitions.
 """
 
 from __future__ import annotations
 
 from collections.abc import Iterator, Sequence
-from typing import NamedTuple
+from typing import NamedTuple, Optional
 
+from dorydate.model.audit import CONTROL, is_passed
 from dorydate.model.bits import Bits, octets
 from dorydate.model.book import Life
-from dorydate.model.commands import HEADER, LENGTHS, RTS, read_numbers, split
+from dorydate.model.commands import CONTROL_TEXT, HEADER, LENGTHS, LINKS, RTS, STR, read_numbers, split
 from dorydate.model.crossings import Crossing, Passed
 from dorydate.model.names import Flow
+
+Data = Optional[Bits]  # None where a text that comes in is malformed
 
 
 class Placed(NamedTuple):
@@ -23,48 +26,86 @@ class Placed(NamedTuple):
     places: list[int]
 
 
-def links(text: Bits, receive: int, send: int) -> Iterator[int]:
-    """The links that a control text names in an RTS of these two sockets."""
-    parts = split(text)
-    left = octets(parts.following[: parts.size * parts.number]) if parts else b""
-    while left and left[0] in LENGTHS:
-        length = LENGTHS[left[0]]
-        if left[0] == RTS and len(left) >= length and read_numbers(left, 4, 4) == [receive, send]:
-            yield left[9]
-        left = left[length:]
+class Firsts:
+    """Finds the messages of lives. `misread_logs` has readings that are wrong in one place each."""
 
+    def commands(self, text: Bits) -> Iterator[bytes]:
+        """The commands of a control text, up to the first that has no code or not all its octets."""
+        parts = split(text)
+        short = parts is not None and parts.size == 8 and parts.number <= CONTROL_TEXT
+        left = octets(parts.following[: 8 * parts.number]) if parts and short else b""
+        while left and left[0] in LENGTHS and len(left) >= LENGTHS[left[0]]:
+            yield left[: LENGTHS[left[0]]]
+            left = left[LENGTHS[left[0]] :]
 
-def flow_of(log: Sequence[Crossing], life: Life) -> Flow | None:
-    """The flow of a life's messages; None where no RTS of its sockets crossed at its stamp."""
-    at, receive, send = (life.own, life.socket, life.foreign) if life.receives() else (life.partner, life.foreign, life.socket)
-    crossing = log[at] if at < len(log) else None
-    link = next(links(crossing.text, receive, send), None) if isinstance(crossing, Passed) else None
-    if link is None:
+    def named(self, text: Bits, own: int, foreign: int) -> Iterator[int]:
+        """What the requests of two sockets name in a control text: an RTS a link, an STR a byte size."""
+        code, may_be = (STR, range(1, 256)) if own % 2 else (RTS, LINKS)
+        for command in self.commands(text) if own % 2 != foreign % 2 else ():
+            if command[0] == code and read_numbers(command, 4, 4) == [own, foreign] and command[9] in may_be:
+                yield command[9]
+
+    def named_at(self, log: Sequence[Crossing], place: int, kind: str, flow: Flow, own: int, foreign: int) -> list[int]:
+        """The same of the message of a flow that went out, or came in, at a place."""
+        crossing = log[place] if place < len(log) else None
+        return [*self.named(crossing.text, own, foreign)] if isinstance(crossing, Passed) and is_passed(crossing, kind, flow) else []
+
+    def links(self, log: Sequence[Crossing], life: Life) -> list[int]:
+        """The links that the RTS of a life's two requests names, where the STR crossed too."""
+        own = self.named_at(log, life.own, "out", Flow(life.host, life.peer, CONTROL), life.socket, life.foreign)
+        partner = self.named_at(log, life.partner, "in", Flow(life.peer, life.host, CONTROL), life.foreign, life.socket)
+        links, sizes = (own, partner) if life.receives() else (partner, own)
+        return links if sizes else []
+
+    def begun(self, life: Life) -> int:
+        """The place after which a life's messages cross."""
+        return max(life.own, life.partner)
+
+    def messages_on(self, log: Sequence[Crossing], life: Life, flow: Flow) -> list[tuple[int, Data]]:
+        """The data of the messages on a flow after both of a life's requests, each with its place, the oldest first."""
+        way = "in" if life.receives() else "out"
+        return [(at, data(it.text, life.receives())) for at, it in enumerate(log) if at > self.begun(life) and isinstance(it, Passed) and it.kind == way and it.flow == flow]
+
+    def are_enough(self, life: Life, first: Sequence[tuple[int, Data]]) -> bool:
+        """Whether there are as many messages as a life counts."""
+        return len(first) == life.messages
+
+    def placed(self, log: Sequence[Crossing], life: Life) -> Placed | None:
+        """A life with the first messages on its link; None where they aren't as many as it counts, or have other bits."""
+        for flow in (on_link(life, link) for link in self.links(log, life)):
+            first = self.messages_on(log, life, flow)[: life.messages]
+            bits = [bits for _, bits in first if bits is not None]
+            if self.are_enough(life, first) and len(bits) == len(first) and "".join(bits) == life.bits:
+                return Placed(life, flow, [at for at, _ in first])
         return None
+
+
+def on_link(life: Life, link: int) -> Flow:
+    """The flow of a life's messages on a link."""
     return Flow(life.peer, life.host, link) if life.receives() else Flow(life.host, life.peer, link)
 
 
-def data(text: Bits, comes: bool) -> Bits:
+def data(text: Bits, comes: bool) -> Data:
     """The data of a text: where it comes in what its header announces, and where it goes out all after the header."""
     parts = split(text)
-    return parts.following[: parts.size * parts.number] if comes and parts else text[HEADER:]
+    if not comes:
+        return text[HEADER:]
+    return parts.following[: parts.size * parts.number] if parts else None
 
 
-def messages_of(log: Sequence[Crossing], life: Life) -> list[tuple[int, Bits]]:
+RIGHT = Firsts()
+placed = RIGHT.placed
+
+
+def flow_of(log: Sequence[Crossing], life: Life) -> Flow | None:
+    """The flow of a life's messages; None where its requests didn't cross at its stamps."""
+    return next((on_link(life, link) for link in RIGHT.links(log, life)), None)
+
+
+def messages_of(log: Sequence[Crossing], life: Life) -> list[tuple[int, Data]]:
     """The data of the messages on a life's link after both of its requests, each with its place, the oldest first."""
     flow = flow_of(log, life)
-    way = "in" if life.receives() else "out"
-    begun = max(life.own, life.partner)
-    return [(at, data(it.text, life.receives())) for at, it in enumerate(log) if at > begun and isinstance(it, Passed) and it.kind == way and it.flow == flow]
-
-
-def placed(log: Sequence[Crossing], life: Life) -> Placed | None:
-    """A life with the first messages on its link; None where they aren't as many as it counts, or have other bits."""
-    flow = flow_of(log, life)
-    first = messages_of(log, life)[: life.messages]
-    if flow is None or len(first) < life.messages or "".join(bits for _, bits in first) != life.bits:
-        return None
-    return Placed(life, flow, [at for at, _ in first])
+    return RIGHT.messages_on(log, life, flow) if flow else []
 
 
 def determined(log: Sequence[Crossing], lives: Sequence[Life]) -> bool:

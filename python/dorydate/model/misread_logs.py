@@ -2,14 +2,18 @@
 
 from __future__ import annotations
 
-from collections.abc import Callable, Iterable, Sequence
+from collections.abc import Callable, Iterable, Iterator, Sequence
 from typing import TypeVar
 
 from dorydate.model.audit import Lives, Log, partners_are_kept
+from dorydate.model.bits import Bits, octets
 from dorydate.model.book import Life
+from dorydate.model.commands import HEADER, LENGTHS, RTS, STR
 from dorydate.model.crossings import Answered, Crossing, Turned
+from dorydate.model.firsts import Data, Firsts
 from dorydate.model.log import BadLog, Book, LogReader
 from dorydate.model.mailboxes import Mailboxes
+from dorydate.model.names import Flow
 from dorydate.model.verdict import Judge
 
 ANY = 1_000  # bits of a number of any size here
@@ -281,12 +285,105 @@ class AnyAnswer(Judge):
     mailboxes = AnyAnswers
 
 
+# ---- judges of lives
+
+
+class NoLives(Judge):
+    """Lives are not looked at."""
+
+    def of_lives(self, book: Book) -> str | None:
+        return None
+
+
+class TrustedCounts(Firsts):
+    def are_enough(self, life: Life, first: Sequence[tuple[int, Data]]) -> bool:
+        return True
+
+
+class CountsAreTrusted(Judge):
+    """A life's count of messages is trusted."""
+
+    firsts = TrustedCounts
+
+
+class LastLinks(Firsts):
+    def named_at(self, log: Sequence[Crossing], place: int, kind: str, flow: Flow, own: int, foreign: int) -> list[int]:
+        found = (super(LastLinks, self).named_at(log, at, kind, flow, own, foreign) for at in range(len(log) - 1, place - 1, -1))
+        return next(filter(None, found), []) if super().named_at(log, place, kind, flow, own, foreign) else []
+
+
+class LinkOfTheLastRequest(Judge):
+    """The link of a life is that of the last request of its sockets."""
+
+    firsts = LastLinks
+
+
+class OneLink(Firsts):
+    def links(self, log: Sequence[Crossing], life: Life) -> list[int]:
+        return super().links(log, life)[:1]
+
+
+class FirstRequestOnly(Judge):
+    """Only the first request of the sockets in a message is looked at."""
+
+    firsts = OneLink
+
+
+class AnyPartner(Firsts):
+    def links(self, log: Sequence[Crossing], life: Life) -> list[int]:
+        own = life.own, "out", Flow(life.host, life.peer, 0), life.socket, life.foreign
+        partner = life.partner, "in", Flow(life.peer, life.host, 0), life.foreign, life.socket
+        return self.named_at(log, *(own if life.receives() else partner))
+
+
+class NoSize(Judge):
+    """Only the request that names the link is looked at."""
+
+    firsts = AnyPartner
+
+
+class FromTheBeginning(Firsts):
+    def begun(self, life: Life) -> int:
+        return -1
+
+
+class AllOnTheLink(Judge):
+    """The messages on the link before a life's requests count, too."""
+
+    firsts = FromTheBeginning
+
+
+class NotTheFirst(Firsts):
+    def messages_on(self, log: Sequence[Crossing], life: Life, flow: Flow) -> list[tuple[int, Data]]:
+        found = super().messages_on(log, life, flow)
+        return found[len(found) - life.messages :] if life.messages <= len(found) else found
+
+
+class LastMessages(Judge):
+    """A life has the last messages on its link."""
+
+    firsts = NotTheFirst
+
+
+class AnyOctets(Firsts):
+    def commands(self, text: Bits) -> Iterator[bytes]:
+        left = octets(text[HEADER:])
+        yield from (left[at : at + LENGTHS[RTS]] for at in range(len(left) - LENGTHS[RTS] + 1) if left[at] in (RTS, STR))
+
+
+class RequestsAnywhere(Judge):
+    """A request is found anywhere in a message."""
+
+    firsts = AnyOctets
+
+
 READERS: list[type[LogReader]] = [
     GoesOn, NoLineFeed, NoEnd, EndAtLastLine, AnyOrder, AnyText, AnySocket, AnyStamp, ShortStamp, AnyAmount, ShortAmount, AnyKind,
 ]  # fmt: skip
 JUDGES: list[type[Judge]] = [
     FewerLists, MoreLists, ToldOfItsList, LineOfItsNumber, BreakBefore, LastMalformed, FirstAtOdds, WrongWayRound, FirstOfAll, NoMatch, MatchFirst,
     SenderOfStream, SenderOfGrant, NoRun, RunAlone, RunBefore, BoxesStay, BoxesToItGo, BoxesGoAtOnce, NobodyIsDown, AnyAnswer,
+    NoLives, CountsAreTrusted, LinkOfTheLastRequest, FirstRequestOnly, NoSize, AllOnTheLink, LastMessages, RequestsAnywhere,
 ]  # fmt: skip
 
 

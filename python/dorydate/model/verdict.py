@@ -12,6 +12,7 @@ from typing import TypeVar
 from dorydate.model.audit import Lives, Log, audit, is_granted, is_well_formed, match, messages_are_kept, partners_are_kept
 from dorydate.model.book import Life
 from dorydate.model.crossings import Crossing
+from dorydate.model.firsts import Firsts
 from dorydate.model.log import BadLog, Book, LogReader
 from dorydate.model.mailboxes import Mailboxes, first_break, hosts_of
 from dorydate.model.runs import End
@@ -31,6 +32,7 @@ class Judge:
 
     reader = LogReader()
     mailboxes: type[Mailboxes] = Mailboxes
+    firsts: type[Firsts] = Firsts
 
     def says(self, octets: bytes) -> str:
         """What is to be said of a log, with the lines at which it is bad, malformed or broken."""
@@ -40,13 +42,20 @@ class Judge:
             return f"bad log line {line}"
 
     def verdict(self, book: Book) -> str:
-        """What is to be said of a book, with the lines that show it: first of the run of the mailboxes, then of the promise."""
-        return "\n".join(filter(None, [self.of_run(book.log), self.of_book(book)])) or "kept"
+        """What is to be said of a book, with the lines that show it: of the run of the mailboxes, of lives and of the promise."""
+        return "\n".join(filter(None, [self.of_run(book.log), self.of_lives(book), self.of_book(book)])) or "kept"
 
     def of_run(self, log: Log) -> str | None:
         """What is wrong with what crossed, None where it is a run of the mailboxes between the hosts that it names."""
         place = first_break(hosts_of(log), log, self.mailboxes)
         return None if place is None else f"broken run line {place + 1}"
+
+    def of_lives(self, book: Book) -> str | None:
+        """The first life that isn't made of the messages that crossed, None where all are."""
+        firsts = self.firsts()
+        found = (place for place, life in enumerate(book.lives, 1) if firsts.placed(book.log, life) is None)
+        place = next(found, None)
+        return None if place is None else f"broken lives line {self.line(book.log, place)}"
 
     def of_book(self, book: Book) -> str | None:
         """What is wrong with a book, None where it keeps the promise."""

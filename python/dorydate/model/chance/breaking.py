@@ -357,6 +357,23 @@ def messages_more(chance: Random, book: Book) -> None:
     a_life(chance, book).messages += chance.choice([1, 2, 65536, 2**64])
 
 
+@way("only a part of what came in is taken")
+def part_taken(chance: Random, book: Book) -> None:
+    life = a_life(chance, book, lambda it: it.receives() and it.bits)
+    life.bits = life.bits[: chance.randrange(len(life.bits))]
+
+
+@way("other data cross")
+def other_data(chance: Random, book: Book) -> None:
+    data = [(at, it) for at, it in enumerate(book.log) if isinstance(it, Passed) and it.flow.link != CONTROL and len(it.text) > 40]
+    at, it = chance.choice([(at, it) for at, it in data if it.kind == "out"])
+    other = it._replace(text=flipped(it.text, len(it.text) - 1))
+    book.log[at] = other
+    after = next((place for place, came in data if place > at and came.flow == it.flow), None)
+    if after is not None and book.log[after].kind == "in":
+        book.log[after] = other._replace(kind="in")
+
+
 # ---- changes that break nothing: what they change is not promised
 
 
@@ -376,7 +393,7 @@ def handed_more(chance: Random, book: Book) -> None:
 
 def taken_less(chance: Random, book: Book) -> None:
     life = a_life(chance, book, lambda it: it.receives() and it.bits)
-    life.bits, life.messages = life.bits[: chance.randrange(len(life.bits))], 0
+    life.bits, life.messages = "", 0
 
 
 def order_changed(chance: Random, book: Book) -> None:
