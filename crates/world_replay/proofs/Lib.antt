@@ -1,3 +1,4 @@
+pub mod CalmRounds
 mod Counting
 pub mod Grown
 pub mod News

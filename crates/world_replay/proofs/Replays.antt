@@ -225,7 +225,7 @@ event_ends contents calls detail old e outcome new (Err fault.CannotWrite) cross
 same_growth : {C : Type 0} (own : Calls C) (old new : C) → Grows own old new → Grows (shown own) old new
 same_growth own old new g = record { crossings = g.crossings; grown = g.grown }
 
-shown_settled : {C : Type 0} (own : Calls C) → AreSettled own → AreSettled (shown own)
+pub shown_settled : {C : Type 0} (own : Calls C) → AreSettled own → AreSettled (shown own)
 shown_settled own s = record {
   offers_once = λ old m r q new other h hg k kg. s.offers_once old m r q new other h.0 hg k.0 kg;
   takes_once = λ old g r q new other h hg k kg. s.takes_once old g r q new other h.0 hg k.0 kg;

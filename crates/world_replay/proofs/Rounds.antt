@@ -43,27 +43,27 @@ when_true : (P Q : Type 0) (b : Bool) → b ≡ true → P → MatchBool b P Q
 when_true P Q true e p = p
 when_true P Q false e p = absurd (false≢true e)
 
-when_false : (P Q : Type 0) (b : Bool) → b ≡ false → Q → MatchBool b P Q
+pub when_false : (P Q : Type 0) (b : Bool) → b ≡ false → Q → MatchBool b P Q
 when_false P Q true e q = absurd (false≢true (sym e))
 when_false P Q false e q = q
 
-is_true : (P Q : Type 0) (b : Bool) → b ≡ true → MatchBool b P Q → P
+pub is_true : (P Q : Type 0) (b : Bool) → b ≡ true → MatchBool b P Q → P
 is_true P Q true e p = p
 is_true P Q false e p = absurd (false≢true e)
 
-is_false : (P Q : Type 0) (b : Bool) → b ≡ false → MatchBool b P Q → Q
+pub is_false : (P Q : Type 0) (b : Bool) → b ≡ false → MatchBool b P Q → Q
 is_false P Q true e q = absurd (false≢true (sym e))
 is_false P Q false e q = q
 
 -- a world that runs
-done_runs : {C : Type 0} (calls : Calls C) (times : ℕ) (old new : WorldState C) (r : Answer) → stops r ≡ false → (b : Bool) → old.stopped ≡ b → CalmGives calls times old r new → old.stopped ≡ false
+pub done_runs : {C : Type 0} (calls : Calls C) (times : ℕ) (old new : WorldState C) (r : Answer) → stops r ≡ false → (b : Bool) → old.stopped ≡ b → CalmGives calls times old r new → old.stopped ≡ false
 done_runs calls times old new r on false is h = is
 done_runs calls times old new r on true is h =
     let refused : Refuses (Carrier carrier.Stopped) old r new = is_true _ _ old.stopped is h in
     absurd (false≢true (sym on ∙ ap stops refused.0))
 
 -- a round that went well makes one round more of what follows it
-calm_one : {C : Type 0} (calls : Calls C) (k : ℕ) (now mid : WorldState C) (answer : Answer) (r : Answer) (new : WorldState C) → stops answer ≡ false → Calms calls 1 now answer mid → Calms calls k mid r new → (answer ≡ Ok tt) × Calms calls (suc k) now r new
+pub calm_one : {C : Type 0} (calls : Calls C) (k : ℕ) (now mid : WorldState C) (answer : Answer) (r : Answer) (new : WorldState C) → stops answer ≡ false → Calms calls 1 now answer mid → Calms calls k mid r new → (answer ≡ Ok tt) × Calms calls (suc k) now r new
 calm_one {C} calls k now mid answer r new on (first, quiet, step, rest) more = by (stops first) refl where
   by : (b : Bool) → stops first ≡ b → (answer ≡ Ok tt) × Calms calls (suc k) now r new
   by true is = absurd (let ends : (answer ≡ first) × (mid ≡ quiet) = is_true _ _ (stops first) is rest in false≢true (sym on ∙ ap stops ends.0 ∙ is))

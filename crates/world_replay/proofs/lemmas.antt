@@ -1,3 +1,4 @@
 -- The lemmas of this crate that others may use: the proofs of command_line do. All others in proofs/ are its own.
+pub use Rattle.world_replay.proofs.CalmRounds
 pub use Rattle.world_replay.proofs.News
 pub use Rattle.world_replay.proofs.Replays

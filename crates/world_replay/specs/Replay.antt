@@ -1,5 +1,5 @@
 -- The events of a world's script over a carrier, whatever it is made of.
-use Rattle.std.specs.Prelude.{◌≡◌, ℕ, ◌≤◌, true, false, List, [], ◌++◌, Result}
+use Rattle.std.specs.Prelude.{◌≡◌, ℕ, zero, suc, ◌≤◌, true, false, List, [], ◌∷◌, ◌++◌, Result}
 use Rattle.net_sim.specs.World.{WorldState, StepGives, CalmGives, stops}
 use Rattle.interface.specs.Calls.{Calls}
 use Rattle.net_sim.specs.declared.event.WorldFault.{WorldFault}
@@ -27,6 +27,11 @@ pub record Happens {C : Type 0} (calls : Calls C) (old : WorldState C) (e : Worl
 -- the events happen one after the other, and show these lines together
 abbrev pub Replays : {C : Type 0} → Calls C → WorldState C → List WorldEvent → WorldState C → List Shown → Type 0
 Replays calls old events new shown = InTurn (Happens calls) old events new shown
+
+-- the rounds of a calm as calms of one round
+abbrev pub rounds_of : ℕ → List WorldEvent
+rounds_of zero = []
+rounds_of (suc rounds) = event.Calm 1 ∷ rounds_of rounds
 
 -- ---- a replay that ends early, in one of its events
 

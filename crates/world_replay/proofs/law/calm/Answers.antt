@@ -1,0 +1,14 @@
+use Rattle.interface.specs.Calls.{Calls}
+use Rattle.net_sim.specs.Carriers.{shown}
+use Rattle.world_replay.proofs.CalmRounds.{calm_rounds, rounds_calm}
+use Rattle.world_replay.proofs.law.calm.Goals as goal
+
+pub returns-clause-rounds : goal.returns-clause-rounds
+returns-clause-rounds g c = λ old new rounds lines h.
+    let calls : Calls g.row.C.Denot = shown g.C.Carrier.calls in
+    calm_rounds calls rounds old new lines h
+
+pub returns-clause-whole : goal.returns-clause-whole
+returns-clause-whole g c = λ old new rounds lines on h.
+    let calls : Calls g.row.C.Denot = shown g.C.Carrier.calls in
+    rounds_calm calls rounds old new lines on h
