@@ -1,5 +1,5 @@
 -- Events are traced one after the other, and one of them may be the last.
-use Rattle.std.proofs.Common.{◌≡◌, ◌⊎◌, inl, inr, ℕ, zero, suc, ◌<◌, ◌≤◌, ◌+◌, ◌-◌, List, [], ◌∷◌, ◌++◌, drop, get_or, length, reverse, slice_index_or, Option, Some, Result, Ok, Err, arith, refl, sym, ap, subst, ◌∙◌}
+use Rattle.std.proofs.Common.{◌≡◌, inl, inr, ℕ, zero, suc, ◌<◌, ◌≤◌, ◌+◌, ◌-◌, List, [], ◌∷◌, ◌++◌, drop, get_or, length, reverse, slice_index_or, Option, Some, Result, Ok, Err, arith, refl, sym, ap, subst, ◌∙◌}
 use Rattle.std.proofs.lemmas.Bool.{cases_lt}
 use Rattle.std.proofs.lemmas.List.{append_assoc, append-nil, length-append, length-reverse, reverse-append, reverse-reverse}
 use Rattle.std.proofs.Math.Seq.{drop-append_seam}
@@ -17,13 +17,14 @@ use Rattle.script.specs.Input.{ended_line}
 use Rattle.topology.specs.Topology.{TopologyFields}
 use Rattle.trace.specs.Traces.{WritesTrace}
 use Rattle.trace.specs.declared.element.Spot.{Spot}
-use Rattle.world_replay.specs.Output.{Shown, Writes, output}
+use Rattle.world_replay.specs.Output.{Shown, Writes, output, shown_text}
 use Rattle.world_replay.specs.Replay.{BeginsWith, EndsIn, Happens, MayDo, Replays, StopsIn}
 use Rattle.world_script.specs.declared.event.WorldEvent.{WorldEvent}
 use Rattle.world_script.specs.declared.event.WorldEvent.TheVariants as world
-use Rattle.world_trace.specs.Steps.{EventEnds, OneEnds, Shows}
-use Rattle.world_trace.specs.Texts.{event_text, line_of, opening_text}
-use Rattle.world_trace.specs.Traces.{AfterOpening, EndsAt, MayTell, StopsOne, TellsAt, TellsCalm, TellsOne, TellsRound, first_rounds, numbered_from, spot_of, state_of}
+use Rattle.world_trace.specs.Steps.{EventEnds, HasPassed, OneEnds, RoundEnds, Shows, ended_state}
+use Rattle.world_trace.specs.Texts.{event_text, line_of, opening_text, world_line}
+use Rattle.world_trace.proofs.Lines.{same_ended, same_object}
+use Rattle.world_trace.specs.Traces.{AfterOpening, MayTell, StopsOne, TellsOne, TellsRound, first_rounds, numbered_from, spot_of, state_of}
 
 -- ---- one event
 
@@ -84,16 +85,77 @@ one_line line IsLine a b is written = record { shown = line ∷ []; is_shown = i
 pub no_line : (AreLines : List (List ℕ) → Type 0) (a : Option (List ℕ)) → AreLines [] → WritesTrace AreLines a a
 no_line AreLines a is = record { shown = []; is_shown = is; written = appends_none a }
 
-pub tells : {C : Type 0} (calls : Calls C) (whole : C → List ℕ) (spot : Spot) (round : ℕ) (old new : WorldState C) (e : WorldEvent) (text printed : List ℕ) (before after crossings : List Crossing) (a b : Option (List ℕ))
-    → text ≡ event_text e → Shows calls old e new printed → length before ≡ length old.kept.book.crossings → after ≡ reverse new.kept.book.crossings → crossings ≡ drop (length before) after
-    → Appends a b (ended_line (line_of spot round text crossings printed (state_of whole new))) → WritesTrace (TellsOne calls whole spot round old e new) a b
-tells {C} calls whole spot round old new e text printed before after crossings a b spelled (shown, h, is) was now cut written =
-    let same : crossings ≡ h.gains.crossings =
-    cut ∙ ap (drop (length before)) now ∙ ap (λ n. drop n (reverse new.kept.book.crossings)) was ∙ crossings_gained old.kept.book.crossings new.kept.book.crossings h.gains.crossings h.gains.crossed in
-    one_line (line_of spot round (event_text e) h.gains.crossings (output Sizes shown) (state_of whole new)) (TellsOne calls whole spot round old e new) a b (shown, h, refl)
-    (subst (λ (t : List ℕ). Appends a b (ended_line (line_of spot round t h.gains.crossings (output Sizes shown) (state_of whole new)))) spelled
-    (subst (λ (cs : List Crossing). Appends a b (ended_line (line_of spot round text cs (output Sizes shown) (state_of whole new)))) same
-    (subst (λ (p : List ℕ). Appends a b (ended_line (line_of spot round text crossings p (state_of whole new)))) is written)))
+-- what crossed in an event that has passed
+crossed_in : {C : Type 0} (calls : Calls C) (whole : C → List ℕ) (old new : WorldState C) (e : WorldEvent) (event printed state : List ℕ) (crossed : ℕ) (h : HasPassed calls whole old e new event crossed printed state)
+    → drop crossed (reverse new.kept.book.crossings) ≡ h.shows.1.gains.crossings
+crossed_in calls whole old new e event printed state crossed h =
+    let gains = h.shows.1.gains in
+    ap (λ n. drop n (reverse new.kept.book.crossings)) h.crossed ∙ crossings_gained old.kept.book.crossings new.kept.book.crossings gains.crossings gains.crossed
+
+-- the line of an event that has passed
+line_passed : {C : Type 0} (calls : Calls C) (whole : C → List ℕ) (spot : Spot) (round : ℕ) (old new : WorldState C) (e : WorldEvent) (event printed state : List ℕ) (crossed : ℕ) (h : HasPassed calls whole old e new event crossed printed state)
+    → line_of spot round event (drop crossed (reverse new.kept.book.crossings)) printed (state_of whole new) ≡ world_line spot round e h.shows.1.gains.crossings h.shows.0 (state_of whole new)
+line_passed calls whole spot round old new e event printed state crossed h =
+    ap (λ (cs : List Crossing). line_of spot round event cs printed (state_of whole new)) (crossed_in calls whole old new e event printed state crossed h)
+    ∙ ap (λ (t : List ℕ). line_of spot round t h.shows.1.gains.crossings printed (state_of whole new)) h.event
+    ∙ ap (λ (p : List ℕ). line_of spot round (event_text e) h.shows.1.gains.crossings p (state_of whole new)) h.shows.2
+
+pub tells : {C : Type 0} (calls : Calls C) (whole : C → List ℕ) (spot : Spot) (round : ℕ) (old new : WorldState C) (e : WorldEvent) (event printed state : List ℕ) (crossed : ℕ) (a b : Option (List ℕ)) → HasPassed calls whole old e new event crossed printed state
+    → Appends a b (ended_line (line_of spot round event (drop crossed (reverse new.kept.book.crossings)) printed (state_of whole new))) → WritesTrace (TellsOne calls whole spot round old e new) a b
+tells {C} calls whole spot round old new e event printed state crossed a b h written =
+    one_line (world_line spot round e h.shows.1.gains.crossings h.shows.0 (state_of whole new)) (TellsOne calls whole spot round old e new) a b (h.shows.0, h.shows.1, refl)
+    (subst (λ (line : List ℕ). Appends a b (ended_line line)) (line_passed calls whole spot round old new e event printed state crossed h) written)
+
+-- it may have happened, too, where its line was not written
+pub passed_may : {C : Type 0} (calls : Calls C) (whole : C → List ℕ) (old new : WorldState C) (e : WorldEvent) (event printed state : List ℕ) (crossed : ℕ) → HasPassed calls whole old e new event crossed printed state → MayTell calls old e new []
+passed_may calls whole old new e event printed state crossed h = (refl, record { processed = e; begins = whole_event e; outcome = h.shows.1.outcome; gives = h.shows.1.gives; unknown = refl })
+
+-- ---- a round
+
+-- lines that are no text are no lines
+none_shown : (shown : List Shown) → output Sizes shown ≡ [] → shown ≡ []
+none_shown [] is = refl
+none_shown (s ∷ shown) is =
+    let long : length (ended_line (shown_text Sizes s) ++ output Sizes shown) ≡ 0 = ap length is in
+    let first : length (ended_line (shown_text Sizes s) ++ output Sizes shown) ≡ length (ended_line (shown_text Sizes s)) + length (output Sizes shown) = length-append (ended_line (shown_text Sizes s)) (output Sizes shown) in
+    let end : length (ended_line (shown_text Sizes s)) ≡ length (shown_text Sizes s) + 1 = length-append (shown_text Sizes s) (10 ∷ []) in
+    absurd (omega (arith, long, first, end))
+
+-- a round that prints nothing and leaves the text of the state
+pub round_silent : {C : Type 0} (calls : Calls C) (whole : C → List ℕ) (spot : Spot) (round : ℕ) (old new : WorldState C) (event printed state text : List ℕ) (crossed : ℕ) (a : Option (List ℕ)) → HasPassed calls whole old (world.Calm 1) new event crossed printed state
+    → text ≡ ended_state whole old → printed ≡ [] → state ≡ text → WritesTrace (TellsRound calls whole spot old round new) a a
+round_silent {C} calls whole spot round old new event printed state text crossed a h was none same =
+    let nothing : h.shows.0 ≡ [] = none_shown h.shows.0 (sym h.shows.2 ∙ none) in
+    no_line (TellsRound calls whole spot old round new) a (inl (
+      subst (λ (shown : List Shown). Happens calls old (world.Calm 1) new shown) nothing h.shows.1,
+      same_object whole old new (sym was ∙ sym same ∙ h.state),
+      refl,
+    ))
+
+-- any other round
+pub round_heard : {C : Type 0} (calls : Calls C) (whole : C → List ℕ) (spot : Spot) (round : ℕ) (old new : WorldState C) (event printed state text : List ℕ) (crossed : ℕ) (a b : Option (List ℕ)) → HasPassed calls whole old (world.Calm 1) new event crossed printed state
+    → text ≡ ended_state whole old → (printed ≡ [] → state ≡ text → ⊥) → Appends a b (ended_line (line_of spot round event (drop crossed (reverse new.kept.book.crossings)) printed (state_of whole new))) → WritesTrace (TellsRound calls whole spot old round new) a b
+round_heard {C} calls whole spot round old new event printed state text crossed a b h was heard written =
+    let line : List ℕ = world_line spot round (world.Calm 1) h.shows.1.gains.crossings h.shows.0 (state_of whole new) in
+    one_line line (TellsRound calls whole spot old round new) a b
+    (inr ((h.shows.0, h.shows.1, refl), λ none same. heard (h.shows.2 ∙ ap (output Sizes) none) (h.state ∙ sym (same_ended whole old new same) ∙ sym was)))
+    (subst (λ (line : List ℕ). Appends a b (ended_line line)) (line_passed calls whole spot round old new (world.Calm 1) event printed state crossed h) written)
+
+-- a round that leaves all as it was
+resting : {C : Type 0} (calls : Calls C) (whole : C → List ℕ) (spot : Spot) (round : ℕ) (now : WorldState C) (a : Option (List ℕ)) → CalmGives calls 1 now (Ok tt) now → WritesTrace (TellsRound calls whole spot now round now) a a
+resting calls whole spot round now a gives =
+    let book = now.kept.book in
+    no_line (TellsRound calls whole spot now round now) a (inl (
+      record {
+        outcome = Ok tt;
+        gives = gives;
+        goes_on = refl;
+        gains = record { crossings = []; notices = []; reports = []; crossed = refl; told = sym (append-nil book.notices); said = sym (append-nil book.reports) };
+        lines = refl;
+      },
+      refl,
+      refl,
+    ))
 
 -- ---- an event that is no calm
 
@@ -118,7 +180,7 @@ next_round passed =
     ap first_rounds (sym is) ∙ ap (λ n. first_rounds passed ++ n ∷ []) is
 
 pub one_passed : {C : Type 0} (calls : Calls C) (whole : C → List ℕ) (spot : Spot) (passed : ℕ) (old mid new : WorldState C) (a b c : Option (List ℕ)) → Passed calls whole spot passed old mid a b
-    → WritesTrace (TellsOne calls whole spot (passed + 1) mid (world.Calm 1) new) b c → Passed calls whole spot (passed + 1) old new a c
+    → WritesTrace (TellsRound calls whole spot mid (passed + 1) new) b c → Passed calls whole spot (passed + 1) old new a c
 one_passed {C} calls whole spot passed old mid new a b c h k =
     subst (λ (rounds : List ℕ). WritesTrace (InTurn (TellsRound calls whole spot) old rounds new) a c) (sym (next_round passed))
     (one_written (TellsRound calls whole spot) (λ line. line) old mid new (first_rounds passed) (passed + 1) a b c h k)
@@ -136,12 +198,27 @@ first_of passed (suc rounds) lt = elim (cases_lt passed rounds) [
       ([], ap (λ n. first_rounds (suc n)) same ∙ ap (λ n. first_rounds passed ++ n ∷ []) next)
 ]
 
-pub calm_passed : {C : Type 0} (calls : Calls C) (whole : C → List ℕ) (spot : Spot) (passed rounds : ℕ) (old new : WorldState C) (a b : Option (List ℕ)) → passed ≤ rounds → Passed calls whole spot passed old new a b → (passed ≡ rounds) ⊎ CalmGives calls (rounds - passed) new (Ok tt) new
-    → EventEnds calls whole spot old (world.Calm rounds) (Ok tt) new a b
-calm_passed calls whole spot passed rounds old new a b few h left = record { shown = h.shown; is_shown = record { passed = passed; few = few; told = h.is_shown; left = left }; written = h.written }
+-- further rounds, which leave all as it is
+rested : {C : Type 0} (calls : Calls C) (whole : C → List ℕ) (spot : Spot) (left passed rounds : ℕ) (old now : WorldState C) (a b : Option (List ℕ)) → passed + left ≡ rounds → CalmGives calls 1 now (Ok tt) now → Passed calls whole spot passed old now a b
+    → Passed calls whole spot rounds old now a b
+rested calls whole spot zero passed rounds old now a b all gives h =
+    let same : passed ≡ rounds = omega (arith, all) in
+    subst (λ n. Passed calls whole spot n old now a b) same h
+rested calls whole spot (suc left) passed rounds old now a b all gives h =
+    let more : passed + 1 + left ≡ rounds = omega (arith, all) in
+    rested calls whole spot left (passed + 1) rounds old now a b more gives (one_passed calls whole spot passed old now now a b b h (resting calls whole spot (passed + 1) now b gives))
+
+pub calm_rests : {C : Type 0} (calls : Calls C) (whole : C → List ℕ) (spot : Spot) (passed rounds : ℕ) (old now : WorldState C) (a b : Option (List ℕ)) → passed ≤ rounds → CalmGives calls 1 now (Ok tt) now → Passed calls whole spot passed old now a b
+    → EventEnds calls whole spot old (world.Calm rounds) (Ok tt) now a b
+calm_rests calls whole spot passed rounds old now a b few gives h =
+    let all : passed + (rounds - passed) ≡ rounds = omega (arith, few) in
+    rested calls whole spot (rounds - passed) passed rounds old now a b all gives h
+
+pub calm_passed : {C : Type 0} (calls : Calls C) (whole : C → List ℕ) (spot : Spot) (passed rounds : ℕ) (old now : WorldState C) (a b : Option (List ℕ)) → passed ≡ rounds → Passed calls whole spot passed old now a b → EventEnds calls whole spot old (world.Calm rounds) (Ok tt) now a b
+calm_passed calls whole spot passed rounds old now a b all h = subst (λ n. Passed calls whole spot n old now a b) all h
 
 pub calm_early : {C : Type 0} (calls : Calls C) (whole : C → List ℕ) (spot : Spot) (passed rounds : ℕ) (old mid new : WorldState C) (f : ReplayFault) (a b c : Option (List ℕ)) → passed < rounds → Passed calls whole spot passed old mid a b
-    → OneEnds calls whole spot (passed + 1) mid (world.Calm 1) (Err f) new b c → EventEnds calls whole spot old (world.Calm rounds) (Err f) new a c
+    → RoundEnds calls whole spot (passed + 1) mid (Err f) new b c → EventEnds calls whole spot old (world.Calm rounds) (Err f) new a c
 calm_early {C} calls whole spot passed rounds old mid new fault.OutOfMemory a b c lt h k =
     let (left, is) = first_of passed rounds lt in
     last_written (TellsRound calls whole spot) (λ (o : WorldState C) (n : ℕ) (w : WorldState C) (ls : List (List ℕ)). StopsOne calls o (world.Calm 1) w ls) (λ line. line) old mid new (first_rounds rounds) (first_rounds passed) (passed + 1) left a b c is h k
@@ -150,6 +227,11 @@ calm_early {C} calls whole spot passed rounds old mid new fault.CannotWrite a b 
       h.shown ++ lines,
       last_shown (TellsRound calls whole spot) (λ (o : WorldState C) (n : ℕ) (w : WorldState C) (ls : List (List ℕ)). MayTell calls o (world.Calm 1) w ls) old mid new (first_rounds rounds) (first_rounds passed) (passed + 1) left h.shown lines is h.is_shown k,
     )
+
+-- memory ran out before the first round
+pub calm_unbegun : {C : Type 0} (calls : Calls C) (whole : C → List ℕ) (spot : Spot) (rounds : ℕ) (old : WorldState C) (a : Option (List ℕ)) → 0 < rounds → EventEnds calls whole spot old (world.Calm rounds) (Err fault.OutOfMemory) old a a
+calm_unbegun calls whole spot rounds old a some =
+    calm_early calls whole spot 0 rounds old old old fault.OutOfMemory a a a some (none_passed calls whole spot old a) (no_line (StopsOne calls old (world.Calm 1) old) a (inl (refl, refl)))
 
 -- ---- all events
 
@@ -186,9 +268,9 @@ fails_so Happens Goes old mid new all left later e a b is h (lines, k) = (
   last_shown Happens Goes old mid new all h.done e later h.written.shown lines (h.parts ∙ ap (λ es. h.done ++ es) is) h.written.is_shown k,
 )
 
-pub none_left : (events : List WorldEvent) → length events ≡ 0 → events ≡ []
+pub none_left : {X : Type 0} (xs : List X) → length xs ≡ 0 → xs ≡ []
 none_left [] none = refl
-none_left (e ∷ events) none = absurd (omega (arith, none))
+none_left (x ∷ xs) none = absurd (omega (arith, none))
 
 -- the next event with where it is
 pub next_at : (lines : List ℕ) (passed : ℕ) (left later : List WorldEvent) (e : WorldEvent) → left ≡ e ∷ later

@@ -1,5 +1,5 @@
 -- What the contracts of private functions say. No public clause cites this file.
-use Rattle.std.specs.Prelude.{◌≡◌, ℕ, List, [], ◌∷◌, ◌++◌, Option, Result, Ok, Err, codes, map}
+use Rattle.std.specs.Prelude.{◌≡◌, ℕ, ◌≤◌, List, [], ◌∷◌, ◌++◌, Option, Result, Ok, Err, codes, length, map}
 use Rattle.std.specs.Fmt.{decimal}
 use Rattle.std.specs.List.{flat_map}
 use Rattle.interface.specs.declared.crossing.Crossing.{Crossing}
@@ -16,11 +16,12 @@ use Rattle.world_replay.specs.Printed.{kind_text}
 use Rattle.replay.specs.declared.print.Detail.TheVariants.{Sizes}
 use Rattle.world_replay.specs.Output.{Shown, output}
 use Rattle.world_replay.specs.Replay.{Happens}
-use Rattle.world_trace.specs.Texts.{allocation_object, asked_object, closings_object, ends_object, lines_text, number_text, programs_text, requests_object, services_text, sockets_object}
+use Rattle.world_trace.specs.Texts.{allocation_object, asked_object, closings_object, ends_object, event_text, lines_text, number_text, programs_text, requests_object, services_text, sockets_object}
 use Rattle.net_sim.specs.declared.seat.Seat.{Seat}
 use Rattle.net_sim.specs.declared.seat.ServiceSeat.{ServiceSeat}
 use Rattle.world_script.specs.declared.event.WorldEvent.{WorldEvent}
-use Rattle.world_trace.specs.Traces.{EndsAt, MayTell, StopsOne, TellsAt, TellsOne}
+use Rattle.world_script.specs.declared.event.WorldEvent.TheVariants as world
+use Rattle.world_trace.specs.Traces.{EndsAt, MayTell, StopsOne, TellsAt, TellsOne, TellsRound}
 use Rattle.trace.specs.declared.element.Spot.{Spot}
 
 -- ---- lists
@@ -66,14 +67,24 @@ outcome_text crossings printed = codes "\",\"crossed\":" ++ (array (map crossing
 abbrev pub hosts_text : List Seat → List ServiceSeat → List ℕ
 hosts_text seats services = codes ",\"programs\":" ++ (programs_text seats ++ (codes ",\"services\":" ++ (services_text services ++ codes "}\n")))
 
-abbrev pub state_text : List ℕ → List Seat → List ServiceSeat → List ℕ
-state_text parts seats services = parts ++ hosts_text seats services
+-- the state of a world after `"parts":`, and the end of the line
+abbrev pub ended_state : {C : Type 0} → (C → List ℕ) → WorldState C → List ℕ
+ended_state whole w = whole w.carrier ++ hosts_text w.seats w.services
 
 -- ---- what happens
 
 -- an event happened, and a replay prints this text for it
 abbrev pub Shows : {C : Type 0} → Calls C → WorldState C → WorldEvent → WorldState C → List ℕ → Type 0
 Shows calls old e new text = (lines : List Shown) × Happens calls old e new lines × (text ≡ output Sizes lines)
+
+-- it happened, with this many crossings in the book before it, and these are the texts of its line: the event, what a replay prints, and the
+-- state after it
+pub record HasPassed {C : Type 0} (calls : Calls C) (whole : C → List ℕ) (old : WorldState C) (e : WorldEvent) (new : WorldState C) (name : List ℕ) (before : ℕ) (printed end : List ℕ) : Type 0 where
+  pub event : name ≡ event_text e
+  pub shows : Shows calls old e new printed
+  pub crossed : before ≡ length old.kept.book.crossings
+  pub few : before ≤ length new.kept.book.crossings
+  pub state : end ≡ ended_state whole new
 
 -- ---- endings
 
@@ -83,9 +94,13 @@ EndsAs Happens Stops Fails old e (Ok done) new before after = WritesTrace (Happe
 EndsAs Happens Stops Fails old e (Err fault.OutOfMemory) new before after = WritesTrace (Stops old e new) before after
 EndsAs Happens Stops Fails old e (Err fault.CannotWrite) new before after = (lines : List (List ℕ)) × Fails old e new lines
 
--- an event that is no calm or a round, and any event
+-- an event that is no calm, a round, and any event
 abbrev pub OneEnds : {C : Type 0} → Calls C → (C → List ℕ) → Spot → ℕ → WorldState C → WorldEvent → Result (Unit {0}) ReplayFault → WorldState C → Option (List ℕ) → Option (List ℕ) → Type 0
 OneEnds calls whole spot round old e r new before after = EndsAs (TellsOne calls whole spot round) (StopsOne calls) (MayTell calls) old e r new before after
+
+abbrev pub RoundEnds : {C : Type 0} → Calls C → (C → List ℕ) → Spot → ℕ → WorldState C → Result (Unit {0}) ReplayFault → WorldState C → Option (List ℕ) → Option (List ℕ) → Type 0
+RoundEnds calls whole spot round old r new before after =
+    EndsAs (λ old e new lines. TellsRound calls whole spot old round new lines) (StopsOne calls) (MayTell calls) old (world.Calm 1) r new before after
 
 abbrev pub EventEnds : {C : Type 0} → Calls C → (C → List ℕ) → Spot → WorldState C → WorldEvent → Result (Unit {0}) ReplayFault → WorldState C → Option (List ℕ) → Option (List ℕ) → Type 0
 EventEnds calls whole spot old e r new before after = EndsAs (TellsAt calls whole spot) (EndsAt calls whole (StopsOne calls) spot) (EndsAt calls whole (MayTell calls) spot) old e r new before after

@@ -1,9 +1,10 @@
 -- What is written as the trace of a world, over any carrier whose inside can be traced.
-use Rattle.std.specs.Prelude.{◌≡◌, ◌⊎◌, ℕ, zero, suc, ◌-◌, ◌≤◌, List, [], ◌∷◌, ◌++◌, Ok, slice_index_or}
-use Rattle.net_sim.specs.World.{CalmGives, WorldState}
+use Rattle.std.specs.Prelude.{◌≡◌, ◌⊎◌, ℕ, zero, suc, ◌-◌, List, [], ◌∷◌, ◌++◌, slice_index_or}
+use Rattle.net_sim.specs.World.{WorldState}
 use Rattle.interface.specs.Calls.{Calls}
 use Rattle.replay.specs.InTurn.{EndsInTurn, Happening, InTurn}
 use Rattle.topology.specs.Topology.{TopologyFields}
+use Rattle.trace.specs.Texts.{object}
 use Rattle.trace.specs.declared.element.Spot.{Spot}
 use Rattle.world_replay.specs.Output.{Shown}
 use Rattle.world_replay.specs.Replay.{Happens, MayDo}
@@ -24,34 +25,45 @@ numbered_from lines number (e ∷ events) = (spot_of lines number, e) ∷ number
 abbrev pub state_of : {C : Type 0} → (C → List ℕ) → WorldState C → List (List ℕ)
 state_of whole w = state_members (whole w.carrier) w.seats w.services
 
--- an event that is no calm, or one round of a calm, happens as in a replay, and has one line, over the state after it
+-- an event that is no calm, or one round of a calm, happens as in a replay and has one line, over the state after it
 abbrev pub TellsOne : {C : Type 0} → Calls C → (C → List ℕ) → Spot → ℕ → Happening (WorldState C) WorldEvent (List ℕ)
 TellsOne calls whole spot round old e new lines =
     (shown : List Shown) × (h : Happens calls old e new shown) × (lines ≡ world_line spot round e h.gains.crossings shown (state_of whole new) ∷ [])
 
+-- the state has the text that another has
+abbrev pub SameText : {C : Type 0} → (C → List ℕ) → WorldState C → WorldState C → Type 0
+SameText whole one other = object (state_of whole one) ≡ object (state_of whole other)
+
+-- a round that prints nothing and leaves the text of the state as it was. It has no line
+abbrev pub IsSilent : {C : Type 0} → Calls C → (C → List ℕ) → WorldState C → WorldState C → List (List ℕ) → Type 0
+IsSilent calls whole old new lines = Happens calls old (world.Calm 1) new [] × SameText whole old new × (lines ≡ [])
+
+-- any other round has one
+abbrev pub IsHeard : {C : Type 0} → Calls C → (C → List ℕ) → Spot → Happening (WorldState C) ℕ (List ℕ)
+IsHeard calls whole spot old round new lines =
+    (told : TellsOne calls whole spot round old (world.Calm 1) new lines) × (told.0 ≡ [] → SameText whole old new → ⊥)
+
 -- a round of a calm, by its number
 abbrev pub TellsRound : {C : Type 0} → Calls C → (C → List ℕ) → Spot → Happening (WorldState C) ℕ (List ℕ)
-TellsRound calls whole spot old round new lines = TellsOne calls whole spot round old (world.Calm 1) new lines
+TellsRound calls whole spot old round new lines = IsSilent calls whole old new lines ⊎ IsHeard calls whole spot old round new lines
 
 -- the numbers of this many rounds, counted from 1
 abbrev pub first_rounds : ℕ → List ℕ
 first_rounds zero = []
 first_rounds (suc rounds) = first_rounds rounds ++ suc rounds ∷ []
 
--- the first rounds of a calm have a line each; those that are left, if there are any, would change nothing
-pub record TellsCalm {C : Type 0} (calls : Calls C) (whole : C → List ℕ) (spot : Spot) (rounds : ℕ) (old new : WorldState C) (lines : List (List ℕ)) : Type 0 where
-  pub passed : ℕ
-  pub few : passed ≤ rounds
-  pub told : InTurn (TellsRound calls whole spot) old (first_rounds passed) new lines
-  pub left : (passed ≡ rounds) ⊎ CalmGives calls (rounds - passed) new (Ok tt) new
-
+-- a calm is its rounds, and any other event has one line
 abbrev pub TellsAt : {C : Type 0} → Calls C → (C → List ℕ) → Spot → Happening (WorldState C) WorldEvent (List ℕ)
 TellsAt calls whole spot old (world.Happen e) new lines = TellsOne calls whole spot 0 old (world.Happen e) new lines
-TellsAt calls whole spot old (world.Calm rounds) new lines = TellsCalm calls whole spot rounds old new lines
+TellsAt calls whole spot old (world.Calm rounds) new lines = InTurn (TellsRound calls whole spot) old (first_rounds rounds) new lines
+
+-- an event with where it is
+abbrev pub TellsIn : {C : Type 0} → Calls C → (C → List ℕ) → Happening (WorldState C) (Spot × WorldEvent) (List ℕ)
+TellsIn calls whole old e new lines = TellsAt calls whole e.0 old e.1 new lines
 
 -- the lines are those of these events, numbered from 1, which are in these lines of a script
 abbrev pub TracesWorld : {C : Type 0} → Calls C → (C → List ℕ) → WorldState C → List ℕ → List WorldEvent → WorldState C → List (List ℕ) → Type 0
-TracesWorld calls whole old numbers events new lines = InTurn (λ old e new lines. TellsAt calls whole e.0 old e.1 new lines) old (numbered_from numbers 1 events) new lines
+TracesWorld calls whole old numbers events new lines = InTurn (TellsIn calls whole) old (numbered_from numbers 1 events) new lines
 
 -- the lines after the first, which is the network with the state at the opening
 abbrev pub AfterOpening : {C : Type 0} → (C → List ℕ) → TopologyFields → WorldState C → (List (List ℕ) → Type 0) → List (List ℕ) → Type 0
@@ -72,6 +84,9 @@ abbrev pub EndsAt : {C : Type 0} → Calls C → (C → List ℕ) → Happening 
 EndsAt calls whole Goes spot old (world.Happen e) new lines = Goes old (world.Happen e) new lines
 EndsAt calls whole Goes spot old (world.Calm rounds) new lines = EndsInTurn (TellsRound calls whole spot) (λ old round new lines. Goes old (world.Calm 1) new lines) old (first_rounds rounds) new lines
 
+abbrev pub EndsIn : {C : Type 0} → Calls C → (C → List ℕ) → Happening (WorldState C) WorldEvent (List ℕ) → Happening (WorldState C) (Spot × WorldEvent) (List ℕ)
+EndsIn calls whole Goes old e new lines = EndsAt calls whole Goes e.0 old e.1 new lines
+
 abbrev pub WorldTraceEnds : {C : Type 0} → Calls C → (C → List ℕ) → Happening (WorldState C) WorldEvent (List ℕ) → WorldState C → List ℕ → List WorldEvent → WorldState C → List (List ℕ) → Type 0
 WorldTraceEnds calls whole Goes old numbers events new lines =
-    EndsInTurn (λ old e new lines. TellsAt calls whole e.0 old e.1 new lines) (λ old e new lines. EndsAt calls whole Goes e.0 old e.1 new lines) old (numbered_from numbers 1 events) new lines
+    EndsInTurn (TellsIn calls whole) (EndsIn calls whole Goes) old (numbered_from numbers 1 events) new lines

@@ -1,10 +1,10 @@
 //! The lines of a world's trace.
 
-ghost use Rattle.std.specs.Prelude.{◌≡◌, OnOk, false};
+ghost use Rattle.std.specs.Prelude.{◌≡◌, ◌≤◌, OnOk, drop, false, length, reverse};
 ghost use Rattle.std.specs.Io.KnownBytes.{Appends};
 ghost use Rattle.replay.specs.Failing.{TellsFailure};
 ghost use Rattle.script.specs.Input.{ended_line};
-ghost use Rattle.world_trace.specs.Steps.{head_text, hosts_text, outcome_text, state_text};
+ghost use Rattle.world_trace.specs.Steps.{ended_state, head_text, hosts_text, outcome_text};
 ghost use Rattle.world_trace.specs.Texts.{line_of, opening_text};
 ghost use Rattle.world_trace.specs.Traces.{state_of};
 
@@ -66,33 +66,50 @@ fn print_outcome<W: Output>(
 }
 
 /// Prints the state of a world after other members, and the end of the line.
-fn print_state<C: Inspect, W: Output>(world: &World<C>, writer: &mut W) -> Result<(), WriteFailed>
+pub(crate) fn print_state<C: Inspect, W: Output>(
+    world: &World<C>,
+    writer: &mut W,
+) -> Result<(), WriteFailed>
     requires { W.failed writer.old ≡ false }
-    ensures written { OnOk result (Appends (W.contents writer.old) (W.contents writer.new) (state_text (C.whole world.now.carrier) world.now.seats world.now.services)) }
+    ensures written { OnOk result (Appends (W.contents writer.old) (W.contents writer.new) (ended_state C.whole world.now)) }
     ensures failed { TellsFailure result (W.failed writer.new) }
 {
     world.carrier().print_whole(writer)?;
     print_hosts(world, writer)
 }
 
-/// Prints the line of an event, or of a round of a calm, in which this crossed and for which a replay prints these lines.
+/// An event that has happened, or a round of a calm: the texts of its line.
+#[derive(Drop)]
+pub(crate) struct Passed {
+    /// The event, within a string.
+    pub event: Vec<u8>,
+    /// How many crossings were in the book before it.
+    pub crossed: usize,
+    /// The lines that a replay prints for it.
+    pub printed: Vec<u8>,
+    /// The state after it, with the end of the line.
+    pub state: Vec<u8>,
+}
+
+/// Prints the line of an event that has just happened in a world, or of a round of a calm.
 pub(crate) fn print_line<C: Inspect, W: Output>(
     world: &World<C>,
     spot: Spot,
     round: u32,
-    event: &[u8],
-    crossings: &[Crossing],
-    printed: &[u8],
+    passed: &Passed,
     writer: &mut W,
 ) -> Result<(), WriteFailed>
-    requires { W.failed writer.old ≡ false }
-    ensures written { OnOk result (Appends (W.contents writer.old) (W.contents writer.new) (ended_line (line_of spot round event.now crossings.now printed.now (state_of C.whole world.now)))) }
+    requires crossed { passed.now.crossed ≤ length world.now.kept.book.crossings }
+    requires state { passed.now.state.items ≡ ended_state C.whole world.now }
+    requires whole { W.failed writer.old ≡ false }
+    ensures written { OnOk result (Appends (W.contents writer.old) (W.contents writer.new) (ended_line (line_of spot round passed.now.event.items (drop passed.now.crossed (reverse world.now.kept.book.crossings)) passed.now.printed.items (state_of C.whole world.now)))) }
     ensures failed { TellsFailure result (W.failed writer.new) }
 {
-    print_head(spot, round, event, writer)?;
-    print_outcome(crossings, printed, writer)?;
+    let (_, crossings) = world.book().crossings().split_at(passed.crossed);
+    print_head(spot, round, &passed.event, writer)?;
+    print_outcome(crossings, &passed.printed, writer)?;
     writer.write_all(b",\"parts\":")?;
-    print_state(world, writer)
+    writer.write_all(&passed.state)
 }
 
 /// Prints the first line of a trace: the network, and the state of a world.

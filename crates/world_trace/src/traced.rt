@@ -1,6 +1,6 @@
 //! Tracing the events of a world's script.
 
-ghost use Rattle.std.specs.Prelude.{◌≡◌, ◌⊎◌, [], ℕ, Err, IfErr, IfOk, List, Ok, OnOk, false, length, true};
+ghost use Rattle.std.specs.Prelude.{◌≡◌, ◌⊎◌, ◌↔◌, [], ℕ, Err, IfErr, IfOk, List, Ok, OnOk, false, length, true};
 ghost use Rattle.net_sim.specs.Carriers.{shown};
 ghost use Rattle.net_sim.specs.World.{CalmGives};
 ghost use Rattle.replay.specs.Failing.{TellsCannotWrite};
@@ -8,11 +8,11 @@ ghost use Rattle.replay.specs.declared.print.Detail.TheVariants.{Sizes};
 ghost use Rattle.trace.specs.Traces.{WritesTrace};
 ghost use Rattle.world_replay.specs.Output.{output};
 ghost use Rattle.world_script.specs.declared.event.WorldEvent.TheVariants as world_event;
-ghost use Rattle.world_trace.specs.Steps.{EventEnds, OneEnds, Shows};
+ghost use Rattle.world_trace.specs.Steps.{EventEnds, HasPassed, OneEnds, RoundEnds, Shows, ended_state};
 ghost use Rattle.world_trace.specs.Texts.{event_text};
 ghost use Rattle.world_trace.specs.Traces.{AfterOpening, MayTell, StopsOne, TracesWorld, WorldTraceEnds};
 
-use crate::line::{print_line, print_opening};
+use crate::line::{Passed, print_line, print_opening, print_state};
 use crate::spelling::print_event;
 use interface::Carrier;
 use net_sim::World;
@@ -27,7 +27,7 @@ use world_script::WorldEvent;
 /// each event, and for each round of a calm: where it is in the script, the event, what crossed, what a replay prints for it, and the
 /// state after it. `lines` has the numbers of the events' lines in the script.
 ///
-/// A refused event changes nothing, and has a line too. Rounds of a calm in which nothing would happen any more have none.
+/// A refused event changes nothing, and has a line too. A round of a calm that prints nothing and leaves the state as it was has none.
 ///
 /// Errors:
 /// - `OutOfMemory`: memory ran out at one event or round. The first line and those of the events and rounds before it were written, and
@@ -103,12 +103,12 @@ fn trace_event<C: Inspect, W: Output>(
     match event {
         WorldEvent::Calm(rounds) => trace_calm(alloc, world, spot, rounds, writer),
         WorldEvent::Happen(event) => {
-            trace_one(alloc, world, spot, 0, WorldEvent::Happen(event), writer)
+            trace_one(alloc, world, spot, WorldEvent::Happen(event), writer)
         }
     }
 }
 
-/// Traces a calm round by round, until all have passed or the world rests.
+/// Traces a calm round by round, until all have passed or the world rests. The rounds that are left then have no lines.
 fn trace_calm<C: Inspect, W: Output>(
     alloc: Global,
     world: &mut World<C>,
@@ -120,9 +120,13 @@ fn trace_calm<C: Inspect, W: Output>(
     ensures ends { EventEnds (shown C.calls) C.whole spot world.old (world_event.Calm rounds) result world.new (W.contents writer.old) (W.contents writer.new) }
     ensures failed { TellsCannotWrite result (W.failed writer.new) }
 {
+    if rounds == 0 {
+        return Ok(());
+    }
+    let mut text = ended_state(alloc, world)?;
     for passed in 0..rounds {
         let before = world.book().crossings().len();
-        trace_one(alloc, world, spot, passed + 1, WorldEvent::Calm(1), writer)?;
+        trace_round(alloc, world, spot, passed + 1, &mut text, writer)?;
         if has_calmed(world, before) {
             return Ok(());
         }
@@ -138,24 +142,83 @@ fn has_calmed<C: Carrier>(world: &World<C>, before: usize) -> bool
     world.book().crossings().len() == before && world.rests()
 }
 
-/// Lets an event happen that is no calm, or a round, and prints its line.
-fn trace_one<C: Inspect, W: Output>(
+/// Lets a round happen, and prints its line, unless it prints nothing and leaves the text of the state as it was. `text` is that text.
+fn trace_round<C: Inspect, W: Output>(
     alloc: Global,
     world: &mut World<C>,
     spot: Spot,
     round: u32,
+    text: &mut Vec<u8>,
+    writer: &mut W,
+) -> Result<(), ReplayFault>
+    requires whole { W.failed writer.old ≡ false }
+    requires known { text.old.items ≡ ended_state C.whole world.old }
+    ensures ends { RoundEnds (shown C.calls) C.whole spot round world.old result world.new (W.contents writer.old) (W.contents writer.new) }
+    ensures known { OnOk result (text.new.items ≡ ended_state C.whole world.new) }
+    ensures failed { TellsCannotWrite result (W.failed writer.new) }
+{
+    let passed = pass(alloc, world, WorldEvent::Calm(1))?;
+    if is_silent(&passed, text) {
+        return Ok(());
+    }
+    print_line(world, spot, round, &passed, writer)?;
+    *text = passed.state;
+    Ok(())
+}
+
+/// Returns whether an event printed nothing and left the text of the state as it was.
+fn is_silent(passed: &Passed, text: &[u8]) -> bool
+    ensures { (result ≡ true) ↔ ((passed.now.printed.items ≡ []) × (passed.now.state.items ≡ text.now)) }
+{
+    passed.printed.is_empty() && passed.state.as_slice() == text
+}
+
+/// Lets an event happen that is no calm, and prints its line.
+fn trace_one<C: Inspect, W: Output>(
+    alloc: Global,
+    world: &mut World<C>,
+    spot: Spot,
     event: WorldEvent,
     writer: &mut W,
 ) -> Result<(), ReplayFault>
     requires { W.failed writer.old ≡ false }
-    ensures ends { OneEnds (shown C.calls) C.whole spot round world.old event result world.new (W.contents writer.old) (W.contents writer.new) }
+    ensures ends { OneEnds (shown C.calls) C.whole spot 0 world.old event result world.new (W.contents writer.old) (W.contents writer.new) }
     ensures failed { TellsCannotWrite result (W.failed writer.new) }
+{
+    let passed = pass(alloc, world, event)?;
+    Ok(print_line(world, spot, 0, &passed, writer)?)
+}
+
+/// Lets an event happen, or a round. Returns the texts of its line.
+fn pass<C: Inspect>(
+    alloc: Global,
+    world: &mut World<C>,
+    event: WorldEvent,
+) -> Result<Passed, AllocError>
+    ensures passed { IfOk result (λ p. HasPassed (shown C.calls) C.whole world.old event world.new p.event.items p.crossed p.printed.items p.state.items) }
+    ensures memory { IfErr result (λ _. StopsOne (shown C.calls) world.old event world.new []) }
 {
     let text = spelled(alloc, &event)?;
     let crossed = world.book().crossings().len();
     let printed = happen(alloc, world, event)?;
-    let (_, crossings) = world.book().crossings().split_at(crossed);
-    Ok(print_line(world, spot, round, &text, crossings, &printed, writer)?)
+    let state = ended_state(alloc, world)?;
+    Ok(Passed {
+        event: text,
+        crossed,
+        printed,
+        state,
+    })
+}
+
+/// Returns the text of the state of a world after other members, with the end of a line.
+fn ended_state<C: Inspect>(alloc: Global, world: &World<C>) -> Result<Vec<u8>, AllocError>
+    ensures { IfOk result (λ text. text.items ≡ ended_state C.whole world.now) }
+{
+    let mut printer = Printer::new(Vec::new(alloc));
+    match print_state(world, &mut printer) {
+        Ok(()) => Ok(printer.into_inner()),
+        Err(_) => Err(AllocError),
+    }
 }
 
 /// Returns an event as a line of a script, within a string.

@@ -1,0 +1,34 @@
+use Rattle.std.proofs.Common.{◌≡◌, ◌∙◌, List, [], Err, rules, subst, sym, ℕ}
+use Rattle.std.proofs.lemmas.Bool.{false≢true}
+use Rattle.net_sim.specs.Carriers.{shown}
+use Rattle.interface.specs.Calls.{Calls}
+use Rattle.replay.specs.declared.events.ReplayFault.TheVariants as fault
+use Rattle.world_script.specs.declared.event.WorldEvent.TheVariants as event
+use Rattle.world_trace.specs.Steps.{RoundEnds}
+use Rattle.world_trace.proofs.Telling.{passed_may, round_heard, round_silent}
+use Rattle.world_trace.proofs.traced.trace_round.Goals as goal
+
+pub returns-then-is_silent-clause-ends : goal.returns-then-is_silent-clause-ends
+returns-then-is_silent-clause-ends g c =
+    let calls : Calls g.row.C.Denot = shown g.C.Carrier.calls in
+    let p = c.in_ok-passed.passed in
+    let silent = c.is_silent.ensures.0 c.if-is_silent.true in
+    round_silent calls g.C.Inspect.whole c.args.spot c.args.round c.args.world.now c.pass.new.world p.event.items p.printed.items p.state.items c.args.text.now.items p.crossed
+    (g.W.Output.contents c.args.writer.now) c.in_ok-passed.ensures.passed c.requires.known silent.0 (◌∙◌ {A = List ℕ} silent.1 c.deref.ensures.value)
+
+pub returns-in_err-print_line-clause-ends : goal.returns-in_err-print_line-clause-ends
+returns-in_err-print_line-clause-ends g c =
+    let calls : Calls g.row.C.Denot = shown g.C.Carrier.calls in
+    let p = c.in_ok-passed.passed in
+    let same : c.from_residual-in_err-print_line.result ≡ Err fault.CannotWrite = search rules in
+    subst (λ r. RoundEnds calls g.C.Inspect.whole c.args.spot c.args.round c.args.world.now r c.pass.new.world (g.W.Output.contents c.args.writer.now) (g.W.Output.contents c.print_line.new.writer)) (sym same)
+    ([], passed_may calls g.C.Inspect.whole c.args.world.now c.pass.new.world (event.Calm 1) p.event.items p.printed.items p.state.items p.crossed c.in_ok-passed.ensures.passed)
+
+pub returns-clause-ends : goal.returns-clause-ends
+returns-clause-ends g c =
+    let calls : Calls g.row.C.Denot = shown g.C.Carrier.calls in
+    let p = c.in_ok-passed.passed in
+    round_heard calls g.C.Inspect.whole c.args.spot c.args.round c.args.world.now c.pass.new.world p.event.items p.printed.items p.state.items c.args.text.now.items p.crossed
+    (g.W.Output.contents c.args.writer.now) (g.W.Output.contents c.print_line.new.writer) c.in_ok-passed.ensures.passed c.requires.known
+    (λ none same. false≢true (sym c.if-is_silent.false ∙ c.is_silent.ensures.1 (none, same ∙ sym c.deref.ensures.value)))
+    c.in_ok-print_line.ensures.written
