@@ -11,7 +11,8 @@ The traces of all examples over raw networks, and of random scripts, as the mode
   they print the same and come to the same parts.
 - What has crossed is what is printed, and what becomes of frames is what their parts show.
 - The worked examples of docs/trace.md are what the model has.
-- Of networks with host programs, if the program traces them: see trace_worlds.
+- Each line is an object of JSON, in which no member is twice.
+- Of networks with host programs, examples and as many random scripts, if the program traces them: see trace_worlds.
 
 Then rules are broken in turn, and some script has to show it: events left out of a calm or given as one, parts that are not named,
 values left out of the texts of parts, lines left out of the first line, and other fates of frames.
@@ -205,8 +206,11 @@ def same_by_program(program: str | None, document: str, records: Records, owed: 
 
 def same_trace(program: str, network: Topology, document: str, lines: Sequence[str], records: Records) -> None:
     """Whether the program prints the trace of the model."""
-    if program_prints(program, document, lines, "--trace") != [text(it) for it in [opening(network, opened_carrier(network)), *records]]:
+    told = program_prints(program, document, lines, "--trace")
+    if told != [text(it) for it in [opening(network, opened_carrier(network)), *records]]:
         raise Wrong("the program prints another trace")
+    for line in told:
+        trace_worlds.read_json(line)
 
 
 def answer_to(program: str, octets: bytes) -> tuple[int, bool, str]:
@@ -229,11 +233,11 @@ def refusals(program: str, traces: Sequence[str]) -> Iterator[str]:
                 yield f"the program does not refuse to trace examples/{name}"
 
 
-def of_worlds(program: str | None) -> tuple[str, list[str]]:
+def of_worlds(program: str | None, runs: int) -> tuple[str, list[str]]:
     """What was looked at in the traces of networks with host programs, and what is wrong in them."""
     if program is None or not trace_worlds.is_traced(program):
         return "no trace of networks with host programs", []
-    count, wrong = trace_worlds.faults(program)
+    count, wrong = trace_worlds.faults(program, runs)
     return f"{count} lines of traces of networks with host programs", wrong
 
 
@@ -536,7 +540,7 @@ def main() -> int:
             same_by_program(program, document, records, owed)
             if program and network.carrier in traces:
                 same_trace(program, network, document, lines, records)
-        except Wrong as wrong:
+        except (Wrong, trace_worlds.WrongWorld, json.JSONDecodeError) as wrong:
             failed += 1
             print(f"check trace: {name}: {wrong}\n" + "\n".join([document, "%", *lines]))
             continue
@@ -555,7 +559,7 @@ def main() -> int:
     if not document_is_right():
         failed += 1
         print("check trace: docs/trace.md has another trace than the model")
-    looked_at, in_worlds = of_worlds(program)
+    looked_at, in_worlds = of_worlds(program, runs)
     for words in [*in_worlds, *(refusals(program, traces) if program and traces else ())]:
         failed += 1
         print(f"check trace: {words}")

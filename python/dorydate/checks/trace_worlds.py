@@ -1,23 +1,29 @@
 """What ./check trace says of networks with host programs: each line of the program's trace is JSON, its lines and crossings are those
-of a replay and of its log, and after each event network and programs are those of the independent model."""
+of a replay and of its log, and after each event and each round network, programs and services are those of the independent model, by
+which a round has a line only where it prints something or changes some of this."""
 
 from __future__ import annotations
 
 import json
+import random
 import subprocess
 from collections.abc import Iterator, Sequence
 from glob import glob
+from itertools import count
+from typing import Any
 
+from dorydate.model.chance.worlds import Script, some_world
 from dorydate.model.runs import opened
-from dorydate.model.script import read_line
+from dorydate.model.script import Event, read_line
 from dorydate.model.topology import Topology, network_of
-from dorydate.model.trace import all_parts
+from dorydate.model.topology import spelled as spelled_network
 from dorydate.model.trace_values import Object
-from dorydate.model.trace_world import program_of
+from dorydate.model.trace_world import state_of
 from dorydate.model.world import World
 from dorydate.parts import ROOT
 
 MOST_ROUNDS = 400  # of calms in an example that the model follows
+EVENTS = 40  # of a random script, about
 
 
 class WrongWorld(Exception):
@@ -34,6 +40,13 @@ def examples() -> Iterator[tuple[str, bytes]]:
             yield name.rsplit("/", 1)[1], octets
 
 
+def random_inputs(runs: int) -> Iterator[tuple[str, bytes]]:
+    """Random inputs, by name."""
+    made = (Script(chance, some_world(chance), EVENTS) for chance in (random.Random(f"trace of worlds {seed}") for seed in count()))
+    for number, script in zip(range(runs), made):
+        yield f"random script {number}", "\n".join([spelled_network(script.network), "%", *script.lines, ""]).encode("latin-1")
+
+
 def printed(program: str, octets: bytes, option: str = "--texts") -> list[str]:
     ran = subprocess.run([program, option], input=octets, stdout=subprocess.PIPE, check=True)
     return ran.stdout.decode("latin-1").splitlines()
@@ -43,6 +56,26 @@ def is_traced(program: str) -> bool:
     """Whether the program traces networks with host programs at all."""
     name, octets = next(examples())
     return subprocess.run([program, "--trace"], input=octets, capture_output=True, check=False).returncode == 0
+
+
+def members_once(pairs: Sequence[tuple[str, Any]]) -> Object:
+    """An object of JSON, of which no member is there twice."""
+    if len(dict(pairs)) < len(pairs):
+        raise WrongWorld(f"a member is there twice among {[name for name, _ in pairs]}")
+    return dict(pairs)
+
+
+def no_number(word: str) -> Any:
+    """Python's reader takes some words for numbers, which JSON does not."""
+    raise WrongWorld(f"{word} is no JSON")
+
+
+def read_json(line: str) -> Object:
+    """A line of a trace, read strictly."""
+    found = json.loads(line, object_pairs_hook=members_once, parse_constant=no_number)
+    if not isinstance(found, dict):
+        raise WrongWorld("a line is no object")
+    return found
 
 
 def as_logged(it: Object) -> str:
@@ -59,7 +92,7 @@ def held_up(program: str, octets: bytes) -> int:
     """Looks at the trace of an input, and gives how many lines it has."""
     document, script = octets.decode("latin-1").split("\n%\n", 1)
     network = network_of(document)
-    first, *records = map(json.loads, printed(program, octets, "--trace"))
+    first, *records = map(read_json, printed(program, octets, "--trace"))
     if (first["trace"], first["carrier"], first["raw"]) != (2, network.carrier, False):
         raise WrongWorld("the first line has another network")
     lines = [" ".join(it.split(" ")[:5]) if it.startswith(("out ", "in ")) else it for it in printed(program, octets)[:-1]]
@@ -73,32 +106,41 @@ def held_up(program: str, octets: bytes) -> int:
 
 
 def follow(network: Topology, lines: Sequence[str], first: Object, records: Sequence[Object]) -> None:
-    """Compares the state after each event with that of the model, where that comes to the end."""
+    """Compares the state after each event and round with that of the model, where that comes to the end."""
     events = [(number, event) for number, event in enumerate((read_line(it, False) for it in lines), 1) if event]
     if sum(event[1] for _, event in events if event[0] == "calm") > MOST_ROUNDS:
         return
     world = opened(network)
     assert isinstance(world, World)
-    compare(world, first, "the opening")
-    last, left = first, list(records)
+    left = list(records)
+    compare(state_of(world), first, "the opening")
     for number, (line, event) in enumerate(events, 1):
-        world.happen(*event)
-        while left and left[0]["number"] == number:
-            last = left.pop(0)
-            if last["line"] != line:
-                raise WrongWorld(f"line {line} has another number")
-        compare(world, last, f"line {line}")
+        rounds: list[tuple[int, Event]] = [(place, ("calm", 1)) for place in range(1, event[1] + 1)] if event[0] == "calm" else [(0, event)]
+        for place, happening in rounds:
+            before, shown = state_of(world), len(world.printed)
+            world.happen(*happening)
+            after = state_of(world)
+            if place and before == after and len(world.printed) == shown:
+                continue
+            record = left.pop(0) if left else {}
+            if (record.get("line"), record.get("number"), record.get("round")) != (line, number, place):
+                raise WrongWorld(f"line {line} has no line of its own in round {place}, or another round has one")
+            compare(after, record, f"line {line}, round {place}")
+    if left:
+        raise WrongWorld("a round has a line that prints nothing and changes nothing")
 
 
-def compare(world: World, record: Object, where: str) -> None:
-    """Compares what a record says with a world of the model."""
-    if record["parts"] != json.loads(json.dumps(all_parts(world.carrier))):
+def compare(state: Object, record: Object, where: str) -> None:
+    """Compares what a record says with what the model has."""
+    owed = json.loads(json.dumps(state))
+    if record["parts"] != owed["parts"]:
         raise WrongWorld(f"after {where} the network has other parts")
-    for host, program in world.hosts.items():
-        name = f"{host.number}/{host.imp}"
-        found, owed = in_order(record["programs"][name]), in_order(program_of(program))
-        if found != owed:
-            raise WrongWorld(f"after {where} the program of host {name} is {json.dumps(found)}, and {json.dumps(owed)} in the model")
+    for name, program in owed["programs"].items():
+        if in_order(record["programs"][name]) != in_order(program):
+            raise WrongWorld(f"after {where} the program of host {name} is {json.dumps(in_order(record['programs'][name]))}, and {json.dumps(in_order(program))} in the model")
+    for name, services in owed["services"].items():
+        if record["services"][name] != services:
+            raise WrongWorld(f"after {where} the services of host {name} are {json.dumps(record['services'][name])}, and {json.dumps(services)} in the model")
 
 
 def in_order(program: Object | None) -> Object | None:
@@ -110,12 +152,12 @@ def in_order(program: Object | None) -> Object | None:
     return {"pairs": sorted(known, key=lambda it: str(it["peer"])), "listening": sorted(program["listening"], key=lambda it: int(it["socket"]))}
 
 
-def faults(program: str) -> tuple[int, list[str]]:
-    """How many lines the traces of all examples have, and what is wrong in them."""
-    count, wrong = 0, []
-    for name, octets in examples():
+def faults(program: str, runs: int) -> tuple[int, list[str]]:
+    """How many lines the traces of all examples and of this many random scripts have, and what is wrong in them."""
+    lines, wrong = 0, []
+    for name, octets in [*examples(), *random_inputs(runs)]:
         try:
-            count += held_up(program, octets)
+            lines += held_up(program, octets)
         except (WrongWorld, json.JSONDecodeError) as why:
             wrong.append(f"{name}: {why}")
-    return count, wrong
+    return lines, wrong
