@@ -1,16 +1,21 @@
-"""Inputs past every limit that a library might have, against the independent models (ten minutes): ./check limits [NAME..]
+"""Inputs past every limit that a library might have, against the independent models: ./check limits [--models | --write] [NAME..]
 
 Whatever grows can be refused for want of memory, and no contract can say whether memory really ran out. So a limit that somebody put into
 the code and reported as running out of memory would pass each proof. Here is one input for each thing that grows, as large as an input can ask for
 or past every limit that one might think of. How the program ends on it has to be what an independent model in Python says of it: of a script
 python/dorydate/model/script.py, of a log python/dorydate/model/log.py, of a trace python/dorydate/model/trace.py.
+
+The models take ten minutes, so what they say is kept in limits.json: the status, what standard error has, and the number and the digest of
+the octets of the output. With `--models` they are asked anew, and have to say what is kept; `--write` keeps it.
 """
 
+import hashlib
+import json
 import os
 import subprocess
 import sys
-from collections.abc import Callable
-from concurrent.futures import ThreadPoolExecutor
+from concurrent.futures import ProcessPoolExecutor, ThreadPoolExecutor
+from functools import partial
 from typing import NamedTuple
 
 from dorydate.model.runs import expected
@@ -19,7 +24,23 @@ from dorydate.model.trace import ends_trace
 from dorydate.model.verdict import ends_audit
 from dorydate.parts import any_program
 
-End = tuple[int, str, str]
+KEPT = os.path.join(os.path.dirname(__file__), "limits.json")
+
+
+class End(NamedTuple):
+    """How a program ends: its status, how many octets it prints, their digest, and what it says on standard error."""
+
+    status: int
+    octets: int
+    digest: str
+    said: str
+
+
+def end_of(status: int, printed: str, said: str) -> End:
+    """This end, of a program that printed this, an octet for each character."""
+    octets = printed.encode("latin-1")
+    return End(status, len(octets), hashlib.sha256(octets).hexdigest(), said)
+
 
 PAIR = Topology("plain", False, [(1, 1), (2, 1)], [])
 MANY = Topology("plain", False, [(imp, 4) for imp in range(1, 64)], [])
@@ -57,53 +78,87 @@ LIMITS: dict[str, Limit] = {
 }
 
 
-def failed(name: str, found: End, wanted: End) -> str:
-    """Where the program ends otherwise than the model."""
-    return f"{name}: status {found[0]}, {len(found[1])} octets, {found[2]!r}; the model has status {wanted[0]}, {len(wanted[1])} octets, {wanted[2]!r}"
+LOG = "crossings of a log"
+TRACE = "events of a trace"
+TAKINGS = Limit(["--trace"], Topology("plain", True, [(1, 2), (2, 1)], []), ["take 0/1"] * 12_000)
+NAMES = [*LIMITS, LOG, TRACE]
 
 
-def ends(program: str, options: list[str], octets: bytes) -> End:
-    """How the program ends on an input."""
+def a_log() -> bytes:
+    """A log of a million crossings: a host stops and starts."""
+    return b"down 0/1\nup 0/1\n" * 500_000 + b"end\n"
+
+
+def given(name: str) -> tuple[list[str], bytes]:
+    """The options and the input of a limit."""
+    if name == LOG:
+        return ["--audit"], a_log()
+    limit = TAKINGS if name == TRACE else LIMITS[name]
+    return limit.options, spelled_input(limit.network, limit.lines)
+
+
+def by_program(program: str, name: str) -> End:
+    """How the program ends on a limit."""
+    options, octets = given(name)
     ran = subprocess.run([program, *options], input=octets, capture_output=True, check=False)
-    return ran.returncode, ran.stdout.decode("latin-1"), ran.stderr.decode("latin-1")
+    return end_of(ran.returncode, ran.stdout.decode("latin-1"), ran.stderr.decode("latin-1"))
 
 
-def of_script(program: str, name: str) -> str | None:
-    """What is wrong with how the program ends on a script, if anything."""
+def by_model(name: str) -> End:
+    """How it ends by the models."""
+    if name == LOG:
+        return end_of(*ends_audit(a_log()))
+    if name == TRACE:
+        return end_of(*ends_trace(TAKINGS.network, TAKINGS.lines))
     limit = LIMITS[name]
-    found = ends(program, limit.options, spelled_input(limit.network, limit.lines))
-    wanted = expected(limit.options, limit.network, [*limit.lines, ""])
-    return None if found == wanted and found[0] == 0 else failed(name, found, wanted)
+    return end_of(*expected(limit.options, limit.network, [*limit.lines, ""]))
 
 
-def of_log(program: str, name: str) -> str | None:
-    """The same of a log of a million crossings: a host stops and starts."""
-    log = b"down 0/1\nup 0/1\n" * 500_000 + b"end\n"
-    found, wanted = ends(program, ["--audit"], log), ends_audit(log)
-    return None if found == wanted == (0, "kept\n", "") else failed(name, found, wanted)
+def kept() -> dict[str, End]:
+    """What the models said of each limit."""
+    with open(KEPT, encoding="utf-8") as file:
+        found: dict[str, tuple[int, int, str, str]] = json.load(file)
+    return {name: End(*end) for name, end in found.items()}
 
 
-def of_trace(program: str, name: str) -> str | None:
-    """The same of a trace of 12,000 events."""
-    network = Topology("plain", True, [(1, 2), (2, 1)], [])
-    lines = ["take 0/1"] * 12_000
-    found, wanted = ends(program, ["--trace"], spelled_input(network, lines)), ends_trace(network, lines)
-    return None if found == wanted and found[0] == 0 else failed(name, found, wanted)
+def by_models(names: list[str]) -> dict[str, End]:
+    """What they say of these now."""
+    with ProcessPoolExecutor(os.cpu_count() or 1) as processes:
+        return dict(zip(names, processes.map(by_model, names)))
+
+
+def write(names: list[str]) -> int:
+    """Keeps what the models say."""
+    known = kept() if os.path.isfile(KEPT) else {}
+    known |= by_models(names)
+    with open(KEPT, "w", encoding="utf-8") as file:
+        file.write("{\n" + ",\n".join(f"  {json.dumps(name)}: {json.dumps(known[name])}" for name in NAMES if name in known) + "\n}\n")
+    print(f"check limits: {len(names)} ends are kept")
+    return 0
+
+
+def differing(who: str, found: dict[str, End], wanted: dict[str, End]) -> list[str]:
+    """What is wrong with ends, in lines."""
+    return [f"{name}: {who} has {found[name]}; kept is {wanted.get(name)}" for name in found if found[name] != wanted.get(name)]
 
 
 def main() -> int:
     """Tries all, or those that are named."""
+    words = sys.argv[1:]
+    names = [it for it in words if not it.startswith("--")] or NAMES
+    if "--write" in words:
+        return write(names)
     program = any_program()
     if program is None:
         print("check limits: there is no program of these sources")
         return 1
-    kinds: dict[str, Callable[[str, str], str | None]] = {name: of_script for name in LIMITS} | {"crossings of a log": of_log, "events of a trace": of_trace}
-    names = sys.argv[1:] or [*kinds]
-    tries = [(kinds[name], name) for name in names]
+    wanted = kept()
+    wrong = [f"{name}: kept is no good end" for name in names if name not in wanted or wanted[name].status]
     with ThreadPoolExecutor(os.cpu_count() or 1) as threads:
-        running = [threads.submit(kind, program, name) for kind, name in tries]
-        wrong = [why for it in running if (why := it.result())]
+        wrong += differing("the program", dict(zip(names, threads.map(partial(by_program, program), names))), wanted)
+    if "--models" in words:
+        wrong += differing("a model", by_models(names), wanted)
     for line in wrong:
         print(f"check limits: {line}")
-    print(f"check limits: {len(names) - len(wrong)} of {len(names)} inputs past a limit end as the models say")
+    print(f"check limits: {len(names)} inputs past a limit, and {len(wrong)} of them end otherwise than the models say")
     return 1 if wrong else 0
