@@ -28,7 +28,7 @@ class Foreign(unittest.TestCase):
             7: "broken grants lines 10 11",
             10: "broken streams line 11",
             12: "broken streams lines 10 11",
-            13: "broken run line 8\nbroken messages line 8",
+            13: "broken run line 8\nbroken lives line 9\nbroken messages line 8",
         }
         found = {lacking: says(written(lacking).encode()) for lacking in wanted}
         self.assertEqual(found, wanted)
