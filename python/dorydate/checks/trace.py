@@ -15,7 +15,8 @@ The traces of all examples over raw networks, and of random scripts, as the mode
 - Of networks with host programs, examples and as many random scripts, if the program traces them: see trace_worlds.
 
 Then rules are broken in turn, and some script has to show it: events left out of a calm or given as one, parts that are not named,
-values left out of the texts of parts, lines left out of the first line, and other fates of frames.
+values left out of the texts of parts, lines left out of the first line, and other fates of frames; and of networks with host programs
+traces without an RRP that is owed, without a service, and without others of what they tell have to be found wrong.
 """
 
 from __future__ import annotations
@@ -206,10 +207,10 @@ def same_by_program(program: str | None, document: str, records: Records, owed: 
 
 def same_trace(program: str, network: Topology, document: str, lines: Sequence[str], records: Records) -> None:
     """Whether the program prints the trace of the model."""
-    told = program_prints(program, document, lines, "--trace")
-    if told != [text(it) for it in [opening(network, opened_carrier(network)), *records]]:
+    found = program_prints(program, document, lines, "--trace")
+    if found != [text(it) for it in [opening(network, opened_carrier(network)), *records]]:
         raise Wrong("the program prints another trace")
-    for line in told:
+    for line in found:
         trace_worlds.read_json(line)
 
 

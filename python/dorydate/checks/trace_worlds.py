@@ -7,7 +7,7 @@ from __future__ import annotations
 import json
 import random
 import subprocess
-from collections.abc import Iterator, Sequence
+from collections.abc import Callable, Iterator, Sequence
 from glob import glob
 from itertools import count
 from typing import Any
@@ -97,10 +97,10 @@ def held_up(program: str, octets: bytes) -> int:
         raise WrongWorld("the first line has another network")
     lines = [" ".join(it.split(" ")[:5]) if it.startswith(("out ", "in ")) else it for it in printed(program, octets)[:-1]]
     if [line for record in records for line in record["printed"]] != lines:
-        raise WrongWorld("other lines are told as printed")
+        raise WrongWorld("the lines are not those that are printed")
     crossed = [it for it in printed(program, octets, "--log") if it.split(" ")[0] in ("out", "in", "answer", "down", "up")]
     if [as_logged(it) for record in records for it in record["crossed"]] != crossed:
-        raise WrongWorld("other crossings are told than are logged")
+        raise WrongWorld("the crossings are not those of the log")
     follow(network, script.split("\n"), first, records)
     return len(records)
 
@@ -152,6 +152,48 @@ def in_order(program: Object | None) -> Object | None:
     return {"pairs": sorted(known, key=lambda it: str(it["peer"])), "listening": sorted(program["listening"], key=lambda it: int(it["socket"]))}
 
 
+# ---- broken traces
+
+
+def of_pairs(change: Callable[[Object], Object]) -> Callable[[Object], Object]:
+    """A record with other pairs in the programs of its hosts."""
+    return lambda record: {**record, "programs": {host: it and {**it, "pairs": [*map(change, it["pairs"])]} for host, it in record["programs"].items()}}
+
+
+def of_ends(change: Callable[[Object], Object]) -> Callable[[Object], Object]:
+    return of_pairs(lambda pair: {**pair, "ends": [*map(change, pair["ends"])]})
+
+
+def of_services(change: Callable[[Object], Object]) -> Callable[[Object], Object]:
+    """A record with other services of its hosts."""
+    return lambda record: {**record, "services": {host: change(it) for host, it in record["services"].items()}}
+
+
+BROKEN: dict[str, Callable[[Object], Object]] = {
+    "an RRP that is owed": of_pairs(lambda pair: {**pair, "owed": False}),
+    "a command that waits": of_pairs(lambda pair: {**pair, "commands": pair["commands"][1:]}),
+    "the bits of an allocation": of_ends(lambda end: {**end, "allocation": {**end["allocation"], "bits": end["allocation"]["messages"]}}),
+    "a closing that is due": of_ends(lambda end: {**end, "closing": {"own": "no", "peer": end["closing"]["peer"]}}),
+    "the last service": of_services(lambda it: {**it, "running": it["running"][:-1]}),
+    "that a service is over": of_services(lambda it: {**it, "running": [{**one, "over": False} if "over" in one else one for one in it["running"]]}),
+    "where a typed line goes": of_services(lambda it: {**it, "typing": None}),
+    "a part of the network": lambda record: {**record, "parts": dict([*record["parts"].items()][1:])},
+}
+WITH_ALL = "two-users-at-one-server", "a-reset-that-fails-and-one-that-works"  # in the traces of these examples is each of these
+
+
+def is_found(program: str, change: Callable[[Object], Object]) -> bool:
+    """Whether a trace that is broken so is found to be wrong."""
+    for octets in (octets for name, octets in examples() if name in WITH_ALL):
+        document, script = octets.decode("latin-1").split("\n%\n", 1)
+        first, *records = map(read_json, printed(program, octets, "--trace"))
+        try:
+            follow(network_of(document), script.split("\n"), first, [*map(change, records)])
+        except WrongWorld:
+            return True
+    return False
+
+
 def faults(program: str, runs: int) -> tuple[int, list[str]]:
     """How many lines the traces of all examples and of this many random scripts have, and what is wrong in them."""
     lines, wrong = 0, []
@@ -160,4 +202,4 @@ def faults(program: str, runs: int) -> tuple[int, list[str]]:
             lines += held_up(program, octets)
         except (WrongWorld, json.JSONDecodeError) as why:
             wrong.append(f"{name}: {why}")
-    return lines, wrong
+    return lines, wrong + [f"traces without {name} pass" for name, change in BROKEN.items() if not is_found(program, change)]
