@@ -1,5 +1,5 @@
 -- An input leaves its trace no choice.
-use Rattle.std.proofs.Common.{◌≡◌, ℕ, List, [], ◌∷◌, ◌++◌, Some, refl, sym, ap, ap₂, subst, ◌∙◌}
+use Rattle.std.proofs.Common.{◌≡◌, inl, inr, ℕ, List, [], ◌∷◌, ◌++◌, Some, refl, sym, ap, ap₂, subst, ◌∙◌}
 use Rattle.std.proofs.lemmas.List.{append_assoc, append-nil}
 use Rattle.replay.specs.InTurn.{HappensOnce, InTurn, ShowsFront, text_of}
 use Rattle.replay.specs.Output.{Shown, crossings_of}
@@ -11,6 +11,14 @@ use Rattle.script.specs.declared.event.RawEvent.{RawEvent}
 use Rattle.topology.specs.Topology.{TopologyFields}
 use Rattle.topology.specs.declared.network.CarrierKind.{CarrierKind}
 use Rattle.topology.specs.declared.network.CarrierKind.TheVariants as kind
+use Rattle.net_sim.specs.Carriers.{shown}
+use Rattle.net_sim.specs.World.{WorldState, opening_world}
+use Rattle.world_replay.proofs.lemmas.Replays.{SameGains, gains_once, happens_once, shown_settled}
+use Rattle.world_script.specs.declared.event.WorldEvent.{WorldEvent}
+use Rattle.world_script.specs.declared.event.WorldEvent.TheVariants as worlds
+use Rattle.world_trace.specs.Texts.{opening_text, world_line}
+use Rattle.world_trace.specs.Traces.{EndsIn, IsHeard, IsSilent, SameText, StopsOne, TellsIn, TellsOne, TellsRound, first_rounds, state_of}
+use Rattle.world_trace.specs.Traces as of_worlds
 use Rattle.trace.specs.Elements.{elements_in}
 use Rattle.trace.specs.Texts.{opening_line, trace_line}
 use Rattle.trace.specs.declared.element.Spot.{Spot}
@@ -19,7 +27,7 @@ use Rattle.leader1822.specs.Boxes.{plain_calls}
 use Rattle.subnet.specs.Working.{subnet_calls}
 use Rattle.command_line.specs.Carriers.{plain_of, subnet_of}
 use Rattle.command_line.specs.Events.{Asked, Raw, World}
-use Rattle.command_line.specs.Traced.{EndsFrom, EndsOn, EndsOver, IsRaw, IsScripted, TraceStops, TracesFrom, TracesInput, TracesOn, TracesOver, plain_inside, subnet_inside}
+use Rattle.command_line.specs.Traced.{EndsAll, EndsFrom, EndsOn, EndsOver, IsScripted, TraceStops, TracesAll, TracesFrom, TracesInput, TracesOn, TracesOver, WorldEndsFrom, WorldTracesFrom, plain_inside, subnet_inside}
 use Rattle.command_line.proofs.OneInput.{OneInput, input_once}
 use Rattle.command_line.proofs.Settled.{plain_settled, subnet_settled}
 
@@ -53,37 +61,105 @@ event_front : {C : Type 0} (calls : Calls C) (inside : Inside C) → AreSettled 
 event_front calls inside settled old e new other part whole h k =
     ends_front (TellsElement calls inside e.0) (StopsElement calls) (element_once calls inside settled e.0) (stops_front calls inside e.0) old (elements_in (inside.calm old) e.1) new other part whole h k
 
+-- lines of which some are the first
+text_front : (before part whole : List ℕ) (lines all more : List (List ℕ)) → part ≡ before ++ text_of (λ line. line) lines → whole ≡ before ++ text_of (λ line. line) all → all ≡ lines ++ more → (rest : List ℕ) × (whole ≡ part ++ rest)
+text_front before part whole lines all more is are parts =
+    let text : List (List ℕ) → List ℕ = text_of (λ line. line) in (
+      text more,
+      are ∙ ap (λ ls. before ++ text ls) parts ∙ ap (λ xs. before ++ xs) (text_of-append (λ line. line) lines more) ∙ sym (append_assoc before (text lines) (text more)) ∙ ap (λ xs. xs ++ text more) (sym is),
+    )
+
 from_front : {C : Type 0} (calls : Calls C) (inside : Inside C) → AreSettled calls → (t : TopologyFields) (opening : C) (lines : List ℕ) (events : List RawEvent) (before part whole : List ℕ) → EndsFrom calls inside t opening lines events (Some before) (Some part)
     → TracesFrom calls inside t opening lines events (Some before) (Some whole) → (rest : List ℕ) × (whole ≡ part ++ rest)
 from_front calls inside settled t opening lines events before part whole h k =
     let starts : (more : List (List ℕ)) × (k.traced.is_shown.0 ≡ h.traced.is_shown.0 ++ more) =
     ends_front (TellsEvent calls inside) (EndsEvent calls inside (StopsElement calls)) (event_once calls inside settled) (event_front calls inside settled) opening (numbered_from lines 1 events) h.last k.last h.traced.is_shown.0 k.traced.is_shown.0
     h.traced.is_shown.2 k.traced.is_shown.2 in
-    let all : k.traced.shown ≡ h.traced.shown ++ starts.0 =
-    k.traced.is_shown.1 ∙ ap (λ ls. opening_line t (inside.whole opening) ∷ ls) starts.1 ∙ ap (λ ls. ls ++ starts.0) (sym h.traced.is_shown.1) in
-    let text : List (List ℕ) → List ℕ = text_of (λ line. line) in (
-      text starts.0,
-      k.traced.written ∙ ap (λ ls. before ++ text ls) all ∙ ap (λ xs. before ++ xs) (text_of-append (λ line. line) h.traced.shown starts.0)
-          ∙ sym (append_assoc before (text h.traced.shown) (text starts.0)) ∙ ap (λ xs. xs ++ text starts.0) (sym h.traced.written),
+    text_front before part whole h.traced.shown k.traced.shown starts.0 h.traced.written k.traced.written
+    (k.traced.is_shown.1 ∙ ap (λ ls. opening_line t (inside.whole opening) ∷ ls) starts.1 ∙ ap (λ ls. ls ++ starts.0) (sym h.traced.is_shown.1))
+
+-- ---- worlds
+
+-- an event, or a round, has one line
+told_once : {C : Type 0} (calls : Calls C) (whole : C → List ℕ) → AreSettled calls → (spot : Spot) (round : ℕ) → HappensOnce (TellsOne calls whole spot round)
+told_once {C} calls whole settled spot round old e new other lines more (shows, h, is) (others, k, are) =
+    let one : (new ≡ other) × (shows ≡ others) = happens_once calls settled old e new other shows others h k in
+    let same : SameGains h.gains k.gains = gains_once old.kept new.kept other.kept h.gains k.gains (ap (λ (w : WorldState C). w.kept) one.0) in (
+      one.0,
+      is ∙ ap (λ cs. world_line spot round e cs shows (state_of whole new) ∷ []) same.crossings
+          ∙ ap₂ (λ (w : WorldState C) ss. world_line spot round e k.gains.crossings ss (state_of whole w) ∷ []) one.0 one.1 ∙ sym are,
     )
+
+-- a silent round isn't one that is heard
+never_both : {C : Type 0} (calls : Calls C) (whole : C → List ℕ) → AreSettled calls → (spot : Spot) (round : ℕ) (old new other : WorldState C) (lines more : List (List ℕ))
+    → IsSilent calls whole old new lines → IsHeard calls whole spot old round other more → ⊥
+never_both {C} calls whole settled spot round old new other lines more (h, same, none) ((shows, k, are), heard) =
+    let one : (new ≡ other) × ([] ≡ shows) = happens_once calls settled old (worlds.Calm 1) new other [] shows h k in
+    heard (sym one.1) (subst (λ (w : WorldState C). SameText whole old w) one.0 same)
+
+round_once : {C : Type 0} (calls : Calls C) (whole : C → List ℕ) → AreSettled calls → (spot : Spot) → HappensOnce (TellsRound calls whole spot)
+round_once calls whole settled spot old round new other lines more (inl h) (inl k) =
+    let one : (new ≡ other) × ([] ≡ []) = happens_once calls settled old (worlds.Calm 1) new other [] [] h.0 k.0 in
+    (one.0, h.2 ∙ sym k.2)
+round_once calls whole settled spot old round new other lines more (inl h) (inr k) = absurd (never_both calls whole settled spot round old new other lines more h k)
+round_once calls whole settled spot old round new other lines more (inr h) (inl k) = absurd (never_both calls whole settled spot round old other new more lines k h)
+round_once calls whole settled spot old round new other lines more (inr h) (inr k) = told_once calls whole settled spot round old (worlds.Calm 1) new other lines more h.0 k.0
+
+at_once : {C : Type 0} (calls : Calls C) (whole : C → List ℕ) → AreSettled calls → HappensOnce (TellsIn calls whole)
+at_once calls whole settled old (spot, worlds.Happen e) new other lines more h k = told_once calls whole settled spot 0 old (worlds.Happen e) new other lines more h k
+at_once calls whole settled old (spot, worlds.Calm rounds) new other lines more h k = in_turn_once (TellsRound calls whole spot) (round_once calls whole settled spot) old (first_rounds rounds) new other lines more h k
+
+world_once : {C : Type 0} (calls : Calls C) (whole : C → List ℕ) → AreSettled calls → (t : TopologyFields) (opening : C) (lines : List ℕ) (events : List WorldEvent) (before after other : List ℕ) → WorldTracesFrom calls whole t opening lines events (Some before) (Some after)
+    → WorldTracesFrom calls whole t opening lines events (Some before) (Some other) → after ≡ other
+world_once {C} calls whole settled t opening lines events before after other h k =
+    let begins : WorldState C = opening_world calls opening in
+    let one : (h.last ≡ k.last) × (h.traced.is_shown.0 ≡ k.traced.is_shown.0) =
+    in_turn_once (TellsIn calls whole) (at_once calls whole settled) begins (of_worlds.numbered_from lines 1 events) h.last k.last h.traced.is_shown.0 k.traced.is_shown.0 h.traced.is_shown.2 k.traced.is_shown.2 in
+    let same : h.traced.shown ≡ k.traced.shown = h.traced.is_shown.1 ∙ ap (λ ls. opening_text t (state_of whole begins) ∷ ls) one.1 ∙ sym k.traced.is_shown.1 in
+    h.traced.written ∙ ap (λ ls. before ++ text_of (λ line. line) ls) same ∙ sym k.traced.written
+
+-- the event or round in which memory ran out has no line
+one_front : {C : Type 0} (calls : Calls C) (old new : WorldState C) (e : WorldEvent) (part whole : List (List ℕ)) → StopsOne calls old e new part → (rest : List (List ℕ)) × (whole ≡ part ++ rest)
+one_front calls old new e part whole (inl h) = (whole, sym (ap (λ xs. xs ++ whole) h.0))
+one_front calls old new e part whole (inr h) = (whole, sym (ap (λ xs. xs ++ whole) h.0))
+
+at_front : {C : Type 0} (calls : Calls C) (whole : C → List ℕ) → AreSettled calls → ShowsFront (EndsIn calls whole (StopsOne calls)) (TellsIn calls whole)
+at_front calls whole settled old (spot, worlds.Happen e) new other part lines h k = one_front calls old new (worlds.Happen e) part lines h
+at_front {C} calls whole settled old (spot, worlds.Calm rounds) new other part lines h k =
+    let Stops = λ (o : WorldState C) (n : ℕ) (w : WorldState C) (ls : List (List ℕ)). StopsOne calls o (worlds.Calm 1) w ls in
+    ends_front (TellsRound calls whole spot) Stops (round_once calls whole settled spot) (λ o n w v part lines h k. one_front calls o w (worlds.Calm 1) part lines h) old (first_rounds rounds) new other part lines h k
+
+world_front : {C : Type 0} (calls : Calls C) (whole : C → List ℕ) → AreSettled calls → (t : TopologyFields) (opening : C) (lines : List ℕ) (events : List WorldEvent) (before part all : List ℕ) → WorldEndsFrom calls whole t opening lines events (Some before) (Some part)
+    → WorldTracesFrom calls whole t opening lines events (Some before) (Some all) → (rest : List ℕ) × (all ≡ part ++ rest)
+world_front {C} calls whole settled t opening lines events before part all h k =
+    let begins : WorldState C = opening_world calls opening in
+    let starts : (more : List (List ℕ)) × (k.traced.is_shown.0 ≡ h.traced.is_shown.0 ++ more) =
+    ends_front (TellsIn calls whole) (EndsIn calls whole (StopsOne calls)) (at_once calls whole settled) (at_front calls whole settled) begins (of_worlds.numbered_from lines 1 events) h.last k.last h.traced.is_shown.0 k.traced.is_shown.0
+    h.traced.is_shown.2 k.traced.is_shown.2 in
+    text_front before part all h.traced.shown k.traced.shown starts.0 h.traced.written k.traced.written
+    (k.traced.is_shown.1 ∙ ap (λ ls. opening_text t (state_of whole begins) ∷ ls) starts.1 ∙ ap (λ ls. ls ++ starts.0) (sym h.traced.is_shown.1))
+
+-- ---- of either kind
+
+all_once : {C : Type 0} (calls : Calls C) (inside : Inside C) → AreSettled calls → (t : TopologyFields) (opening : C) (lines : List ℕ) (events : Asked) (before after other : List ℕ) → TracesAll calls inside t opening lines events (Some before) (Some after)
+    → TracesAll calls inside t opening lines events (Some before) (Some other) → after ≡ other
+all_once calls inside settled t opening lines (Raw events) before after other h k = from_once calls inside settled t opening lines events before after other h k
+all_once calls inside settled t opening lines (World events) before after other h k = world_once (shown calls) inside.whole (shown_settled calls settled) t opening lines events before after other h k
+
+all_front : {C : Type 0} (calls : Calls C) (inside : Inside C) → AreSettled calls → (t : TopologyFields) (opening : C) (lines : List ℕ) (events : Asked) (before part whole : List ℕ) → EndsAll calls inside t opening lines events (Some before) (Some part)
+    → TracesAll calls inside t opening lines events (Some before) (Some whole) → (rest : List ℕ) × (whole ≡ part ++ rest)
+all_front calls inside settled t opening lines (Raw events) before part whole h k = from_front calls inside settled t opening lines events before part whole h k
+all_front calls inside settled t opening lines (World events) before part whole h k = world_front (shown calls) inside.whole (shown_settled calls settled) t opening lines events before part whole h k
 
 -- ---- of a topology
 
-over_once : (carrier : CarrierKind) (network : TopologyFields) (lines : List ℕ) (events : List RawEvent) (before after other : List ℕ) → TracesOver carrier network lines (Raw events) (Some before) (Some after) → TracesOver carrier network lines (Raw events) (Some before) (Some other) → after ≡ other
-over_once kind.Plain network lines events before after other h k = from_once plain_calls plain_inside plain_settled network (plain_of network) lines events before after other h k
-over_once kind.Subnet network lines events before after other h k = from_once subnet_calls subnet_inside subnet_settled network (subnet_of network) lines events before after other h k
+over_once : (carrier : CarrierKind) (network : TopologyFields) (lines : List ℕ) (events : Asked) (before after other : List ℕ) → TracesOver carrier network lines events (Some before) (Some after) → TracesOver carrier network lines events (Some before) (Some other) → after ≡ other
+over_once kind.Plain network lines events before after other h k = all_once plain_calls plain_inside plain_settled network (plain_of network) lines events before after other h k
+over_once kind.Subnet network lines events before after other h k = all_once subnet_calls subnet_inside subnet_settled network (subnet_of network) lines events before after other h k
 
-on_once : (network : TopologyFields) (lines : List ℕ) (events : Asked) (before after other : List ℕ) → IsRaw events → TracesOn network lines events (Some before) (Some after) → TracesOn network lines events (Some before) (Some other) → after ≡ other
-on_once network lines (Raw events) before after other raw h k = over_once network.carrier network lines events before after other h k
-on_once network lines (World events) before after other raw h k = absurd raw
-
-over_front : (carrier : CarrierKind) (network : TopologyFields) (lines : List ℕ) (events : List RawEvent) (before part whole : List ℕ) → EndsOver carrier network lines (Raw events) (Some before) (Some part) → TracesOver carrier network lines (Raw events) (Some before) (Some whole) → (rest : List ℕ) × (whole ≡ part ++ rest)
-over_front kind.Plain network lines events before part whole h k = from_front plain_calls plain_inside plain_settled network (plain_of network) lines events before part whole h k
-over_front kind.Subnet network lines events before part whole h k = from_front subnet_calls subnet_inside subnet_settled network (subnet_of network) lines events before part whole h k
-
-on_front : (network : TopologyFields) (lines : List ℕ) (events : Asked) (before part whole : List ℕ) → IsRaw events → EndsOn network lines events (Some before) (Some part) → TracesOn network lines events (Some before) (Some whole) → (rest : List ℕ) × (whole ≡ part ++ rest)
-on_front network lines (Raw events) before part whole raw h k = over_front network.carrier network lines events before part whole h k
-on_front network lines (World events) before part whole raw h k = absurd raw
+over_front : (carrier : CarrierKind) (network : TopologyFields) (lines : List ℕ) (events : Asked) (before part whole : List ℕ) → EndsOver carrier network lines events (Some before) (Some part) → TracesOver carrier network lines events (Some before) (Some whole) → (rest : List ℕ) × (whole ≡ part ++ rest)
+over_front kind.Plain network lines events before part whole h k = all_front plain_calls plain_inside plain_settled network (plain_of network) lines events before part whole h k
+over_front kind.Subnet network lines events before part whole h k = all_front subnet_calls subnet_inside subnet_settled network (subnet_of network) lines events before part whole h k
 
 -- ---- of an input
 
@@ -93,22 +169,22 @@ lines_once octets network other lines more events asked h k =
     let scripts = parted_once octets h.parted.document h.script k.parted.document k.script h.parted.parted k.parted.parted in
     h.numbered ∙ ap (asking_from 1) scripts.scripts ∙ sym k.numbered
 
-pub one_trace : (input before after other : List ℕ) (h : TracesInput input (Some before) (Some after)) → IsRaw h.events → TracesInput input (Some before) (Some other) → after ≡ other
-one_trace input before after other h raw k =
+pub one_trace : (input before after other : List ℕ) → TracesInput input (Some before) (Some after) → TracesInput input (Some before) (Some other) → after ≡ other
+one_trace input before after other h k =
     let same : OneInput h.network k.network h.events k.events = input_once input h.network k.network h.events k.events h.input.input k.input.input in
     let lines : h.lines ≡ k.lines = lines_once input h.network k.network h.lines k.lines h.events k.events h.input k.input in
     let moved : TracesOn k.network k.lines k.events (Some before) (Some after) =
     subst (λ (network : TopologyFields). TracesOn network k.lines k.events (Some before) (Some after)) same.same_network
     (subst (λ (events : Asked). TracesOn h.network k.lines events (Some before) (Some after)) same.same_events
     (subst (λ (numbers : List ℕ). TracesOn h.network numbers h.events (Some before) (Some after)) lines h.traced)) in
-    on_once k.network k.lines k.events before after other (subst IsRaw same.same_events raw) moved k.traced
+    over_once k.network.carrier k.network k.lines k.events before after other moved k.traced
 
-pub first_of_trace : (input before part whole : List ℕ) (h : TraceStops input (Some before) (Some part)) → IsRaw h.events → TracesInput input (Some before) (Some whole) → (rest : List ℕ) × (whole ≡ part ++ rest)
-first_of_trace input before part whole h raw k =
+pub first_of_trace : (input before part whole : List ℕ) → TraceStops input (Some before) (Some part) → TracesInput input (Some before) (Some whole) → (rest : List ℕ) × (whole ≡ part ++ rest)
+first_of_trace input before part whole h k =
     let same : OneInput h.network k.network h.events k.events = input_once input h.network k.network h.events k.events h.input.input k.input.input in
     let lines : h.lines ≡ k.lines = lines_once input h.network k.network h.lines k.lines h.events k.events h.input k.input in
     let moved : EndsOn k.network k.lines k.events (Some before) (Some part) =
     subst (λ (network : TopologyFields). EndsOn network k.lines k.events (Some before) (Some part)) same.same_network
     (subst (λ (events : Asked). EndsOn h.network k.lines events (Some before) (Some part)) same.same_events
     (subst (λ (numbers : List ℕ). EndsOn h.network numbers h.events (Some before) (Some part)) lines h.stopped)) in
-    on_front k.network k.lines k.events before part whole (subst IsRaw same.same_events raw) moved k.traced
+    over_front k.network.carrier k.network k.lines k.events before part whole moved k.traced

@@ -78,11 +78,6 @@ TracesOn t lines events before after = TracesOver t.carrier t lines events befor
 abbrev pub EndsOn : TopologyFields → List ℕ → Asked → Option (List ℕ) → Option (List ℕ) → Type 0
 EndsOn t lines events before after = EndsOver t.carrier t lines events before after
 
--- events of a network without host programs
-abbrev pub IsRaw : Asked → Type 0
-IsRaw (Raw events) = Unit {0}
-IsRaw (World events) = ⊥
-
 -- ---- of an input
 
 -- what follows the marker line of an input

@@ -26,7 +26,7 @@ ghost use Rattle.command_line.specs.Lived.{AreLived};
 ghost use Rattle.command_line.specs.Logs.{Logged, LogsInput};
 ghost use Rattle.command_line.specs.Printed.{AreOneBook, PrintsBook, PrintsPart};
 ghost use Rattle.command_line.specs.Replayed.{Ran, RanInPart, ReplaysInput, StopsInput, WorldShowsFrom};
-ghost use Rattle.command_line.specs.Traced.{IsRaw, TraceStops, TracesInput};
+ghost use Rattle.command_line.specs.Traced.{TraceStops, TracesInput};
 ghost use Rattle.command_line.specs.Worked.{here, life_one, there, told_one, took_one};
 ghost use Rattle.command_line.specs.declared.verdict.Verdict.{Verdict};
 
@@ -41,11 +41,10 @@ pub fn first_part()
     ensures { (book : Bool) (detail : Detail) (input before part whole : List ℕ) → StopsInput detail input (Some before) (Some part) → ReplaysInput book detail input (Some before) (Some whole) → (rest : List ℕ) × (whole ≡ part ++ rest) }
 {}
 
-/// The input of a network without host programs determines its trace, too; and what was written before memory ran out is a prefix of
-/// the whole trace.
+/// The input determines its trace, too; and what was written before memory ran out is a prefix of the whole trace.
 pub fn one_trace()
-    ensures whole { (input before after other : List ℕ) (h : TracesInput input (Some before) (Some after)) → IsRaw h.events → TracesInput input (Some before) (Some other) → after ≡ other }
-    ensures part { (input before part whole : List ℕ) (h : TraceStops input (Some before) (Some part)) → IsRaw h.events → TracesInput input (Some before) (Some whole) → (rest : List ℕ) × (whole ≡ part ++ rest) }
+    ensures whole { (input before after other : List ℕ) → TracesInput input (Some before) (Some after) → TracesInput input (Some before) (Some other) → after ≡ other }
+    ensures part { (input before part whole : List ℕ) → TraceStops input (Some before) (Some part) → TracesInput input (Some before) (Some whole) → (rest : List ℕ) × (whole ≡ part ++ rest) }
 {}
 
 /// The input determines its log.
