@@ -33,8 +33,9 @@ def command_of(command: bytes) -> Object:
 
 
 def closing_of(end: End) -> str:
-    """How far a host's own closing of an end has come."""
-    return "sent" if end.close_sent else "queued" if end.close_queued else "due" if end.close_asked else "no"
+    """How far a host's own closing of an end has come. One that its partner has closed is to be closed here, too."""
+    is_due = end.close_asked or end.close_taken
+    return "sent" if end.close_sent else "queued" if end.close_queued else "due" if is_due else "no"
 
 
 def end_of(end: End) -> Object:
