@@ -1,7 +1,7 @@
 //! Makes the calls that standard input names, a line each, and prints what each answers.
 //!
-//! The first line says of what: `imp`, `subnet`, `hosts`, `services` or `readers`; the module of each tells what the other lines are. The
-//! checks of these names compare what is printed with an independent model of the rules. Octets are in upper case hexadecimal,
+//! The first line says of what: `imp`, `tables`, `subnet`, `hosts`, `services` or `readers`; the module of each tells what the other lines
+//! are. The checks of these names, and for `tables` that of `imp`, compare what is printed with an independent model of the rules. Octets are in upper case hexadecimal,
 //! `-` for none.
 #![tactic(auto)]
 
@@ -10,6 +10,7 @@ mod imp_calls;
 mod reader_calls;
 mod service_calls;
 mod subnet_calls;
+mod table_calls;
 mod words;
 
 use std::alloc::Global;
@@ -37,6 +38,7 @@ fn made(alloc: Global, text: &str, said: &mut String) -> Option<()> {
     let (layer, lines) = text.split_once('\n')?;
     match layer {
         "imp" => imp_calls::made(alloc, lines, said),
+        "tables" => table_calls::made(alloc, lines, said),
         "readers" => reader_calls::made(alloc, lines, said),
         "subnet" => subnet_calls::made(alloc, lines, said),
         "hosts" => host_calls::made(alloc, lines, said),

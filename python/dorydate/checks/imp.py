@@ -5,7 +5,8 @@ Compares one IMP with an independent model of its rules, on random calls.
 The proofs say that `Imp` does what its definitions say. Whether the definitions say what docs/imp.md says is for readers
 to judge; this script tries it as well. `Imp` in python/dorydate/model/imp.py was written from those rules, in another language and
 another form, with packets and frames spelled from the formats. Both run every call, and answers, frames and what the
-queries answer have to be the same. The same calls are made each time.
+queries answer have to be the same. The same calls are made each time. So are those on whole networks of route tables, of up to 63 IMPs,
+that exchange their distances (`settle`): each has to end as python/dorydate/model/tables.py counts.
 
 The calls are made by tools/calls, built without proofs (dorydate.builds.drivers): ./check imp [RUNS]
 """
@@ -19,6 +20,7 @@ from collections import Counter
 from collections.abc import Callable
 
 from dorydate.builds.drivers import run_cases, write_case
+from dorydate.checks.imp_tables import table_rows
 from dorydate.model.bits import Bits, spell_bits
 from dorydate.model.channels import Channels
 from dorydate.model.crossings import Given, Message
@@ -232,11 +234,15 @@ def main() -> int:
     with tempfile.TemporaryDirectory() as folder:
         seen = with_cases(folder, runs)
         said = run_cases("imp", folder)
+    with tempfile.TemporaryDirectory() as folder:
+        rows = table_rows()
+        write_case(folder, "tables", *rows)
+        said = said or run_cases("tables", folder)
     if said is not None:
         print(said)
         print("check imp: a run came to something else than the rules say (the cases are made again by their number)")
         return 1
-    print(f"check imp: {runs * CALLS} calls in {runs} runs agree")
+    print(f"check imp: {runs * CALLS} calls in {runs} runs agree, and {len(rows[0])} networks of tables")
     for name, count in sorted(seen.items()):
         print(f"  {name}: {count}")
     return 0
