@@ -40,10 +40,13 @@ class Network:
         known = {to: length for to, length in self.walks[imp].items() if length <= rounds or to == imp}
         return [min(known.get(to, INFINITE), 0 if to == imp else misled) for to in IMPS]
 
+    def heard_of(self, neighbour: int, rounds: int) -> Sequence[int | None]:
+        """What a port has heard last after these rounds."""
+        return self.distances(neighbour, rounds - 1) if rounds else [self.heard] * MOST_IMPS
+
     def next_lines(self, imp: int, rounds: int) -> list[int | None]:
         """The lowest port to a neighbour that was nearest to each IMP when the last round began."""
-        at_first = [self.heard] * MOST_IMPS
-        heard: list[Sequence[int | None]] = [self.distances(it, rounds - 1) if rounds else at_first for it in self.near[imp]]
+        heard = [self.heard_of(it, rounds) for it in self.near[imp]]
         found: list[int | None] = []
         for to, distance in zip(IMPS, self.distances(imp, rounds)):
             ports = (port for port, told in enumerate(heard) if told[to - 1] == distance - 1)
