@@ -42,7 +42,9 @@ class Network:
 
     def heard_of(self, neighbour: int, rounds: int) -> Sequence[int | None]:
         """What a port has heard last after these rounds."""
-        return self.distances(neighbour, rounds - 1) if rounds else [self.heard] * MOST_IMPS
+        if rounds == 0:
+            return [self.heard] * MOST_IMPS
+        return self.distances(neighbour, rounds - 1)
 
     def next_lines(self, imp: int, rounds: int) -> list[int | None]:
         """The lowest port to a neighbour that was nearest to each IMP when the last round began."""
