@@ -6,3 +6,4 @@ pub mod Follows
 pub mod Local
 pub mod Example
 pub mod Counterexamples
+pub mod Laws

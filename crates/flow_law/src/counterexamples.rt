@@ -8,7 +8,8 @@ ghost use Rattle.flow_law.specs.Counterexamples.{NotesNothing, notes_nothing, No
 ghost use Rattle.flow_law.specs.Counterexamples.{QueuesOld, queues_old, JoinsAny, joins_any, FreedByNothing, freed_by_nothing, FreedByAny, freed_by_any};
 ghost use Rattle.flow_law.specs.Counterexamples.{FreedByData, freed_by_data};
 ghost use Rattle.flow_law.specs.Counterexamples.{TakesNothing, takes_nothing, TakesDown, takes_down, ToldNothing, told_nothing, SourceStopsTwice, source_stops_twice};
-ghost use Rattle.flow_law.specs.Counterexamples.{DestinationStopsTwice, destination_stops_twice, SourceStartsTwice, source_starts_twice, DestinationStartsTwice, destination_starts_twice, StartsAway, starts_away};
+ghost use Rattle.flow_law.specs.Counterexamples.{DestinationStopsTwice, destination_stops_twice, SourceStartsTwice, source_starts_twice, DestinationStartsTwice, destination_starts_twice, StartsAway};
+ghost use Rattle.flow_law.specs.Counterexamples.{starts_away};
 ghost use Rattle.flow_law.specs.Counterexamples.{StartsUnsettled, starts_unsettled};
 ghost use Rattle.flow_law.specs.Counterexamples.{StartsAlive, starts_alive, StartsQueued, starts_queued, ReturnsAlive, returns_alive, ForgetsAlive, forgets_alive};
 ghost use Rattle.flow_law.specs.Counterexamples.{GivesUpNothing, gives_up_nothing, GivesUpAlive, gives_up_alive, GivesUpQueued, gives_up_queued};

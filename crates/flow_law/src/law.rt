@@ -15,6 +15,7 @@ ghost use Rattle.flow_law.specs.Runs.{FlowTurn, IsOpening, IsTurn, IsHistory, By
 ghost use Rattle.flow_law.specs.Follows.{Follows, AllFollow, OneFollows, AllOpen, AllSound, passed_over};
 ghost use Rattle.flow_law.specs.Local.{taken_here, view_taken_here, stopped_host, started_host, stopped_host_queued, view_stopped_here, view_stopped_itself, view_stopped_unread, view_started_itself};
 ghost use Rattle.flow_law.specs.Example.{at_first, worked, worked_seen, InOnePacket};
+ghost use Rattle.flow_law.specs.Laws.OneImp.{OneImpHostDown};
 
 /// The law of one flow: for every way to cut texts into pieces, every start at which nothing was sent,
 /// every list of moves and every loss, copy and overtaking of packets, what the hosts saw is a run of the
@@ -112,8 +113,7 @@ pub fn one_imp()
     ensures taken_shows { (v : View) (oldest : Queued) (others : List Queued)
         → shown_by (taken_here oldest others) v ≡ Passing.Fetched oldest.text ∷ [] }
 
-    // what a flow sees of a host that goes down or comes up, as its source, as its destination or as both
-    ensures host_down { (f : Flow) (h : Host) (log : List Crossing) (v : View) → passed_over f (crossing.Down h ∷ []) log ≡ shown_by (stopped_host (same_host f.source h) (same_host f.destination h)) v }
+    ensures host_down { OneImpHostDown }
     ensures host_up { (f : Flow) (h : Host) (log : List Crossing) (v : View) → passed_over f (crossing.Up h ∷ []) log ≡ shown_by (started_host (same_host f.source h) (same_host f.destination h)) v }
 
     // the destination goes down, and the source of a queued message, another host, gets Dead at once

@@ -4,3 +4,4 @@ pub mod Hearing
 pub mod Openings
 pub mod Spoken
 pub mod Known
+pub mod Laws

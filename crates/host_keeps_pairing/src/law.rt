@@ -1,50 +1,45 @@
 //! What a host's program says and hears of connections. The functions here do nothing: each clause is a law.
 
-ghost use Rattle.std.specs.Prelude.{◌≡◌, ℕ, Bool, ◌+◌, ◌≤◌, ◌==◌, if◌then◌else◌, true, false, List, [], ◌∷◌, ◌++◌, Option, Some, None, map, filter};
+ghost use Rattle.std.specs.Prelude.{◌≡◌, ℕ, Bool, ◌+◌, ◌==◌, if◌then◌else◌, true, false, List, [], ◌∷◌, ◌++◌, Some, None, map, filter};
 ghost use Rattle.interface.specs.Host.{Host, same_host};
-ghost use Rattle.interface.specs.declared.address.Flow.{Flow};
-ghost use Rattle.interface.specs.declared.crossing.Answer.{Answer};
-ghost use Rattle.interface.specs.declared.crossing.Inbound.TheVariants as inbound;
-ghost use Rattle.interface.specs.declared.message.HostMessage.{HostMessage};
 ghost use Rattle.ncp_control.specs.declared.command.Command.TheVariants as command;
 ghost use Rattle.pairing_law.specs.Ends.{End, nothing};
 ghost use Rattle.pairing_law.specs.Marks.{Ask, Close, IsOlder};
-ghost use Rattle.pairing_law.specs.Partners.{IsIn};
 ghost use Rattle.pairing_law.specs.Places.{tagged};
-ghost use Rattle.pairing_law.specs.Links.{AreSteps, Sockets, Step, receiver, sender};
-ghost use Rattle.pairing_law.specs.Sides as pairing;
-ghost use Rattle.pairing_law.specs.Sides.{Life, both};
+ghost use Rattle.pairing_law.specs.Links.{receiver, sender};
+ghost use Rattle.pairing_law.specs.Sides.{Life};
 ghost use Rattle.reset_law.specs.Events.{Event, In, Out, Other};
 ghost use Rattle.reset_law.specs.Example.{one, two};
 ghost use Rattle.reset_law.specs.Runs.{IsRun};
-ghost use Rattle.sockets.specs.Accepting.{accepted, turn_of};
-ghost use Rattle.host_pairs.specs.About.{AreAbout};
 ghost use Rattle.host_pairs.specs.Commands.{asked_on_link};
-ghost use Rattle.host_pairs.specs.Control.{Legal, Wrong, orders_of};
+ghost use Rattle.host_pairs.specs.Control.{Legal, Wrong};
 ghost use Rattle.sockets.specs.Dialogue.{state_of};
 ghost use Rattle.host_pairs.specs.Entries.{refused_end, sending_end};
-ghost use Rattle.host_pairs.specs.Allowed.{commands_of};
-ghost use Rattle.host_pairs.specs.Pair.{PairState, opening_pair};
+ghost use Rattle.host_pairs.specs.Pair.{opening_pair};
 ghost use Rattle.sockets.specs.Pairs.{NcpState, opening_state, pair_with};
-ghost use Rattle.sockets.specs.Peers.{AreInOrder};
-ghost use Rattle.ncp_control.specs.Phases.{is_ready};
-ghost use Rattle.sockets.specs.Requests.{refusal, served, served_notices};
-ghost use Rattle.host_pairs.specs.Parcels.{Parcel};
-ghost use Rattle.sockets.specs.Sending.{next_in, offered};
-ghost use Rattle.sockets.specs.Worked.{first, second, third, talk, reset, opening_connection, closing};
-ghost use Rattle.ncp_control.specs.declared.phase.Phase.TheVariants as phase;
+ghost use Rattle.sockets.specs.Requests.{served_notices};
+ghost use Rattle.sockets.specs.Worked.{first, second, talk, reset, opening_connection, closing};
 ghost use Rattle.host_pairs.specs.declared.entry.Closing.TheVariants as closing;
-ghost use Rattle.host_pairs.specs.declared.notice.Notice.{Notice};
 ghost use Rattle.host_pairs.specs.declared.notice.Notice.TheVariants as notice;
-ghost use Rattle.sockets.specs.declared.peer.Peer.{Peer};
 ghost use Rattle.sockets.specs.declared.request.Request.{Request};
 ghost use Rattle.sockets.specs.declared.request.Request.TheVariants as request;
 ghost use Rattle.host_keeps_pairing.specs.Words.{AllFit, MayAllGo, all_gone, all_taken, marks, marks_in};
 ghost use Rattle.host_keeps_pairing.specs.Ends.{HasEnd, IsSound, Stand, Standing, due, end_of, kept_in, standing};
-ghost use Rattle.host_keeps_pairing.specs.Hearing.{AreFree, AreJoint, NamesFreeLink, after_request};
+ghost use Rattle.host_keeps_pairing.specs.Hearing.{AreJoint, NamesFreeLink, after_request};
 ghost use Rattle.host_keeps_pairing.specs.Spoken.{asking, listened, reset_of_two, spoken, untagged};
 ghost use Rattle.host_keeps_pairing.specs.Openings.{AreAmong, all_lives_gone, all_lives_taken, with_openings};
 ghost use Rattle.host_keeps_pairing.specs.Known.{ArePartners, Knows, all_known};
+ghost use Rattle.host_keeps_pairing.specs.Laws.Saying.{SayingMay, SayingOffer, SayingRequest};
+ghost use Rattle.host_keeps_pairing.specs.Laws.Hearing.{HearingAnswer, HearingCommands, HearingData, HearingIdle, HearingReply, HearingReset};
+ghost use Rattle.host_keeps_pairing.specs.Laws.Openings.{OpeningsAnswer, OpeningsCommands, OpeningsData, OpeningsIdle, OpeningsOffer, OpeningsReply, OpeningsReset};
+ghost use Rattle.host_keeps_pairing.specs.Laws.Endings.{EndingsAnswer, EndingsCommands, EndingsData, EndingsIdle, EndingsOffer, EndingsOthers, EndingsReply, EndingsRequest, EndingsReset};
+ghost use Rattle.host_keeps_pairing.specs.Laws.KnownPartners.{KnownPartnersLinks, KnownPartnersPair};
+ghost use Rattle.host_keeps_pairing.specs.Laws.WorkedOpenings.{WorkedOpeningsDialogue, WorkedOpeningsSome, WorkedOpeningsTold};
+ghost use Rattle.host_keeps_pairing.specs.Laws.WorkedEndings.{WorkedEndingsAgain, WorkedEndingsDialogue, WorkedEndingsPeer, WorkedEndingsPeers, WorkedEndingsSockets, WorkedEndingsTwice};
+ghost use Rattle.host_keeps_pairing.specs.Laws.WorkedWords.{WorkedWordsNextHeard, WorkedWordsNextSaid};
+ghost use Rattle.host_keeps_pairing.specs.Laws.WorkedEnds.{WorkedEndsUnready};
+ghost use Rattle.host_keeps_pairing.specs.Laws.WorkedFinding.{WorkedFindingOthers, WorkedFindingStays, WorkedFindingTakenUp};
+ghost use Rattle.host_keeps_pairing.specs.Laws.WorkedPrograms.{WorkedProgramsReceiver, WorkedProgramsSender};
 
 /// What a host says: where its program has, for two sockets and a peer, an end of the law of pairing, all that goes out of it is
 /// what the law lets it say of that end, and the program has the end after it.
@@ -52,84 +47,68 @@ pub fn saying()
     // a program that starts has no end
     ensures opening { (origin : ℕ → ℕ) (own foreign : ℕ) (h peer : Host) → HasEnd origin own foreign (pair_with peer (opening_state h).peers) nothing }
 
-    // a contact drops the ends with its peer. All else that a user asks for, and isn't refused, says nothing yet: it waits
-    ensures request { (origin : ℕ → ℕ) (own foreign : ℕ) (s : NcpState) (r : Request) (peer : Host) (x : End) → refusal s r ≡ None → HasEnd origin own foreign (pair_with peer s.peers) x → HasEnd origin own foreign (pair_with peer (served s r).peers) (after_request peer r x) }
+    ensures request { SayingRequest }
 
-    // the commands of the next message say only what may be said, where the requests before went out at lower places
-    ensures may { (origin : ℕ → ℕ) (own foreign : ℕ) (s : NcpState) (stamp : ℕ) (g : Peer) (parcel : Parcel) (x : End) (next : ℕ) → AreInOrder s.peers → next_in s.peers ≡ Some (g, parcel) → next ≤ stamp → HasEnd origin own foreign (pair_with g.host s.peers) x → MayAllGo (marks stamp own foreign (commands_of g.pair parcel)) x next }
+    ensures may { SayingMay }
 
-    // and once it has gone out, they are said
-    ensures offer { (origin : ℕ → ℕ) (own foreign : ℕ) (s : NcpState) (stamp : ℕ) (g : Peer) (parcel : Parcel) (x : End) → AreInOrder s.peers → next_in s.peers ≡ Some (g, parcel) → HasEnd origin own foreign (pair_with g.host s.peers) x → HasEnd origin own foreign (pair_with g.host (offered s stamp).0.peers) (all_gone (marks stamp own foreign (commands_of g.pair parcel)) x) }
+    ensures offer { SayingOffer }
 {}
 
 /// What a host hears of a peer in a message for it.
 pub fn hearing()
-    // where the pair is ready, commands that are in order, with links that are free, do to the end what the law says of each
-    ensures commands { (origin : ℕ → ℕ) (own foreign : ℕ) (s : NcpState) (m : HostMessage) (stamp : ℕ) (x : End) → same_host s.own m.flow.destination ≡ true → (m.flow.link.0 == 0) ≡ true → is_ready (pair_with m.flow.source s.peers).phase ≡ true → AreJoint (orders_of m.text) → AreFree m.flow.source stamp (orders_of m.text) (turn_of s m.flow.source) → AllFit (marks_in (origin stamp) foreign own (orders_of m.text)) x → HasEnd origin own foreign (pair_with m.flow.source s.peers) x → HasEnd origin own foreign (pair_with m.flow.source (accepted s (inbound.Message m) stamp).0.peers) (all_taken (marks_in (origin stamp) foreign own (orders_of m.text)) x) }
+    ensures commands { HearingCommands }
 
-    // where it isn't, they do nothing
-    ensures idle { (origin : ℕ → ℕ) (own foreign : ℕ) (s : NcpState) (m : HostMessage) (stamp : ℕ) (x : End) → same_host s.own m.flow.destination ≡ true → (m.flow.link.0 == 0) ≡ true → is_ready (pair_with m.flow.source s.peers).phase ≡ false → AreJoint (orders_of m.text) → HasEnd origin own foreign (pair_with m.flow.source s.peers) x → HasEnd origin own foreign (pair_with m.flow.source (accepted s (inbound.Message m) stamp).0.peers) x }
+    ensures idle { HearingIdle }
 
-    // an RST leaves no end, and an RRP leaves it as it is
-    ensures reset { (origin : ℕ → ℕ) (own foreign : ℕ) (s : NcpState) (m : HostMessage) (stamp : ℕ) → same_host s.own m.flow.destination ≡ true → (m.flow.link.0 == 0) ≡ true → orders_of m.text ≡ Legal command.Rst ∷ [] → HasEnd origin own foreign (pair_with m.flow.source (accepted s (inbound.Message m) stamp).0.peers) nothing }
-    ensures reply { (origin : ℕ → ℕ) (own foreign : ℕ) (s : NcpState) (m : HostMessage) (stamp : ℕ) (x : End) → same_host s.own m.flow.destination ≡ true → (m.flow.link.0 == 0) ≡ true → orders_of m.text ≡ Legal command.Rrp ∷ [] → HasEnd origin own foreign (pair_with m.flow.source s.peers) x → HasEnd origin own foreign (pair_with m.flow.source (accepted s (inbound.Message m) stamp).0.peers) x }
+    ensures reset { HearingReset }
+    ensures reply { HearingReply }
 
-    // so do data
-    ensures data { (origin : ℕ → ℕ) (own foreign : ℕ) (s : NcpState) (m : HostMessage) (stamp : ℕ) (x : End) → same_host s.own m.flow.destination ≡ true → (m.flow.link.0 == 0) ≡ false → HasEnd origin own foreign (pair_with m.flow.source s.peers) x → HasEnd origin own foreign (pair_with m.flow.source (accepted s (inbound.Message m) stamp).0.peers) x }
+    ensures data { HearingData }
 
-    // an answer leaves it too, but where the pair is ready no longer
-    ensures answer { (origin : ℕ → ℕ) (own foreign : ℕ) (s : NcpState) (kind : Answer) (f : Flow) (stamp : ℕ) (x : End) → HasEnd origin own foreign (pair_with f.destination s.peers) x → HasEnd origin own foreign (pair_with f.destination (accepted s (inbound.Answer kind f) stamp).0.peers) (kept_in (pair_with f.destination (accepted s (inbound.Answer kind f) stamp).0.peers) x) }
+    ensures answer { HearingAnswer }
 {}
 
 /// The openings of which a host's user is notified are lives of the law: what was notified stays some of the lives, in their order, after each
 /// call. A partner's request is given by the place where it was taken, and the law's by that where it went out.
 pub fn openings()
-    // what goes out, and commands that are in order, make the lives that the law says
-    ensures offer { (origin : ℕ → ℕ) (own foreign : ℕ) (s : NcpState) (stamp : ℕ) (g : Peer) (parcel : Parcel) (x : End) (told lives : List Life) → AreInOrder s.peers → next_in s.peers ≡ Some (g, parcel) → HasEnd origin own foreign (pair_with g.host s.peers) x → AreAmong told lives → AreAmong (with_openings origin own foreign (offered s stamp).1 told) (all_lives_gone (marks stamp own foreign (commands_of g.pair parcel)) x lives) }
-    ensures commands { (origin : ℕ → ℕ) (own foreign : ℕ) (s : NcpState) (m : HostMessage) (stamp : ℕ) (x : End) (told lives : List Life) → same_host s.own m.flow.destination ≡ true → (m.flow.link.0 == 0) ≡ true → is_ready (pair_with m.flow.source s.peers).phase ≡ true → AreJoint (orders_of m.text) → AreFree m.flow.source stamp (orders_of m.text) (turn_of s m.flow.source) → AllFit (marks_in (origin stamp) foreign own (orders_of m.text)) x → HasEnd origin own foreign (pair_with m.flow.source s.peers) x → AreAmong told lives → AreAmong (with_openings origin own foreign (accepted s (inbound.Message m) stamp).1 told) (all_lives_taken (marks_in (origin stamp) foreign own (orders_of m.text)) x lives) }
+    ensures offer { OpeningsOffer }
+    ensures commands { OpeningsCommands }
 
-    // nothing else reports an opening: commands where the pair isn't ready, an RST, an RRP, data, an answer and what a user asks for
-    ensures idle { (origin : ℕ → ℕ) (own foreign : ℕ) (s : NcpState) (m : HostMessage) (stamp : ℕ) → same_host s.own m.flow.destination ≡ true → (m.flow.link.0 == 0) ≡ true → is_ready (pair_with m.flow.source s.peers).phase ≡ false → AreJoint (orders_of m.text) → (told : List Life) → with_openings origin own foreign (accepted s (inbound.Message m) stamp).1 told ≡ told }
-    ensures reset { (origin : ℕ → ℕ) (own foreign : ℕ) (s : NcpState) (m : HostMessage) (stamp : ℕ) → same_host s.own m.flow.destination ≡ true → (m.flow.link.0 == 0) ≡ true → orders_of m.text ≡ Legal command.Rst ∷ [] → (told : List Life) → with_openings origin own foreign (accepted s (inbound.Message m) stamp).1 told ≡ told }
-    ensures reply { (origin : ℕ → ℕ) (own foreign : ℕ) (s : NcpState) (m : HostMessage) (stamp : ℕ) → same_host s.own m.flow.destination ≡ true → (m.flow.link.0 == 0) ≡ true → orders_of m.text ≡ Legal command.Rrp ∷ [] → (told : List Life) → with_openings origin own foreign (accepted s (inbound.Message m) stamp).1 told ≡ told }
-    ensures data { (origin : ℕ → ℕ) (own foreign : ℕ) (s : NcpState) (m : HostMessage) (stamp : ℕ) (told lives : List Life) → same_host s.own m.flow.destination ≡ true → (m.flow.link.0 == 0) ≡ false → AreAmong told lives → AreAmong (with_openings origin own foreign (accepted s (inbound.Message m) stamp).1 told) lives }
-    ensures answer { (origin : ℕ → ℕ) (own foreign : ℕ) (s : NcpState) (kind : Answer) (f : Flow) (stamp : ℕ) (told : List Life) → with_openings origin own foreign (accepted s (inbound.Answer kind f) stamp).1 told ≡ told }
+    ensures idle { OpeningsIdle }
+    ensures reset { OpeningsReset }
+    ensures reply { OpeningsReply }
+    ensures data { OpeningsData }
+    ensures answer { OpeningsAnswer }
     ensures request { (origin : ℕ → ℕ) (own foreign : ℕ) (s : NcpState) (r : Request) (told : List Life) → with_openings origin own foreign (served_notices s r) told ≡ told }
 {}
 
 /// What a host's user knows to be open is open: where its program reported an opening on two sockets with a peer, and hasn't reported since that the
 /// end is over, the law's end there is open by the two requests that were reported. Each call keeps this.
 pub fn endings()
-    // what goes out, and commands that are in order, have the end that the law gives. Where both CLS have passed the user is notified
-    ensures offer { (origin : ℕ → ℕ) (own foreign : ℕ) (s : NcpState) (stamp : ℕ) (g : Peer) (parcel : Parcel) (x : End) (known : List Life) → AreInOrder s.peers → next_in s.peers ≡ Some (g, parcel) → HasEnd origin own foreign (pair_with g.host s.peers) x → Knows known x → Knows (all_known origin g.host own foreign (offered s stamp).1 known) (all_gone (marks stamp own foreign (commands_of g.pair parcel)) x) }
-    ensures commands { (origin : ℕ → ℕ) (own foreign : ℕ) (s : NcpState) (m : HostMessage) (stamp : ℕ) (x : End) (known : List Life) → same_host s.own m.flow.destination ≡ true → (m.flow.link.0 == 0) ≡ true → is_ready (pair_with m.flow.source s.peers).phase ≡ true → AreJoint (orders_of m.text) → AreFree m.flow.source stamp (orders_of m.text) (turn_of s m.flow.source) → AllFit (marks_in (origin stamp) foreign own (orders_of m.text)) x → HasEnd origin own foreign (pair_with m.flow.source s.peers) x → Knows known x → Knows (all_known origin m.flow.source own foreign (accepted s (inbound.Message m) stamp).1 known) (all_taken (marks_in (origin stamp) foreign own (orders_of m.text)) x) }
+    ensures offer { EndingsOffer }
+    ensures commands { EndingsCommands }
 
-    // an RST leaves no end, and the user is notified; so does an answer where the pair is ready no longer, and a contact
-    ensures reset { (origin : ℕ → ℕ) (own foreign : ℕ) (s : NcpState) (m : HostMessage) (stamp : ℕ) (x : End) (known : List Life) → same_host s.own m.flow.destination ≡ true → (m.flow.link.0 == 0) ≡ true → orders_of m.text ≡ Legal command.Rst ∷ [] → HasEnd origin own foreign (pair_with m.flow.source s.peers) x → Knows known x → Knows (all_known origin m.flow.source own foreign (accepted s (inbound.Message m) stamp).1 known) nothing }
-    ensures answer { (origin : ℕ → ℕ) (own foreign : ℕ) (s : NcpState) (kind : Answer) (f : Flow) (stamp : ℕ) (x : End) (known : List Life) → HasEnd origin own foreign (pair_with f.destination s.peers) x → Knows known x → Knows (all_known origin f.destination own foreign (accepted s (inbound.Answer kind f) stamp).1 known) (kept_in (pair_with f.destination (accepted s (inbound.Answer kind f) stamp).0.peers) x) }
-    ensures request { (origin : ℕ → ℕ) (own foreign : ℕ) (s : NcpState) (r : Request) (peer : Host) (x : End) (known : List Life) → HasEnd origin own foreign (pair_with peer s.peers) x → Knows known x → Knows (all_known origin peer own foreign (served_notices s r) known) (after_request peer r x) }
+    ensures reset { EndingsReset }
+    ensures answer { EndingsAnswer }
+    ensures request { EndingsRequest }
 
-    // commands where the pair isn't ready, an RRP and data change nothing of what is known, nor does what is notified of another peer
-    ensures idle { (origin : ℕ → ℕ) (own foreign : ℕ) (s : NcpState) (m : HostMessage) (stamp : ℕ) (known : List Life) → same_host s.own m.flow.destination ≡ true → (m.flow.link.0 == 0) ≡ true → is_ready (pair_with m.flow.source s.peers).phase ≡ false → AreJoint (orders_of m.text) → all_known origin m.flow.source own foreign (accepted s (inbound.Message m) stamp).1 known ≡ known }
-    ensures reply { (origin : ℕ → ℕ) (own foreign : ℕ) (s : NcpState) (m : HostMessage) (stamp : ℕ) (known : List Life) → same_host s.own m.flow.destination ≡ true → (m.flow.link.0 == 0) ≡ true → orders_of m.text ≡ Legal command.Rrp ∷ [] → all_known origin m.flow.source own foreign (accepted s (inbound.Message m) stamp).1 known ≡ known }
-    ensures data { (origin : ℕ → ℕ) (own foreign : ℕ) (s : NcpState) (m : HostMessage) (stamp : ℕ) (known : List Life) → same_host s.own m.flow.destination ≡ true → (m.flow.link.0 == 0) ≡ false → all_known origin m.flow.source own foreign (accepted s (inbound.Message m) stamp).1 known ≡ known }
-    ensures others { (origin : ℕ → ℕ) (own foreign : ℕ) (peer other : Host) (notices : List Notice) (known : List Life) → AreAbout other notices → same_host peer other ≡ false → all_known origin peer own foreign notices known ≡ known }
+    ensures idle { EndingsIdle }
+    ensures reply { EndingsReply }
+    ensures data { EndingsData }
+    ensures others { EndingsOthers }
 {}
 
 /// Where the users of two hosts both know of an open end on the same sockets, each end is the other's partner, if the two ends of
 /// which they know are those of a run of the law.
 pub fn known_partners()
-    // as far as one pair of their sockets goes
-    ensures pair { (events : List pairing.Event) (known others : List Life) (x y : Life) → pairing.IsRun events → Knows known (both events).one.end → Knows others (both events).two.end → IsIn x known → IsIn y others → ArePartners x y }
+    ensures pair { KnownPartnersPair }
 
-    // and over all connections one way
-    ensures links { (steps : List Step) (s : Sockets) (known others : List Life) (x y : Life) → AreSteps steps → Knows known (receiver s steps).end → Knows others (sender s steps).end → IsIn x known → IsIn y others → ArePartners x y }
+    ensures links { KnownPartnersLinks }
 {}
 
 /// Openings of which users are notified, and lives.
 pub fn worked_openings()
-    // an opening of the two sockets is a life, the newest first; one of other sockets, or the same the other way, is none
-    ensures told { with_openings (λ p. p + 20) 16 33 (notice.Opened 16 second 33 6 10 ∷ notice.Ended 16 second 33 ∷ notice.Opened 16 second 33 14 15 ∷ []) [] ≡ record { own = 14; partner = 35 } ∷ record { own = 6; partner = 30 } ∷ [] }
+    ensures told { WorkedOpeningsTold }
     ensures apart { with_openings (λ p. p) 16 33 (notice.Opened 33 first 16 8 7 ∷ notice.Opened 16 second 35 6 10 ∷ notice.Opened 18 second 33 6 10 ∷ []) [] ≡ [] }
 
     // the lives of what was said, and of what was heard
@@ -140,13 +119,11 @@ pub fn worked_openings()
     ensures next_said { all_lives_gone (Close ∷ Ask 7 ∷ []) (record { asked = Some 3; partner = Some 4; gone = false; taken = true }) [] ≡ [] }
     ensures next_heard { all_lives_taken (Close ∷ Ask 7 ∷ []) (record { asked = Some 3; partner = Some 4; gone = true; taken = false }) [] ≡ [] }
 
-    // some of others, in their order; not others, not in another order, and none twice
-    ensures some { AreAmong (record { own = 1; partner = 2 } ∷ record { own = 5; partner = 6 } ∷ []) (record { own = 1; partner = 2 } ∷ record { own = 3; partner = 4 } ∷ record { own = 5; partner = 6 } ∷ []) }
+    ensures some { WorkedOpeningsSome }
     ensures turned { AreAmong (record { own = 5; partner = 6 } ∷ record { own = 1; partner = 2 } ∷ []) (record { own = 1; partner = 2 } ∷ record { own = 5; partner = 6 } ∷ []) → ⊥ }
     ensures twice { AreAmong (record { own = 1; partner = 2 } ∷ record { own = 1; partner = 2 } ∷ []) (record { own = 1; partner = 2 } ∷ []) → ⊥ }
 
-    // both programs of a dialogue report the life that the other's has, turned about
-    ensures dialogue { with_openings (λ p. if p == 10 then 8 else 0) 16 33 (map (λ n. n.1) (filter (λ n. same_host first n.0) (talk (reset ++ opening_connection ++ closing)).notices)) [] ≡ record { own = 6; partner = 8 } ∷ [] }
+    ensures dialogue { WorkedOpeningsDialogue }
 {}
 
 /// What a host's user knows of its end on socket 16, with socket 33 of host `second`.
@@ -158,16 +135,13 @@ pub fn worked_endings()
     ensures ended { all_known (λ p. p + 20) second 16 33 (notice.Opened 16 second 33 14 15 ∷ notice.Ended 16 second 33 ∷ []) [] ≡ [] }
     ensures reset { all_known (λ p. p + 20) second 16 33 (notice.Opened 16 second 33 14 15 ∷ notice.PairReset second ∷ []) [] ≡ [] }
 
-    // the next opening is another one
-    ensures again { all_known (λ p. p + 20) second 16 33 (notice.Opened 16 second 33 14 15 ∷ notice.Ended 16 second 33 ∷ notice.Opened 16 second 33 6 10 ∷ []) [] ≡ record { own = 6; partner = 30 } ∷ [] }
+    ensures again { WorkedEndingsAgain }
 
-    // where none was known to be over, both are known; but no end is open by both
-    ensures twice { all_known (λ p. p + 20) second 16 33 (notice.Opened 16 second 33 14 15 ∷ notice.Opened 16 second 33 6 10 ∷ []) [] ≡ record { own = 6; partner = 30 } ∷ record { own = 14; partner = 35 } ∷ [] }
+    ensures twice { WorkedEndingsTwice }
     ensures two { Knows (record { own = 6; partner = 8 } ∷ record { own = 6; partner = 4 } ∷ []) (record { asked = Some 6; partner = Some 8; gone = false; taken = false }) → ⊥ }
 
-    // ends of other sockets, of the same the other way and of another peer are others, and data report nothing
-    ensures sockets { all_known (λ p. p + 20) second 16 33 (notice.Ended 33 second 16 ∷ notice.Ended 16 second 35 ∷ notice.Ended 18 second 33 ∷ notice.Opened 33 second 16 8 7 ∷ notice.Opened 16 second 35 6 10 ∷ notice.Opened 18 second 33 6 10 ∷ []) (record { own = 14; partner = 35 } ∷ []) ≡ record { own = 14; partner = 35 } ∷ [] }
-    ensures peers { all_known (λ p. p + 20) second 16 33 (notice.Ended 16 third 33 ∷ notice.PairReset third ∷ notice.Opened 16 third 33 6 10 ∷ []) (record { own = 14; partner = 35 } ∷ []) ≡ record { own = 14; partner = 35 } ∷ [] }
+    ensures sockets { WorkedEndingsSockets }
+    ensures peers { WorkedEndingsPeers }
     ensures data { all_known (λ p. p + 20) second 16 33 (notice.Sent 16 (true ∷ []) ∷ notice.Arrived 16 (true ∷ []) ∷ notice.Interrupt 16 ∷ []) [] ≡ [] }
 
     // an end that is known is open by these two requests, also while it closes; not by others, and not turned about
@@ -180,12 +154,10 @@ pub fn worked_endings()
     ensures over { Knows (record { own = 6; partner = 8 } ∷ []) nothing → ⊥ }
     ensures nobody { Knows [] (record { asked = Some 6; partner = Some 8; gone = false; taken = false }) }
 
-    // in a dialogue host `first` knows of its end while it is open
-    ensures dialogue { all_known (λ p. if p == 10 then 8 else 0) second 16 33 (map (λ n. n.1) (filter (λ n. same_host first n.0) (talk (reset ++ opening_connection)).notices)) [] ≡ record { own = 6; partner = 8 } ∷ [] }
+    ensures dialogue { WorkedEndingsDialogue }
     ensures closed { all_known (λ p. if p == 10 then 8 else 0) second 16 33 (map (λ n. n.1) (filter (λ n. same_host first n.0) (talk (reset ++ opening_connection ++ closing)).notices)) [] ≡ [] }
 
-    // and `second` of its own, the other way about: each is the other's partner, and with another place neither is
-    ensures peer { all_known (λ p. if p == 7 then 6 else 0) first 33 16 (map (λ n. n.1) (filter (λ n. same_host second n.0) (talk (reset ++ opening_connection)).notices)) [] ≡ record { own = 8; partner = 6 } ∷ [] }
+    ensures peer { WorkedEndingsPeer }
     ensures partners { ArePartners (record { own = 6; partner = 8 }) (record { own = 8; partner = 6 }) }
     ensures apart { ArePartners (record { own = 6; partner = 8 }) (record { own = 8; partner = 4 }) → ⊥ }
     ensures older_partner { ArePartners (record { own = 6; partner = 4 }) (record { own = 8; partner = 6 }) → ⊥ }
@@ -230,9 +202,8 @@ pub fn worked_words()
     ensures said { all_gone (Ask 5 ∷ Close ∷ []) nothing ≡ record { asked = Some 5; partner = None; gone = true; taken = false } }
     ensures heard { all_taken (Ask 5 ∷ Close ∷ []) nothing ≡ record { asked = None; partner = Some 5; gone = false; taken = true } }
 
-    // a CLS that ends the connection, and the request of the next one
-    ensures next_said { all_gone (Close ∷ Ask 7 ∷ []) (record { asked = Some 3; partner = Some 4; gone = false; taken = true }) ≡ record { asked = Some 7; partner = None; gone = false; taken = false } }
-    ensures next_heard { all_taken (Close ∷ Ask 7 ∷ []) (record { asked = Some 3; partner = Some 4; gone = true; taken = false }) ≡ record { asked = None; partner = Some 7; gone = false; taken = false } }
+    ensures next_said { WorkedWordsNextSaid }
+    ensures next_heard { WorkedWordsNextHeard }
 
     // a request and its CLS may go out together, at a place that no request went out at before; two requests may not, and a CLS
     // of nothing may not
@@ -282,8 +253,7 @@ pub fn worked_ends()
     // a request of which nobody knows doesn't wait
     ensures stray { (x : End) → Stand true (λ p. p) 5 [] (Ask 5 ∷ []) x → ⊥ }
 
-    // a pair that isn't ready has no end
-    ensures unready { HasEnd (λ p. p) 33 16 (record opening_pair { entries = record (sending_end 33 16 8) { asked = Some 3 } ∷ [] }) (record { asked = Some 3; partner = None; gone = false; taken = false }) → ⊥ }
+    ensures unready { WorkedEndsUnready }
 {}
 
 /// What a host finds.
@@ -292,8 +262,7 @@ pub fn worked_finding()
     ensures used { NamesFreeLink (command.Rts 18 35 2) (asked_on_link 7 2 (sending_end 33 16 8) ∷ []) → ⊥ }
     ensures free { NamesFreeLink (command.Rts 18 35 3) (asked_on_link 7 2 (sending_end 33 16 8) ∷ []) }
 
-    // a link that an RTS took in the same message isn't free for the next
-    ensures taken_up { AreFree second 7 (Legal (command.Rts 16 33 2) ∷ Legal (command.Rts 18 35 2) ∷ []) (record { pair = record opening_pair { phase = phase.Ready }; listening = record { socket = 33; size = 8 } ∷ []; notices = [] }) → ⊥ }
+    ensures taken_up { WorkedFindingTakenUp }
 
     // an RST doesn't occur among other commands
     ensures alone { AreJoint (Legal command.Nop ∷ Legal command.Rst ∷ []) → ⊥ }
@@ -302,20 +271,18 @@ pub fn worked_finding()
 
     // a contact drops the ends with its peer, and with no other
     ensures dropped { after_request second (request.Contact second) (record { asked = Some 3; partner = None; gone = false; taken = false }) ≡ nothing }
-    ensures others { after_request third (request.Contact second) (record { asked = Some 3; partner = None; gone = false; taken = false }) ≡ record { asked = Some 3; partner = None; gone = false; taken = false } }
+    ensures others { WorkedFindingOthers }
 
     // a pair that isn't ready keeps none
     ensures left { kept_in opening_pair (record { asked = Some 3; partner = None; gone = false; taken = false }) ≡ nothing }
-    ensures stays { kept_in (record opening_pair { phase = phase.Ready }) (record { asked = Some 3; partner = None; gone = false; taken = false }) ≡ record { asked = Some 3; partner = None; gone = false; taken = false } }
+    ensures stays { WorkedFindingStays }
 {}
 
 /// Programs in a dialogue: host `first` receives on socket 16 what `second` sends from 33.
 pub fn worked_programs()
-    // its RTS goes out at place 6, and the STR that went out at place 8 is taken at place 10
-    ensures receiver { HasEnd (λ p. if p == 10 then 8 else 0) 16 33 (pair_with second (state_of (talk (reset ++ opening_connection)) first).peers) (record { asked = Some 6; partner = Some 8; gone = false; taken = false }) }
+    ensures receiver { WorkedProgramsReceiver }
 
-    // the sender took the RTS at place 7
-    ensures sender { HasEnd (λ p. if p == 7 then 6 else 0) 33 16 (pair_with first (state_of (talk (reset ++ opening_connection)) second).peers) (record { asked = Some 8; partner = Some 6; gone = false; taken = false }) }
+    ensures sender { WorkedProgramsSender }
 
     // after a CLS each way neither has an end
     ensures closed { HasEnd (λ p. p) 16 33 (pair_with second (state_of (talk (reset ++ opening_connection ++ closing)) first).peers) nothing }

@@ -4,3 +4,4 @@ pub mod Ears
 pub mod Named
 pub mod TypedLines
 pub mod Worked
+pub mod Laws

@@ -15,6 +15,8 @@ ghost use Rattle.icp.specs.declared.outcome.Outcome.TheVariants as outcome;
 ghost use Rattle.sockets.specs.declared.fault.NcpFault.TheVariants as ncp;
 ghost use Rattle.sockets.specs.declared.request.Request.TheVariants as request;
 ghost use Rattle.terminal.specs.Machines.{opening_terminal};
+ghost use Rattle.host_services.specs.Laws.WorkedBeginnings.{WorkedBeginningsSecondFails, WorkedBeginningsSecondServer};
+ghost use Rattle.host_services.specs.Laws.WorkedNotices.{WorkedNoticesLine, WorkedNoticesRefused};
 
 /// How services begin, on a host whose program has just come up and with six notices in the book.
 #[tactic(auto, unfolding(crate::specs::Turns::server_begun, crate::specs::Turns::user_begun, sockets::specs::Requests::refusal, sockets::specs::Requests::served))]
@@ -27,9 +29,8 @@ pub fn worked_beginnings()
     ensures odd_base { (server_begun 7 101 no_services fresh).1.reports ≡ of_second 6 (report.Server (outcome.Failed failure.BadSocket)) ∷ [] }
     ensures even_listen { server_begun 8 100 no_services fresh ≡ (no_services, record fresh { reports = of_second 6 (report.Server (outcome.Failed failure.BadSocket)) ∷ [] }) }
 
-    // the sockets of the first server are taken: a second one is refused its first request, and asks no more
-    ensures second_server { (server_begun 7 102 (server_begun 7 100 no_services fresh).0 (server_begun 7 100 no_services fresh).1).1.asked ≡ request.Listen 7 32 ∷ request.Listen 100 8 ∷ request.Listen 101 8 ∷ [] }
-    ensures second_fails { (server_begun 7 102 (server_begun 7 100 no_services fresh).0 (server_begun 7 100 no_services fresh).1).1.reports ≡ of_second 6 (report.Server (outcome.Failed (failure.Local ncp.InUse))) ∷ [] }
+    ensures second_server { WorkedBeginningsSecondServer }
+    ensures second_fails { WorkedBeginningsSecondFails }
 
     // a user asks a host with which there was no contact
     ensures user_fails { (user_begun first 7 16 no_services fresh).1.reports ≡ of_second 6 (report.User (outcome.Failed (failure.Local ncp.NotContacted))) ∷ [] }
@@ -39,11 +40,9 @@ pub fn worked_beginnings()
 /// What services do at notices.
 #[tactic(auto, unfolding(crate::specs::Turns::server_begun, crate::specs::Turns::services_told, icp::specs::Server::server_turn, terminal::specs::Machines::terminal_turn, terminal::specs::Machines::terminal_heard, bit_messages::specs::Octets::octets_of, sockets::specs::Requests::refusal, sockets::specs::Requests::served))]
 pub fn worked_notices()
-    // an end that is refused fails the server: its report counts the notices up to and with that one
-    ensures refused { (services_told (notice.Ready first ∷ notice.Ended 100 first 19 ∷ notice.Ready first ∷ []) (server_begun 7 100 no_services fresh).0 fresh).1.reports ≡ of_second 8 (report.Server (outcome.Failed failure.Refused)) ∷ [] }
+    ensures refused { WorkedNoticesRefused }
 
-    // a line is reported with the notice that brings its end, and the grant that is asked for is ignored where it is refused
-    ensures line { (services_told (notice.Arrived 18 (bits_of (72 ∷ 73 ∷ 13 ∷ [])) ∷ notice.Arrived 18 (bits_of (10 ∷ [])) ∷ []) (record { running = service.Terminal (opening_terminal 18 19) ∷ []; typing = Some 19 }) fresh).1.reports ≡ of_second 8 (report.Line (72 ∷ 73 ∷ [])) ∷ [] }
+    ensures line { WorkedNoticesLine }
     ensures grant { (services_told (notice.Arrived 18 (bits_of (72 ∷ [])) ∷ []) (record { running = service.Terminal (opening_terminal 18 19) ∷ []; typing = Some 19 }) fresh).1.asked ≡ [] }
 {}
 

@@ -5,3 +5,4 @@ pub mod Server
 pub mod Sockets
 pub mod User
 pub mod Worked
+pub mod Laws

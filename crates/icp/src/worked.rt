@@ -1,7 +1,7 @@
 //! What the definitions of the two machines come to: one worked row for each reading of a rule that would be
 //! wrong. The functions do nothing; each clause is a row.
 
-ghost use Rattle.std.specs.Prelude.{◌≡◌, true, false, take, drop, [], ◌∷◌, ◌++◌, None, Some};
+ghost use Rattle.std.specs.Prelude.{◌≡◌, true, false, take, [], ◌∷◌, None, Some};
 ghost use Rattle.bit_messages.specs.Octets.{bits_of};
 ghost use Rattle.icp.specs.Played.{said_to};
 ghost use Rattle.icp.specs.Server.{opening_server, server_local, server_requests};
@@ -14,6 +14,9 @@ ghost use Rattle.icp.specs.declared.outcome.Outcome.TheVariants as outcome;
 ghost use Rattle.sockets.specs.declared.fault.NcpFault.TheVariants as ncp;
 ghost use Rattle.host_pairs.specs.declared.notice.Notice.TheVariants as notice;
 ghost use Rattle.sockets.specs.declared.request.Request.TheVariants as request;
+ghost use Rattle.icp.specs.Laws.WorkedServer.{WorkedServerNoMore, WorkedServerOtherEndRefused};
+ghost use Rattle.icp.specs.Laws.WorkedUser.{WorkedUserAsks, WorkedUserBeyond, WorkedUserInParts};
+ghost use Rattle.icp.specs.Laws.WorkedSaying.{WorkedSayingSaid};
 
 /// How the two begin.
 pub fn worked_starts()
@@ -66,7 +69,7 @@ pub fn worked_server()
 
     // an end of it that ends before it is done refuses; its first connection may end once it was open
     ensures end_refused { server_ends (opened_notice 7 first 16 ∷ notice.Ended 100 first 19 ∷ []) ≡ outcome.Failed failure.Refused ∷ [] }
-    ensures other_end_refused { server_ends (opened_notice 7 first 16 ∷ opened_notice 101 first 18 ∷ notice.Ended 101 first 18 ∷ opened_notice 100 first 19 ∷ []) ≡ outcome.Failed failure.Refused ∷ [] }
+    ensures other_end_refused { WorkedServerOtherEndRefused }
     ensures first_refused { server_ends (notice.Ended 7 first 16 ∷ []) ≡ outcome.Failed failure.Refused ∷ [] }
     ensures first_ended { server_ends (opened_notice 7 first 16 ∷ notice.Ended 7 first 16 ∷ []) ≡ [] }
     ensures others_ended { server_ends (opened_notice 7 first 16 ∷ notice.Ended 16 first 33 ∷ []) ≡ [] }
@@ -78,8 +81,7 @@ pub fn worked_server()
     ensures others_reset { server_ends (opened_notice 7 first 16 ∷ notice.PairReset third ∷ []) ≡ [] }
     ensures early_reset { server_ends (notice.PairReset first ∷ []) ≡ [] }
 
-    // after its outcome it says nothing more
-    ensures no_more { server_ends (opened_notice 7 first 16 ∷ opened_notice 101 first 18 ∷ opened_notice 100 first 19 ∷ notice.Ended 100 first 19 ∷ notice.PairReset first ∷ []) ≡ outcome.Done 100 101 ∷ [] }
+    ensures no_more { WorkedServerNoMore }
 
     // a request that was refused is a failure, once
     ensures local { server_local (opening_server 7 100) ncp.InUse ≡ (record (opening_server 7 100) { over = true }, Some (outcome.Failed (failure.Local ncp.InUse))) }
@@ -89,8 +91,7 @@ pub fn worked_server()
 /// What a user does.
 #[tactic(auto, unfolding(crate::specs::User::user_turn, bit_messages::specs::Octets::octets_of))]
 pub fn worked_user()
-    // all that it asks for, in order, and how it is done
-    ensures asks { user_asks (opened_notice 16 second 7 ∷ notice.Arrived 16 (socket_bits 100) ∷ opened_notice 18 second 101 ∷ opened_notice 19 second 100 ∷ []) ≡ request.Grant 16 1 32 ∷ request.Close 16 ∷ request.OpenReceive second 18 101 ∷ request.OpenSend second 19 100 8 ∷ [] }
+    ensures asks { WorkedUserAsks }
     ensures done { user_ends (opened_notice 16 second 7 ∷ notice.Arrived 16 (socket_bits 100) ∷ opened_notice 18 second 101 ∷ opened_notice 19 second 100 ∷ []) ≡ outcome.Done 18 19 ∷ [] }
     ensures other_order { user_ends (opened_notice 16 second 7 ∷ notice.Arrived 16 (socket_bits 100) ∷ opened_notice 19 second 100 ∷ opened_notice 18 second 101 ∷ []) ≡ outcome.Done 18 19 ∷ [] }
 
@@ -100,9 +101,8 @@ pub fn worked_user()
     ensures the_other_way { user_ends (opened_notice 16 second 7 ∷ notice.Arrived 16 (socket_bits 100) ∷ opened_notice 18 second 100 ∷ opened_notice 19 second 101 ∷ []) ≡ [] }
     ensures other_host { user_ends (opened_notice 16 second 7 ∷ notice.Arrived 16 (socket_bits 100) ∷ opened_notice 18 third 101 ∷ opened_notice 19 third 100 ∷ []) ≡ [] }
 
-    // the base may come in parts, and what is beyond its 32 bits is ignored
-    ensures in_parts { user_asks (opened_notice 16 second 7 ∷ notice.Arrived 16 (take 20 (socket_bits 100)) ∷ notice.Arrived 16 (drop 20 (socket_bits 100)) ∷ []) ≡ request.Grant 16 1 32 ∷ request.Close 16 ∷ request.OpenReceive second 18 101 ∷ request.OpenSend second 19 100 8 ∷ [] }
-    ensures beyond { user_asks (opened_notice 16 second 7 ∷ notice.Arrived 16 (socket_bits 100 ++ socket_bits 7) ∷ []) ≡ request.Grant 16 1 32 ∷ request.Close 16 ∷ request.OpenReceive second 18 101 ∷ request.OpenSend second 19 100 8 ∷ [] }
+    ensures in_parts { WorkedUserInParts }
+    ensures beyond { WorkedUserBeyond }
     ensures too_few { user_asks (opened_notice 16 second 7 ∷ notice.Arrived 16 (take 31 (socket_bits 100)) ∷ []) ≡ request.Grant 16 1 32 ∷ [] }
     ensures others_bits { user_asks (opened_notice 16 second 7 ∷ notice.Arrived 18 (socket_bits 100) ∷ []) ≡ request.Grant 16 1 32 ∷ [] }
 
@@ -147,8 +147,7 @@ pub fn worked_reading()
 
 /// What a server says to a user.
 pub fn worked_saying()
-    // the bits that arrive on the socket that asks, in order, once it was opened with the server's socket
-    ensures said { said_to 16 second 7 (opened_notice 16 second 7 ∷ notice.Arrived 16 (true ∷ []) ∷ notice.Arrived 18 (false ∷ []) ∷ notice.Arrived 16 (false ∷ true ∷ []) ∷ []) ≡ true ∷ false ∷ true ∷ [] }
+    ensures said { WorkedSayingSaid }
 
     // nothing before that, and nothing where it was opened with another socket or another host
     ensures before { said_to 16 second 7 (notice.Arrived 16 (true ∷ []) ∷ opened_notice 16 second 7 ∷ notice.Arrived 16 (false ∷ []) ∷ []) ≡ false ∷ [] }

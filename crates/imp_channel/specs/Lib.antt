@@ -4,3 +4,4 @@ pub mod Format
 pub mod Holding
 pub mod Line
 pub mod Schedule
+pub mod Laws

@@ -2,7 +2,8 @@
 
 ghost use Rattle.std.specs.Prelude.{◌≡◌, ◌<◌, ◌++◌, [], Ok, IfOk, IfErr, OnOk};
 ghost use Rattle.imp_channel.specs.Holding.{bits_carried};
-ghost use Rattle.imp_channel.specs.Format.{Gives, read_of, frame_in, packet_bits, packet_bits_after, packet_bits_in, spelling, after_version, content_of, kind_octet, rest_of, packet_in, routes_in, channel_octet, octet_of, bits_of, bit_value};
+ghost use Rattle.imp_channel.specs.Format.{Gives, read_of, frame_in, packet_bits, packet_bits_after, packet_bits_in, spelling, after_version, content_of, kind_octet, rest_of, packet_in, routes_in};
+ghost use Rattle.imp_channel.specs.Format.{channel_octet, octet_of, bits_of, bit_value};
 
 use crate::ChannelFault;
 use interface::MOST_IMPS;

@@ -2,11 +2,8 @@
 //! here do nothing: each clause is a law.
 
 ghost use Rattle.std.specs.Prelude.{◌≡◌, ℕ, ◌+◌, ◌<◌, true, false, List, [], ◌∷◌, ◌++◌, All, replicate, Some, Ok, Err, IsPermutation};
-ghost use Rattle.packetiser.specs.Examples.{about_it};
-ghost use Rattle.packetiser.specs.Format as packets;
 ghost use Rattle.packetiser.specs.PacketFields.{PacketFields};
 ghost use Rattle.packetiser.specs.Rejoining.{AreAmong};
-ghost use Rattle.packetiser.specs.declared.packet.PacketKind.TheVariants as kind;
 ghost use Rattle.imp_channel.specs.Examples.{packet_octets, packet_frame};
 ghost use Rattle.imp_channel.specs.Format.{IsFrame, read_of, spelling};
 ghost use Rattle.imp_channel.specs.Holding.{packets_in, carried_by, carried_by_all};
@@ -16,6 +13,8 @@ ghost use Rattle.imp_channel.specs.declared.fault.ChannelFault.TheVariants as fa
 ghost use Rattle.imp_channel.specs.declared.frame.Content.TheVariants as content;
 ghost use Rattle.imp_channel.specs.declared.frame.Frame.{Frame};
 ghost use Rattle.imp_channel.specs.declared.line.Received.TheVariants as received;
+ghost use Rattle.imp_channel.specs.Laws.WorkedFrames.{WorkedFramesWritten};
+ghost use Rattle.imp_channel.specs.Laws.NotInOrder.{NotInOrderAnother};
 
 /// Each frame has one spelling, and only spellings are read.
 pub fn spellings()
@@ -38,7 +37,7 @@ pub fn worked_frames()
     // an RFNM on channel 7 under bit 0, and on channel 0 under bit 1
     ensures channel { read_of (packet_octets 7) ≡ Ok (packet_frame 7 false) }
     ensures bit { read_of (packet_octets 8) ≡ Ok (packet_frame 0 true) }
-    ensures written { (spelling (packet_frame 7 false) ≡ 242 ∷ 0 ∷ 0 ∷ 7 ∷ packets.spelling (about_it kind.Rfnm)) × (spelling (packet_frame 0 true) ≡ 242 ∷ 0 ∷ 0 ∷ 8 ∷ packets.spelling (about_it kind.Rfnm)) }
+    ensures written { WorkedFramesWritten }
 
     // distances: an octet each, that to IMP 1 first
     ensures routes { read_of (242 ∷ 2 ∷ 0 ∷ 0 ∷ 1 ∷ replicate 61 63) ≡ Ok (record { acks = replicate 8 false; content = content.Routes (0 ∷ 1 ∷ replicate 61 63) }) }
@@ -85,7 +84,7 @@ pub fn one_packet()
 pub fn not_in_order()
     // a packet is given that was not put in, another one than was put in, or the same twice
     ensures not_put { (packet : PacketFields) → InOrder 0 opening_side (record opening_side { given = λ c. packet ∷ [] }) → ⊥ }
-    ensures another { (packet : PacketFields) → InOrder 0 (record opening_side { put = λ c. packet ∷ [] }) (record opening_side { given = λ c. record packet { number = packet.number + 1 } ∷ [] }) → ⊥ }
+    ensures another { NotInOrderAnother }
     ensures twice { (packet : PacketFields) → InOrder 0 (record opening_side { put = λ c. packet ∷ [] }) (record opening_side { given = λ c. packet ∷ packet ∷ [] }) → ⊥ }
 
     // a channel became free, and its packet was not given

@@ -3,7 +3,8 @@
 ghost use Rattle.std.specs.Prelude.{◌≡◌, ◌<◌, ◌≤◌, ◌+◌, ◌++◌, length, map, IfOk, IfErr, IsSome, OnOk, OnErr, Ok, Some, None, false, position, count_by, is_some, is_none, slice_index_or, slice_set};
 ghost use Rattle.std.specs.Option.{option_copied, option_to_list};
 ghost use Rattle.imp_channel.specs.Holding.{packets_in};
-ghost use Rattle.imp_channel.specs.Line.{IsRefusal, is_free, frames_of, opening_channel, opening_end, frame_of, submitted, resent, acknowledgement, routes_frame, channel_at, is_foreign, has_expected_bit, expected_after, brought, state_after, all_acknowledged, answer_to, is_fresh_answer, is_repeat_answer};
+ghost use Rattle.imp_channel.specs.Line.{IsRefusal, is_free, frames_of, opening_channel, opening_end, frame_of, submitted, resent, acknowledgement, routes_frame, channel_at, is_foreign};
+ghost use Rattle.imp_channel.specs.Line.{has_expected_bit, expected_after, brought, state_after, all_acknowledged, answer_to, is_fresh_answer, is_repeat_answer};
 
 use crate::channel::{acknowledge_all, are_same, reset_all};
 use crate::{ACKS, CHANNELS, Carried, Channel, Content, Frame, SubmitFault};

@@ -7,3 +7,4 @@ pub mod Mailboxes
 pub mod Messages
 pub mod Printed
 pub mod Rest
+pub mod Laws

@@ -2,14 +2,15 @@
 
 ghost use Rattle.std.specs.Prelude.{◌≡◌, ◌≢◌, ℕ, Bool, true, false, List, [], ◌∷◌, Some, slice_get};
 ghost use Rattle.interface.specs.Host.{Host, is_host, InOrder};
-ghost use Rattle.interface.specs.Mailboxes.{IsRun, EachIsRun, Box, Empty, Waiting, Taken, WaitsWith, Mail, opening_mail, mail_of, passed, is_up, box_of};
+ghost use Rattle.interface.specs.Mailboxes.{IsRun, EachIsRun, Box, Empty, Waiting, Taken, WaitsWith, box_of};
 ghost use Rattle.interface.specs.Messages.{SafeMessages, NeverTaken};
-ghost use Rattle.interface.specs.declared.address.Flow.{Flow};
 ghost use Rattle.interface.specs.declared.crossing.Answer.{Answer};
 ghost use Rattle.interface.specs.declared.crossing.Answer.TheVariants as answer;
 ghost use Rattle.interface.specs.declared.crossing.Crossing.{Crossing};
 ghost use Rattle.interface.specs.declared.crossing.Crossing.TheVariants as crossing;
 ghost use Rattle.interface.specs.declared.message.HostMessage.{HostMessage};
+ghost use Rattle.interface.specs.Laws.Mailboxes.{MailboxesOwnStory};
+ghost use Rattle.interface.specs.Laws.WorkedRuns.{WorkedRunsNotTaken, WorkedRunsTaken, WorkedRunsWaiting};
 
 /// Hosts in order, as a carrier names them.
 pub fn hosts()
@@ -25,8 +26,7 @@ pub fn mailboxes()
     // the box of a text that waits is that of a message which waits, with this text
     ensures waiting { (box : Box) (text : List Bool) → WaitsWith box text → (place : ℕ) × (box ≡ Waiting place text) }
 
-    // a flow's own part of a log names its hosts and its box
-    ensures own_story { (hosts : List Host) (f : Flow) (log : List Crossing) → mail_of (opening_mail hosts f) (passed f log) ≡ record { source = is_up hosts f.source log; destination = is_up hosts f.destination log; box = box_of f log } }
+    ensures own_story { MailboxesOwnStory }
 {}
 
 /// Logs that are no run, and boxes after a few crossings: the rules of the mailboxes one by one.
@@ -64,14 +64,11 @@ pub fn worked_boxes()
 
 /// Logs that are runs: what the rules of the mailboxes allow.
 pub fn worked_runs()
-    // between two hosts of the network a message is answered by RFNM or Incomplete once it is taken
-    ensures taken { (hosts : List Host) (m : HostMessage) → is_host hosts m.flow.source ≡ true → is_host hosts m.flow.destination ≡ true → IsRun hosts (crossing.Answer answer.Rfnm m.flow ∷ crossing.In m ∷ crossing.Out m ∷ []) × IsRun hosts (crossing.Answer answer.Incomplete m.flow ∷ crossing.In m ∷ crossing.Out m ∷ []) }
+    ensures taken { WorkedRunsTaken }
 
-    // while it waits, it is answered by Dead or Incomplete
-    ensures waiting { (hosts : List Host) (m : HostMessage) → is_host hosts m.flow.source ≡ true → IsRun hosts (crossing.Answer answer.Dead m.flow ∷ crossing.Out m ∷ []) × IsRun hosts (crossing.Answer answer.Incomplete m.flow ∷ crossing.Out m ∷ []) }
+    ensures waiting { WorkedRunsWaiting }
 
-    // or by NotTaken, and then the flow's next message goes out and is taken
-    ensures not_taken { (hosts : List Host) (m : HostMessage) → is_host hosts m.flow.source ≡ true → is_host hosts m.flow.destination ≡ true → IsRun hosts (crossing.In m ∷ crossing.Out m ∷ crossing.Answer answer.NotTaken m.flow ∷ crossing.Out m ∷ []) }
+    ensures not_taken { WorkedRunsNotTaken }
 
     // a host of the network goes down, and comes up again
     ensures restarted { (hosts : List Host) (h : Host) → is_host hosts h ≡ true → IsRun hosts (crossing.Up h ∷ crossing.Down h ∷ []) }

@@ -9,3 +9,4 @@ pub use Rattle.interface.specs.Mailboxes
 pub use Rattle.interface.specs.Messages
 pub use Rattle.interface.specs.Printed
 pub use Rattle.interface.specs.Rest
+pub mod Laws

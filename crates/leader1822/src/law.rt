@@ -1,12 +1,14 @@
 //! What leaders promise, as laws over their definitions. The functions here do nothing: each clause is the law.
 
-ghost use Rattle.std.specs.Prelude.{◌≡◌, ℕ, ◌+◌, ◌*◌, ◌<◌, List, [], ◌∷◌, ◌++◌, Ok, Err};
+ghost use Rattle.std.specs.Prelude.{◌≡◌, ℕ, ◌+◌, List, [], ◌∷◌, ◌++◌, Ok, Err};
 ghost use Rattle.leader1822.specs.Leader.{read_from_host, read_from_imp, spelling, answer_type, as_read, IsWritten, IsFromHost};
 ghost use Rattle.interface.specs.declared.crossing.Answer.{Answer};
 ghost use Rattle.interface.specs.declared.crossing.Answer.TheVariants as answer;
 ghost use Rattle.leader1822.specs.declared.leader.Leader.{Leader};
 ghost use Rattle.leader1822.specs.declared.leader.Leader.TheVariants as leader;
 ghost use Rattle.leader1822.specs.declared.leader.LeaderFault.TheVariants as leader_fault;
+ghost use Rattle.leader1822.specs.Laws.Leaders.{LeadersFlagsFromHost, LeadersFlagsFromImp};
+ghost use Rattle.leader1822.specs.Laws.WorkedLeaders.{WorkedLeadersBadImp, WorkedLeadersShort};
 
 pub use interface::law::{
     hosts, mailboxes, messages, messages_not_taken, unsafe_logs, worked_boxes, worked_runs,
@@ -19,9 +21,8 @@ pub fn leaders()
     ensures from_imp { (l : Leader) (rest : List ℕ) → IsWritten l → read_from_imp (spelling l ++ rest) ≡ Ok (as_read l) }
     ensures from_host { (l : Leader) (rest : List ℕ) → IsWritten l → IsFromHost l → read_from_host (spelling l ++ rest) ≡ Ok l }
 
-    // the flags, the last octet and what follows it change nothing
-    ensures flags_from_imp { (flags kind address link last : ℕ) (rest : List ℕ) → kind < 16 → read_from_imp ((16 * flags + kind) ∷ address ∷ link ∷ last ∷ rest) ≡ read_from_imp (kind ∷ address ∷ link ∷ 0 ∷ []) }
-    ensures flags_from_host { (flags kind address link last : ℕ) (rest : List ℕ) → kind < 16 → read_from_host ((16 * flags + kind) ∷ address ∷ link ∷ last ∷ rest) ≡ read_from_host (kind ∷ address ∷ link ∷ 0 ∷ []) }
+    ensures flags_from_imp { LeadersFlagsFromImp }
+    ensures flags_from_host { LeadersFlagsFromHost }
 
     // nothing but the type of a NOP is looked at
     ensures nop { (address link last : ℕ) (rest : List ℕ) → read_from_imp (4 ∷ address ∷ link ∷ last ∷ rest) ≡ Ok leader.Nop }
@@ -47,8 +48,7 @@ pub fn worked_leaders()
     ensures host_answer { read_from_host (5 ∷ 130 ∷ 255 ∷ 0 ∷ []) ≡ Err (leader_fault.UnknownType 5) }
     ensures unknown { (read_from_imp (72 ∷ 130 ∷ 255 ∷ 0 ∷ []) ≡ Err (leader_fault.UnknownType 8)) × (read_from_host (72 ∷ 130 ∷ 255 ∷ 0 ∷ []) ≡ Err (leader_fault.UnknownType 8)) }
 
-    // IMP 0 is none, also in an answer; three octets are too few, whatever they are; and an unknown type comes before a bad IMP
-    ensures bad_imp { (read_from_imp (0 ∷ 64 ∷ 5 ∷ 0 ∷ []) ≡ Err leader_fault.BadImp) × (read_from_imp (5 ∷ 192 ∷ 5 ∷ 0 ∷ []) ≡ Err leader_fault.BadImp) × (read_from_host (0 ∷ 0 ∷ 5 ∷ 0 ∷ []) ≡ Err leader_fault.BadImp) }
-    ensures short { (read_from_imp (8 ∷ 0 ∷ 0 ∷ []) ≡ Err leader_fault.ShortLeader) × (read_from_imp [] ≡ Err leader_fault.ShortLeader) × (read_from_host (4 ∷ 0 ∷ 0 ∷ []) ≡ Err leader_fault.ShortLeader) }
+    ensures bad_imp { WorkedLeadersBadImp }
+    ensures short { WorkedLeadersShort }
     ensures unknown_first { read_from_imp (8 ∷ 0 ∷ 5 ∷ 0 ∷ []) ≡ Err (leader_fault.UnknownType 8) }
 {}

@@ -3,3 +3,4 @@ pub mod Flows
 pub mod Keys
 pub mod Numbers
 pub mod Window
+pub mod Laws

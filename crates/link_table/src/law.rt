@@ -7,7 +7,8 @@ ghost use Rattle.std.specs.FinMap as map;
 ghost use Rattle.interface.specs.Host.{Host, same_host};
 ghost use Rattle.interface.specs.Mailboxes.{same_flow};
 ghost use Rattle.interface.specs.declared.address.Flow.{Flow};
-ghost use Rattle.link_table.specs.Flows.{Sources, Destinations, noted, ended, ended_in, begun, flow_answered, given_up, handed, number_in, last_in, outstanding_in, is_idle_in, answered_in, given_up_in, handed_in, release_in, has_outstanding, has_outstanding_to};
+ghost use Rattle.link_table.specs.Flows.{Sources, Destinations, noted, ended, ended_in, begun, flow_answered, given_up, handed, number_in, last_in, outstanding_in, is_idle_in, answered_in};
+ghost use Rattle.link_table.specs.Flows.{given_up_in, handed_in, release_in, has_outstanding, has_outstanding_to};
 ghost use Rattle.link_table.specs.Keys.{is_from, drop_from, has_from};
 ghost use Rattle.link_table.specs.declared.destination.Fate.{Fate};
 ghost use Rattle.link_table.specs.declared.destination.Fate.TheVariants as fate;
@@ -16,6 +17,7 @@ ghost use Rattle.link_table.specs.declared.source.Standing.TheVariants as standi
 ghost use Rattle.link_table.specs.declared.source.Release.TheVariants as release;
 ghost use Rattle.link_table.specs.Window.{next_of, oldest_of, is_new_of, NearOf};
 ghost use Rattle.link_table.specs.Numbers.{modulus, window, next, oldest, is_new, Near};
+ghost use Rattle.link_table.specs.Laws.WorkedFates.{WorkedFatesOther};
 
 /// Any window over numbers that wrap around, where there are more than twice as many numbers as the window
 /// is wide: what lies before the last number and what lies ahead of it never meet.
@@ -139,7 +141,7 @@ pub fn numbers_of_sources()
 pub fn worked_fates()
     // it changes for the number that is kept only: what becomes of an older message is passed over
     ensures ended { ended_in 5 fate.Dead (record { number = 5; fate = fate.Waits }) ≡ record { number = 5; fate = fate.Dead } }
-    ensures other { (ended_in 4 fate.Dead (record { number = 5; fate = fate.Waits }) ≡ record { number = 5; fate = fate.Waits }) × (ended_in 6 fate.Taken (record { number = 5; fate = fate.Waits }) ≡ record { number = 5; fate = fate.Waits }) }
+    ensures other { WorkedFatesOther }
 {}
 
 /// What the calls of a destination do to each flow.

@@ -2,7 +2,8 @@
 
 ghost use Rattle.std.specs.Prelude.{◌≡◌, OnErr, Err, None, Some, is_some};
 ghost use Rattle.std.specs.FinMap as map;
-ghost use Rattle.link_table.specs.Flows.{FlowDecided, begin_fault, begun, flow_answered, given_up, handed, number_in, last_of, last_in, outstanding_in, is_idle_in, answered_in, given_up_in, handed_in, release_in, has_outstanding, has_outstanding_to};
+ghost use Rattle.link_table.specs.Flows.{FlowDecided, begin_fault, begun, flow_answered, given_up, handed, number_in, last_of, last_in, outstanding_in, is_idle_in, answered_in, given_up_in};
+ghost use Rattle.link_table.specs.Flows.{handed_in, release_in, has_outstanding, has_outstanding_to};
 
 use crate::FlowFault;
 use crate::flow_map::FlowMap;

@@ -7,3 +7,4 @@ pub mod Slots
 pub mod Rejoining
 pub mod Inside
 pub mod Examples
+pub mod Laws

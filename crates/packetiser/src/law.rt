@@ -1,7 +1,7 @@
 //! What packets, cutting and reassembly promise, as laws over the definitions that their calls cite. The
 //! functions here do nothing: each clause is a law.
 
-ghost use Rattle.std.specs.Prelude.{◌≡◌, ℕ, ◌+◌, ◌*◌, ◌<◌, ◌≤◌, Bool, true, false, List, [], ◌∷◌, ◌++◌, length, map, Option, None, Some, Ok, Err, All, IsPermutation, if◌then◌else◌};
+ghost use Rattle.std.specs.Prelude.{◌≡◌, ℕ, ◌+◌, ◌<◌, ◌≤◌, Bool, true, false, List, [], ◌∷◌, ◌++◌, length, map, None, Some, Ok, Err, All, IsPermutation, if◌then◌else◌};
 ghost use Rattle.bit_messages.specs.Body.{body, most_text_bits, has_mark, strip_fault};
 ghost use Rattle.bit_messages.specs.Octets.{bits_of};
 ghost use Rattle.bit_messages.specs.declared.fault.BitFault.TheVariants as bit_fault;
@@ -10,13 +10,15 @@ ghost use Rattle.interface.specs.declared.address.Flow.{Flow};
 ghost use Rattle.packetiser.specs.PacketFields.{PacketFields, IsPacket, flow_of};
 ghost use Rattle.packetiser.specs.Examples.{flow, request, request_packet, header, with_octet, with_octets, sixteen_bits, about_it};
 ghost use Rattle.packetiser.specs.Format.{spelling, read_of, is_bad_length};
-ghost use Rattle.packetiser.specs.Pieces.{piece_count, piece_packet, places, packets_of, IsBodySize, CarriesPieceOf};
-ghost use Rattle.packetiser.specs.Slots.{SlotState, IsTable, IsPieceFor, slot_of, kept_for, gathered, joined_pieces, is_whole_from, outcome_of, answer_of, added, without, packets_in, in_some_order, pieces_for, has_room};
-ghost use Rattle.packetiser.specs.Rejoining.{AreAmong, IsGathered, IsRejoined, Holds, answer_to, all_came, slots_after, Event, IsAmongOthers, places_in, after_events};
+ghost use Rattle.packetiser.specs.Pieces.{piece_count, places, packets_of, IsBodySize, CarriesPieceOf};
+ghost use Rattle.packetiser.specs.Slots.{SlotState, IsTable, IsPieceFor, slot_of, kept_for, joined_pieces, is_whole_from, answer_of, added, without, packets_in, in_some_order, has_room};
+ghost use Rattle.packetiser.specs.Rejoining.{AreAmong, IsGathered, IsRejoined};
 ghost use Rattle.packetiser.specs.declared.fault.PacketFault.TheVariants as fault;
 ghost use Rattle.packetiser.specs.declared.packet.PacketKind.TheVariants as kind;
-ghost use Rattle.packetiser.specs.declared.reassembly.Outcome.TheVariants as outcome;
 ghost use Rattle.packetiser.specs.declared.reassembly.Added.TheVariants as answer;
+ghost use Rattle.packetiser.specs.Laws.Rejoining.{RejoiningAnswered, RejoiningAnyOrder, RejoiningHeld, RejoiningInterleaved, RejoiningStillThere, RejoiningUndisturbed};
+ghost use Rattle.packetiser.specs.Laws.Holding.{HoldingWhole};
+ghost use Rattle.packetiser.specs.Laws.NotGathered.{NotGatheredAnotherNumber};
 
 /// Each packet has one spelling, and only spellings are read.
 pub fn spellings()
@@ -97,23 +99,18 @@ pub fn joining()
 
 /// The pieces of one message rejoin to its body, in whatever order and however often they come.
 pub fn rejoining()
-    // where nothing of the message is held and there is room for it, a piece that came already is Old, the last missing one
-    // is Whole with the body, and any other is Kept
-    ensures any_order { (flow : Flow) (number : ℕ) (w : List Bool) (slots : List SlotState) (ks : List ℕ) (k : ℕ) → Holds flow number w [] slots → All (λ j. j < piece_count w) (k ∷ ks) → all_came w ks ≡ false → answer_of (slots_after flow number w slots ks) (piece_packet flow number w k) ≡ answer_to w ks k }
+    ensures any_order { RejoiningAnyOrder }
 
-    // the same one piece at a time: what the piece is answered, and what is held then
-    ensures answered { (flow : Flow) (number : ℕ) (w : List Bool) (slots : List SlotState) (ks : List ℕ) (k : ℕ) → Holds flow number w ks slots → k < piece_count w → answer_of slots (piece_packet flow number w k) ≡ answer_to w ks k }
-    ensures held { (flow : Flow) (number : ℕ) (w : List Bool) (slots : List SlotState) (ks : List ℕ) (k : ℕ) → Holds flow number w ks slots → k < piece_count w → all_came w (k ∷ ks) ≡ false → Holds flow number w (k ∷ ks) (added slots (piece_packet flow number w k)) }
+    ensures answered { RejoiningAnswered }
+    ensures held { RejoiningHeld }
 
     // a flow that has a slot has room
     ensures room { (slots : List SlotState) (f : Flow) (s : SlotState) → slot_of slots f ≡ Some s → has_room slots f ≡ true }
 
-    // once a piece of the message is held, packets of other flows and emptied slots of other flows change nothing of it
-    ensures undisturbed { (flow : Flow) (number : ℕ) (w : List Bool) (slots : List SlotState) (ks : List ℕ) (j : ℕ) (p : PacketFields) → Holds flow number w (j ∷ ks) slots → j < piece_count w → same_flow flow (flow_of p) ≡ false → Holds flow number w (j ∷ ks) (added slots p) }
-    ensures still_there { (flow : Flow) (number : ℕ) (w : List Bool) (slots : List SlotState) (ks : List ℕ) (j : ℕ) (g : Flow) → Holds flow number w (j ∷ ks) slots → j < piece_count w → same_flow flow g ≡ false → Holds flow number w (j ∷ ks) (without slots g) }
+    ensures undisturbed { RejoiningUndisturbed }
+    ensures still_there { RejoiningStillThere }
 
-    // so the message is rejoined whatever comes of other flows in between
-    ensures interleaved { (flow : Flow) (number : ℕ) (w : List Bool) (slots : List SlotState) (ks : List ℕ) (j k : ℕ) (events : List Event) → Holds flow number w (j ∷ ks) slots → j < piece_count w → k < piece_count w → All (IsAmongOthers flow w) events → all_came w (places_in events (j ∷ ks)) ≡ false → answer_of (after_events flow number w slots events) (piece_packet flow number w k) ≡ answer_to w (places_in events (j ∷ ks)) k }
+    ensures interleaved { RejoiningInterleaved }
 
     // a packet and an emptied slot touch their own flow's slot only
     ensures other_packets { (slots : List SlotState) (p : PacketFields) (f : Flow) → same_flow f (flow_of p) ≡ false → slot_of (added slots p) f ≡ slot_of slots f }
@@ -135,8 +132,7 @@ pub fn holding()
     ensures added_only { (slots : List SlotState) (p : PacketFields) → AreAmong (packets_in (added slots p)) (packets_in slots ++ p ∷ []) }
     ensures discarded_only { (slots : List SlotState) (f : Flow) → AreAmong (packets_in (without slots f)) (packets_in slots) }
 
-    // a whole body is joined of pieces of one message
-    ensures whole { (slots : List SlotState) (p : PacketFields) → IsTable slots → p.kind ≡ kind.Data → outcome_of slots p ≡ outcome.Whole → IsGathered slots p (gathered slots p) × (answer_of slots p ≡ answer.Whole (joined_pieces (gathered slots p))) }
+    ensures whole { HoldingWhole }
 
     // the same from the answer, and such a body has 16 to 8064 bits in units of sixteen
     ensures body { (slots : List SlotState) (p : PacketFields) (w : List Bool) → IsTable slots → IsPacket p → p.kind ≡ kind.Data → answer_of slots p ≡ answer.Whole w → IsRejoined slots p w }
@@ -154,8 +150,7 @@ pub fn holding()
 
 /// What is no gathered message: each list of pieces has one thing wrong.
 pub fn not_gathered()
-    // a piece of the message with another number, though it is held
-    ensures another_number { (p : PacketFields) → IsGathered (record { flow = flow_of p; number = 1; pieces = record p { number = 1; place = 0; last = true } ∷ [] } ∷ []) (record p { number = 0 }) (record p { number = 1; place = 0; last = true } ∷ []) → ⊥ }
+    ensures another_number { NotGatheredAnotherNumber }
 
     // other bits than those that came
     ensures other_bits { (p : PacketFields) → IsGathered [] p (record p { bits = true ∷ p.bits } ∷ []) → ⊥ }

@@ -5,3 +5,4 @@ pub mod Partners
 pub mod Links
 pub mod Places
 pub mod Example
+pub mod Laws

@@ -2,9 +2,7 @@
 
 ghost use Rattle.std.specs.Prelude.{◌≡◌, ℕ, Bool, true, false, List, [], ◌∷◌, Some, None};
 ghost use Rattle.interface.specs.Host.{Host};
-ghost use Rattle.interface.specs.declared.crossing.Answer.TheVariants as answer;
 ghost use Rattle.reset_law.specs.Events as reset;
-ghost use Rattle.ncp_control.specs.declared.phase.Phase.TheVariants.{Ready};
 ghost use Rattle.reset_law.specs.Pairs.{pair};
 ghost use Rattle.reset_law.specs.Runs as reset_run;
 ghost use Rattle.reset_law.specs.Stays as stay;
@@ -12,10 +10,17 @@ ghost use Rattle.reset_law.specs.Example.{one, two, message};
 ghost use Rattle.pairing_law.specs.Places.{tagged, placed};
 ghost use Rattle.pairing_law.specs.Marks.{Mark, Ask, Close, closes, Asks};
 ghost use Rattle.pairing_law.specs.Ends.{nothing, fits};
-ghost use Rattle.pairing_law.specs.Sides.{Event, One, Two, Meet, Say, Hear, Leave, both, IsRun};
+ghost use Rattle.pairing_law.specs.Sides.{Event, One, Two, Meet, Say, Hear, both, IsRun};
 ghost use Rattle.pairing_law.specs.Partners.{IsOpen, OwnOnce, PartnerOnce, SafePartners};
-ghost use Rattle.pairing_law.specs.Links.{Sockets, Word, Receiver, Sender, Step, Says, Hears, Leaves, Meets, events_at, receiver, sender, stays, said_words, heard_words, IsFreeLink, IsUnused, MayStep, AreSteps};
-ghost use Rattle.pairing_law.specs.Example.{connected, over, again, refused, both_close, late, left_events, anew, stale, unreset, first_sockets, second_sockets, asked_link, taken_link, used_link, next_link};
+ghost use Rattle.pairing_law.specs.Links.{Sockets, Word, Receiver, Sender, Step, Hears, events_at, receiver, sender, said_words, heard_words, IsFreeLink, IsUnused, AreSteps};
+ghost use Rattle.pairing_law.specs.Example.{connected, over, again, refused, both_close, late, left_events, anew, stale, unreset, first_sockets, second_sockets, asked_link, taken_link, used_link};
+ghost use Rattle.pairing_law.specs.Example.{next_link};
+ghost use Rattle.pairing_law.specs.Laws.Resets.{ResetsInStay, ResetsLeft, ResetsSilent};
+ghost use Rattle.pairing_law.specs.Laws.Places.{PlacesFront};
+ghost use Rattle.pairing_law.specs.Laws.WorkedPlaces.{WorkedPlacesTwo};
+ghost use Rattle.pairing_law.specs.Laws.WorkedConnection.{WorkedConnectionAgain};
+ghost use Rattle.pairing_law.specs.Laws.WorkedStays.{WorkedStaysLeft};
+ghost use Rattle.pairing_law.specs.Laws.WorkedLinks.{WorkedLinksLeaves};
 
 /// Whatever two hosts say of one pair of their sockets, and whenever they leave and meet again. What is assumed of them is in
 /// `IsRun`: the rules by which a host speaks, and what a reset gives.
@@ -46,14 +51,11 @@ pub fn links()
 
 /// What a reset gives, over the law of resets only: where a host hears its peer, and how they meet.
 pub fn resets()
-    // a host that is through a reset takes a text only in a stay
-    ensures in_stay { (hosts : List Host) (events : List reset.Event) (a b : Host) (link : ℕ) (text : List Bool) → reset_run.IsRun hosts (reset.In a b link (reset.Other text) ∷ events) → (pair b a events).phase ≡ Ready → stay.stays b a events ≡ true }
+    ensures in_stay { ResetsInStay }
 
-    // where a stay begins, neither has said anything but RST and RRP since it dropped its connections last
-    ensures silent { (hosts : List Host) (event : reset.Event) (events : List reset.Event) (a b : Host) → reset_run.IsRun hosts (event ∷ events) → stay.begins a b event events ≡ true → ((pair a b (event ∷ events)).begun ≡ false) × ((pair b a (event ∷ events)).begun ≡ false) }
+    ensures silent { ResetsSilent }
 
-    // and both have left their older stay
-    ensures left { (hosts : List Host) (event : reset.Event) (events : List reset.Event) (a b : Host) → reset_run.IsRun hosts (event ∷ events) → stay.begins a b event events ≡ true → (stay.stays a b events ≡ false) × (stay.stays b a events ≡ false) }
+    ensures left { ResetsLeft }
 {}
 
 /// What was heard is a prefix of what was said with its places too: each text begins with the place where it went out.
@@ -65,8 +67,7 @@ pub fn places()
     ensures run { (hosts : List Host) (events : List reset.Event) → reset_run.IsRun hosts events → reset_run.IsRun hosts (placed events) }
     ensures same { (events : List reset.Event) (a b : Host) → (pair a b (placed events) ≡ pair a b events) × (stay.stays a b (placed events) ≡ stay.stays a b events) }
 
-    // so what a host heard of its peer in its stay is a prefix of what the peer said in its own, text by text and place by place
-    ensures front { (hosts : List Host) (events : List reset.Event) → reset_run.IsRun hosts events → (a b : Host) (link : ℕ) → stay.IsPrefix (stay.heard_in_stay a b link (placed events)) (stay.said_in_stay a b link (placed events)) }
+    ensures front { PlacesFront }
 {}
 
 /// A message and its place.
@@ -76,8 +77,7 @@ pub fn worked_places()
     ensures heard { stay.heard_in_stay one two 0 (placed (reset.In one two 0 (reset.Other (true ∷ [])) ∷ message)) ≡ tagged 5 (true ∷ []) ∷ [] }
     ensures bits { tagged 2 (true ∷ []) ≡ true ∷ true ∷ false ∷ true ∷ [] }
 
-    // a text with the same bits at another place is distinguished from it
-    ensures two { stay.said_in_stay one two 0 (placed (reset.Out one two 0 (reset.Other (true ∷ [])) ∷ reset.Told one two 0 answer.Rfnm ∷ reset.In one two 0 (reset.Other (true ∷ [])) ∷ message)) ≡ tagged 5 (true ∷ []) ∷ tagged 8 (true ∷ []) ∷ [] }
+    ensures two { WorkedPlacesTwo }
 {}
 
 /// A connection that is opened, closed, and opened again.
@@ -90,8 +90,7 @@ pub fn worked_connection()
     // a CLS each way ends both
     ensures over { ((both over).one.end ≡ nothing) × ((both over).two.end ≡ nothing) }
 
-    // then the same sockets are connected by requests of their own
-    ensures again { ((both again).one.lives ≡ record { own = 9; partner = 8 } ∷ record { own = 3; partner = 5 } ∷ []) × ((both again).two.lives ≡ record { own = 8; partner = 9 } ∷ record { own = 5; partner = 3 } ∷ []) }
+    ensures again { WorkedConnectionAgain }
 
     // each request belongs to the connection that this many CLS of its sender come before
     ensures counted { closes (both again).one.said ≡ 1 }
@@ -110,8 +109,7 @@ pub fn worked_connection()
 
 /// Hosts that leave, and begin anew.
 pub fn worked_stays()
-    // a host that leaves forgets its end, and its peer continues
-    ensures left { ((both left_events).one.end ≡ nothing) × ((both left_events).one.stays ≡ false) × ((both left_events).two.stays ≡ true) × ((both left_events).two.end ≡ record { asked = None; partner = Some 3; gone = false; taken = false }) }
+    ensures left { WorkedStaysLeft }
 
     // after a reset words begin anew, and the same sockets are connected by new requests
     ensures anew { ((both anew).one.said ≡ Ask 8 ∷ []) × ((both anew).one.lives ≡ record { own = 8; partner = 6 } ∷ []) × ((both anew).two.lives ≡ record { own = 6; partner = 8 } ∷ []) }
@@ -154,8 +152,7 @@ pub fn worked_links()
     // then it goes to the other pair, and its old end is over by the time that the request is taken
     ensures next { ((sender first_sockets next_link).end ≡ nothing) × ((sender second_sockets next_link).end.partner ≡ Some 8) }
 
-    // leaving and meeting is that of all pairs
-    ensures leaves { (events_at second_sockets (Leaves Sender ∷ asked_link) ≡ Two Leave ∷ Meet ∷ []) × (stays Sender (Leaves Sender ∷ asked_link) ≡ false) × (stays Receiver (Leaves Sender ∷ asked_link) ≡ true) }
+    ensures leaves { WorkedLinksLeaves }
 {}
 
 /// What a host may not do.

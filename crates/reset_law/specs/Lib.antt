@@ -6,3 +6,4 @@ pub mod Runs
 pub mod Stays
 pub mod Invariant
 pub mod Example
+pub mod Laws

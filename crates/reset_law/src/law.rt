@@ -1,17 +1,22 @@
 //! What becomes of a reset. The functions here do nothing: each clause is the law.
 
-ghost use Rattle.std.specs.Prelude.{◌≡◌, ◌≢◌, ℕ, Bool, true, false, List, [], ◌∷◌, ◌++◌, Some, None};
+ghost use Rattle.std.specs.Prelude.{◌≡◌, ℕ, true, false, List, [], ◌∷◌, Some, None};
 ghost use Rattle.interface.specs.Host.{Host};
 ghost use Rattle.interface.specs.declared.crossing.Answer.TheVariants as answer;
-ghost use Rattle.reset_law.specs.Boxes.{boxes, Empty, Waiting, Taken};
+ghost use Rattle.reset_law.specs.Boxes.{boxes, Empty, Waiting};
 ghost use Rattle.reset_law.specs.Events.{Event, Contact, Out, In, Told, Down, Up, Idle, Reset, Reply, Other, place, is_up};
-ghost use Rattle.reset_law.specs.Example.{one, two, reset, message, early_reply, both_ask, crossing, reset_beside, reset_beside_data, owing_reply, asked_back, left_events, reset_again};
+ghost use Rattle.reset_law.specs.Example.{one, two, reset, message, early_reply, crossing, reset_beside, reset_beside_data, owing_reply, asked_back, left_events, reset_again};
 ghost use Rattle.reset_law.specs.Invariant.{kind_in, is_signal, Sound};
 ghost use Rattle.reset_law.specs.Monitor.{monitor};
 ghost use Rattle.reset_law.specs.Pairs.{pair, opening_pair, MaySend};
-ghost use Rattle.ncp_control.specs.declared.phase.Phase.TheVariants.{Closed, Want, Gone, Heard, Ready};
-ghost use Rattle.reset_law.specs.Runs.{IsRun, WaitsAfterClean};
-ghost use Rattle.reset_law.specs.Stays.{ready, joint, begins, stays, said_in_stay, heard_in_stay, waits_in, IsPrefix};
+ghost use Rattle.ncp_control.specs.declared.phase.Phase.TheVariants.{Closed, Heard, Ready};
+ghost use Rattle.reset_law.specs.Runs.{IsRun};
+ghost use Rattle.reset_law.specs.Stays.{ready, joint, stays, said_in_stay, heard_in_stay, IsPrefix};
+ghost use Rattle.reset_law.specs.Laws.CleanReset.{CleanResetAlone, CleanResetClean};
+ghost use Rattle.reset_law.specs.Laws.Stays.{StaysBeginning, StaysWaiting, StaysWhole};
+ghost use Rattle.reset_law.specs.Laws.WorkedResets.{WorkedResetsAnew, WorkedResetsCrossed, WorkedResetsEarly};
+ghost use Rattle.reset_law.specs.Laws.WorkedFailures.{WorkedFailuresResetFails};
+ghost use Rattle.reset_law.specs.Laws.WorkedStays.{WorkedStaysAnew, WorkedStaysTaken};
 
 /// A whole reset, step by step.
 pub fn worked_reset()
@@ -25,12 +30,11 @@ pub fn worked_reset()
 
 /// Whatever happens to two hosts, in whatever order: resets that cross, fail, come late or are asked for again.
 pub fn clean_reset()
-    // a host that is through a reset takes of its peer only what went out after its last clean point for that peer
-    ensures clean { (hosts : List Host) (events : List Event) (a b : Host) (link : ℕ) (text : List Bool) → IsRun hosts (In a b link (Other text) ∷ events) → (pair b a events).phase ≡ Ready → WaitsAfterClean a b link text events }
+    ensures clean { CleanResetClean }
 
     // RST and RRP are sent on link 0, and while one of them waits or has no answer nothing else is
     ensures signals { (hosts : List Host) (events : List Event) → IsRun hosts events → (a b : Host) (link : ℕ) → is_signal (kind_in (boxes a b events link)) ≡ true → link ≡ 0 }
-    ensures alone { (hosts : List Host) (events : List Event) → IsRun hosts events → (a b : Host) (link : ℕ) → is_signal (kind_in (boxes a b events 0)) ≡ true → link ≢ 0 → boxes a b events link ≡ Empty }
+    ensures alone { CleanResetAlone }
 
     // a host that stopped has lost all its resets
     ensures stopped { (hosts : List Host) (events : List Event) → IsRun hosts events → (a b : Host) → is_up hosts a events ≡ false → pair a b events ≡ opening_pair }
@@ -45,21 +49,18 @@ pub fn stays()
     // what a host heard of its peer in its stay is a prefix of what the peer said in its own, whoever has left meanwhile
     ensures front { (hosts : List Host) (events : List Event) → IsRun hosts events → (a b : Host) (link : ℕ) → IsPrefix (heard_in_stay a b link events) (said_in_stay a b link events) }
 
-    // while the host stays, so is what it heard and what waits for it
-    ensures waiting { (hosts : List Host) (events : List Event) → IsRun hosts events → (a b : Host) (link : ℕ) → stays b a events ≡ true → IsPrefix (heard_in_stay a b link events ++ waits_in (boxes a b events link)) (said_in_stay a b link events) }
+    ensures waiting { StaysWaiting }
 
-    // while both are through a reset nothing is lost
-    ensures whole { (hosts : List Host) (events : List Event) → IsRun hosts events → (a b : Host) (link : ℕ) → joint a b events ≡ true → heard_in_stay a b link events ++ waits_in (boxes a b events link) ≡ said_in_stay a b link events }
+    ensures whole { StaysWhole }
 
     // then both stay, and where that began nothing of an older contact waited, either way
     ensures together { (hosts : List Host) (events : List Event) → IsRun hosts events → (a b : Host) → joint a b events ≡ true → stays a b events ≡ true }
-    ensures beginning { (hosts : List Host) (e : Event) (events : List Event) → IsRun hosts (e ∷ events) → (a b : Host) (link : ℕ) → begins a b e events ≡ true → (waits_in (boxes a b (e ∷ events) link) ≡ []) × (waits_in (boxes b a (e ∷ events) link) ≡ []) }
+    ensures beginning { StaysBeginning }
 {}
 
 /// Resets that cross, and an RRP that comes too early.
 pub fn worked_resets()
-    // an RRP before the RFNM of the own RST may belong to an older reset: after the RFNM another RST has to go out, and the RRP was no clean point
-    ensures early { ((pair one two early_reply).phase ≡ Gone true) × ((pair one two (Told one two 0 answer.Rfnm ∷ early_reply)).phase ≡ Want) × ((monitor one two (Told one two 0 answer.Rfnm ∷ early_reply)).clean ≡ None) }
+    ensures early { WorkedResetsEarly }
 
     // nor is one that comes after that RFNM, and before the other RST
     ensures late { (monitor one two (In two one 0 Reply ∷ Out two one 0 Reply ∷ Told one two 0 answer.Rfnm ∷ early_reply)).clean ≡ None }
@@ -67,14 +68,12 @@ pub fn worked_resets()
     // an RST doesn't end a contact that awaits its RRP
     ensures awaited { ((pair one two asked_back).phase ≡ Heard) × ((monitor one two asked_back).clean ≡ None) }
 
-    // RSTs that cross leave both contacts waiting, and are no clean points
-    ensures crossed { ((pair one two both_ask).phase ≡ Gone false) × ((pair two one both_ask).phase ≡ Gone false) × ((monitor one two both_ask).clean ≡ None) × ((monitor two one both_ask).clean ≡ None) }
+    ensures crossed { WorkedResetsCrossed }
 
     // each RRP then ends one contact, and is a clean point for the host that takes it
     ensures both { ((pair one two crossing).phase ≡ Ready) × ((pair two one crossing).phase ≡ Ready) × ((monitor one two crossing).clean ≡ Some 9) × ((monitor two one crossing).clean ≡ Some 8) }
 
-    // an RST to a host that is ready leaves it so, drops what was begun, and is a clean point
-    ensures anew { ((pair one two reset_beside).phase ≡ Ready) × ((pair one two reset_beside).owed ≡ true) × ((pair one two reset_beside).begun ≡ false) × ((monitor one two reset_beside).clean ≡ Some 7) }
+    ensures anew { WorkedResetsAnew }
 
     // contacts are no crossings, and a host's own wishes aren't either
     ensures places { (place reset ≡ 5) × (place (Idle ∷ Contact two one ∷ reset) ≡ 5) }
@@ -101,8 +100,7 @@ pub fn worked_sending()
 
 /// Messages that fail, and hosts that stop.
 pub fn worked_failures()
-    // an RST that fails ends its contact
-    ensures reset_fails { ((pair one two (Told one two 0 answer.Dead ∷ Out one two 0 Reset ∷ Contact one two ∷ [])).phase ≡ Closed) × ((monitor one two (Told one two 0 answer.Dead ∷ Out one two 0 Reset ∷ Contact one two ∷ [])).pending ≡ false) }
+    ensures reset_fails { WorkedFailuresResetFails }
 
     // a message that fails closes a pair, but not while an RRP is owed
     ensures message_fails { (pair one two (Told one two 0 answer.Incomplete ∷ message)).phase ≡ Closed }
@@ -117,8 +115,7 @@ pub fn worked_failures()
 
 /// What two hosts say and hear.
 pub fn worked_stays()
-    // a message that was taken is outstanding until its answer comes
-    ensures taken { (boxes one two (In one two 0 (Other (true ∷ [])) ∷ message) 0 ≡ Taken 5 (Other (true ∷ []))) × (boxes one two (Told one two 0 answer.Rfnm ∷ In one two 0 (Other (true ∷ [])) ∷ message) 0 ≡ Empty) }
+    ensures taken { WorkedStaysTaken }
 
     // what was said waits, and is heard when it is taken; on another link nothing is
     ensures said { (said_in_stay one two 0 message ≡ (true ∷ []) ∷ []) × (heard_in_stay one two 0 message ≡ []) × (said_in_stay one two 2 message ≡ []) }
@@ -132,5 +129,5 @@ pub fn worked_stays()
 
     // where a stay begins, words begin anew, whatever was said before
     ensures again { (said_in_stay one two 0 reset_again ≡ []) × (heard_in_stay one two 0 reset_again ≡ []) × (stays one two reset_again ≡ true) }
-    ensures anew { (said_in_stay one two 0 reset ≡ []) × (stays one two reset ≡ true) × (stays two one reset ≡ true) × (stays two one (In one two 0 Reset ∷ Out one two 0 Reset ∷ Contact one two ∷ []) ≡ false) }
+    ensures anew { WorkedStaysAnew }
 {}

@@ -3,3 +3,4 @@ pub mod RouteTable
 pub mod Walks
 pub mod Settle
 pub mod Inside
+pub mod Laws

@@ -1,12 +1,14 @@
 //! The laws of route tables, stated over their definitions. The functions here do nothing: each clause is
 //! a law.
 
-ghost use Rattle.std.specs.Prelude.{◌≡◌, ◌≢◌, ℕ, ◌<◌, ◌≤◌, Some, List, [], ◌∷◌, length, map, replicate};
+ghost use Rattle.std.specs.Prelude.{◌≡◌, ◌≢◌, ℕ, ◌<◌, ◌≤◌, Some, List, [], ◌∷◌};
 ghost use Rattle.interface.specs.Host.{most_imps};
 ghost use Rattle.routing.specs.Vector.{IsVector, infinite};
-ghost use Rattle.routing.specs.Settle.{AreTablesOf, IsImp, IsNearer, IsRight, settled, table_of};
+ghost use Rattle.routing.specs.Settle.{AreTablesOf, IsNearer, settled};
 ghost use Rattle.routing.specs.Walks.{IsDistance};
-ghost use Rattle.routing.specs.RouteTable.{Table, opening_table, distance_in, distance_to, vector_of, next_of, IsNext};
+ghost use Rattle.routing.specs.RouteTable.{Table, distance_in, distance_to, vector_of, next_of, IsNext};
+ghost use Rattle.routing.specs.Laws.Settling.{SettlingRight};
+ghost use Rattle.routing.specs.Laws.WorkedRounds.{WorkedRoundsOne, WorkedRoundsTwo};
 
 /// A table's vector announces its distances, and its next line attains the distance to another IMP.
 pub fn tables()
@@ -25,16 +27,14 @@ pub fn tables()
 /// those of shortest walks over the live lines, and its next lines lead nearer.
 pub fn settling()
     ensures kept { (graph : List (ℕ × ℕ)) (tables : List Table) (rounds : ℕ) → AreTablesOf graph tables → AreTablesOf graph (settled graph tables rounds) }
-    ensures right { (graph : List (ℕ × ℕ)) (tables : List Table) (rounds : ℕ) → AreTablesOf graph tables → infinite ≤ rounds → (imp : ℕ) → IsImp (length tables) imp → IsRight graph (table_of (settled graph tables rounds) imp) }
+    ensures right { SettlingRight }
 {}
 
 /// What one round is: three IMPs in a row that have heard nothing.
 pub fn worked_rounds()
-    // each hears what its neighbours knew when the round began: IMP 2 of both, and IMPs 1 and 3 nothing of each other yet
-    ensures one { map vector_of (settled ((1, 2) ∷ (2, 3) ∷ []) (opening_table 1 1 ∷ opening_table 2 2 ∷ opening_table 3 1 ∷ []) 1) ≡ (0 ∷ 1 ∷ replicate 61 infinite) ∷ (1 ∷ 0 ∷ 1 ∷ replicate 60 infinite) ∷ (infinite ∷ 1 ∷ 0 ∷ replicate 60 infinite) ∷ [] }
+    ensures one { WorkedRoundsOne }
 
-    // after the second round they have
-    ensures two { map vector_of (settled ((1, 2) ∷ (2, 3) ∷ []) (opening_table 1 1 ∷ opening_table 2 2 ∷ opening_table 3 1 ∷ []) 2) ≡ (0 ∷ 1 ∷ 2 ∷ replicate 60 infinite) ∷ (1 ∷ 0 ∷ 1 ∷ replicate 60 infinite) ∷ (2 ∷ 1 ∷ 0 ∷ replicate 60 infinite) ∷ [] }
+    ensures two { WorkedRoundsTwo }
 {}
 
 /// Ports that lead no nearer.

@@ -3,3 +3,4 @@ pub mod Lines
 pub mod Machines
 pub mod Octets
 pub mod Played
+pub mod Laws

@@ -1,15 +1,16 @@
 //! What the definitions of the two programs come to: one worked row for each reading of a rule that would be
 //! wrong. The functions do nothing; each clause is a row.
 
-ghost use Rattle.std.specs.Prelude.{◌≡◌, true, false, [], ◌∷◌, ◌++◌, None, Some};
+ghost use Rattle.std.specs.Prelude.{◌≡◌, [], ◌∷◌, None, Some};
 ghost use Rattle.bit_messages.specs.Octets.{bits_of};
 ghost use Rattle.interface.specs.Host.{Host};
 ghost use Rattle.host_pairs.specs.declared.notice.Notice.TheVariants as notice;
 ghost use Rattle.sockets.specs.declared.request.Request.TheVariants as request;
 ghost use Rattle.terminal.specs.Lines.{lines_heard, line_fault, spelled};
 ghost use Rattle.terminal.specs.Machines.{echo_turn, opening_echo, opening_terminal, terminal_turn, turn};
-ghost use Rattle.terminal.specs.Played.{echo_played, terminal_played};
 ghost use Rattle.terminal.specs.declared.fault.TerminalFault.TheVariants as fault;
+ghost use Rattle.terminal.specs.Laws.WorkedEcho.{WorkedEchoFives, WorkedEchoInParts, WorkedEchoSeven};
+ghost use Rattle.terminal.specs.Laws.WorkedTerminal.{WorkedTerminalInParts, WorkedTerminalLine};
 
 /// Lines that go out, and octets that come in.
 pub fn worked_lines()
@@ -50,12 +51,10 @@ pub fn worked_echo()
     // a message without bits costs a message too; there is nothing to send
     ensures no_bits { echo_turn (opening_echo 100 101) (notice.Arrived 100 []) ≡ (opening_echo 100 101, request.Grant 100 1 0 ∷ []) }
 
-    // twelve bits go back at once, and so do the four that come next: nothing waits for a whole octet
-    ensures in_parts { echo_played (opening_echo 100 101) (notice.Arrived 100 (bits_of (65 ∷ []) ++ false ∷ true ∷ false ∷ false ∷ []) ∷ notice.Arrived 100 (false ∷ false ∷ true ∷ false ∷ []) ∷ []) ≡ (opening_echo 100 101, request.Grant 100 1 12 ∷ request.Send 101 (bits_of (65 ∷ []) ++ false ∷ true ∷ false ∷ false ∷ []) ∷ request.Grant 100 1 4 ∷ request.Send 101 (false ∷ false ∷ true ∷ false ∷ []) ∷ []) }
+    ensures in_parts { WorkedEchoInParts }
 
-    // bytes of five bits and of seven: two of five are no octet either, and come back in one piece
-    ensures fives { echo_turn (opening_echo 100 101) (notice.Arrived 100 (true ∷ false ∷ true ∷ false ∷ true ∷ false ∷ false ∷ true ∷ true ∷ false ∷ [])) ≡ (opening_echo 100 101, request.Grant 100 1 10 ∷ request.Send 101 (true ∷ false ∷ true ∷ false ∷ true ∷ false ∷ false ∷ true ∷ true ∷ false ∷ []) ∷ []) }
-    ensures seven { echo_turn (opening_echo 100 101) (notice.Arrived 100 (true ∷ false ∷ false ∷ true ∷ false ∷ false ∷ true ∷ [])) ≡ (opening_echo 100 101, request.Grant 100 1 7 ∷ request.Send 101 (true ∷ false ∷ false ∷ true ∷ false ∷ false ∷ true ∷ []) ∷ []) }
+    ensures fives { WorkedEchoFives }
+    ensures seven { WorkedEchoSeven }
 
     // bits on another socket aren't for it, and what it has sent itself is no arrival
     ensures others_bits { echo_turn (opening_echo 100 101) (notice.Arrived 16 (bits_of (65 ∷ []))) ≡ (opening_echo 100 101, []) }
@@ -70,11 +69,9 @@ pub fn worked_echo()
 /// What the line terminal does, with the sockets 18 and 19.
 #[tactic(auto, unfolding(crate::specs::Machines::terminal_turn, crate::specs::Machines::terminal_heard, bit_messages::specs::Octets::octets_of))]
 pub fn worked_terminal()
-    // a line and the beginning of the next: all is granted again, and the line is reported
-    ensures line { terminal_turn (opening_terminal 18 19) (notice.Arrived 18 (bits_of (72 ∷ 73 ∷ 13 ∷ 10 ∷ 74 ∷ []))) ≡ turn (record (opening_terminal 18 19) { rest = 74 ∷ [] }) (request.Grant 18 1 40 ∷ []) ((72 ∷ 73 ∷ []) ∷ []) }
+    ensures line { WorkedTerminalLine }
 
-    // a line that comes in three messages, cut within an octet and within its end, is reported once
-    ensures in_parts { terminal_played (opening_terminal 18 19) (notice.Arrived 18 (false ∷ true ∷ false ∷ []) ∷ notice.Arrived 18 (false ∷ true ∷ false ∷ false ∷ false ∷ bits_of (13 ∷ [])) ∷ notice.Arrived 18 (bits_of (10 ∷ [])) ∷ []) ≡ (opening_terminal 18 19, (72 ∷ []) ∷ []) }
+    ensures in_parts { WorkedTerminalInParts }
 
     // its other socket and its ends
     ensures others_bits { terminal_turn (opening_terminal 18 19) (notice.Arrived 19 (bits_of (72 ∷ 13 ∷ 10 ∷ []))) ≡ turn (opening_terminal 18 19) [] [] }

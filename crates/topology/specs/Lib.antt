@@ -1,3 +1,4 @@
 pub mod Topology
 pub mod Reading
 pub mod Examples
+pub mod Laws

@@ -7,7 +7,9 @@ ghost use Rattle.toml.specs.Data.{get};
 ghost use Rattle.toml.specs.Errors.{IsBlank, IsMemory};
 ghost use Rattle.interface.specs.Calls.{InOrder};
 ghost use Rattle.interface.specs.Host.{most_imps};
-ghost use Rattle.topology.specs.Topology.{TopologyFields, most_hosts, most_network_lines, hosts_of, has_host, topology_in, topology_of, size, has, one_if, known_members, carrier_of, raw_of, number_at, host_if, hosts_from, site_of, sites_of, AreSites, is_imp, is_line, each_of, imp_of, line_of, imps_of, lines_of, are_imps, is_there, are_lines, are_apart, joins_same, has_ports, line_count, by_number, imp_of_number};
+ghost use Rattle.topology.specs.Topology.{TopologyFields, most_hosts, most_network_lines, hosts_of, has_host, topology_in, topology_of, size, has, one_if, known_members, carrier_of, raw_of};
+ghost use Rattle.topology.specs.Topology.{number_at, host_if, hosts_from, site_of, sites_of, AreSites, is_imp, is_line, each_of, imp_of, line_of, imps_of, lines_of, are_imps, is_there, are_lines};
+ghost use Rattle.topology.specs.Topology.{are_apart, joins_same, has_ports, line_count, by_number, imp_of_number};
 ghost use Rattle.topology.specs.Reading.{Described, DescribedIn};
 
 use interface::{HostAddr, MOST_IMPS};

@@ -1,2 +1,3 @@
 pub mod Users
 pub mod WorkedConnections
+pub mod Laws

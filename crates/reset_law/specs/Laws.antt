@@ -1,0 +1,6 @@
+-- Statements and rows that are too long for a line in src/, each named after its function and clause.
+pub mod CleanReset
+pub mod Stays
+pub mod WorkedResets
+pub mod WorkedFailures
+pub mod WorkedStays
