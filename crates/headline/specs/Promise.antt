@@ -8,6 +8,7 @@ use Rattle.net_sim.specs.World.{WorldState}
 use Rattle.promise.specs.Connections.{JoinedBook}
 use Rattle.world_keeps_lives.specs.Drained.{AllDrained}
 use Rattle.world_keeps_lives.specs.Firsts.{FirstBook}
+use Rattle.world_keeps_streams.specs.Answered.{AllAnswered}
 use Rattle.world_keeps_streams.specs.Arrivals.{AllArrive}
 use Rattle.world_keeps_streams.specs.Closes.{AllClose, AllHanded}
 use Rattle.world_keeps_streams.specs.Rests.{AllRest}
@@ -16,7 +17,7 @@ use Rattle.world_keeps_streams.specs.Rests.{AllRest}
 -- crossed. A message answered by RFNM was taken exactly once and none is taken twice; no two ends hold one opening with different partners; what was taken,
 -- if anything was, is a prefix of what its one partner sent, and what was sent of what was handed over; and what was taken, and what was sent, is granted. A finished initial connection pairs the right four sockets.
 -- And crossings, notices and lives are what the programs of all hosts make of one list of moments, over a carrier whose log is a run of the mailboxes. In these moments data that were taken where they came for a receiving life whose
--- end was open arrived there, all of them; a receiving life whose end its partner had closed, and no user of its host, took all that its partner sent, also once it was over; and so did one whose end was open while nothing waited for it and its partner continued.
+-- end was open arrived there, all of them; where a host gets RFNM of data they were taken before, once; a receiving life whose end its partner had closed, and no user of its host, took all that its partner sent, also once it was over; and so did one whose end was open while nothing waited for it and its partner continued.
 -- A sending life whose CLS was queued before its partner's was taken has sent all that was handed over in it, also once it was over.
 -- The crossings determine the bits of all lives: a life's messages are the first on its link after both of its requests, and each message that went out is one of a sending life
 pub record KeepsPromise {C : Type 0} (seen : C → Seen) (w : WorldState C) : Type 0 where
@@ -26,17 +27,19 @@ pub record KeepsPromise {C : Type 0} (seen : C → Seen) (w : WorldState C) : Ty
   pub joined : JoinedBook w.kept.book
   pub lawful : IsLawful seen (seen w.carrier).hosts w
   pub arrives : AllArrive lawful.whole.moments
+  pub answered : AllAnswered lawful.whole.moments
   pub closes : AllClose lawful.whole.moments
   pub rests : AllRest lawful.whole.moments
   pub drained : AllDrained lawful.whole.moments
   pub handed : AllHanded lawful.whole.moments
   pub firsts : FirstBook w.kept.book.crossings w.kept.book.lives
 
--- what `Promised` leaves: the world is lawful, in its moments data arrive, lives agree where their ends close and where they rest, and what was handed
+-- what `Promised` leaves: the world is lawful, in its moments data arrive, and RFNM of data means that they did where they came, lives agree where their ends close and where they rest, and what was handed
 -- over was sent where a sender closes first; and the crossings determine the bits of all lives
 pub record IsExact {C : Type 0} (seen : C → Seen) (w : WorldState C) : Type 0 where
   pub lawful : IsLawful seen (seen w.carrier).hosts w
   pub arrives : AllArrive lawful.whole.moments
+  pub answered : AllAnswered lawful.whole.moments
   pub closes : AllClose lawful.whole.moments
   pub rests : AllRest lawful.whole.moments
   pub drained : AllDrained lawful.whole.moments

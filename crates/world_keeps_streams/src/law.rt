@@ -4,6 +4,8 @@ ghost use Rattle.std.specs.Prelude.{◌≡◌, ℕ, ◌==◌, true, false, List,
 ghost use Rattle.std.specs.List.{Contains};
 ghost use Rattle.interface.specs.Host.{Host};
 ghost use Rattle.interface.specs.Mailboxes as mail;
+ghost use Rattle.interface.specs.declared.address.Flow.{Flow};
+ghost use Rattle.interface.specs.declared.crossing.Answer.TheVariants as answer;
 ghost use Rattle.interface.specs.declared.crossing.Crossing.TheVariants as crossing;
 ghost use Rattle.interface.specs.declared.message.HostMessage.{HostMessage};
 ghost use Rattle.host_keeps_streams.specs.Ends.{HasReceiver};
@@ -25,6 +27,7 @@ ghost use Rattle.net_sim.specs.Worked.{eight};
 ghost use Rattle.net_sim.specs.WorkedMoments.{bits_sent, connected, eight_sent, sent_moments};
 ghost use Rattle.world_keeps_lives.specs.Firsts.{FirstBook};
 ghost use Rattle.world_keeps_streams.specs.Worked.{close_back, ended_moments, over_eight, quit_moments, took, took_eight};
+ghost use Rattle.world_keeps_streams.specs.Answered.{AllAnswered, HasArrived};
 ghost use Rattle.world_keeps_streams.specs.Arrivals.{AllArrive, Arrives, ComesFor};
 ghost use Rattle.world_keeps_streams.specs.Calls.{own_calls, numbered_by_peer};
 ghost use Rattle.world_keeps_streams.specs.Rests.{AllRest, AreAtRest};
@@ -78,6 +81,9 @@ pub fn lives()
     // data that are taken where they come for a receiving life whose end is open, or that no user of its host has closed, arrive there, all of them
     ensures arrives { (hosts : List Host) (moments : List Moment) (m : HostMessage) → HaveAddresses hosts → mail.IsRun hosts (crossings_of (Crossed (crossing.In m) ∷ moments)) → IsTimeline hosts (Crossed (crossing.In m) ∷ moments) → (receiver : Life) → ComesFor m moments receiver → Arrives m moments receiver }
 
+    // where a host gets RFNM of data, they were taken at an earlier moment, once, and arrived there if they came for such a life
+    ensures answered { (hosts : List Host) (moments : List Moment) (f : Flow) → HaveAddresses hosts → mail.IsRun hosts (crossings_of (Crossed (crossing.Answer answer.Rfnm f) ∷ moments)) → IsTimeline hosts (Crossed (crossing.Answer answer.Rfnm f) ∷ moments) → (f.link.0 == 0) ≡ false → HasArrived f moments }
+
     // a receiving life at rest, whose end is open and for which nothing waits, took all that its partner sent
     ensures rests { (hosts : List Host) (moments : List Moment) → HaveAddresses hosts → mail.IsRun hosts (crossings_of moments) → IsTimeline hosts moments → (receiver sender : Life) → AreAtRest moments receiver sender → (receiver.bits ≡ sender.bits) × (receiver.messages ≡ sender.messages) }
 
@@ -92,6 +98,7 @@ pub fn worlds<C: Carrier>()
     ensures handed { (hosts : List Host) (w : WorldState C) → (lawful : IsLawful C.calls.seen hosts w) → AllHanded lawful.whole.moments }
     ensures firsts { (hosts : List Host) (w : WorldState C) → IsLawful C.calls.seen hosts w → FirstBook w.kept.book.crossings w.kept.book.lives }
     ensures arrives { (hosts : List Host) (w : WorldState C) → (lawful : IsLawful C.calls.seen hosts w) → AllArrive lawful.whole.moments }
+    ensures answered { (hosts : List Host) (w : WorldState C) → (lawful : IsLawful C.calls.seen hosts w) → AllAnswered lawful.whole.moments }
     ensures rests { (hosts : List Host) (w : WorldState C) → (lawful : IsLawful C.calls.seen hosts w) → AllRest lawful.whole.moments }
     ensures sent { (hosts : List Host) (w : WorldState C) → IsLawful C.calls.seen hosts w → (receiver sender : Life) → Contains w.kept.book.lives receiver → Contains w.kept.book.lives sender → Match w.kept.book.crossings receiver sender → IsGranted receiver sender.messages (length sender.bits) }
 {}
@@ -104,6 +111,15 @@ pub fn worked_arrivals()
     // where its user has closed the end, they don't come for the life, though it continues; and nobody is notified of them
     ensures closing { ComesFor eight_sent (Asked dialogue.first (request.Close 16) ∷ bits_sent) took → ⊥ }
     ensures dropped { notices_by (Crossed (crossing.In eight_sent)) (Asked dialogue.first (request.Close 16) ∷ bits_sent) ≡ [] }
+{}
+
+/// RFNM of data: of eight bits that arrived.
+pub fn worked_answers()
+    ensures taken { HasArrived (dialogue.on_link dialogue.second dialogue.first 2) sent_moments }
+
+    // not while they wait to be taken, nor where they were taken twice
+    ensures waits { HasArrived (dialogue.on_link dialogue.second dialogue.first 2) bits_sent → ⊥ }
+    ensures twice { HasArrived (dialogue.on_link dialogue.second dialogue.first 2) (Crossed (crossing.In eight_sent) ∷ sent_moments) → ⊥ }
 {}
 
 /// Eight bits that were sent: taken, and waiting to be taken; and where the receiving user has closed.

@@ -1,12 +1,12 @@
 -- How many CLS two hosts have said and heard of a connection, by the ends that they have of it.
-use Rattle.std.proofs.Common.{◌≡◌, ℕ, ◌+◌, ◌≤◌, ◌&&◌, Bool, true, false, List, [], ◌∷◌, ◌++◌, Some, refl, ap, sym, subst, ◌∙◌, arith}
+use Rattle.std.proofs.Common.{◌≡◌, ℕ, ◌+◌, ◌≤◌, ◌&&◌, Bool, true, false, List, [], ◌∷◌, ◌++◌, refl, ap, sym, subst, ◌∙◌, arith}
 use Rattle.interface.specs.Host.{Host}
 use Rattle.host_pairs.specs.Entries.{is_sent}
 use Rattle.host_pairs.specs.declared.entry.Entry.{Entry}
 use Rattle.host_keeps_pairing.specs.Ends.{end_of, is_past, standing}
 use Rattle.pairing_law.specs.Ends.{End}
 use Rattle.pairing_law.specs.Links.{Sockets, Who, Receiver, Sender}
-use Rattle.pairing_law.specs.Marks.{Ask, Asks, Close, IsOlder, Mark, closes}
+use Rattle.pairing_law.specs.Marks.{Ask, Close, IsOlder, Mark, closes}
 use Rattle.pairing_law.specs.Sides.{Side}
 use Rattle.pairing_law.proofs.lemmas.{Half, Joined, count, stays_same}
 use Rattle.reset_law.specs.Stays as stay

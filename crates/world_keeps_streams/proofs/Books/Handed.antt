@@ -18,7 +18,7 @@ use Rattle.net_sim.specs.Timeline.{crossings_of}
 use Rattle.net_sim.specs.Told.{kept_in}
 use Rattle.net_sim.specs.World.{WorldState}
 use Rattle.promise.specs.declared.life.Life.{Life}
-use Rattle.world_keeps_lives.specs.Drained.{AllSent, ClosedFirst, ClosesFirst}
+use Rattle.world_keeps_lives.specs.Drained.{AllSent, ClosedFirst}
 use Rattle.world_keeps_lives.specs.Lives.{HasOpenEnd}
 use Rattle.world_keeps_lives.proofs.lemmas.{drained, live}
 use Rattle.world_keeps_pairing.proofs.lemmas.{book_run}

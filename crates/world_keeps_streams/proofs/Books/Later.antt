@@ -1,13 +1,12 @@
 -- A receiving life that its partner has closed, and no user of its host, has all that its partner sent, whatever becomes of both later.
-use Rattle.std.proofs.Common.{◌≡◌, ◌⊎◌, inl, inr, ℕ, zero, suc, ◌+◌, ◌≤◌, ◌==◌, Bool, true, false, List, [], ◌∷◌, ◌++◌, length, map, take, drop, if◌then◌else◌, Option, Some, refl, ap, sym, subst, ◌∙◌, arith}
+use Rattle.std.proofs.Common.{◌≡◌, ◌⊎◌, inl, inr, ℕ, zero, suc, ◌+◌, ◌≤◌, Bool, true, false, List, [], ◌∷◌, ◌++◌, length, map, take, drop, if◌then◌else◌, Some, refl, ap, sym, subst, ◌∙◌, arith}
 use Rattle.std.specs.List.{Contains}
 use Rattle.interface.specs.Calls.{Seen}
 use Rattle.interface.specs.Host.{Host}
-use Rattle.interface.specs.declared.crossing.Crossing.{Crossing}
 use Rattle.ncp_control.specs.Numbers.{is_receive_socket, is_send_socket}
 use Rattle.ncp_control.specs.declared.allocation.Allocation.{Allocation}
 use Rattle.stream_law.specs.Receivers.{Receiver}
-use Rattle.stream_law.specs.Within.{IsPrefix, IsSafe}
+use Rattle.stream_law.specs.Within.{IsSafe}
 use Rattle.stream_law.proofs.lemmas.{safe_inv}
 use Rattle.host_keeps_streams.specs.Histories.{HasClosed, name_now, numbered, receiver_now}
 use Rattle.host_keeps_streams.specs.Histories as calls
@@ -26,7 +25,7 @@ use Rattle.world_keeps_pairing.specs.Steps.{keeps, steps}
 use Rattle.world_keeps_pairing.proofs.lemmas.{book_run}
 use Rattle.world_keeps_streams.specs.Calls.{calls_by, own_calls}
 use Rattle.world_keeps_streams.specs.Closes.{AllClose, IsClosedByPartner, TookAll, WasClosedByPartner}
-use Rattle.world_keeps_streams.proofs.Calls.Chain.{Chained, chain}
+use Rattle.world_keeps_streams.proofs.Calls.Chain.{chain}
 use Rattle.world_keeps_streams.proofs.Carried.Streams.{all_bits}
 use Rattle.world_keeps_streams.proofs.Lives.Lists.{Grown, IsOf, Named, contains, drop_grown, grown, is_of, of_drop, of_left, of_map, of_parts, of_take, of_whole, take_grown}
 use Rattle.world_keeps_streams.proofs.Requests.Names.{request_grows}
@@ -38,14 +37,14 @@ use Rattle.world_keeps_streams.proofs.Steps.Streams.{all_allowed}
 use Rattle.world_keeps_streams.proofs.Books.All.{all_given}
 use Rattle.world_keeps_streams.proofs.Books.Arrives.{rest_lawful, unlike}
 use Rattle.world_keeps_streams.proofs.Books.Books.{one_own, one_place, one_sender, same_name}
-use Rattle.world_keeps_streams.proofs.Books.Clauses.{OldGranter, Older, match_grows, older, settled_r, settled_s, stays_in}
+use Rattle.world_keeps_streams.proofs.Books.Clauses.{OldGranter, Older, match_grows, older, settled_s, stays_in}
 use Rattle.world_keeps_streams.proofs.Books.Closes as closes
 use Rattle.world_keeps_streams.proofs.Books.Closes.{AtLink}
 use Rattle.world_keeps_streams.proofs.Books.Given.{off}
 use Rattle.world_keeps_streams.proofs.Books.Goes.{since_bound, since_new, since_on}
 use Rattle.world_keeps_streams.proofs.Books.Run.{Given, below, whole, whole_keeps}
 use Rattle.world_keeps_streams.proofs.Books.Source.{Granter, granted_of, one_matches}
-use Rattle.world_keeps_streams.proofs.Books.Whole.{GoesOn, HasR, HasS, PresentR, PresentS, Whole, present_in, since}
+use Rattle.world_keeps_streams.proofs.Books.Whole.{HasR, HasS, PresentR, PresentS, Whole, present_in, since}
 
 -- ---- words
 

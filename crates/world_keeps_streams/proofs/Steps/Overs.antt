@@ -7,10 +7,9 @@ use Rattle.ncp_control.specs.declared.command.Command.{Command}
 use Rattle.ncp_control.specs.declared.command.Command.TheVariants as command
 use Rattle.ncp_control.specs.declared.data_header.DataHeader.{DataHeader}
 use Rattle.ncp_control.specs.Allocation as counters
-use Rattle.stream_law.specs.Words.{Word, Rts, Str, All, Gvb, Ret, Cls, covers, for, holds, is_size}
+use Rattle.stream_law.specs.Words.{Rts, Str, All, Gvb, Ret, Cls, covers, for, holds, is_size}
 use Rattle.stream_law.specs.Receivers as receivers
 use Rattle.stream_law.specs.Receivers.{Receiver}
-use Rattle.stream_law.specs.Senders.{Sender}
 use Rattle.host_pairs.specs.Desk.{DeskState, desk_of, listener_on}
 use Rattle.host_pairs.specs.Entries.{entry_at, free_link, is_receiving, receives_on}
 use Rattle.host_pairs.specs.Pair.{PairState}

@@ -1,4 +1,5 @@
 use Rattle.world_keeps_streams.proofs.Books.All.{sent, source}
+use Rattle.world_keeps_streams.proofs.Books.Answered.{answered}
 use Rattle.world_keeps_streams.proofs.Books.Arrives.{arrives}
 use Rattle.world_keeps_streams.proofs.Books.Closes.{rests}
 use Rattle.world_keeps_streams.proofs.Books.Handed.{took_handed}
@@ -26,3 +27,6 @@ returns-clause-rests c hosts moments addresses run time receiver sender quiet = 
 
 pub returns-clause-handed : goal.returns-clause-handed
 returns-clause-handed c hosts moments addresses run time receiver = took_handed hosts moments (addresses, run, time) receiver
+
+pub returns-clause-answered : goal.returns-clause-answered
+returns-clause-answered c hosts moments f addresses run time off = answered hosts moments f (addresses, run, time)

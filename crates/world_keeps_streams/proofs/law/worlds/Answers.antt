@@ -1,4 +1,5 @@
 use Rattle.world_keeps_streams.proofs.Books.All.{world_sent, world_source}
+use Rattle.world_keeps_streams.proofs.Books.Answered.{world_answered}
 use Rattle.world_keeps_streams.proofs.Books.Arrives.{world_arrives}
 use Rattle.world_keeps_streams.proofs.Books.Closes.{world_rests}
 use Rattle.world_keeps_streams.proofs.Books.Handed.{world_handed_over}
@@ -26,3 +27,6 @@ returns-clause-rests g c hosts w lawful = world_rests g.C.Carrier.calls.seen hos
 
 pub returns-clause-handed : goal.returns-clause-handed
 returns-clause-handed g c hosts w lawful = world_handed_over g.C.Carrier.calls.seen hosts w lawful
+
+pub returns-clause-answered : goal.returns-clause-answered
+returns-clause-answered g c hosts w lawful = world_answered g.C.Carrier.calls.seen hosts w lawful
