@@ -1,7 +1,7 @@
 -- An input leaves its trace no choice.
-use Rattle.std.proofs.Common.{◌≡◌, inl, inr, ℕ, List, [], ◌∷◌, ◌++◌, Some, refl, sym, ap, ap₂, subst, ◌∙◌}
+use Rattle.std.proofs.Common.{◌≡◌, inl, inr, ℕ, List, [], ◌∷◌, ◌++◌, Some, refl, sym, ap, ap₂, subst, zip, ◌∙◌}
 use Rattle.std.proofs.lemmas.List.{append_assoc, append-nil}
-use Rattle.replay.specs.InTurn.{HappensOnce, InTurn, ShowsFront, text_of}
+use Rattle.replay.specs.InTurn.{HappensOnce, ShowsFront, text_of}
 use Rattle.replay.specs.Output.{Shown, crossings_of}
 use Rattle.interface.specs.Calls.{Calls}
 use Rattle.replay.specs.Settled.{AreSettled}
@@ -18,16 +18,16 @@ use Rattle.world_script.specs.declared.event.WorldEvent.{WorldEvent}
 use Rattle.world_script.specs.declared.event.WorldEvent.TheVariants as worlds
 use Rattle.world_trace.specs.Texts.{opening_text, world_line}
 use Rattle.world_trace.specs.Traces.{EndsIn, IsHeard, IsSilent, SameText, StopsOne, TellsIn, TellsOne, TellsRound, first_rounds, state_of}
-use Rattle.world_trace.specs.Traces as of_worlds
 use Rattle.trace.specs.Elements.{elements_in}
 use Rattle.trace.specs.Texts.{opening_line, trace_line}
 use Rattle.trace.specs.declared.element.Spot.{Spot}
-use Rattle.trace.specs.Traces.{EndsEvent, Inside, StopsElement, TellsElement, TellsEvent, asking_from, numbered_from}
+use Rattle.trace.specs.Traces.{EndsEvent, Inside, StopsElement, TellsElement, TellsEvent, asking_from, numbered_from, plain_inside}
 use Rattle.leader1822.specs.Boxes.{plain_calls}
 use Rattle.subnet.specs.Working.{subnet_calls}
+use Rattle.subnet_trace.specs.Traced.{subnet_inside}
 use Rattle.command_line.specs.Carriers.{plain_of, subnet_of}
 use Rattle.command_line.specs.Events.{Asked, Raw, World}
-use Rattle.command_line.specs.Traced.{EndsAll, EndsFrom, EndsOn, EndsOver, IsScripted, TraceStops, TracesAll, TracesFrom, TracesInput, TracesOn, TracesOver, WorldEndsFrom, WorldTracesFrom, plain_inside, subnet_inside}
+use Rattle.command_line.specs.Traced.{EndsAll, EndsFrom, EndsOn, EndsOver, IsScripted, TraceStops, TracesAll, TracesFrom, TracesInput, TracesOn, TracesOver, WorldEndsFrom, WorldTracesFrom}
 use Rattle.command_line.proofs.OneInput.{OneInput, input_once}
 use Rattle.command_line.proofs.Settled.{plain_settled, subnet_settled}
 
@@ -43,11 +43,11 @@ event_once : {C : Type 0} (calls : Calls C) (inside : Inside C) → AreSettled c
 event_once calls inside settled old e new other lines more h k =
     in_turn_once (TellsElement calls inside e.0) (element_once calls inside settled e.0) old (elements_in (inside.calm old) e.1) new other lines more h k
 
-from_once : {C : Type 0} (calls : Calls C) (inside : Inside C) → AreSettled calls → (t : TopologyFields) (opening : C) (lines : List ℕ) (events : List RawEvent) (before after other : List ℕ) → TracesFrom calls inside t opening lines events (Some before) (Some after)
-    → TracesFrom calls inside t opening lines events (Some before) (Some other) → after ≡ other
-from_once calls inside settled t opening lines events before after other h k =
+from_once : {C : Type 0} (calls : Calls C) (inside : Inside C) → AreSettled calls → (t : TopologyFields) (opening : C) (events : List (ℕ × RawEvent)) (before after other : List ℕ) → TracesFrom calls inside t opening events (Some before) (Some after)
+    → TracesFrom calls inside t opening events (Some before) (Some other) → after ≡ other
+from_once calls inside settled t opening events before after other h k =
     let one : (h.last ≡ k.last) × (h.traced.is_shown.0 ≡ k.traced.is_shown.0) =
-    in_turn_once (TellsEvent calls inside) (event_once calls inside settled) opening (numbered_from lines 1 events) h.last k.last h.traced.is_shown.0 k.traced.is_shown.0 h.traced.is_shown.2 k.traced.is_shown.2 in
+    in_turn_once (TellsEvent calls inside) (event_once calls inside settled) opening (numbered_from 1 events) h.last k.last h.traced.is_shown.0 k.traced.is_shown.0 h.traced.is_shown.2 k.traced.is_shown.2 in
     let same : h.traced.shown ≡ k.traced.shown = h.traced.is_shown.1 ∙ ap (λ ls. opening_line t (inside.whole opening) ∷ ls) one.1 ∙ sym k.traced.is_shown.1 in
     h.traced.written ∙ ap (λ ls. before ++ text_of (λ line. line) ls) same ∙ sym k.traced.written
 
@@ -69,11 +69,11 @@ text_front before part whole lines all more is are parts =
       are ∙ ap (λ ls. before ++ text ls) parts ∙ ap (λ xs. before ++ xs) (text_of-append (λ line. line) lines more) ∙ sym (append_assoc before (text lines) (text more)) ∙ ap (λ xs. xs ++ text more) (sym is),
     )
 
-from_front : {C : Type 0} (calls : Calls C) (inside : Inside C) → AreSettled calls → (t : TopologyFields) (opening : C) (lines : List ℕ) (events : List RawEvent) (before part whole : List ℕ) → EndsFrom calls inside t opening lines events (Some before) (Some part)
-    → TracesFrom calls inside t opening lines events (Some before) (Some whole) → (rest : List ℕ) × (whole ≡ part ++ rest)
-from_front calls inside settled t opening lines events before part whole h k =
+from_front : {C : Type 0} (calls : Calls C) (inside : Inside C) → AreSettled calls → (t : TopologyFields) (opening : C) (events : List (ℕ × RawEvent)) (before part whole : List ℕ) → EndsFrom calls inside t opening events (Some before) (Some part)
+    → TracesFrom calls inside t opening events (Some before) (Some whole) → (rest : List ℕ) × (whole ≡ part ++ rest)
+from_front calls inside settled t opening events before part whole h k =
     let starts : (more : List (List ℕ)) × (k.traced.is_shown.0 ≡ h.traced.is_shown.0 ++ more) =
-    ends_front (TellsEvent calls inside) (EndsEvent calls inside (StopsElement calls)) (event_once calls inside settled) (event_front calls inside settled) opening (numbered_from lines 1 events) h.last k.last h.traced.is_shown.0 k.traced.is_shown.0
+    ends_front (TellsEvent calls inside) (EndsEvent calls inside (StopsElement calls)) (event_once calls inside settled) (event_front calls inside settled) opening (numbered_from 1 events) h.last k.last h.traced.is_shown.0 k.traced.is_shown.0
     h.traced.is_shown.2 k.traced.is_shown.2 in
     text_front before part whole h.traced.shown k.traced.shown starts.0 h.traced.written k.traced.written
     (k.traced.is_shown.1 ∙ ap (λ ls. opening_line t (inside.whole opening) ∷ ls) starts.1 ∙ ap (λ ls. ls ++ starts.0) (sym h.traced.is_shown.1))
@@ -109,12 +109,12 @@ at_once : {C : Type 0} (calls : Calls C) (whole : C → List ℕ) → AreSettled
 at_once calls whole settled old (spot, worlds.Happen e) new other lines more h k = told_once calls whole settled spot 0 old (worlds.Happen e) new other lines more h k
 at_once calls whole settled old (spot, worlds.Calm rounds) new other lines more h k = in_turn_once (TellsRound calls whole spot) (round_once calls whole settled spot) old (first_rounds rounds) new other lines more h k
 
-world_once : {C : Type 0} (calls : Calls C) (whole : C → List ℕ) → AreSettled calls → (t : TopologyFields) (opening : C) (lines : List ℕ) (events : List WorldEvent) (before after other : List ℕ) → WorldTracesFrom calls whole t opening lines events (Some before) (Some after)
-    → WorldTracesFrom calls whole t opening lines events (Some before) (Some other) → after ≡ other
-world_once {C} calls whole settled t opening lines events before after other h k =
+world_once : {C : Type 0} (calls : Calls C) (whole : C → List ℕ) → AreSettled calls → (t : TopologyFields) (opening : C) (events : List (ℕ × WorldEvent)) (before after other : List ℕ) → WorldTracesFrom calls whole t opening events (Some before) (Some after)
+    → WorldTracesFrom calls whole t opening events (Some before) (Some other) → after ≡ other
+world_once {C} calls whole settled t opening events before after other h k =
     let begins : WorldState C = opening_world calls opening in
     let one : (h.last ≡ k.last) × (h.traced.is_shown.0 ≡ k.traced.is_shown.0) =
-    in_turn_once (TellsIn calls whole) (at_once calls whole settled) begins (of_worlds.numbered_from lines 1 events) h.last k.last h.traced.is_shown.0 k.traced.is_shown.0 h.traced.is_shown.2 k.traced.is_shown.2 in
+    in_turn_once (TellsIn calls whole) (at_once calls whole settled) begins (numbered_from 1 events) h.last k.last h.traced.is_shown.0 k.traced.is_shown.0 h.traced.is_shown.2 k.traced.is_shown.2 in
     let same : h.traced.shown ≡ k.traced.shown = h.traced.is_shown.1 ∙ ap (λ ls. opening_text t (state_of whole begins) ∷ ls) one.1 ∙ sym k.traced.is_shown.1 in
     h.traced.written ∙ ap (λ ls. before ++ text_of (λ line. line) ls) same ∙ sym k.traced.written
 
@@ -129,12 +129,12 @@ at_front {C} calls whole settled old (spot, worlds.Calm rounds) new other part l
     let Stops = λ (o : WorldState C) (n : ℕ) (w : WorldState C) (ls : List (List ℕ)). StopsOne calls o (worlds.Calm 1) w ls in
     ends_front (TellsRound calls whole spot) Stops (round_once calls whole settled spot) (λ o n w v part lines h k. one_front calls o w (worlds.Calm 1) part lines h) old (first_rounds rounds) new other part lines h k
 
-world_front : {C : Type 0} (calls : Calls C) (whole : C → List ℕ) → AreSettled calls → (t : TopologyFields) (opening : C) (lines : List ℕ) (events : List WorldEvent) (before part all : List ℕ) → WorldEndsFrom calls whole t opening lines events (Some before) (Some part)
-    → WorldTracesFrom calls whole t opening lines events (Some before) (Some all) → (rest : List ℕ) × (all ≡ part ++ rest)
-world_front {C} calls whole settled t opening lines events before part all h k =
+world_front : {C : Type 0} (calls : Calls C) (whole : C → List ℕ) → AreSettled calls → (t : TopologyFields) (opening : C) (events : List (ℕ × WorldEvent)) (before part all : List ℕ) → WorldEndsFrom calls whole t opening events (Some before) (Some part)
+    → WorldTracesFrom calls whole t opening events (Some before) (Some all) → (rest : List ℕ) × (all ≡ part ++ rest)
+world_front {C} calls whole settled t opening events before part all h k =
     let begins : WorldState C = opening_world calls opening in
     let starts : (more : List (List ℕ)) × (k.traced.is_shown.0 ≡ h.traced.is_shown.0 ++ more) =
-    ends_front (TellsIn calls whole) (EndsIn calls whole (StopsOne calls)) (at_once calls whole settled) (at_front calls whole settled) begins (of_worlds.numbered_from lines 1 events) h.last k.last h.traced.is_shown.0 k.traced.is_shown.0
+    ends_front (TellsIn calls whole) (EndsIn calls whole (StopsOne calls)) (at_once calls whole settled) (at_front calls whole settled) begins (numbered_from 1 events) h.last k.last h.traced.is_shown.0 k.traced.is_shown.0
     h.traced.is_shown.2 k.traced.is_shown.2 in
     text_front before part all h.traced.shown k.traced.shown starts.0 h.traced.written k.traced.written
     (k.traced.is_shown.1 ∙ ap (λ ls. opening_text t (state_of whole begins) ∷ ls) starts.1 ∙ ap (λ ls. ls ++ starts.0) (sym h.traced.is_shown.1))
@@ -143,13 +143,13 @@ world_front {C} calls whole settled t opening lines events before part all h k =
 
 all_once : {C : Type 0} (calls : Calls C) (inside : Inside C) → AreSettled calls → (t : TopologyFields) (opening : C) (lines : List ℕ) (events : Asked) (before after other : List ℕ) → TracesAll calls inside t opening lines events (Some before) (Some after)
     → TracesAll calls inside t opening lines events (Some before) (Some other) → after ≡ other
-all_once calls inside settled t opening lines (Raw events) before after other h k = from_once calls inside settled t opening lines events before after other h k
-all_once calls inside settled t opening lines (World events) before after other h k = world_once (shown calls) inside.whole (shown_settled calls settled) t opening lines events before after other h k
+all_once calls inside settled t opening lines (Raw events) before after other h k = from_once calls inside settled t opening (zip lines events) before after other h k
+all_once calls inside settled t opening lines (World events) before after other h k = world_once (shown calls) inside.whole (shown_settled calls settled) t opening (zip lines events) before after other h k
 
 all_front : {C : Type 0} (calls : Calls C) (inside : Inside C) → AreSettled calls → (t : TopologyFields) (opening : C) (lines : List ℕ) (events : Asked) (before part whole : List ℕ) → EndsAll calls inside t opening lines events (Some before) (Some part)
     → TracesAll calls inside t opening lines events (Some before) (Some whole) → (rest : List ℕ) × (whole ≡ part ++ rest)
-all_front calls inside settled t opening lines (Raw events) before part whole h k = from_front calls inside settled t opening lines events before part whole h k
-all_front calls inside settled t opening lines (World events) before part whole h k = world_front (shown calls) inside.whole (shown_settled calls settled) t opening lines events before part whole h k
+all_front calls inside settled t opening lines (Raw events) before part whole h k = from_front calls inside settled t opening (zip lines events) before part whole h k
+all_front calls inside settled t opening lines (World events) before part whole h k = world_front (shown calls) inside.whole (shown_settled calls settled) t opening (zip lines events) before part whole h k
 
 -- ---- of a topology
 

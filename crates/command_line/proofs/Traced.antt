@@ -27,9 +27,9 @@ use Rattle.command_line.specs.declared.fault.ScriptFault.TheVariants as fault
 -- ---- over a carrier
 
 -- a trace that was written stays where it is handed on
-pub flushed_trace : {C : Type 0} (calls : Calls C) (inside : Inside C) (t : TopologyFields) (opening last : C) (lines : List ℕ) (events : List RawEvent) (a b c : Option (List ℕ))
-    → WritesTrace (AfterOpening inside t opening (Traces calls inside opening lines events last)) a b → Keeps b c → TracesFrom calls inside t opening lines events a c
-flushed_trace calls inside t opening last lines events a b c w k = record { last = last; traced = record { shown = w.shown; is_shown = w.is_shown; written = stays a b c (text_of (λ line. line) w.shown) w.written k } }
+pub flushed_trace : {C : Type 0} (calls : Calls C) (inside : Inside C) (t : TopologyFields) (opening last : C) (events : List (ℕ × RawEvent)) (a b c : Option (List ℕ))
+    → WritesTrace (AfterOpening inside t opening (Traces calls inside opening events last)) a b → Keeps b c → TracesFrom calls inside t opening events a c
+flushed_trace calls inside t opening last events a b c w k = record { last = last; traced = record { shown = w.shown; is_shown = w.is_shown; written = stays a b c (text_of (λ line. line) w.shown) w.written k } }
 
 -- ---- over the carrier of a topology
 
@@ -43,18 +43,18 @@ ends_over carrier network lines asked a b is (inr h) = inr (subst (λ (k : Carri
 
 -- ---- of hosts with programs
 
-pub flushed_world : {C : Type 0} (calls : Calls C) (whole : C → List ℕ) (t : TopologyFields) (opening : C) (first last : WorldState C) (lines : List ℕ) (events : List WorldEvent) (a b c : Option (List ℕ)) → first ≡ opening_world calls opening
-    → WritesTrace (worlds.AfterOpening whole t first (TracesWorld calls whole first lines events last)) a b → Keeps b c → WorldTracesFrom calls whole t opening lines events a c
-flushed_world {C} calls whole t opening first last lines events a b c is w k =
-    let own : WritesTrace (worlds.AfterOpening whole t (opening_world calls opening) (TracesWorld calls whole (opening_world calls opening) lines events last)) a b =
-    subst (λ (x : WorldState C). WritesTrace (worlds.AfterOpening whole t x (TracesWorld calls whole x lines events last)) a b) is w in
+pub flushed_world : {C : Type 0} (calls : Calls C) (whole : C → List ℕ) (t : TopologyFields) (opening : C) (first last : WorldState C) (events : List (ℕ × WorldEvent)) (a b c : Option (List ℕ)) → first ≡ opening_world calls opening
+    → WritesTrace (worlds.AfterOpening whole t first (TracesWorld calls whole first events last)) a b → Keeps b c → WorldTracesFrom calls whole t opening events a c
+flushed_world {C} calls whole t opening first last events a b c is w k =
+    let own : WritesTrace (worlds.AfterOpening whole t (opening_world calls opening) (TracesWorld calls whole (opening_world calls opening) events last)) a b =
+    subst (λ (x : WorldState C). WritesTrace (worlds.AfterOpening whole t x (TracesWorld calls whole x events last)) a b) is w in
     record { last = last; traced = record { shown = own.shown; is_shown = own.is_shown; written = stays a b c (text_of (λ line. line) own.shown) own.written k } }
 
-pub world_ends : {C : Type 0} (calls : Calls C) (whole : C → List ℕ) (t : TopologyFields) (opening : C) (first last : WorldState C) (lines : List ℕ) (events : List WorldEvent) (a b : Option (List ℕ)) → first ≡ opening_world calls opening
-    → WritesTrace (worlds.AfterOpening whole t first (WorldTraceEnds calls whole (StopsOne calls) first lines events last)) a b → WorldEndsFrom calls whole t opening lines events a b
-world_ends {C} calls whole t opening first last lines events a b is w = record {
+pub world_ends : {C : Type 0} (calls : Calls C) (whole : C → List ℕ) (t : TopologyFields) (opening : C) (first last : WorldState C) (events : List (ℕ × WorldEvent)) (a b : Option (List ℕ)) → first ≡ opening_world calls opening
+    → WritesTrace (worlds.AfterOpening whole t first (WorldTraceEnds calls whole (StopsOne calls) first events last)) a b → WorldEndsFrom calls whole t opening events a b
+world_ends {C} calls whole t opening first last events a b is w = record {
   last = last;
-  traced = subst (λ (x : WorldState C). WritesTrace (worlds.AfterOpening whole t x (WorldTraceEnds calls whole (StopsOne calls) x lines events last)) a b) is w;
+  traced = subst (λ (x : WorldState C). WritesTrace (worlds.AfterOpening whole t x (WorldTraceEnds calls whole (StopsOne calls) x events last)) a b) is w;
 }
 
 -- ---- of known octets

@@ -1,19 +1,14 @@
 -- What is written of a replay as a trace.
-use Rattle.std.specs.Prelude.{◌≡◌, ℕ, List, None, Option, length}
-use Rattle.leader1822.specs.Boxes.{Boxes, plain_calls}
+use Rattle.std.specs.Prelude.{◌≡◌, ℕ, List, Option, length, zip}
+use Rattle.leader1822.specs.Boxes.{plain_calls}
 use Rattle.interface.specs.Calls.{Calls}
 use Rattle.script.specs.Input.{IsParted}
 use Rattle.script.specs.declared.event.RawEvent.{RawEvent}
-use Rattle.subnet.specs.Calls.{Kept}
-use Rattle.subnet_trace.specs.Elements as subnet
-use Rattle.subnet_trace.specs.Fates.{fate_of}
-use Rattle.subnet_trace.specs.Parts.{all_parts, parts_of, parts_text}
+use Rattle.subnet_trace.specs.Traced.{subnet_inside}
 use Rattle.topology.specs.Topology.{TopologyFields}
 use Rattle.topology.specs.declared.network.CarrierKind.{CarrierKind}
 use Rattle.topology.specs.declared.network.CarrierKind.TheVariants as kind
-use Rattle.trace.specs.Elements.{calm_of}
-use Rattle.trace.specs.Texts.{changed_text, whole_text}
-use Rattle.trace.specs.Traces.{AfterOpening, Inside, StopsElement, TraceEnds, Traces, WritesTrace, event_lines}
+use Rattle.trace.specs.Traces.{AfterOpening, Inside, StopsElement, TraceEnds, Traces, WritesTrace, event_lines, plain_inside}
 use Rattle.net_sim.specs.Carriers.{shown}
 use Rattle.net_sim.specs.World.{WorldState, opening_world}
 use Rattle.world_script.specs.declared.event.WorldEvent.{WorldEvent}
@@ -24,43 +19,36 @@ use Rattle.command_line.specs.Carriers.{plain_of, subnet_of}
 use Rattle.command_line.specs.Events.{Asked, Raw, World}
 use Rattle.command_line.specs.Input.{IsInput}
 
--- what plain mailboxes show of their inside, and what subnets show
-abbrev pub plain_inside : Inside Boxes
-plain_inside = record { calm = calm_of; whole = whole_text; parts = changed_text; fate = λ b e. None }
-
-abbrev pub subnet_inside : Inside Kept
-subnet_inside = record { calm = λ k. subnet.calm_of k.net; whole = λ k. parts_text k.net (all_parts k.net); parts = λ k e crossings. parts_text k.net (parts_of k.net e); fate = λ k e. fate_of k.net e }
-
--- events, which are in these lines of a script, are replayed over a carrier with such calls and such an inside, and their trace is
+-- events, of which each comes after the number of its line in a script, are replayed over a carrier with such calls and such an inside, and their trace is
 -- written, first the network and then a line for each elementary event, and nothing else
-pub record TracesFrom {C : Type 0} (calls : Calls C) (inside : Inside C) (t : TopologyFields) (opening : C) (lines : List ℕ) (events : List RawEvent) (before after : Option (List ℕ)) : Type 0 where
+pub record TracesFrom {C : Type 0} (calls : Calls C) (inside : Inside C) (t : TopologyFields) (opening : C) (events : List (ℕ × RawEvent)) (before after : Option (List ℕ)) : Type 0 where
   pub last : C
-  pub traced : WritesTrace (AfterOpening inside t opening (Traces calls inside opening lines events last)) before after
+  pub traced : WritesTrace (AfterOpening inside t opening (Traces calls inside opening events last)) before after
 
 -- memory ran out in one of the elementary events: the first line and those of the events before it are written, and nothing else
-pub record EndsFrom {C : Type 0} (calls : Calls C) (inside : Inside C) (t : TopologyFields) (opening : C) (lines : List ℕ) (events : List RawEvent) (before after : Option (List ℕ)) : Type 0 where
+pub record EndsFrom {C : Type 0} (calls : Calls C) (inside : Inside C) (t : TopologyFields) (opening : C) (events : List (ℕ × RawEvent)) (before after : Option (List ℕ)) : Type 0 where
   pub last : C
-  pub traced : WritesTrace (AfterOpening inside t opening (TraceEnds calls inside (StopsElement calls) opening lines events last)) before after
+  pub traced : WritesTrace (AfterOpening inside t opening (TraceEnds calls inside (StopsElement calls) opening events last)) before after
 
 -- events of hosts with programs are replayed over a carrier that shows the object of all its parts, and their trace is written, first
 -- the network and then a line for each event and each round of a calm, and nothing else
-pub record WorldTracesFrom {C : Type 0} (calls : Calls C) (whole : C → List ℕ) (t : TopologyFields) (opening : C) (lines : List ℕ) (events : List WorldEvent) (before after : Option (List ℕ)) : Type 0 where
+pub record WorldTracesFrom {C : Type 0} (calls : Calls C) (whole : C → List ℕ) (t : TopologyFields) (opening : C) (events : List (ℕ × WorldEvent)) (before after : Option (List ℕ)) : Type 0 where
   pub last : WorldState C
-  pub traced : WritesTrace (worlds.AfterOpening whole t (opening_world calls opening) (TracesWorld calls whole (opening_world calls opening) lines events last)) before after
+  pub traced : WritesTrace (worlds.AfterOpening whole t (opening_world calls opening) (TracesWorld calls whole (opening_world calls opening) events last)) before after
 
 -- memory ran out in one of them
-pub record WorldEndsFrom {C : Type 0} (calls : Calls C) (whole : C → List ℕ) (t : TopologyFields) (opening : C) (lines : List ℕ) (events : List WorldEvent) (before after : Option (List ℕ)) : Type 0 where
+pub record WorldEndsFrom {C : Type 0} (calls : Calls C) (whole : C → List ℕ) (t : TopologyFields) (opening : C) (events : List (ℕ × WorldEvent)) (before after : Option (List ℕ)) : Type 0 where
   pub last : WorldState C
-  pub traced : WritesTrace (worlds.AfterOpening whole t (opening_world calls opening) (WorldTraceEnds calls whole (StopsOne calls) (opening_world calls opening) lines events last)) before after
+  pub traced : WritesTrace (worlds.AfterOpening whole t (opening_world calls opening) (WorldTraceEnds calls whole (StopsOne calls) (opening_world calls opening) events last)) before after
 
--- events of either kind
+-- events of either kind, which are in these lines of a script
 abbrev pub TracesAll : {C : Type 0} → Calls C → Inside C → TopologyFields → C → List ℕ → Asked → Option (List ℕ) → Option (List ℕ) → Type 0
-TracesAll calls inside t opening lines (Raw events) before after = TracesFrom calls inside t opening lines events before after
-TracesAll calls inside t opening lines (World events) before after = WorldTracesFrom (shown calls) inside.whole t opening lines events before after
+TracesAll calls inside t opening lines (Raw events) before after = TracesFrom calls inside t opening (zip lines events) before after
+TracesAll calls inside t opening lines (World events) before after = WorldTracesFrom (shown calls) inside.whole t opening (zip lines events) before after
 
 abbrev pub EndsAll : {C : Type 0} → Calls C → Inside C → TopologyFields → C → List ℕ → Asked → Option (List ℕ) → Option (List ℕ) → Type 0
-EndsAll calls inside t opening lines (Raw events) before after = EndsFrom calls inside t opening lines events before after
-EndsAll calls inside t opening lines (World events) before after = WorldEndsFrom (shown calls) inside.whole t opening lines events before after
+EndsAll calls inside t opening lines (Raw events) before after = EndsFrom calls inside t opening (zip lines events) before after
+EndsAll calls inside t opening lines (World events) before after = WorldEndsFrom (shown calls) inside.whole t opening (zip lines events) before after
 
 -- ---- of a topology
 

@@ -7,7 +7,7 @@ ghost use Rattle.command_line.specs.Events.{asked_of};
 ghost use Rattle.command_line.specs.Input.{IsInputFault, IsSomeInput};
 ghost use Rattle.command_line.specs.Reading.{ReadsAll, ReadsFirst};
 ghost use Rattle.command_line.specs.Steps.{IsReplayFault};
-ghost use Rattle.command_line.specs.Traced.{EndsAll, EndsFrom, EndsOn, IsScripted, TraceStops, Traced, TracedInPart, TracesAll, TracesFrom, TracesInput, TracesOn, WorldEndsFrom, WorldTracesFrom, asked_count};
+ghost use Rattle.command_line.specs.Traced.{EndsAll, EndsFrom, EndsOn, IsScripted, TraceStops, Traced, TracedInPart, TracesAll, TracesFrom, TracesInput, TracesOn, WorldEndsFrom, WorldTracesFrom};
 
 use crate::carriers::subnet_of;
 use crate::fault::ScriptFault;
@@ -20,7 +20,7 @@ use script::{MAX_INPUT, RawEvent, split_input};
 use std::alloc::Global;
 use subnet_trace::TracedSubnet;
 use topology::{CarrierKind, Topology};
-use trace::{Inspect, event_lines, trace_events};
+use trace::{Inspect, beside_lines, event_lines, trace_events};
 use world_script::WorldEvent;
 use world_trace::trace_world;
 
@@ -126,7 +126,6 @@ fn trace_on<W: Output>(
     events: Events,
     writer: &mut W,
 ) -> Result<(), ScriptFault>
-    requires events { length lines.now ≡ asked_count (asked_of events) }
     requires whole { W.failed writer.old ≡ false }
     ensures traced { OnOk result (TracesOn network.now lines.now (asked_of events) (W.contents writer.old) (W.contents writer.new)) }
     ensures stopped { result ≡ Err ScriptFault.OutOfMemory → Keeps (W.contents writer.old) (W.contents writer.new) ⊎ EndsOn network.now lines.now (asked_of events) (W.contents writer.old) (W.contents writer.new) }
@@ -160,67 +159,68 @@ fn trace_over<C: Inspect, W: Output>(
 ) -> Result<(), ScriptFault>
     requires unused { (C.calls.seen carrier).log ≡ [] }
     requires running { (C.calls.seen carrier).stopped ≡ false }
-    requires events { length lines.now ≡ asked_count (asked_of events) }
     requires whole { W.failed writer.old ≡ false }
-    ensures traced { OnOk result (TracesAll C.calls (record { calm = C.calm; whole = C.whole; parts = C.parts; fate = C.fate }) network.now carrier lines.now (asked_of events) (W.contents writer.old) (W.contents writer.new)) }
-    ensures stopped { result ≡ Err ScriptFault.OutOfMemory → Keeps (W.contents writer.old) (W.contents writer.new) ⊎ EndsAll C.calls (record { calm = C.calm; whole = C.whole; parts = C.parts; fate = C.fate }) network.now carrier lines.now (asked_of events) (W.contents writer.old) (W.contents writer.new) }
+    ensures traced { OnOk result (TracesAll C.calls C.inside network.now carrier lines.now (asked_of events) (W.contents writer.old) (W.contents writer.new)) }
+    ensures stopped { result ≡ Err ScriptFault.OutOfMemory → Keeps (W.contents writer.old) (W.contents writer.new) ⊎ EndsAll C.calls C.inside network.now carrier lines.now (asked_of events) (W.contents writer.old) (W.contents writer.new) }
     ensures fault { IfErr result IsReplayFault }
     ensures failed { (result ≡ Err ScriptFault.CannotWrite) ↔ (W.failed writer.new ≡ true) }
     ensures flushed { OnOk result (W.flushed writer.new ≡ true) }
 {
     match events {
-        Events::Raw(events) => trace_from(network, carrier, lines, &events, writer),
-        Events::World(events) => trace_hosts(alloc, network, carrier, lines, events, writer),
+        Events::Raw(events) => {
+            let events = beside_lines(alloc, lines, events)?;
+            trace_from(network, carrier, &events, writer)
+        }
+        Events::World(events) => {
+            let events = beside_lines(alloc, lines, events)?;
+            trace_hosts(alloc, network, carrier, events, writer)
+        }
     }
 }
 
-/// Replays events of hosts with programs over a carrier at its opening, and writes their trace.
+/// Replays events of hosts with programs, each of which comes after the number of its line, over a carrier at its opening, and writes their trace.
 ///
 /// Errors: `CannotWrite`; `OutOfMemory`, after which the first lines of the trace are written, if any.
 fn trace_hosts<C: Inspect, W: Output>(
     alloc: Global,
     network: &Topology,
     carrier: C,
-    lines: &[usize],
-    events: Vec<WorldEvent>,
+    events: Vec<(usize, WorldEvent)>,
     writer: &mut W,
 ) -> Result<(), ScriptFault>
     requires unused { (C.calls.seen carrier).log ≡ [] }
     requires running { (C.calls.seen carrier).stopped ≡ false }
-    requires events { length lines.now ≡ length events.items }
     requires whole { W.failed writer.old ≡ false }
-    ensures traced { OnOk result (WorldTracesFrom (shown C.calls) C.whole network.now carrier lines.now events.items (W.contents writer.old) (W.contents writer.new)) }
-    ensures stopped { result ≡ Err ScriptFault.OutOfMemory → Keeps (W.contents writer.old) (W.contents writer.new) ⊎ WorldEndsFrom (shown C.calls) C.whole network.now carrier lines.now events.items (W.contents writer.old) (W.contents writer.new) }
+    ensures traced { OnOk result (WorldTracesFrom (shown C.calls) C.inside.whole network.now carrier events.items (W.contents writer.old) (W.contents writer.new)) }
+    ensures stopped { result ≡ Err ScriptFault.OutOfMemory → Keeps (W.contents writer.old) (W.contents writer.new) ⊎ WorldEndsFrom (shown C.calls) C.inside.whole network.now carrier events.items (W.contents writer.old) (W.contents writer.new) }
     ensures fault { IfErr result IsReplayFault }
     ensures failed { (result ≡ Err ScriptFault.CannotWrite) ↔ (W.failed writer.new ≡ true) }
     ensures flushed { OnOk result (W.flushed writer.new ≡ true) }
 {
     let mut world = World::new(alloc, carrier)?;
-    match trace_world(alloc, network, &mut world, lines, events, writer) {
+    match trace_world(alloc, network, &mut world, events, writer) {
         Ok(()) => Ok(writer.flush()?),
         Err(fault) => Err(ScriptFault::from(fault)),
     }
 }
 
-/// Replays events over a carrier at its opening, and writes their trace.
+/// Replays events, each of which comes after the number of its line, over a carrier at its opening, and writes their trace.
 ///
 /// Errors: `CannotWrite`; `OutOfMemory`, after which the first lines of the trace are written.
 fn trace_from<C: Inspect, W: Output>(
     network: &Topology,
     mut carrier: C,
-    lines: &[usize],
-    events: &[RawEvent],
+    events: &[(usize, RawEvent)],
     writer: &mut W,
 ) -> Result<(), ScriptFault>
-    requires events { length lines.now ≡ length events.now }
     requires whole { W.failed writer.old ≡ false }
-    ensures traced { OnOk result (TracesFrom C.calls (record { calm = C.calm; whole = C.whole; parts = C.parts; fate = C.fate }) network.now carrier lines.now events.now (W.contents writer.old) (W.contents writer.new)) }
-    ensures stopped { result ≡ Err ScriptFault.OutOfMemory → EndsFrom C.calls (record { calm = C.calm; whole = C.whole; parts = C.parts; fate = C.fate }) network.now carrier lines.now events.now (W.contents writer.old) (W.contents writer.new) }
+    ensures traced { OnOk result (TracesFrom C.calls C.inside network.now carrier events.now (W.contents writer.old) (W.contents writer.new)) }
+    ensures stopped { result ≡ Err ScriptFault.OutOfMemory → EndsFrom C.calls C.inside network.now carrier events.now (W.contents writer.old) (W.contents writer.new) }
     ensures fault { IfErr result IsReplayFault }
     ensures failed { (result ≡ Err ScriptFault.CannotWrite) ↔ (W.failed writer.new ≡ true) }
     ensures flushed { OnOk result (W.flushed writer.new ≡ true) }
 {
-    match trace_events(network, &mut carrier, lines, events, writer) {
+    match trace_events(network, &mut carrier, events, writer) {
         Ok(()) => Ok(writer.flush()?),
         Err(fault) => Err(ScriptFault::from(fault)),
     }

@@ -5,4 +5,5 @@ pub mod Printing
 pub mod Steps
 pub mod Texts
 pub mod Told
+pub mod Traced
 pub mod Worked

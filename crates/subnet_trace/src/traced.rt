@@ -2,9 +2,8 @@
 
 ghost use Rattle.std.specs.Prelude.{◌≡◌};
 ghost use Rattle.subnet.specs.Working.{subnet_calls};
-ghost use Rattle.subnet_trace.specs.Elements.{calm_left, calm_of};
-ghost use Rattle.subnet_trace.specs.Fates as fates;
-ghost use Rattle.subnet_trace.specs.Parts.{all_parts, parts_of, parts_text};
+ghost use Rattle.subnet_trace.specs.Elements.{calm_left};
+ghost use Rattle.subnet_trace.specs.Traced.{subnet_inside};
 
 use crate::calm::next_in_calm;
 use crate::fates::fate_of;
@@ -83,15 +82,9 @@ impl Carrier for TracedSubnet {
 impl Inspect for TracedSubnet {
     type Place = Place;
 
-    ghost calm = { λ k rounds. calm_of k.net rounds };
+    ghost inside = { subnet_inside };
 
     ghost left = { λ k place. calm_left k.net place };
-
-    ghost whole = { λ k. parts_text k.net (all_parts k.net) };
-
-    ghost parts = { λ k e crossings. parts_text k.net (parts_of k.net e) };
-
-    ghost fate = { λ k e. fates.fate_of k.net e };
 
     fn begin_calm(&self, rounds: u32) -> Place {
         Place {

@@ -1,5 +1,5 @@
 -- Events are traced one after the other, and one of them may be the last.
-use Rattle.std.proofs.Common.{◌≡◌, ℕ, suc, ◌<◌, ◌≤◌, ◌+◌, ◌-◌, List, [], ◌∷◌, ◌++◌, drop, get_or, length, slice_index_or, Option, Some, Result, Ok, Err, is_ok, false, arith, refl, sym, ap, subst, ◌∙◌}
+use Rattle.std.proofs.Common.{◌≡◌, ℕ, suc, ◌<◌, ◌≤◌, ◌+◌, List, [], ◌∷◌, ◌++◌, drop, get_or, length, Option, Some, Result, Ok, Err, is_ok, false, arith, refl, sym, ap, subst, ◌∙◌}
 use Rattle.std.proofs.lemmas.Bool.{false≢true}
 use Rattle.std.proofs.lemmas.List.{append_assoc, append-nil, drop_all, drop_more}
 use Rattle.std.specs.Io.KnownBytes.{Appends}
@@ -130,17 +130,17 @@ calm_early calls inside left spot rounds old mid new place next x r a b c (later
 
 -- ---- the events of a script
 
-pub numbered_more : (lines : List ℕ) (events : List RawEvent) (i : ℕ) (e : RawEvent) → i < length events → e ≡ get_or events i e
-    → numbered_from lines (i + 1) (drop i events) ≡ (record { line = slice_index_or lines i 0; number = i + 1 }, e) ∷ numbered_from lines (i + 1 + 1) (drop (i + 1) events)
-numbered_more lines events i e lt is =
-    let more : suc (i + 1) ≡ i + 1 + 1 = omega arith in
-    let back : i + 1 - 1 ≡ i = omega arith in
-    ap (numbered_from lines (i + 1)) (drop_more events i e lt ∙ ap (λ (x : RawEvent). x ∷ drop (i + 1) events) (sym is))
-    ∙ ap (λ (k : ℕ). (record { line = slice_index_or lines k 0; number = i + 1 }, e) ∷ numbered_from lines (suc (i + 1)) (drop (i + 1) events)) back
-    ∙ ap (λ (n : ℕ). (record { line = slice_index_or lines i 0; number = i + 1 }, e) ∷ numbered_from lines n (drop (i + 1) events)) more
+-- where the event at a place is
+abbrev pub at_place : {E : Type 0} → ℕ → (ℕ × E) → Spot × E
+at_place i e = (record { line = e.0; number = i + 1 }, e.1)
 
-pub numbered_none : (lines : List ℕ) (events : List RawEvent) (i n : ℕ) → length events ≤ i → numbered_from lines n (drop i events) ≡ []
-numbered_none lines events i n past = ap (numbered_from lines n) (drop_all i events past)
+pub numbered_more : {E : Type 0} (events : List (ℕ × E)) (i : ℕ) (e : ℕ × E) → i < length events → e ≡ get_or events i e → numbered_from (i + 1) (drop i events) ≡ at_place i e ∷ numbered_from (i + 1 + 1) (drop (i + 1) events)
+numbered_more {E} events i e lt is =
+    let more : suc (i + 1) ≡ i + 1 + 1 = omega arith in
+    ap (numbered_from (i + 1)) (drop_more events i e lt ∙ ap (λ (x : ℕ × E). x ∷ drop (i + 1) events) (sym is)) ∙ ap (λ (n : ℕ). at_place i e ∷ numbered_from n (drop (i + 1) events)) more
+
+pub numbered_none : {E : Type 0} (events : List (ℕ × E)) (i n : ℕ) → length events ≤ i → numbered_from n (drop i events) ≡ []
+numbered_none events i n past = ap (numbered_from n) (drop_all i events past)
 
 -- ---- the first line
 

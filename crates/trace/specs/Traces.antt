@@ -1,5 +1,6 @@
 -- What is written as a trace, over any carrier whose inside can be traced.
-use Rattle.std.specs.Prelude.{◌≡◌, ℕ, suc, ◌+◌, ◌-◌, List, [], ◌∷◌, ◌++◌, Option, Some, None, if◌then◌else◌, slice_index_or}
+use Rattle.std.specs.Prelude.{◌≡◌, ℕ, suc, ◌+◌, List, [], ◌∷◌, ◌++◌, Option, Some, None, if◌then◌else◌}
+use Rattle.leader1822.specs.Boxes.{Boxes}
 use Rattle.interface.specs.declared.crossing.Crossing.{Crossing}
 use Rattle.replay.specs.InTurn.{EndsInTurn, Happening, InTurn, WritesLines}
 use Rattle.replay.specs.Output.{Shown, crossings_of}
@@ -11,8 +12,8 @@ use Rattle.topology.specs.Topology.{TopologyFields}
 use Rattle.trace.specs.declared.element.Element.{Element}
 use Rattle.trace.specs.declared.element.Spot.{Spot}
 use Rattle.trace.specs.declared.fate.Fate.{Fate}
-use Rattle.trace.specs.Elements.{elements_in}
-use Rattle.trace.specs.Texts.{opening_line, trace_line}
+use Rattle.trace.specs.Elements.{calm_of, elements_in}
+use Rattle.trace.specs.Texts.{changed_text, opening_line, trace_line, whole_text}
 
 -- what a carrier shows of its inside: the elementary events of a calm of this many rounds; the object of all parts, and that of the
 -- parts that an event can change in which this crossed; and, before an event, what becomes of the frame that it delivers
@@ -21,6 +22,10 @@ pub record Inside (C : Type 0) : Type 0 where
   pub whole : C → List ℕ
   pub parts : C → RawEvent → List Crossing → List ℕ
   pub fate : C → RawEvent → Option Fate
+
+-- what plain mailboxes show. They have no frames
+abbrev pub plain_inside : Inside Boxes
+plain_inside = record { calm = calm_of; whole = whole_text; parts = changed_text; fate = λ b e. None }
 
 -- ---- lines of a script
 
@@ -33,10 +38,10 @@ asking_from number (line ∷ lines) = (if asks line then number ∷ [] else []) 
 abbrev pub event_lines : List ℕ → List ℕ
 event_lines script = asking_from 1 (lines_of script)
 
--- events with their numbers, from this one on, and the numbers of their lines
-abbrev pub numbered_from : List ℕ → ℕ → List RawEvent → List (Spot × RawEvent)
-numbered_from lines number [] = []
-numbered_from lines number (e ∷ events) = (record { line = slice_index_or lines (number - 1) 0; number = number }, e) ∷ numbered_from lines (suc number) events
+-- where events are of which each comes after the number of its line, and which are counted from this number on
+abbrev pub numbered_from : {E : Type 0} → ℕ → List (ℕ × E) → List (Spot × E)
+numbered_from number [] = []
+numbered_from number (e ∷ events) = (record { line = e.0; number = number }, e.1) ∷ numbered_from (suc number) events
 
 -- ---- a trace
 
@@ -49,9 +54,9 @@ TellsElement calls inside spot old x new lines =
 abbrev pub TellsEvent : {C : Type 0} → Calls C → Inside C → Happening C (Spot × RawEvent) (List ℕ)
 TellsEvent calls inside old e new lines = InTurn (TellsElement calls inside e.0) old (elements_in (inside.calm old) e.1) new lines
 
--- the lines are those of these events, numbered from 1, which are in these lines of a script
-abbrev pub Traces : {C : Type 0} → Calls C → Inside C → C → List ℕ → List RawEvent → C → List (List ℕ) → Type 0
-Traces calls inside old numbers events new lines = InTurn (TellsEvent calls inside) old (numbered_from numbers 1 events) new lines
+-- the lines are those of these events, numbered from 1, each of which comes after the number of its line in a script
+abbrev pub Traces : {C : Type 0} → Calls C → Inside C → C → List (ℕ × RawEvent) → C → List (List ℕ) → Type 0
+Traces calls inside old events new lines = InTurn (TellsEvent calls inside) old (numbered_from 1 events) new lines
 
 -- the lines after the first, which is the network with all parts at the opening
 abbrev pub AfterOpening : {C : Type 0} → Inside C → TopologyFields → C → (List (List ℕ) → Type 0) → List (List ℕ) → Type 0
@@ -71,8 +76,8 @@ MayTell calls old x new lines = MayDo calls old x.event new [] × (lines ≡ [])
 abbrev pub EndsEvent : {C : Type 0} → Calls C → Inside C → Happening C Element (List ℕ) → Happening C (Spot × RawEvent) (List ℕ)
 EndsEvent calls inside Goes old e new lines = EndsInTurn (TellsElement calls inside e.0) Goes old (elements_in (inside.calm old) e.1) new lines
 
-abbrev pub TraceEnds : {C : Type 0} → Calls C → Inside C → Happening C Element (List ℕ) → C → List ℕ → List RawEvent → C → List (List ℕ) → Type 0
-TraceEnds calls inside Goes old numbers events new lines = EndsInTurn (TellsEvent calls inside) (EndsEvent calls inside Goes) old (numbered_from numbers 1 events) new lines
+abbrev pub TraceEnds : {C : Type 0} → Calls C → Inside C → Happening C Element (List ℕ) → C → List (ℕ × RawEvent) → C → List (List ℕ) → Type 0
+TraceEnds calls inside Goes old events new lines = EndsInTurn (TellsEvent calls inside) (EndsEvent calls inside Goes) old (numbered_from 1 events) new lines
 
 -- ---- writing
 

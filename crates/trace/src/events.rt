@@ -1,7 +1,7 @@
 //! Tracing a script's events over a carrier.
 
 ghost use Rattle.std.specs.Bool.{OnFalse, OnTrue};
-ghost use Rattle.std.specs.Prelude.{◌≡◌, ◌⊎◌, Err, IfErr, IfOk, OnOk, List, ℕ, false, length};
+ghost use Rattle.std.specs.Prelude.{◌≡◌, ◌⊎◌, Err, IfErr, IfOk, OnOk, List, ℕ, false};
 ghost use Rattle.replay.specs.Failing.{TellsCannotWrite};
 ghost use Rattle.replay.specs.Replay.{GoesOn, Halts, IsCopied, IsOneCall};
 ghost use Rattle.script.specs.declared.event.RawEvent.TheVariants as script_event;
@@ -20,7 +20,7 @@ use topology::Topology;
 
 /// Prints the network and all parts of its carrier, hands each elementary event of each event to the carrier in order, and prints
 /// one line for each: a JSON object with the place of the event in the script, the elementary event, what it printed, and the
-/// parts that it can change, as they are after it. `lines` has the numbers of the events' lines in the script.
+/// parts that it can change, as they are after it. Each event comes after the number of its line in the script.
 ///
 /// A refused event changes nothing, and has a line too.
 ///
@@ -32,49 +32,46 @@ use topology::Topology;
 pub fn trace_events<C: Inspect, W: Output>(
     network: &Topology,
     carrier: &mut C,
-    lines: &[usize],
-    events: &[RawEvent],
+    events: &[(usize, RawEvent)],
     writer: &mut W,
 ) -> Result<(), ReplayFault>
-    requires events { length lines.now ≡ length events.now }
     requires whole { W.failed writer.old ≡ false }
 
     // first the network, and then each elementary event in turn went as the carrier says that its calls may go, and its line was written
-    ensures traced { OnOk result (WritesTrace (AfterOpening (record { calm = C.calm; whole = C.whole; parts = C.parts; fate = C.fate }) network.now carrier.old (Traces C.calls (record { calm = C.calm; whole = C.whole; parts = C.parts; fate = C.fate }) carrier.old lines.now events.now carrier.new)) (W.contents writer.old) (W.contents writer.new)) }
+    ensures traced { OnOk result (WritesTrace (AfterOpening C.inside network.now carrier.old (Traces C.calls C.inside carrier.old events.now carrier.new)) (W.contents writer.old) (W.contents writer.new)) }
 
     // memory ran out at one of them: the first line and those before it were written, and nothing else
-    ensures memory { result ≡ Err ReplayFault.OutOfMemory → WritesTrace (AfterOpening (record { calm = C.calm; whole = C.whole; parts = C.parts; fate = C.fate }) network.now carrier.old (TraceEnds C.calls (record { calm = C.calm; whole = C.whole; parts = C.parts; fate = C.fate }) (StopsElement C.calls) carrier.old lines.now events.now carrier.new)) (W.contents writer.old) (W.contents writer.new) }
+    ensures memory { result ≡ Err ReplayFault.OutOfMemory → WritesTrace (AfterOpening C.inside network.now carrier.old (TraceEnds C.calls C.inside (StopsElement C.calls) carrier.old events.now carrier.new)) (W.contents writer.old) (W.contents writer.new) }
 
     // `CannotWrite` is answered where a write failed, and nowhere else
     ensures failed { TellsCannotWrite result (W.failed writer.new) }
 
     // a write failed: the carrier had already processed that elementary event, or none
-    ensures cannot_write { result ≡ Err ReplayFault.CannotWrite → (carrier.new ≡ carrier.old) ⊎ ((others : List (List ℕ)) × TraceEnds C.calls (record { calm = C.calm; whole = C.whole; parts = C.parts; fate = C.fate }) (MayTell C.calls) carrier.old lines.now events.now carrier.new others) }
+    ensures cannot_write { result ≡ Err ReplayFault.CannotWrite → (carrier.new ≡ carrier.old) ⊎ ((others : List (List ℕ)) × TraceEnds C.calls C.inside (MayTell C.calls) carrier.old events.now carrier.new others) }
 {
     print_opening(network, carrier, writer)?;
-    trace_all(carrier, lines, events, writer)
+    trace_all(carrier, events, writer)
 }
 
-/// Traces all events, which are in these lines of a script.
+/// Traces all events, each of which comes after the number of its line.
 fn trace_all<C: Inspect, W: Output>(
     carrier: &mut C,
-    lines: &[usize],
-    events: &[RawEvent],
+    events: &[(usize, RawEvent)],
     writer: &mut W,
 ) -> Result<(), ReplayFault>
-    requires events { length lines.now ≡ length events.now }
     requires whole { W.failed writer.old ≡ false }
-    ensures traced { OnOk result (WritesTrace (Traces C.calls (record { calm = C.calm; whole = C.whole; parts = C.parts; fate = C.fate }) carrier.old lines.now events.now carrier.new) (W.contents writer.old) (W.contents writer.new)) }
-    ensures memory { result ≡ Err ReplayFault.OutOfMemory → WritesTrace (TraceEnds C.calls (record { calm = C.calm; whole = C.whole; parts = C.parts; fate = C.fate }) (StopsElement C.calls) carrier.old lines.now events.now carrier.new) (W.contents writer.old) (W.contents writer.new) }
+    ensures traced { OnOk result (WritesTrace (Traces C.calls C.inside carrier.old events.now carrier.new) (W.contents writer.old) (W.contents writer.new)) }
+    ensures memory { result ≡ Err ReplayFault.OutOfMemory → WritesTrace (TraceEnds C.calls C.inside (StopsElement C.calls) carrier.old events.now carrier.new) (W.contents writer.old) (W.contents writer.new) }
     ensures failed { TellsCannotWrite result (W.failed writer.new) }
-    ensures cannot_write { result ≡ Err ReplayFault.CannotWrite → (others : List (List ℕ)) × TraceEnds C.calls (record { calm = C.calm; whole = C.whole; parts = C.parts; fate = C.fate }) (MayTell C.calls) carrier.old lines.now events.now carrier.new others }
+    ensures cannot_write { result ≡ Err ReplayFault.CannotWrite → (others : List (List ℕ)) × TraceEnds C.calls C.inside (MayTell C.calls) carrier.old events.now carrier.new others }
 {
     for place in 0..events.len() {
+        let (line, event) = &events[place];
         let spot = Spot {
-            line: lines[place],
+            line: *line,
             number: place + 1,
         };
-        trace_event(carrier, spot, &events[place], writer)?;
+        trace_event(carrier, spot, event, writer)?;
     }
     Ok(())
 }
@@ -87,7 +84,7 @@ fn trace_event<C: Inspect, W: Output>(
     writer: &mut W,
 ) -> Result<(), ReplayFault>
     requires { W.failed writer.old ≡ false }
-    ensures ends { EventEnds C.calls (record { calm = C.calm; whole = C.whole; parts = C.parts; fate = C.fate }) carrier.old (spot, event.now) result carrier.new (W.contents writer.old) (W.contents writer.new) }
+    ensures ends { EventEnds C.calls C.inside carrier.old (spot, event.now) result carrier.new (W.contents writer.old) (W.contents writer.new) }
     ensures failed { TellsCannotWrite result (W.failed writer.new) }
 {
     match event {
@@ -106,7 +103,7 @@ fn trace_calm<C: Inspect, W: Output>(
     writer: &mut W,
 ) -> Result<(), ReplayFault>
     requires { W.failed writer.old ≡ false }
-    ensures ends { EventEnds C.calls (record { calm = C.calm; whole = C.whole; parts = C.parts; fate = C.fate }) carrier.old (spot, script_event.Calm rounds) result carrier.new (W.contents writer.old) (W.contents writer.new) }
+    ensures ends { EventEnds C.calls C.inside carrier.old (spot, script_event.Calm rounds) result carrier.new (W.contents writer.old) (W.contents writer.new) }
     ensures failed { TellsCannotWrite result (W.failed writer.new) }
 {
     let mut place = carrier.begin_calm(rounds);
@@ -127,7 +124,7 @@ fn trace_element<C: Inspect, W: Output>(
 ) -> Result<(), ReplayFault>
     requires one_call { IsOneCall event.now }
     requires whole { W.failed writer.old ≡ false }
-    ensures ends { ElementEnds C.calls (record { calm = C.calm; whole = C.whole; parts = C.parts; fate = C.fate }) spot carrier.old (record { round = round; event = event.now }) result carrier.new (W.contents writer.old) (W.contents writer.new) }
+    ensures ends { ElementEnds C.calls C.inside spot carrier.old (record { round = round; event = event.now }) result carrier.new (W.contents writer.old) (W.contents writer.new) }
     ensures failed { TellsCannotWrite result (W.failed writer.new) }
 {
     let booked = carrier.log().len();

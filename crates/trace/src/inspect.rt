@@ -1,13 +1,10 @@
 //! Carriers whose inside can be traced.
 
-ghost use Rattle.std.specs.Prelude.{◌≡◌, List, OnOk, Option, false, ℕ};
+ghost use Rattle.std.specs.Prelude.{◌≡◌, List, OnOk, false};
 ghost use Rattle.std.specs.Io.KnownBytes.{Appends};
-ghost use Rattle.interface.specs.declared.crossing.Crossing.{Crossing};
 ghost use Rattle.replay.specs.Failing.{TellsFailure};
-ghost use Rattle.script.specs.declared.event.RawEvent.{RawEvent};
-ghost use Rattle.trace.specs.Traces.{GoesOnWith};
+ghost use Rattle.trace.specs.Traces.{GoesOnWith, Inside};
 ghost use Rattle.trace.specs.declared.element.Element.{Element};
-ghost use Rattle.trace.specs.declared.fate.Fate.{Fate};
 
 use crate::element::Element;
 use crate::fate::Fate;
@@ -21,24 +18,15 @@ pub trait Inspect: Carrier {
     /// A place in a calm, between two of its elementary events.
     type Place: Copy;
 
-    /// The elementary events of a calm of this many rounds.
-    ghost calm: { Self → ℕ → List Element };
+    /// What it shows of its inside.
+    ghost inside: { Inside Self };
 
-    /// Those that are left of a calm at a place.
+    /// The elementary events that are left of a calm at a place.
     ghost left: { Self → Self.Place → List Element };
-
-    /// The JSON object of all parts.
-    ghost whole: { Self → List ℕ };
-
-    /// The JSON object of the parts that an event can change in which this crossed.
-    ghost parts: { Self → RawEvent → List Crossing → List ℕ };
-
-    /// What becomes of the frame that an event delivers.
-    ghost fate: { Self → RawEvent → Option Fate };
 
     /// Returns the place at which a calm begins.
     fn begin_calm(&self, rounds: u32) -> Self::Place
-        ensures { left self.now result ≡ calm self.now rounds };
+        ensures { left self.now result ≡ inside.calm self.now rounds };
 
     /// Returns the next elementary event of a calm, and the place after it; `None` where the calm is over.
     fn next_in_calm(&self, place: Self::Place) -> Option<(Element, Self::Place)>
@@ -46,14 +34,14 @@ pub trait Inspect: Carrier {
 
     /// Returns what becomes of the frame that an event is going to deliver; `None` where it delivers none.
     fn fate(&self, event: &RawEvent) -> Option<Fate>
-        ensures { result ≡ fate self.now event.now };
+        ensures { result ≡ inside.fate self.now event.now };
 
     /// Prints all parts, as a JSON object.
     ///
     /// Errors: `WriteFailed`.
     fn print_whole<W: Output>(&self, writer: &mut W) -> Result<(), WriteFailed>
         requires { W.failed writer.old ≡ false }
-        ensures written { OnOk result (Appends (W.contents writer.old) (W.contents writer.new) (whole self.now)) }
+        ensures written { OnOk result (Appends (W.contents writer.old) (W.contents writer.new) (inside.whole self.now)) }
         ensures failed { TellsFailure result (W.failed writer.new) };
 
     /// Prints the parts that an event can change in which this crossed, as a JSON object.
@@ -66,6 +54,6 @@ pub trait Inspect: Carrier {
         writer: &mut W,
     ) -> Result<(), WriteFailed>
         requires { W.failed writer.old ≡ false }
-        ensures written { OnOk result (Appends (W.contents writer.old) (W.contents writer.new) (parts self.now event.now crossings.now)) }
+        ensures written { OnOk result (Appends (W.contents writer.old) (W.contents writer.new) (inside.parts self.now event.now crossings.now)) }
         ensures failed { TellsFailure result (W.failed writer.new) };
 }

@@ -31,7 +31,7 @@ pub use element::{Element, Spot};
 pub use events::trace_events;
 pub use fate::Fate;
 pub use inspect::Inspect;
-pub use numbers::event_lines;
+pub use numbers::{beside_lines, event_lines};
 pub use opening::print_network;
 pub use parts::{print_parts, print_whole};
 pub use spelling::print_net_event;

@@ -134,7 +134,7 @@ pub(crate) fn print_line<C: Inspect, W: Output>(
 ) -> Result<(), WriteFailed>
     requires goes_on { GoesOn outcome }
     requires whole { W.failed writer.old ≡ false }
-    ensures written { OnOk result (Appends (W.contents writer.old) (W.contents writer.new) (ended_line (trace_line spot (record { round = round; event = event.now }) fate (shown_crossings crossings.now ++ shown_refusal outcome) (C.parts carrier.now event.now crossings.now)))) }
+    ensures written { OnOk result (Appends (W.contents writer.old) (W.contents writer.new) (ended_line (trace_line spot (record { round = round; event = event.now }) fate (shown_crossings crossings.now ++ shown_refusal outcome) (C.inside.parts carrier.now event.now crossings.now)))) }
     ensures failed { TellsFailure result (W.failed writer.new) }
 {
     print_head(spot, round, event, writer)?;

@@ -1,6 +1,6 @@
 //! The numbers of a script's lines.
 
-ghost use Rattle.std.specs.Prelude.{◌≡◌, ◌≤◌, IfOk, length};
+ghost use Rattle.std.specs.Prelude.{◌≡◌, ◌≤◌, IfOk, length, zip};
 ghost use Rattle.trace.specs.Traces.{event_lines};
 
 use script::MAX_INPUT;
@@ -26,4 +26,17 @@ pub fn event_lines(alloc: Global, script: &[u8]) -> Result<Vec<usize>, AllocErro
         rest = more;
     }
     Ok(numbers)
+}
+
+/// Returns events, each after the number of its line. What is more of the one than of the other is left out.
+///
+/// Errors: `AllocError`.
+pub fn beside_lines<E: Drop>(
+    alloc: Global,
+    lines: &[usize],
+    events: Vec<E>,
+) -> Result<Vec<(usize, E)>, AllocError>
+    ensures { IfOk result (λ placed. placed.items ≡ zip lines.now events.items) }
+{
+    lines.iter().copied().zip(events).collect(alloc)
 }

@@ -76,7 +76,7 @@ pub(crate) fn print_opening<C: Inspect, W: Output>(
     writer: &mut W,
 ) -> Result<(), WriteFailed>
     requires { W.failed writer.old ≡ false }
-    ensures written { OnOk result (Appends (W.contents writer.old) (W.contents writer.new) (ended_line (opening_line network.now (C.whole carrier.now)))) }
+    ensures written { OnOk result (Appends (W.contents writer.old) (W.contents writer.new) (ended_line (opening_line network.now (C.inside.whole carrier.now)))) }
     ensures failed { TellsFailure result (W.failed writer.new) }
 {
     print_network(network, writer)?;

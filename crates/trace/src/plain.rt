@@ -1,10 +1,10 @@
 //! The inside of plain mailboxes.
 
-ghost use Rattle.std.specs.Prelude.{◌≡◌, None, true};
+ghost use Rattle.std.specs.Prelude.{◌≡◌, true};
 ghost use Rattle.interface.specs.Host.{is_host};
-ghost use Rattle.trace.specs.Elements.{calm_left, calm_of, is_given};
-ghost use Rattle.trace.specs.Texts.{changed_text, whole_text};
+ghost use Rattle.trace.specs.Elements.{calm_left, is_given};
 ghost use Rattle.trace.specs.Steps.{IsNext};
+ghost use Rattle.trace.specs.Traces.{plain_inside};
 
 use crate::element::Element;
 use crate::fate::Fate;
@@ -57,15 +57,9 @@ fn next_taking(boxes: &PlainBoxes, turn: Turn) -> Option<(Element, Turn)>
 impl Inspect for PlainBoxes {
     type Place = Turn;
 
-    ghost calm = { calm_of };
+    ghost inside = { plain_inside };
 
     ghost left = { calm_left };
-
-    ghost whole = { whole_text };
-
-    ghost parts = { changed_text };
-
-    ghost fate = { λ boxes event. None };
 
     fn begin_calm(&self, rounds: u32) -> Turn {
         Turn {

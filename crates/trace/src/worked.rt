@@ -82,7 +82,7 @@ pub fn worked_lines()
 
     // lines that ask for nothing are counted, and their numbers passed over
     ensures numbers { asking_from 1 (codes "calm 1" ∷ [] ∷ codes "# then" ∷ codes "take 0/1" ∷ []) ≡ 1 ∷ 4 ∷ [] }
-    ensures numbered { numbered_from (1 ∷ 4 ∷ []) 1 (event.Calm 1 ∷ event.Take first ∷ []) ≡ (record { line = 1; number = 1 }, event.Calm 1) ∷ (record { line = 4; number = 2 }, event.Take first) ∷ [] }
+    ensures numbered { numbered_from 1 ((1, event.Calm 1) ∷ (4, event.Take first) ∷ []) ≡ (record { line = 1; number = 1 }, event.Calm 1) ∷ (record { line = 4; number = 2 }, event.Take first) ∷ [] }
 
     ensures start { trace_line (record { line = 9; number = 7 }) (record { round = 0; event = event.Net (net.HostUp third) }) None (Crossed (crossing.Up third) ∷ []) (changed_text (with_down (first ∷ [])) (event.Net (net.HostUp third)) (crossing.Up third ∷ [])) ≡ codes "{\"line\":9,\"number\":7,\"round\":0,\"event\":\"hostup 0/2\",\"crossed\":[{\"kind\":\"up\",\"host\":\"0/2\"}],\"printed\":[\"up 0/2\"],\"parts\":{\"down\":[\"0/1\"]}}" }
     ensures refused { trace_line (record { line = 12; number = 12 }) (record { round = 0; event = event.Net (net.Resend 1) }) None (Refused fault.NoSuch ∷ []) (changed_text (with_down []) (event.Net (net.Resend 1)) []) ≡ codes "{\"line\":12,\"number\":12,\"round\":0,\"event\":\"resend 1\",\"crossed\":[],\"printed\":[\"refused NoSuch\"],\"parts\":{}}" }

@@ -1,5 +1,5 @@
 -- Events are traced one after the other, and one of them may be the last.
-use Rattle.std.proofs.Common.{◌≡◌, inl, inr, ℕ, zero, suc, ◌<◌, ◌≤◌, ◌+◌, ◌-◌, List, [], ◌∷◌, ◌++◌, drop, get_or, length, reverse, slice_index_or, Option, Some, Result, Ok, Err, arith, refl, sym, ap, subst, ◌∙◌}
+use Rattle.std.proofs.Common.{◌≡◌, inl, inr, ℕ, zero, suc, ◌<◌, ◌≤◌, ◌+◌, ◌-◌, List, [], ◌∷◌, ◌++◌, drop, get_or, length, reverse, Option, Some, Result, Ok, Err, arith, refl, sym, ap, subst, ◌∙◌}
 use Rattle.std.proofs.lemmas.Bool.{cases_lt}
 use Rattle.std.proofs.lemmas.List.{append_assoc, append-nil, length-append, length-reverse, reverse-append, reverse-reverse}
 use Rattle.std.proofs.Math.Seq.{drop-append_seam}
@@ -15,7 +15,7 @@ use Rattle.replay.specs.declared.events.ReplayFault.TheVariants as fault
 use Rattle.replay.specs.declared.print.Detail.TheVariants.{Sizes}
 use Rattle.script.specs.Input.{ended_line}
 use Rattle.topology.specs.Topology.{TopologyFields}
-use Rattle.trace.specs.Traces.{WritesTrace}
+use Rattle.trace.specs.Traces.{WritesTrace, numbered_from}
 use Rattle.trace.specs.declared.element.Spot.{Spot}
 use Rattle.world_replay.specs.Output.{Shown, Writes, output, shown_text}
 use Rattle.world_replay.specs.Replay.{BeginsWith, EndsIn, Happens, MayDo, Replays, StopsIn}
@@ -24,7 +24,7 @@ use Rattle.world_script.specs.declared.event.WorldEvent.TheVariants as world
 use Rattle.world_trace.specs.Steps.{EventEnds, HasPassed, OneEnds, RoundEnds, Shows, ended_state}
 use Rattle.world_trace.specs.Texts.{event_text, line_of, opening_text, world_line}
 use Rattle.world_trace.proofs.Lines.{same_ended, same_object}
-use Rattle.world_trace.specs.Traces.{AfterOpening, MayTell, StopsOne, TellsOne, TellsRound, first_rounds, numbered_from, spot_of, state_of}
+use Rattle.world_trace.specs.Traces.{AfterOpening, MayTell, StopsOne, TellsOne, TellsRound, first_rounds, state_of}
 
 -- ---- one event
 
@@ -273,13 +273,13 @@ none_left [] none = refl
 none_left (x ∷ xs) none = absurd (omega (arith, none))
 
 -- the next event with where it is
-pub next_at : (lines : List ℕ) (passed : ℕ) (left later : List WorldEvent) (e : WorldEvent) → left ≡ e ∷ later
-    → numbered_from lines (passed + 1) left ≡ (record { line = slice_index_or lines passed 0; number = passed + 1 }, e) ∷ numbered_from lines (passed + 1 + 1) later
-next_at lines passed left later e is =
+abbrev pub at_place : {E : Type 0} → ℕ → (ℕ × E) → Spot × E
+at_place passed e = (record { line = e.0; number = passed + 1 }, e.1)
+
+pub next_at : {E : Type 0} (passed : ℕ) (left later : List (ℕ × E)) (e : ℕ × E) → left ≡ e ∷ later → numbered_from (passed + 1) left ≡ at_place passed e ∷ numbered_from (passed + 1 + 1) later
+next_at passed left later e is =
     let next : suc (passed + 1) ≡ passed + 1 + 1 = omega arith in
-    let here : passed + 1 - 1 ≡ passed = omega arith in
-    ap (numbered_from lines (passed + 1)) is ∙ ap (λ n. (spot_of lines (passed + 1), e) ∷ numbered_from lines n later) next
-    ∙ ap (λ n. (record { line = slice_index_or lines n 0; number = passed + 1 }, e) ∷ numbered_from lines (passed + 1 + 1) later) here
+    ap (numbered_from (passed + 1)) is ∙ ap (λ n. at_place passed e ∷ numbered_from n later) next
 
 -- ---- after the first line
 

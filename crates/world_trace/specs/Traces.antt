@@ -1,25 +1,17 @@
 -- What is written as the trace of a world, over any carrier whose inside can be traced.
-use Rattle.std.specs.Prelude.{◌≡◌, ◌⊎◌, ℕ, zero, suc, ◌-◌, List, [], ◌∷◌, ◌++◌, slice_index_or}
+use Rattle.std.specs.Prelude.{◌≡◌, ◌⊎◌, ℕ, zero, suc, List, [], ◌∷◌, ◌++◌}
 use Rattle.net_sim.specs.World.{WorldState}
 use Rattle.interface.specs.Calls.{Calls}
 use Rattle.replay.specs.InTurn.{EndsInTurn, Happening, InTurn}
 use Rattle.topology.specs.Topology.{TopologyFields}
 use Rattle.trace.specs.Texts.{object}
+use Rattle.trace.specs.Traces.{numbered_from}
 use Rattle.trace.specs.declared.element.Spot.{Spot}
 use Rattle.world_replay.specs.Output.{Shown}
 use Rattle.world_replay.specs.Replay.{Happens, MayDo}
 use Rattle.world_script.specs.declared.event.WorldEvent.{WorldEvent}
 use Rattle.world_script.specs.declared.event.WorldEvent.TheVariants as world
 use Rattle.world_trace.specs.Texts.{opening_text, state_members, world_line}
-
--- where an event is in a script: the number of its line among these, and its own
-abbrev pub spot_of : List ℕ → ℕ → Spot
-spot_of lines number = record { line = slice_index_or lines (number - 1) 0; number = number }
-
--- events with where they are, numbered from this number on
-abbrev pub numbered_from : List ℕ → ℕ → List WorldEvent → List (Spot × WorldEvent)
-numbered_from lines number [] = []
-numbered_from lines number (e ∷ events) = (spot_of lines number, e) ∷ numbered_from lines (suc number) events
 
 -- the state of a world, where a carrier has this object of all its parts
 abbrev pub state_of : {C : Type 0} → (C → List ℕ) → WorldState C → List (List ℕ)
@@ -61,9 +53,9 @@ TellsAt calls whole spot old (world.Calm rounds) new lines = InTurn (TellsRound 
 abbrev pub TellsIn : {C : Type 0} → Calls C → (C → List ℕ) → Happening (WorldState C) (Spot × WorldEvent) (List ℕ)
 TellsIn calls whole old e new lines = TellsAt calls whole e.0 old e.1 new lines
 
--- the lines are those of these events, numbered from 1, which are in these lines of a script
-abbrev pub TracesWorld : {C : Type 0} → Calls C → (C → List ℕ) → WorldState C → List ℕ → List WorldEvent → WorldState C → List (List ℕ) → Type 0
-TracesWorld calls whole old numbers events new lines = InTurn (TellsIn calls whole) old (numbered_from numbers 1 events) new lines
+-- the lines are those of these events, numbered from 1, each of which comes after the number of its line in a script
+abbrev pub TracesWorld : {C : Type 0} → Calls C → (C → List ℕ) → WorldState C → List (ℕ × WorldEvent) → WorldState C → List (List ℕ) → Type 0
+TracesWorld calls whole old events new lines = InTurn (TellsIn calls whole) old (numbered_from 1 events) new lines
 
 -- the lines after the first, which is the network with the state at the opening
 abbrev pub AfterOpening : {C : Type 0} → (C → List ℕ) → TopologyFields → WorldState C → (List (List ℕ) → Type 0) → List (List ℕ) → Type 0
@@ -87,6 +79,6 @@ EndsAt calls whole Goes spot old (world.Calm rounds) new lines = EndsInTurn (Tel
 abbrev pub EndsIn : {C : Type 0} → Calls C → (C → List ℕ) → Happening (WorldState C) WorldEvent (List ℕ) → Happening (WorldState C) (Spot × WorldEvent) (List ℕ)
 EndsIn calls whole Goes old e new lines = EndsAt calls whole Goes e.0 old e.1 new lines
 
-abbrev pub WorldTraceEnds : {C : Type 0} → Calls C → (C → List ℕ) → Happening (WorldState C) WorldEvent (List ℕ) → WorldState C → List ℕ → List WorldEvent → WorldState C → List (List ℕ) → Type 0
-WorldTraceEnds calls whole Goes old numbers events new lines =
-    EndsInTurn (TellsIn calls whole) (EndsIn calls whole Goes) old (numbered_from numbers 1 events) new lines
+abbrev pub WorldTraceEnds : {C : Type 0} → Calls C → (C → List ℕ) → Happening (WorldState C) WorldEvent (List ℕ) → WorldState C → List (ℕ × WorldEvent) → WorldState C → List (List ℕ) → Type 0
+WorldTraceEnds calls whole Goes old events new lines =
+    EndsInTurn (TellsIn calls whole) (EndsIn calls whole Goes) old (numbered_from 1 events) new lines

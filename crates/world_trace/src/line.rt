@@ -71,7 +71,7 @@ pub(crate) fn print_state<C: Inspect, W: Output>(
     writer: &mut W,
 ) -> Result<(), WriteFailed>
     requires { W.failed writer.old ≡ false }
-    ensures written { OnOk result (Appends (W.contents writer.old) (W.contents writer.new) (ended_state C.whole world.now)) }
+    ensures written { OnOk result (Appends (W.contents writer.old) (W.contents writer.new) (ended_state C.inside.whole world.now)) }
     ensures failed { TellsFailure result (W.failed writer.new) }
 {
     world.carrier().print_whole(writer)?;
@@ -100,9 +100,9 @@ pub(crate) fn print_line<C: Inspect, W: Output>(
     writer: &mut W,
 ) -> Result<(), WriteFailed>
     requires crossed { passed.now.crossed ≤ length world.now.kept.book.crossings }
-    requires state { passed.now.state.items ≡ ended_state C.whole world.now }
+    requires state { passed.now.state.items ≡ ended_state C.inside.whole world.now }
     requires whole { W.failed writer.old ≡ false }
-    ensures written { OnOk result (Appends (W.contents writer.old) (W.contents writer.new) (ended_line (line_of spot round passed.now.event.items (drop passed.now.crossed (reverse world.now.kept.book.crossings)) passed.now.printed.items (state_of C.whole world.now)))) }
+    ensures written { OnOk result (Appends (W.contents writer.old) (W.contents writer.new) (ended_line (line_of spot round passed.now.event.items (drop passed.now.crossed (reverse world.now.kept.book.crossings)) passed.now.printed.items (state_of C.inside.whole world.now)))) }
     ensures failed { TellsFailure result (W.failed writer.new) }
 {
     let (_, crossings) = world.book().crossings().split_at(passed.crossed);
@@ -119,7 +119,7 @@ pub(crate) fn print_opening<C: Inspect, W: Output>(
     writer: &mut W,
 ) -> Result<(), WriteFailed>
     requires { W.failed writer.old ≡ false }
-    ensures written { OnOk result (Appends (W.contents writer.old) (W.contents writer.new) (ended_line (opening_text network.now (state_of C.whole world.now)))) }
+    ensures written { OnOk result (Appends (W.contents writer.old) (W.contents writer.new) (ended_line (opening_text network.now (state_of C.inside.whole world.now)))) }
     ensures failed { TellsFailure result (W.failed writer.new) }
 {
     print_network(network, writer)?;

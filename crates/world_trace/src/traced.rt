@@ -1,6 +1,6 @@
 //! Tracing the events of a world's script.
 
-ghost use Rattle.std.specs.Prelude.{◌≡◌, ◌⊎◌, ◌↔◌, [], ℕ, Err, IfErr, IfOk, List, Ok, OnOk, false, length, true};
+ghost use Rattle.std.specs.Prelude.{◌≡◌, ◌⊎◌, ◌↔◌, [], ℕ, Err, IfErr, IfOk, List, Ok, OnOk, false, true};
 ghost use Rattle.net_sim.specs.Carriers.{shown};
 ghost use Rattle.net_sim.specs.World.{CalmGives};
 ghost use Rattle.replay.specs.Failing.{TellsCannotWrite};
@@ -25,7 +25,7 @@ use world_script::WorldEvent;
 
 /// Prints the network with the state of a world, lets each event happen in order as a replay does, and prints a JSON object for
 /// each event, and for each round of a calm: where it is in the script, the event, what crossed, what a replay prints for it, and the
-/// state after it. `lines` has the numbers of the events' lines in the script.
+/// state after it. Each event comes after the number of its line in the script.
 ///
 /// A refused event changes nothing, and has a line too. A round of a calm that prints nothing and leaves the state as it was has none.
 ///
@@ -38,48 +38,44 @@ pub fn trace_world<C: Inspect, W: Output>(
     alloc: Global,
     network: &Topology,
     world: &mut World<C>,
-    lines: &[usize],
-    events: Vec<WorldEvent>,
+    events: Vec<(usize, WorldEvent)>,
     writer: &mut W,
 ) -> Result<(), ReplayFault>
-    requires events { length lines.now ≡ length events.items }
     requires whole { W.failed writer.old ≡ false }
 
     // first the network with the state, and then each event and each round happened as in a replay, and its line was written
-    ensures traced { OnOk result (WritesTrace (AfterOpening C.whole network.now world.old (TracesWorld (shown C.calls) C.whole world.old lines.now events.items world.new)) (W.contents writer.old) (W.contents writer.new)) }
+    ensures traced { OnOk result (WritesTrace (AfterOpening C.inside.whole network.now world.old (TracesWorld (shown C.calls) C.inside.whole world.old events.items world.new)) (W.contents writer.old) (W.contents writer.new)) }
 
     // memory ran out at one of them: the first line and those before it were written, and nothing else
-    ensures memory { result ≡ Err ReplayFault.OutOfMemory → WritesTrace (AfterOpening C.whole network.now world.old (WorldTraceEnds (shown C.calls) C.whole (StopsOne (shown C.calls)) world.old lines.now events.items world.new)) (W.contents writer.old) (W.contents writer.new) }
+    ensures memory { result ≡ Err ReplayFault.OutOfMemory → WritesTrace (AfterOpening C.inside.whole network.now world.old (WorldTraceEnds (shown C.calls) C.inside.whole (StopsOne (shown C.calls)) world.old events.items world.new)) (W.contents writer.old) (W.contents writer.new) }
 
     // `CannotWrite` is answered where a write failed, and nowhere else
     ensures failed { TellsCannotWrite result (W.failed writer.new) }
 
     // a write failed: the event or round had already happened, or none had
-    ensures cannot_write { result ≡ Err ReplayFault.CannotWrite → (world.new ≡ world.old) ⊎ ((others : List (List ℕ)) × WorldTraceEnds (shown C.calls) C.whole (MayTell (shown C.calls)) world.old lines.now events.items world.new others) }
+    ensures cannot_write { result ≡ Err ReplayFault.CannotWrite → (world.new ≡ world.old) ⊎ ((others : List (List ℕ)) × WorldTraceEnds (shown C.calls) C.inside.whole (MayTell (shown C.calls)) world.old events.items world.new others) }
 {
     print_opening(network, world, writer)?;
-    trace_all(alloc, world, lines, events, writer)
+    trace_all(alloc, world, events, writer)
 }
 
-/// Traces all events, which are in these lines of a script.
+/// Traces all events, each of which comes after the number of its line.
 fn trace_all<C: Inspect, W: Output>(
     alloc: Global,
     world: &mut World<C>,
-    lines: &[usize],
-    events: Vec<WorldEvent>,
+    events: Vec<(usize, WorldEvent)>,
     writer: &mut W,
 ) -> Result<(), ReplayFault>
-    requires events { length lines.now ≡ length events.items }
     requires whole { W.failed writer.old ≡ false }
-    ensures traced { OnOk result (WritesTrace (TracesWorld (shown C.calls) C.whole world.old lines.now events.items world.new) (W.contents writer.old) (W.contents writer.new)) }
-    ensures memory { result ≡ Err ReplayFault.OutOfMemory → WritesTrace (WorldTraceEnds (shown C.calls) C.whole (StopsOne (shown C.calls)) world.old lines.now events.items world.new) (W.contents writer.old) (W.contents writer.new) }
+    ensures traced { OnOk result (WritesTrace (TracesWorld (shown C.calls) C.inside.whole world.old events.items world.new) (W.contents writer.old) (W.contents writer.new)) }
+    ensures memory { result ≡ Err ReplayFault.OutOfMemory → WritesTrace (WorldTraceEnds (shown C.calls) C.inside.whole (StopsOne (shown C.calls)) world.old events.items world.new) (W.contents writer.old) (W.contents writer.new) }
     ensures failed { TellsCannotWrite result (W.failed writer.new) }
-    ensures cannot_write { result ≡ Err ReplayFault.CannotWrite → (others : List (List ℕ)) × WorldTraceEnds (shown C.calls) C.whole (MayTell (shown C.calls)) world.old lines.now events.items world.new others }
+    ensures cannot_write { result ≡ Err ReplayFault.CannotWrite → (others : List (List ℕ)) × WorldTraceEnds (shown C.calls) C.inside.whole (MayTell (shown C.calls)) world.old events.items world.new others }
 {
     let mut passed: usize = 0;
-    for event in events {
+    for (line, event) in events {
         let spot = Spot {
-            line: lines[passed],
+            line,
             number: passed + 1,
         };
         trace_event(alloc, world, spot, event, writer)?;
@@ -97,7 +93,7 @@ fn trace_event<C: Inspect, W: Output>(
     writer: &mut W,
 ) -> Result<(), ReplayFault>
     requires { W.failed writer.old ≡ false }
-    ensures ends { EventEnds (shown C.calls) C.whole spot world.old event result world.new (W.contents writer.old) (W.contents writer.new) }
+    ensures ends { EventEnds (shown C.calls) C.inside.whole spot world.old event result world.new (W.contents writer.old) (W.contents writer.new) }
     ensures failed { TellsCannotWrite result (W.failed writer.new) }
 {
     match event {
@@ -117,7 +113,7 @@ fn trace_calm<C: Inspect, W: Output>(
     writer: &mut W,
 ) -> Result<(), ReplayFault>
     requires { W.failed writer.old ≡ false }
-    ensures ends { EventEnds (shown C.calls) C.whole spot world.old (world_event.Calm rounds) result world.new (W.contents writer.old) (W.contents writer.new) }
+    ensures ends { EventEnds (shown C.calls) C.inside.whole spot world.old (world_event.Calm rounds) result world.new (W.contents writer.old) (W.contents writer.new) }
     ensures failed { TellsCannotWrite result (W.failed writer.new) }
 {
     if rounds == 0 {
@@ -152,9 +148,9 @@ fn trace_round<C: Inspect, W: Output>(
     writer: &mut W,
 ) -> Result<(), ReplayFault>
     requires whole { W.failed writer.old ≡ false }
-    requires known { text.old.items ≡ ended_state C.whole world.old }
-    ensures ends { RoundEnds (shown C.calls) C.whole spot round world.old result world.new (W.contents writer.old) (W.contents writer.new) }
-    ensures known { OnOk result (text.new.items ≡ ended_state C.whole world.new) }
+    requires known { text.old.items ≡ ended_state C.inside.whole world.old }
+    ensures ends { RoundEnds (shown C.calls) C.inside.whole spot round world.old result world.new (W.contents writer.old) (W.contents writer.new) }
+    ensures known { OnOk result (text.new.items ≡ ended_state C.inside.whole world.new) }
     ensures failed { TellsCannotWrite result (W.failed writer.new) }
 {
     let passed = pass(alloc, world, WorldEvent::Calm(1))?;
@@ -182,7 +178,7 @@ fn trace_one<C: Inspect, W: Output>(
     writer: &mut W,
 ) -> Result<(), ReplayFault>
     requires { W.failed writer.old ≡ false }
-    ensures ends { OneEnds (shown C.calls) C.whole spot 0 world.old event result world.new (W.contents writer.old) (W.contents writer.new) }
+    ensures ends { OneEnds (shown C.calls) C.inside.whole spot 0 world.old event result world.new (W.contents writer.old) (W.contents writer.new) }
     ensures failed { TellsCannotWrite result (W.failed writer.new) }
 {
     let passed = pass(alloc, world, event)?;
@@ -195,7 +191,7 @@ fn pass<C: Inspect>(
     world: &mut World<C>,
     event: WorldEvent,
 ) -> Result<Passed, AllocError>
-    ensures passed { IfOk result (λ p. HasPassed (shown C.calls) C.whole world.old event world.new p.event.items p.crossed p.printed.items p.state.items) }
+    ensures passed { IfOk result (λ p. HasPassed (shown C.calls) C.inside.whole world.old event world.new p.event.items p.crossed p.printed.items p.state.items) }
     ensures memory { IfErr result (λ _. StopsOne (shown C.calls) world.old event world.new []) }
 {
     let text = spelled(alloc, &event)?;
@@ -212,7 +208,7 @@ fn pass<C: Inspect>(
 
 /// Returns the text of the state of a world after other members, with the end of a line.
 fn ended_state<C: Inspect>(alloc: Global, world: &World<C>) -> Result<Vec<u8>, AllocError>
-    ensures { IfOk result (λ text. text.items ≡ ended_state C.whole world.now) }
+    ensures { IfOk result (λ text. text.items ≡ ended_state C.inside.whole world.now) }
 {
     let mut printer = Printer::new(Vec::new(alloc));
     match print_state(world, &mut printer) {

@@ -8,8 +8,8 @@ use Rattle.command_line.proofs.tracing.trace_from.Goals as goal
 pub returns-in-Ok-clause-traced : goal.returns-in-Ok-clause-traced
 returns-in-Ok-clause-traced g c =
     let calls : Calls g.row.C.Denot = g.C.Carrier.calls in
-    let inside : Inside g.row.C.Denot = record { calm = g.C.Inspect.calm; whole = g.C.Inspect.whole; parts = g.C.Inspect.parts; fate = g.C.Inspect.fate } in
-    flushed_trace calls inside c.args.network.now c.args.carrier c.trace_events.new.carrier c.args.lines.now c.args.events.now (g.W.Output.contents c.args.writer.now) (g.W.Output.contents c.trace_events.new.writer) (g.W.Output.contents c.flush.new.self) c.in-Ok.ensures.traced c.flush.ensures.kept
+    let inside : Inside g.row.C.Denot = g.C.Inspect.inside in
+    flushed_trace calls inside c.args.network.now c.args.carrier c.trace_events.new.carrier c.args.events.now (g.W.Output.contents c.args.writer.now) (g.W.Output.contents c.trace_events.new.writer) (g.W.Output.contents c.flush.new.self) c.in-Ok.ensures.traced c.flush.ensures.kept
 
 pub returns-clause-stopped : goal.returns-clause-stopped
 returns-clause-stopped g c = λ e. record { last = c.trace_events.new.carrier; traced = c.in-Err.ensures.memory (ap Err (told_memory c.in-Err.fault c.from.result c.from.ensures e)) }

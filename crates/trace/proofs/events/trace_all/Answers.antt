@@ -1,52 +1,52 @@
-use Rattle.std.proofs.Common.{◌≡◌, ◌≤◌, ◌+◌, ℕ, Err, arith, drop, length, refl, rules, slice_index_or, subst}
+use Rattle.std.proofs.Common.{◌≡◌, ◌≤◌, ◌+◌, ℕ, Err, arith, drop, length, refl, rules, subst}
 use Rattle.interface.specs.Calls.{Calls}
 use Rattle.replay.specs.declared.events.ReplayFault.TheVariants as fault
 use Rattle.trace.specs.Steps.{EventEnds}
 use Rattle.trace.specs.Traces.{EndsEvent, Inside, MayTell, StopsElement, TellsEvent, numbered_from}
-use Rattle.trace.proofs.Telling.{all_told, ends_told, fails_told, none_yet, numbered_more, numbered_none, one_more}
+use Rattle.trace.proofs.Telling.{all_told, at_place, ends_told, fails_told, none_yet, numbered_more, numbered_none, one_more}
 use Rattle.trace.proofs.events.trace_all.Goals as goal
 
 pub loop-place-init : goal.loop-place-init
 loop-place-init g c =
     let calls : Calls g.row.C.Denot = g.C.Carrier.calls in
-    let inside : Inside g.row.C.Denot = record { calm = g.C.Inspect.calm; whole = g.C.Inspect.whole; parts = g.C.Inspect.parts; fate = g.C.Inspect.fate } in
-    (refl, none_yet (TellsEvent calls inside) c.args.carrier.now (numbered_from c.args.lines.now 1 c.args.events.now) (g.W.Output.contents c.args.writer.now), c.requires.whole)
+    let inside : Inside g.row.C.Denot = g.C.Inspect.inside in
+    (refl, none_yet (TellsEvent calls inside) c.args.carrier.now (numbered_from 1 c.args.events.now) (g.W.Output.contents c.args.writer.now), c.requires.whole)
 
 pub loop-place-preserved : goal.loop-place-preserved
 loop-place-preserved g c =
     let calls : Calls g.row.C.Denot = g.C.Carrier.calls in
-    let inside : Inside g.row.C.Denot = record { calm = g.C.Inspect.calm; whole = g.C.Inspect.whole; parts = g.C.Inspect.parts; fate = g.C.Inspect.fate } in
+    let inside : Inside g.row.C.Denot = g.C.Inspect.inside in
     let i : ℕ = c.loop-place.place in (
       c.loop-place.invariant.0,
-      one_more (TellsEvent calls inside) c.args.carrier.now c.loop-place.carrier c.trace_event.new.carrier (numbered_from c.args.lines.now 1 c.args.events.now) (numbered_from c.args.lines.now (i + 1) (drop i c.args.events.now)) (numbered_from c.args.lines.now (i + 1 + 1) (drop (i + 1) c.args.events.now)) (record { line = slice_index_or c.args.lines.now i 0; number = i + 1 }, c.index-events-place.result)
-          (g.W.Output.contents c.args.writer.now) (g.W.Output.contents c.loop-place.writer) (g.W.Output.contents c.trace_event.new.writer) (numbered_more c.args.lines.now c.args.events.now i c.index-events-place.result c.loop-place-test.true c.index-events-place.is) c.loop-place.invariant.1 c.in_ok-trace_event.ensures.ends,
+      one_more (TellsEvent calls inside) c.args.carrier.now c.loop-place.carrier c.trace_event.new.carrier (numbered_from 1 c.args.events.now) (numbered_from (i + 1) (drop i c.args.events.now)) (numbered_from (i + 1 + 1) (drop (i + 1) c.args.events.now)) (at_place i c.index-events-place.result)
+          (g.W.Output.contents c.args.writer.now) (g.W.Output.contents c.loop-place.writer) (g.W.Output.contents c.trace_event.new.writer) (numbered_more c.args.events.now i c.index-events-place.result c.loop-place-test.true c.index-events-place.is) c.loop-place.invariant.1 c.in_ok-trace_event.ensures.ends,
       c.in_ok-trace_event.ensures.failed,
     )
 
 pub returns-clause-traced : goal.returns-clause-traced
 returns-clause-traced g c =
     let calls : Calls g.row.C.Denot = g.C.Carrier.calls in
-    let inside : Inside g.row.C.Denot = record { calm = g.C.Inspect.calm; whole = g.C.Inspect.whole; parts = g.C.Inspect.parts; fate = g.C.Inspect.fate } in
+    let inside : Inside g.row.C.Denot = g.C.Inspect.inside in
     let past : length c.args.events.now ≤ c.loop-place.place = omega (arith, c.loop-place.invariant.0, c.loop-place-test.false) in
-    all_told (TellsEvent calls inside) c.args.carrier.now c.loop-place.carrier (numbered_from c.args.lines.now 1 c.args.events.now) (numbered_from c.args.lines.now (c.loop-place.place + 1) (drop c.loop-place.place c.args.events.now))
-    (g.W.Output.contents c.args.writer.now) (g.W.Output.contents c.loop-place.writer) (numbered_none c.args.lines.now c.args.events.now c.loop-place.place (c.loop-place.place + 1) past) c.loop-place.invariant.1
+    all_told (TellsEvent calls inside) c.args.carrier.now c.loop-place.carrier (numbered_from 1 c.args.events.now) (numbered_from (c.loop-place.place + 1) (drop c.loop-place.place c.args.events.now))
+    (g.W.Output.contents c.args.writer.now) (g.W.Output.contents c.loop-place.writer) (numbered_none c.args.events.now c.loop-place.place (c.loop-place.place + 1) past) c.loop-place.invariant.1
 
 pub returns-in_err-trace_event-clause-memory : goal.returns-in_err-trace_event-clause-memory
 returns-in_err-trace_event-clause-memory g c = λ e.
     let calls : Calls g.row.C.Denot = g.C.Carrier.calls in
-    let inside : Inside g.row.C.Denot = record { calm = g.C.Inspect.calm; whole = g.C.Inspect.whole; parts = g.C.Inspect.parts; fate = g.C.Inspect.fate } in
+    let inside : Inside g.row.C.Denot = g.C.Inspect.inside in
     let i : ℕ = c.loop-place.place in
     let told : c.trace_event.result ≡ Err fault.OutOfMemory = search (rules, e) in
-    ends_told (TellsEvent calls inside) (EndsEvent calls inside (StopsElement calls)) c.args.carrier.now c.loop-place.carrier c.trace_event.new.carrier (numbered_from c.args.lines.now 1 c.args.events.now) (numbered_from c.args.lines.now (i + 1) (drop i c.args.events.now)) (numbered_from c.args.lines.now (i + 1 + 1) (drop (i + 1) c.args.events.now)) (record { line = slice_index_or c.args.lines.now i 0; number = i + 1 }, c.index-events-place.result)
-    (g.W.Output.contents c.args.writer.now) (g.W.Output.contents c.loop-place.writer) (g.W.Output.contents c.trace_event.new.writer) (numbered_more c.args.lines.now c.args.events.now i c.index-events-place.result c.loop-place-test.true c.index-events-place.is) c.loop-place.invariant.1
-    (subst (λ r. EventEnds calls inside c.loop-place.carrier (record { line = slice_index_or c.args.lines.now i 0; number = i + 1 }, c.index-events-place.result) r c.trace_event.new.carrier (g.W.Output.contents c.loop-place.writer) (g.W.Output.contents c.trace_event.new.writer)) told c.trace_event.ensures.ends)
+    ends_told (TellsEvent calls inside) (EndsEvent calls inside (StopsElement calls)) c.args.carrier.now c.loop-place.carrier c.trace_event.new.carrier (numbered_from 1 c.args.events.now) (numbered_from (i + 1) (drop i c.args.events.now)) (numbered_from (i + 1 + 1) (drop (i + 1) c.args.events.now)) (at_place i c.index-events-place.result)
+    (g.W.Output.contents c.args.writer.now) (g.W.Output.contents c.loop-place.writer) (g.W.Output.contents c.trace_event.new.writer) (numbered_more c.args.events.now i c.index-events-place.result c.loop-place-test.true c.index-events-place.is) c.loop-place.invariant.1
+    (subst (λ r. EventEnds calls inside c.loop-place.carrier (at_place i c.index-events-place.result) r c.trace_event.new.carrier (g.W.Output.contents c.loop-place.writer) (g.W.Output.contents c.trace_event.new.writer)) told c.trace_event.ensures.ends)
 
 pub returns-in_err-trace_event-clause-cannot_write : goal.returns-in_err-trace_event-clause-cannot_write
 returns-in_err-trace_event-clause-cannot_write g c = λ e.
     let calls : Calls g.row.C.Denot = g.C.Carrier.calls in
-    let inside : Inside g.row.C.Denot = record { calm = g.C.Inspect.calm; whole = g.C.Inspect.whole; parts = g.C.Inspect.parts; fate = g.C.Inspect.fate } in
+    let inside : Inside g.row.C.Denot = g.C.Inspect.inside in
     let i : ℕ = c.loop-place.place in
     let told : c.trace_event.result ≡ Err fault.CannotWrite = search (rules, e) in
-    fails_told (TellsEvent calls inside) (EndsEvent calls inside (MayTell calls)) c.args.carrier.now c.loop-place.carrier c.trace_event.new.carrier (numbered_from c.args.lines.now 1 c.args.events.now) (numbered_from c.args.lines.now (i + 1) (drop i c.args.events.now)) (numbered_from c.args.lines.now (i + 1 + 1) (drop (i + 1) c.args.events.now)) (record { line = slice_index_or c.args.lines.now i 0; number = i + 1 }, c.index-events-place.result)
-    (g.W.Output.contents c.args.writer.now) (g.W.Output.contents c.loop-place.writer) (numbered_more c.args.lines.now c.args.events.now i c.index-events-place.result c.loop-place-test.true c.index-events-place.is) c.loop-place.invariant.1
-    (subst (λ r. EventEnds calls inside c.loop-place.carrier (record { line = slice_index_or c.args.lines.now i 0; number = i + 1 }, c.index-events-place.result) r c.trace_event.new.carrier (g.W.Output.contents c.loop-place.writer) (g.W.Output.contents c.trace_event.new.writer)) told c.trace_event.ensures.ends)
+    fails_told (TellsEvent calls inside) (EndsEvent calls inside (MayTell calls)) c.args.carrier.now c.loop-place.carrier c.trace_event.new.carrier (numbered_from 1 c.args.events.now) (numbered_from (i + 1) (drop i c.args.events.now)) (numbered_from (i + 1 + 1) (drop (i + 1) c.args.events.now)) (at_place i c.index-events-place.result)
+    (g.W.Output.contents c.args.writer.now) (g.W.Output.contents c.loop-place.writer) (numbered_more c.args.events.now i c.index-events-place.result c.loop-place-test.true c.index-events-place.is) c.loop-place.invariant.1
+    (subst (λ r. EventEnds calls inside c.loop-place.carrier (at_place i c.index-events-place.result) r c.trace_event.new.carrier (g.W.Output.contents c.loop-place.writer) (g.W.Output.contents c.trace_event.new.writer)) told c.trace_event.ensures.ends)

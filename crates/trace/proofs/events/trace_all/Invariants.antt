@@ -8,7 +8,7 @@ use Rattle.trace.proofs.events.trace_all.Given as goal
 abbrev pub invariant-loop-place : goal.invariant-loop-place
 invariant-loop-place g l =
     let calls : Calls g.row.C.Denot = g.C.Carrier.calls in
-    let inside : Inside g.row.C.Denot = record { calm = g.C.Inspect.calm; whole = g.C.Inspect.whole; parts = g.C.Inspect.parts; fate = g.C.Inspect.fate } in
+    let inside : Inside g.row.C.Denot = g.C.Inspect.inside in
     (l.place-end ≡ length l.events)
-    × SoFar (TellsEvent calls inside) l.fn.carrier (numbered_from l.lines 1 l.events) (numbered_from l.lines (l.place + 1) (drop l.place l.events)) l.carrier (g.W.Output.contents l.fn.writer) (g.W.Output.contents l.writer)
+    × SoFar (TellsEvent calls inside) l.fn.carrier (numbered_from 1 l.events) (numbered_from (l.place + 1) (drop l.place l.events)) l.carrier (g.W.Output.contents l.fn.writer) (g.W.Output.contents l.writer)
     × (g.W.Output.failed l.writer ≡ false)

@@ -8,8 +8,8 @@ use Rattle.trace.proofs.events.trace_calm.Given as goal
 abbrev pub invariant-elements : goal.invariant-elements
 invariant-elements g l =
     let calls : Calls g.row.C.Denot = g.C.Carrier.calls in
-    let inside : Inside g.row.C.Denot = record { calm = g.C.Inspect.calm; whole = g.C.Inspect.whole; parts = g.C.Inspect.parts; fate = g.C.Inspect.fate } in
-    SoFar (TellsElement calls inside l.spot) l.fn.carrier (g.C.Inspect.calm l.fn.carrier l.rounds) (g.C.Inspect.left l.carrier l.place) l.carrier (g.W.Output.contents l.fn.writer) (g.W.Output.contents l.writer)
+    let inside : Inside g.row.C.Denot = g.C.Inspect.inside in
+    SoFar (TellsElement calls inside l.spot) l.fn.carrier (g.C.Inspect.inside.calm l.fn.carrier l.rounds) (g.C.Inspect.left l.carrier l.place) l.carrier (g.W.Output.contents l.fn.writer) (g.W.Output.contents l.writer)
     × (g.W.Output.failed l.writer ≡ false)
 
 -- each has one more after it

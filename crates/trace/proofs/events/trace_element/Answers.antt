@@ -14,7 +14,7 @@ use Rattle.trace.proofs.events.trace_element.Goals as goal
 pub returns-clause-ends : goal.returns-clause-ends
 returns-clause-ends g c =
     let calls : Calls g.row.C.Denot = g.C.Carrier.calls in
-    let inside : Inside g.row.C.Denot = record { calm = g.C.Inspect.calm; whole = g.C.Inspect.whole; parts = g.C.Inspect.parts; fate = g.C.Inspect.fate } in
+    let inside : Inside g.row.C.Denot = g.C.Inspect.inside in
     let x : Element = record { round = c.args.round; event = c.args.event.now } in
     tells calls inside c.args.spot c.args.carrier.now c.call.new.carrier x c.in_ok-outcome.outcome c.log-booked.result.now c.log.result.now (g.W.Output.contents c.args.writer.now) (g.W.Output.contents c.print_line.new.writer)
     c.in_ok-outcome.ensures.called c.if-has_halted.ensures.goes_on c.log-booked.ensures.value c.log.ensures.value

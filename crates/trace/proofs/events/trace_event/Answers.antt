@@ -8,7 +8,7 @@ use Rattle.trace.proofs.events.trace_event.Goals as goal
 pub returns-in-Out-clause-ends : goal.returns-in-Out-clause-ends
 returns-in-Out-clause-ends g c =
     let calls : Calls g.row.C.Denot = g.C.Carrier.calls in
-    let inside : Inside g.row.C.Denot = record { calm = g.C.Inspect.calm; whole = g.C.Inspect.whole; parts = g.C.Inspect.parts; fate = g.C.Inspect.fate } in
+    let inside : Inside g.row.C.Denot = g.C.Inspect.inside in
     let one : IsOneCall c.args.event.now = search rules in
     one_ends calls inside c.args.carrier.now c.trace_element.new.carrier c.args.spot c.args.event.now (record { round = 0; event = c.args.event.now }) c.trace_element.result (g.W.Output.contents c.args.writer.now) (g.W.Output.contents c.trace_element.new.writer)
     (one_element (inside.calm c.args.carrier.now) c.args.event.now one) c.trace_element.ensures.ends

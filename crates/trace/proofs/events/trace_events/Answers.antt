@@ -1,4 +1,3 @@
-use Rattle.std.proofs.Common.{Err}
 use Rattle.interface.specs.Calls.{Calls}
 use Rattle.replay.proofs.lemmas.{on_ok}
 use Rattle.trace.specs.Traces.{Inside, StopsElement, TraceEnds, Traces}
@@ -8,15 +7,15 @@ use Rattle.trace.proofs.events.trace_events.Goals as goal
 pub returns-clause-traced : goal.returns-clause-traced
 returns-clause-traced g c =
     let calls : Calls g.row.C.Denot = g.C.Carrier.calls in
-    let inside : Inside g.row.C.Denot = record { calm = g.C.Inspect.calm; whole = g.C.Inspect.whole; parts = g.C.Inspect.parts; fate = g.C.Inspect.fate } in
+    let inside : Inside g.row.C.Denot = g.C.Inspect.inside in
     on_ok c.trace_all.result
-    (λ w. opened inside c.args.network.now c.args.carrier.now (Traces calls inside c.args.carrier.now c.args.lines.now c.args.events.now c.trace_all.new.carrier) (g.W.Output.contents c.args.writer.now) (g.W.Output.contents c.print_opening.new.writer) (g.W.Output.contents c.trace_all.new.writer)
+    (λ w. opened inside c.args.network.now c.args.carrier.now (Traces calls inside c.args.carrier.now c.args.events.now c.trace_all.new.carrier) (g.W.Output.contents c.args.writer.now) (g.W.Output.contents c.print_opening.new.writer) (g.W.Output.contents c.trace_all.new.writer)
     c.in_ok-print_opening.ensures.written w)
     c.trace_all.ensures.traced
 
 pub returns-clause-memory : goal.returns-clause-memory
 returns-clause-memory g c = λ e.
     let calls : Calls g.row.C.Denot = g.C.Carrier.calls in
-    let inside : Inside g.row.C.Denot = record { calm = g.C.Inspect.calm; whole = g.C.Inspect.whole; parts = g.C.Inspect.parts; fate = g.C.Inspect.fate } in
-    opened inside c.args.network.now c.args.carrier.now (TraceEnds calls inside (StopsElement calls) c.args.carrier.now c.args.lines.now c.args.events.now c.trace_all.new.carrier) (g.W.Output.contents c.args.writer.now) (g.W.Output.contents c.print_opening.new.writer) (g.W.Output.contents c.trace_all.new.writer)
+    let inside : Inside g.row.C.Denot = g.C.Inspect.inside in
+    opened inside c.args.network.now c.args.carrier.now (TraceEnds calls inside (StopsElement calls) c.args.carrier.now c.args.events.now c.trace_all.new.carrier) (g.W.Output.contents c.args.writer.now) (g.W.Output.contents c.print_opening.new.writer) (g.W.Output.contents c.trace_all.new.writer)
     c.in_ok-print_opening.ensures.written (c.trace_all.ensures.memory e)

@@ -1,19 +1,15 @@
-use Rattle.std.proofs.Common.{List, ℕ, ap, map, subst}
+use Rattle.std.proofs.Common.{List, ℕ, subst}
 use Rattle.std.specs.Io.KnownBytes.{Appends}
 use Rattle.interface.specs.declared.crossing.Crossing.{Crossing}
-use Rattle.replay.specs.Output.{shown_crossings, shown_refusal, shown_text}
-use Rattle.replay.specs.declared.print.Detail.TheVariants.{Sizes}
-use Rattle.replay.proofs.lemmas.{crossings_shown, on_ok}
-use Rattle.script.specs.Spelling.{spelling}
+use Rattle.replay.proofs.lemmas.{on_ok}
 use Rattle.trace.specs.Joined.{fate_text, head_text, outcome_text}
-use Rattle.trace.specs.Texts.{array, crossing_object, strings}
 use Rattle.trace.proofs.Joined.{line_is, line_printed}
 use Rattle.trace.proofs.line.print_line.Goals as goal
 
 pub returns-clause-written : goal.returns-clause-written
 returns-clause-written g c =
     let cs : List Crossing = c.args.crossings.now in
-    let parts : List ℕ = g.C.Inspect.parts c.args.carrier.now c.args.event.now cs in
+    let parts : List ℕ = g.C.Inspect.inside.parts c.args.carrier.now c.args.event.now cs in
     on_ok c.write_all-2.result
     (λ end. subst (Appends (g.W.Output.contents c.args.writer.now) (g.W.Output.contents c.write_all-2.new.self)) (line_is c.args.spot c.args.round c.args.event.now c.args.fate cs c.args.outcome parts)
     (line_printed (head_text c.args.spot c.args.round c.args.event.now) (fate_text c.args.fate) (outcome_text cs c.args.outcome) parts (g.W.Output.contents c.args.writer.now) (g.W.Output.contents c.print_head.new.writer) (g.W.Output.contents c.print_fate.new.writer) (g.W.Output.contents c.print_outcome.new.writer) (g.W.Output.contents c.write_all.new.self) (g.W.Output.contents c.print_parts.new.writer) (g.W.Output.contents c.write_all-2.new.self)

@@ -16,7 +16,7 @@ returns-clause-written g c =
     let w = c.args.world.now in
     let a = g.W.Output.contents c.args.writer.now in
     let e = g.W.Output.contents c.write_all-2.new.self in
-    let state : List (List ℕ) = state_of g.C.Inspect.whole w in
+    let state : List (List ℕ) = state_of g.C.Inspect.inside.whole w in
     let crossings : c.split_at.result.1.now ≡ drop c.args.passed.now.crossed (reverse w.kept.book.crossings) =
     c.split_at.ensures.back ∙ ap (drop c.args.passed.now.crossed) (c.crossings.ensures ∙ ap (λ (k : Kept). reverse k.book.crossings) c.book.ensures.value) in
     on_ok c.write_all-2.result
@@ -25,7 +25,7 @@ returns-clause-written g c =
     (subst (λ (printed : List ℕ). Appends a e (ended_line (line_of c.args.spot c.args.round c.deref.result.now (drop c.args.passed.now.crossed (reverse w.kept.book.crossings)) printed state))) c.deref-2.ensures.value
     (subst (λ (crossed : List Crossing). Appends a e (ended_line (line_of c.args.spot c.args.round c.deref.result.now crossed c.deref-2.result.now state))) crossings
     (line_printed (decimal c.args.spot.line) (decimal c.args.spot.number) (decimal c.args.round) c.deref.result.now (array (map crossing_object c.split_at.result.1.now)) (lines_text c.deref-2.result.now)
-    (g.C.Inspect.whole w.carrier) (programs_text w.seats) (services_text w.services)
+    (g.C.Inspect.inside.whole w.carrier) (programs_text w.seats) (services_text w.services)
     a (g.W.Output.contents c.print_head.new.writer) (g.W.Output.contents c.print_outcome.new.writer) (g.W.Output.contents c.write_all.new.self) e
     c.in_ok-print_head.ensures.written c.in_ok-print_outcome.ensures.written c.in_ok-write_all.ensures.written
     (subst (λ (text : List ℕ). Appends (g.W.Output.contents c.write_all.new.self) e text) (c.deref-3.ensures.value ∙ c.requires.state) end)))))

@@ -10,6 +10,6 @@ returns-clause-written g c =
     let w = c.args.world.now in
     let t = c.args.network.now in
     on_ok c.print_state.result
-    (λ end. first_printed (carrier_word t.carrier) (bool_text t.raw) (array (map site_text t.imps)) (array (map ends_text t.lines)) (g.C.Inspect.whole w.carrier) (programs_text w.seats) (services_text w.services)
+    (λ end. first_printed (carrier_word t.carrier) (bool_text t.raw) (array (map site_text t.imps)) (array (map ends_text t.lines)) (g.C.Inspect.inside.whole w.carrier) (programs_text w.seats) (services_text w.services)
     (g.W.Output.contents c.args.writer.now) (g.W.Output.contents c.print_network.new.writer) (g.W.Output.contents c.print_state.new.writer) c.in_ok-print_network.ensures.written end)
     c.print_state.ensures.written

@@ -9,4 +9,4 @@ use Rattle.world_trace.proofs.traced.trace_calm.Given as goal
 abbrev pub invariant-loop-passed : goal.invariant-loop-passed
 invariant-loop-passed g l =
     let calls : Calls g.row.C.Denot = shown g.C.Carrier.calls in
-    Passed calls g.C.Inspect.whole l.spot l.passed l.fn.world l.world (g.W.Output.contents l.fn.writer) (g.W.Output.contents l.writer) × (g.W.Output.failed l.writer ≡ false) × (l.passed ≤ l.rounds) × (l.text.items ≡ ended_state g.C.Inspect.whole l.world)
+    Passed calls g.C.Inspect.inside.whole l.spot l.passed l.fn.world l.world (g.W.Output.contents l.fn.writer) (g.W.Output.contents l.writer) × (g.W.Output.failed l.writer ≡ false) × (l.passed ≤ l.rounds) × (l.text.items ≡ ended_state g.C.Inspect.inside.whole l.world)

@@ -1,0 +1,9 @@
+-- What a subnet shows of its inside.
+use Rattle.subnet.specs.Calls.{Kept}
+use Rattle.trace.specs.Traces.{Inside}
+use Rattle.subnet_trace.specs.Elements.{calm_of}
+use Rattle.subnet_trace.specs.Fates.{fate_of}
+use Rattle.subnet_trace.specs.Parts.{all_parts, parts_of, parts_text}
+
+abbrev pub subnet_inside : Inside Kept
+subnet_inside = record { calm = λ k. calm_of k.net; whole = λ k. parts_text k.net (all_parts k.net); parts = λ k e crossings. parts_text k.net (parts_of k.net e); fate = λ k e. fate_of k.net e }
