@@ -12,6 +12,7 @@ mod OneInput
 mod OneTrace
 mod Printed
 mod Reading
+mod Recorded
 mod Settled
 mod Sites
 mod Traced

@@ -12,6 +12,7 @@ pub mod Parser
 pub mod Printed
 pub mod Program
 pub mod Reading
+pub mod Recorded
 pub mod Replayed
 pub mod Steps
 pub mod Traced

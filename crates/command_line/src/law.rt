@@ -16,6 +16,7 @@ ghost use Rattle.promise.specs.Safe.{SafeBook};
 ghost use Rattle.promise.specs.declared.life.Amount.{Amount};
 ghost use Rattle.promise.specs.declared.life.Life.{Life};
 ghost use Rattle.replay.specs.declared.print.Detail.{Detail};
+ghost use Rattle.replay.specs.declared.print.Detail.TheVariants.{Sizes};
 ghost use Rattle.promise.specs.Connections.{JoinedBook};
 ghost use Rattle.world_replay.specs.Output as lines;
 ghost use Rattle.world_replay.specs.Output.{Shown, crossings_of, notices_of, reports_of};
@@ -25,6 +26,7 @@ ghost use Rattle.command_line.specs.Joins.{PrintTheSame, TellTheSame};
 ghost use Rattle.command_line.specs.Lived.{AreLived};
 ghost use Rattle.command_line.specs.Logs.{Logged, LogsInput};
 ghost use Rattle.command_line.specs.Printed.{AreOneBook, PrintsBook, PrintsPart};
+ghost use Rattle.command_line.specs.Recorded.{PrintsTrace};
 ghost use Rattle.command_line.specs.Replayed.{Ran, RanInPart, ReplaysInput, StopsInput, WorldShowsFrom};
 ghost use Rattle.command_line.specs.Traced.{TraceStops, TracesInput};
 ghost use Rattle.command_line.specs.Worked.{here, life_one, there, told_one, took_one};
@@ -53,10 +55,11 @@ pub fn one_log()
 {}
 
 /// The outputs of one input are of one replay. Whether the book and texts are asked for only decides how much of it is printed; and the log is that of the
-/// crossings and the lives that are printed.
+/// crossings and the lives that are printed. The lines of a plain output are those that its trace has as printed, in turn.
 pub fn one_replay()
     ensures options { (book other : Bool) (detail more : Detail) (input one two : List ℕ) → ReplaysInput book detail input (Some []) (Some one) → ReplaysInput other more input (Some []) (Some two) → PrintTheSame book other detail more one two }
     ensures log { (book : Bool) (detail : Detail) (input out log : List ℕ) → ReplaysInput book detail input (Some []) (Some out) → LogsInput input (Some []) (Some log) → TellTheSame book detail out log }
+    ensures trace { (book : Bool) (input out trace : List ℕ) → ReplaysInput book Sizes input (Some []) (Some out) → TracesInput input (Some []) (Some trace) → PrintsTrace book out trace }
 {}
 
 /// What is printed is one book, of whatever network and events, with the book or without it: all that lines show is in it, and its lives, which are printed

@@ -16,3 +16,4 @@ pub mod Calms
 pub mod Stages
 pub mod Onward
 pub mod Delivered
+pub mod lemmas

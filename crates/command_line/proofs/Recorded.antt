@@ -1,0 +1,250 @@
+-- What a replay prints is what its trace has as printed.
+use Rattle.std.proofs.Common.{◌≡◌, inl, inr, ℕ, suc, zero, ◌+◌, Bool, List, [], ◌∷◌, ◌++◌, Some, codes, length, map, zip, arith, refl, sym, ap, ap₂, subst, ◌∙◌}
+use Rattle.std.proofs.lemmas.Grind.{flat_map-append}
+use Rattle.std.proofs.lemmas.List.{append-nil, length-append, map-append}
+use Rattle.std.proofs.lemmas.List.Folds.{flat_map-map}
+use Rattle.std.specs.List.{flat_map}
+use Rattle.interface.specs.Calls.{Calls}
+use Rattle.leader1822.specs.Boxes.{plain_calls}
+use Rattle.net_sim.specs.Carriers.{shown}
+use Rattle.net_sim.specs.World.{WorldState, opening_world}
+use Rattle.replay.proofs.lemmas.{OneReplay, in_turn_once, replays_once}
+use Rattle.replay.specs.InTurn.{InTurn, text_of}
+use Rattle.replay.specs.Output as raw
+use Rattle.replay.specs.Replay as of_network
+use Rattle.replay.specs.Settled.{AreSettled}
+use Rattle.replay.specs.declared.print.Detail.TheVariants.{Sizes}
+use Rattle.script.specs.Input.{ended_line}
+use Rattle.script.specs.declared.event.RawEvent.{RawEvent}
+use Rattle.subnet.specs.Calls.{Kept}
+use Rattle.subnet.specs.Working.{subnet_calls}
+use Rattle.subnet_trace.proofs.lemmas as subnet
+use Rattle.subnet_trace.specs.Told.{IsPlaced}
+use Rattle.subnet_trace.specs.Traced.{subnet_inside}
+use Rattle.topology.specs.Topology.{TopologyFields, hosts_of, sites_of}
+use Rattle.topology.specs.declared.network.CarrierKind.{CarrierKind}
+use Rattle.topology.specs.declared.network.CarrierKind.TheVariants as kind
+use Rattle.trace.proofs.lemmas as plain
+use Rattle.trace.specs.Texts.{opening_line}
+use Rattle.trace.specs.Elements.{elements_in, events_of}
+use Rattle.trace.specs.Traces.{Inside, TellsElement, TellsEvent, numbered_from, plain_inside}
+use Rattle.trace.specs.declared.element.Element.{Element}
+use Rattle.trace.specs.declared.element.Spot.{Spot}
+use Rattle.world_replay.proofs.lemmas.CalmRounds.{calm_rounds}
+use Rattle.world_replay.proofs.lemmas.Replays.{happens_once, shown_settled}
+use Rattle.world_replay.specs.Output.{Shown, shown_text}
+use Rattle.world_replay.specs.Replay.{Happens, Replays, rounds_of}
+use Rattle.world_script.specs.declared.event.WorldEvent.{WorldEvent}
+use Rattle.world_script.specs.declared.event.WorldEvent.TheVariants as worlds
+use Rattle.world_trace.specs.Texts.{opening_text}
+use Rattle.world_trace.specs.Traces.{TellsIn, TellsOne, TellsRound, first_rounds, state_of}
+use Rattle.command_line.specs.Carriers.{ends_of, plain_of, subnet_of}
+use Rattle.command_line.specs.Events.{Asked, Raw, World}
+use Rattle.command_line.specs.Recorded.{OfElement, OfWorld, PrintsTrace, Recorded, printed_lines, recorded_text}
+use Rattle.command_line.specs.Replayed.{ReplaysFrom, ReplaysInput, ReplaysOn, ReplaysOver, book_text}
+use Rattle.command_line.specs.Traced.{TracesAll, TracesFrom, TracesInput, TracesOver, WorldTracesFrom, asked_count}
+use Rattle.command_line.proofs.Printed.{no_lives}
+use Rattle.command_line.proofs.OneInput.{OneInput, input_once}
+use Rattle.command_line.proofs.Settled.{plain_settled, subnet_settled}
+
+-- ---- lines of a trace that have these lines as printed
+
+abbrev HavePrinted : List (List ℕ) → List (List ℕ) → Type 0
+HavePrinted lines texts = (recorded : List Recorded) × (lines ≡ map recorded_text recorded) × (texts ≡ flat_map printed_lines recorded)
+
+none_printed : HavePrinted [] []
+none_printed = ([], refl, refl)
+
+more_printed : (first rest texts more : List (List ℕ)) → HavePrinted first texts → HavePrinted rest more → HavePrinted (first ++ rest) (texts ++ more)
+more_printed first rest texts more (a, lines, prints) (b, others, print) = (
+  a ++ b,
+  ap₂ (λ (xs ys : List (List ℕ)). xs ++ ys) lines others ∙ sym (map-append recorded_text a b),
+  ap₂ (λ (xs ys : List (List ℕ)). xs ++ ys) prints print ∙ sym (flat_map-append printed_lines a b),
+)
+
+-- ---- a network without host programs
+
+raw_texts : List raw.Shown → List (List ℕ)
+raw_texts lines = map (raw.shown_text Sizes) lines
+
+once : {C : Type 0} (calls : Calls C) → AreSettled calls → (old : C) (e : RawEvent) (new other : C) (lines more : List raw.Shown) → of_network.Happens calls old e new lines → of_network.Happens calls old e other more → OneReplay new other lines more
+once calls settled old e new other lines more h k =
+    replays_once calls settled old (e ∷ []) new other lines more (new, lines, [], h, (refl, refl), sym (append-nil lines)) (other, more, [], k, (refl, refl), sym (append-nil more))
+
+-- what is left, and what the lines have as printed
+abbrev Ends : {C : Type 0} → C → C → List (List ℕ) → List raw.Shown → Type 0
+Ends new other lines prints = (new ≡ other) × HavePrinted lines (raw_texts prints)
+
+element_printed : {C : Type 0} (calls : Calls C) (inside : Inside C) → AreSettled calls → (spot : Spot) (x : Element) (old new other : C) (lines : List (List ℕ)) (prints : List raw.Shown)
+    → TellsElement calls inside spot old x new lines → of_network.Happens calls old x.event other prints → Ends new other lines prints
+unfolding raw_texts
+element_printed calls inside settled spot x old new other lines prints (own, h, is) k =
+    let one : OneReplay new other own prints = once calls settled old x.event new other own prints h k in (
+      one.carriers,
+      (OfElement spot x (inside.fate old x.event) own (inside.parts new x.event (raw.crossings_of own)) ∷ [], is, ap raw_texts (sym one.lines) ∙ sym (append-nil (raw_texts own))),
+    )
+
+elements_printed : {C : Type 0} (calls : Calls C) (inside : Inside C) → AreSettled calls → (spot : Spot) (xs : List Element) (old new other : C) (lines : List (List ℕ)) (prints : List raw.Shown)
+    → InTurn (TellsElement calls inside spot) old xs new lines → of_network.Replays calls old (events_of xs) other prints → Ends new other lines prints
+unfolding raw_texts
+elements_printed calls inside settled spot [] old new other lines prints (left, none) (same, nothing) =
+    (left ∙ sym same, subst (λ (ls : List (List ℕ)). HavePrinted ls (raw_texts prints)) (sym none) (subst (λ (ps : List raw.Shown). HavePrinted [] (raw_texts ps)) (sym nothing) none_printed))
+elements_printed {C} calls inside settled spot (x ∷ xs) old new other lines prints (mid, first, rest, one, more, all) (between, begin, later, happens, follow, whole) =
+    let here : Ends mid between first begin = element_printed calls inside settled spot x old mid between first begin one happens in
+    let there : Ends new other rest later = elements_printed calls inside settled spot xs mid new other rest later more (subst (λ (c : C). of_network.Replays calls c (events_of xs) other later) (sym here.0) follow) in (
+      there.0,
+      subst (λ (ls : List (List ℕ)). HavePrinted ls (raw_texts prints)) (sym all)
+          (subst (λ (ts : List (List ℕ)). HavePrinted (first ++ rest) ts) (sym (ap raw_texts whole ∙ map-append (raw.shown_text Sizes) begin later)) (more_printed first rest (raw_texts begin) (raw_texts later) here.1 there.1)),
+    )
+
+-- an event is its elementary events, in states of which something holds that all events keep
+record IsElementary {C : Type 0} (calls : Calls C) (inside : Inside C) (Holds : C → Type 0) : Type 0 where
+  course : (old new : C) (e : RawEvent) (prints : List raw.Shown) → Holds old → of_network.Happens calls old e new prints → of_network.Replays calls old (events_of (elements_in (inside.calm old) e)) new prints
+  kept : (old new : C) (e : RawEvent) (prints : List raw.Shown) → Holds old → of_network.Happens calls old e new prints → Holds new
+
+-- without their lines
+abbrev alone : {E : Type 0} → List (ℕ × E) → List E
+alone events = map (λ e. e.1) events
+
+events_printed : {C : Type 0} (calls : Calls C) (inside : Inside C) (Holds : C → Type 0) → AreSettled calls → IsElementary calls inside Holds → (number : ℕ) (events : List (ℕ × RawEvent)) (old new other : C) (lines : List (List ℕ)) (prints : List raw.Shown)
+    → Holds old → InTurn (TellsEvent calls inside) old (numbered_from number events) new lines → of_network.Replays calls old (alone events) other prints → Ends new other lines prints
+unfolding raw_texts
+events_printed calls inside Holds settled each number [] old new other lines prints holds (left, none) (same, nothing) =
+    (left ∙ sym same, subst (λ (ls : List (List ℕ)). HavePrinted ls (raw_texts prints)) (sym none) (subst (λ (ps : List raw.Shown). HavePrinted [] (raw_texts ps)) (sym nothing) none_printed))
+events_printed {C} calls inside Holds settled each number (e ∷ events) old new other lines prints holds (mid, first, rest, one, more, all) (between, begin, later, happens, follow, whole) =
+    let spot : Spot = record { line = e.0; number = number } in
+    let here : Ends mid between first begin = elements_printed calls inside settled spot (elements_in (inside.calm old) e.1) old mid between first begin one (each.course old between e.1 begin holds happens) in
+    let after : Holds mid = subst Holds (sym here.0) (each.kept old between e.1 begin holds happens) in
+    let there : Ends new other rest later = events_printed calls inside Holds settled each (suc number) events mid new other rest later after more (subst (λ (c : C). of_network.Replays calls c (alone events) other later) (sym here.0) follow) in (
+      there.0,
+      subst (λ (ls : List (List ℕ)). HavePrinted ls (raw_texts prints)) (sym all)
+          (subst (λ (ts : List (List ℕ)). HavePrinted (first ++ rest) ts) (sym (ap raw_texts whole ∙ map-append (raw.shown_text Sizes) begin later)) (more_printed first rest (raw_texts begin) (raw_texts later) here.1 there.1)),
+    )
+
+-- ---- hosts with programs
+
+texts : List Shown → List (List ℕ)
+texts lines = map (shown_text Sizes) lines
+
+abbrev Passes : {C : Type 0} → WorldState C → WorldState C → List (List ℕ) → List Shown → Type 0
+Passes new other lines prints = (new ≡ other) × HavePrinted lines (texts prints)
+
+one_printed : {C : Type 0} (calls : Calls C) (whole : C → List ℕ) (spot : Spot) (round : ℕ) (e : WorldEvent) (old new : WorldState C) (lines : List (List ℕ)) (h : TellsOne calls whole spot round old e new lines) → HavePrinted lines (texts h.0)
+unfolding texts
+one_printed calls whole spot round e old new lines (prints, h, is) = (OfWorld spot round e h.gains.crossings prints (state_of whole new) ∷ [], is, sym (append-nil (texts prints)))
+
+-- rounds are a replay of calms of one round each
+rounds_printed : {C : Type 0} (calls : Calls C) (whole : C → List ℕ) (spot : Spot) (numbers : List ℕ) (old new : WorldState C) (lines : List (List ℕ)) → InTurn (TellsRound calls whole spot) old numbers new lines
+    → (prints : List Shown) × Replays calls old (rounds_of (length numbers)) new prints × HavePrinted lines (texts prints)
+unfolding texts
+rounds_printed calls whole spot [] old new lines (left, none) = ([], (left, refl), subst (λ (ls : List (List ℕ)). HavePrinted ls []) (sym none) none_printed)
+rounds_printed calls whole spot (n ∷ numbers) old new lines (mid, first, rest, inl (h, same, none), more, all) =
+    let (later, replays, has) = rounds_printed calls whole spot numbers mid new rest more in
+    (later, (mid, [], later, h, replays, refl), subst (λ (ls : List (List ℕ)). HavePrinted ls (texts later)) (sym (all ∙ ap (λ (ls : List (List ℕ)). ls ++ rest) none)) has)
+rounds_printed calls whole spot (n ∷ numbers) old new lines (mid, first, rest, inr (h, heard), more, all) =
+    let (later, replays, has) = rounds_printed calls whole spot numbers mid new rest more in (
+      h.0 ++ later,
+      (mid, h.0, later, h.1, replays, refl),
+      subst (λ (ls : List (List ℕ)). HavePrinted ls (texts (h.0 ++ later))) (sym all)
+          (subst (λ (ts : List (List ℕ)). HavePrinted (first ++ rest) ts) (sym (map-append (shown_text Sizes) h.0 later)) (more_printed first rest (texts h.0) (texts later) (one_printed calls whole spot n (worlds.Calm 1) old mid first h) has)),
+    )
+
+all_rounds : (rounds : ℕ) → length (first_rounds rounds) ≡ rounds
+all_rounds zero = refl
+all_rounds (suc rounds) =
+    let count : length (first_rounds rounds ++ suc rounds ∷ []) ≡ length (first_rounds rounds) + 1 = length-append (first_rounds rounds) (suc rounds ∷ []) in
+    let fewer : length (first_rounds rounds) ≡ rounds = all_rounds rounds in
+    omega (arith, count, fewer)
+
+at_printed : {C : Type 0} (calls : Calls C) (whole : C → List ℕ) → AreSettled calls → (spot : Spot) (e : WorldEvent) (old new other : WorldState C) (lines : List (List ℕ)) (prints : List Shown)
+    → TellsIn calls whole old (spot, e) new lines → Happens calls old e other prints → Passes new other lines prints
+at_printed calls whole settled spot (worlds.Happen e) old new other lines prints h k =
+    let one : (new ≡ other) × (h.0 ≡ prints) = happens_once calls settled old (worlds.Happen e) new other h.0 prints h.1 k in
+    (one.0, subst (λ (ps : List Shown). HavePrinted lines (texts ps)) one.1 (one_printed calls whole spot 0 (worlds.Happen e) old new lines h))
+at_printed {C} calls whole settled spot (worlds.Calm rounds) old new other lines prints h k =
+    let (own, replays, has) = rounds_printed calls whole spot (first_rounds rounds) old new lines h in
+    let passed : Replays calls old (rounds_of rounds) new own = subst (λ (n : ℕ). Replays calls old (rounds_of n) new own) (all_rounds rounds) replays in
+    let one : (new ≡ other) × (own ≡ prints) = in_turn_once (Happens calls) (happens_once calls settled) old (rounds_of rounds) new other own prints passed (calm_rounds calls rounds old other prints k) in
+    (one.0, subst (λ (ps : List Shown). HavePrinted lines (texts ps)) one.1 has)
+
+world_printed : {C : Type 0} (calls : Calls C) (whole : C → List ℕ) → AreSettled calls → (number : ℕ) (events : List (ℕ × WorldEvent)) (old new other : WorldState C) (lines : List (List ℕ)) (prints : List Shown)
+    → InTurn (TellsIn calls whole) old (numbered_from number events) new lines → Replays calls old (alone events) other prints → Passes new other lines prints
+unfolding texts
+world_printed calls whole settled number [] old new other lines prints (left, none) (same, nothing) =
+    (left ∙ sym same, subst (λ (ls : List (List ℕ)). HavePrinted ls (texts prints)) (sym none) (subst (λ (ps : List Shown). HavePrinted [] (texts ps)) (sym nothing) none_printed))
+world_printed {C} calls whole settled number (e ∷ events) old new other lines prints (mid, first, rest, one, more, all) (between, begin, later, happens, follow, end) =
+    let here : Passes mid between first begin = at_printed calls whole settled (record { line = e.0; number = number }) e.1 old mid between first begin one happens in
+    let there : Passes new other rest later = world_printed calls whole settled (suc number) events mid new other rest later more (subst (λ (w : WorldState C). Replays calls w (alone events) other later) (sym here.0) follow) in (
+      there.0,
+      subst (λ (ls : List (List ℕ)). HavePrinted ls (texts prints)) (sym all)
+          (subst (λ (ts : List (List ℕ)). HavePrinted (first ++ rest) ts) (sym (ap texts end ∙ map-append (shown_text Sizes) begin later)) (more_printed first rest (texts begin) (texts later) here.1 there.1)),
+    )
+
+-- ---- an output and a trace
+
+alone_of : {E : Type 0} (lines : List ℕ) (events : List E) → length lines ≡ length events → alone (zip lines events) ≡ events
+alone_of [] [] fit = refl
+alone_of [] (e ∷ events) fit = absurd (omega (arith, fit))
+alone_of (n ∷ lines) [] fit = absurd (omega (arith, fit))
+alone_of (n ∷ lines) (e ∷ events) fit = ap (λ es. e ∷ es) (alone_of lines events (omega (arith, fit)))
+
+abbrev in_lines : List (List ℕ) → List ℕ
+in_lines lines = text_of (λ line. line) lines
+
+raw_from : {C : Type 0} (calls : Calls C) (inside : Inside C) (Holds : C → Type 0) → AreSettled calls → IsElementary calls inside Holds → (t : TopologyFields) (opening : C) (lines : List ℕ) (events : List RawEvent) (book : Bool) (out trace : List ℕ)
+    → Holds opening → length lines ≡ length events → ReplaysFrom calls opening book Sizes (Raw events) (Some []) (Some out) → TracesFrom calls inside t opening (zip lines events) (Some []) (Some trace) → PrintsTrace book out trace
+unfolding raw_texts
+raw_from {C} calls inside Holds settled each t opening lines events book out trace holds fit h k =
+    let (others, is, tells) = k.traced.is_shown in
+    let replays : of_network.Replays calls opening (alone (zip lines events)) h.shows.last h.shown = subst (λ (es : List RawEvent). of_network.Replays calls opening es h.shows.last h.shown) (sym (alone_of lines events fit)) h.shows.replayed in
+    let (same, (recorded, are, prints)) = events_printed calls inside Holds settled each 1 (zip lines events) opening k.last h.shows.last others h.shown holds tells replays in
+    record {
+      opening = opening_line t (inside.whole opening);
+      recorded = recorded;
+      lives = [];
+      traced = k.traced.written ∙ ap in_lines (is ∙ ap (λ (ls : List (List ℕ)). opening_line t (inside.whole opening) ∷ ls) are);
+      printed =
+          h.written
+          ∙ ap₂ (λ (xs ys : List ℕ). xs ++ (ys ++ codes "end\n")) (sym (flat_map-map ended_line (raw.shown_text Sizes) h.shown) ∙ ap in_lines prints) (sym (no_lives book));
+    }
+
+world_from : {C : Type 0} (calls : Calls C) (whole : C → List ℕ) → AreSettled calls → (t : TopologyFields) (opening : C) (lines : List ℕ) (events : List WorldEvent) (book : Bool) (out trace : List ℕ)
+    → length lines ≡ length events → ReplaysFrom calls opening book Sizes (World events) (Some []) (Some out) → WorldTracesFrom (shown calls) whole t opening (zip lines events) (Some []) (Some trace) → PrintsTrace book out trace
+unfolding texts
+world_from {C} calls whole settled t opening lines events book out trace fit h k =
+    let begins : WorldState C = opening_world (shown calls) opening in
+    let (others, is, tells) = k.traced.is_shown in
+    let replays : Replays (shown calls) begins (alone (zip lines events)) h.shows.last h.shown = subst (λ (es : List WorldEvent). Replays (shown calls) begins es h.shows.last h.shown) (sym (alone_of lines events fit)) h.shows.replayed in
+    let (same, (recorded, are, prints)) = world_printed (shown calls) whole (shown_settled calls settled) 1 (zip lines events) begins k.last h.shows.last others h.shown tells replays in
+    record {
+      opening = opening_text t (state_of whole begins);
+      recorded = recorded;
+      lives = h.lives;
+      traced = k.traced.written ∙ ap in_lines (is ∙ ap (λ (ls : List (List ℕ)). opening_text t (state_of whole begins) ∷ ls) are);
+      printed = h.written ∙ ap (λ (xs : List ℕ). xs ++ (book_text book h.lives ++ codes "end\n")) (sym (flat_map-map ended_line (shown_text Sizes) h.shown) ∙ ap in_lines prints);
+    }
+
+all_from : {C : Type 0} (calls : Calls C) (inside : Inside C) (Holds : C → Type 0) → AreSettled calls → IsElementary calls inside Holds → (t : TopologyFields) (opening : C) (lines : List ℕ) (events : Asked) (book : Bool) (out trace : List ℕ)
+    → Holds opening → length lines ≡ asked_count events → ReplaysFrom calls opening book Sizes events (Some []) (Some out) → TracesAll calls inside t opening lines events (Some []) (Some trace) → PrintsTrace book out trace
+all_from calls inside Holds settled each t opening lines (Raw events) book out trace holds fit h k = raw_from calls inside Holds settled each t opening lines events book out trace holds fit h k
+all_from calls inside Holds settled each t opening lines (World events) book out trace holds fit h k = world_from calls inside.whole settled t opening lines events book out trace fit h k
+
+plain_elementary : IsElementary plain_calls plain_inside (λ b. Unit {0})
+plain_elementary = record { course = λ old new e prints holds h. plain.elementary old new e prints h; kept = λ old new e prints holds h. tt }
+
+subnet_elementary : IsElementary subnet_calls subnet_inside (λ (k : Kept). IsPlaced k.net)
+subnet_elementary = record { course = subnet.elementary; kept = subnet.placed_after }
+
+over_from : (carrier : CarrierKind) (t : TopologyFields) (lines : List ℕ) (events : Asked) (book : Bool) (out trace : List ℕ) → length lines ≡ asked_count events
+    → ReplaysOver carrier t book Sizes events (Some []) (Some out) → TracesOver carrier t lines events (Some []) (Some trace) → PrintsTrace book out trace
+over_from kind.Plain t lines events book out trace fit h k = all_from plain_calls plain_inside (λ b. Unit {0}) plain_settled plain_elementary t (plain_of t) lines events book out trace tt fit h k
+over_from kind.Subnet t lines events book out trace fit h k =
+    all_from subnet_calls subnet_inside (λ (k : Kept). IsPlaced k.net) subnet_settled subnet_elementary t (subnet_of t) lines events book out trace (subnet.opening (hosts_of t) (sites_of t) (ends_of t.lines)) fit h k
+
+pub prints_trace : (book : Bool) (input out trace : List ℕ) → ReplaysInput book Sizes input (Some []) (Some out) → TracesInput input (Some []) (Some trace) → PrintsTrace book out trace
+prints_trace book input out trace h k =
+    let same : OneInput h.network k.network h.events k.events = input_once input h.network k.network h.events k.events h.input k.input.input in
+    let moved : ReplaysOn k.network book Sizes k.events (Some []) (Some out) =
+    subst (λ (network : TopologyFields). ReplaysOn network book Sizes k.events (Some []) (Some out)) same.same_network
+    (subst (λ (events : Asked). ReplaysOn h.network book Sizes events (Some []) (Some out)) same.same_events h.replayed) in
+    over_from k.network.carrier k.network k.lines k.events book out trace k.input.fits moved k.traced
