@@ -1,6 +1,8 @@
 """Tests of pack.py: what is joined runs as the modules do, and what isn't known is refused."""
 
+import json
 import os
+import random
 import shutil
 import subprocess
 import tempfile
@@ -8,7 +10,7 @@ import unittest
 from typing import Dict
 
 from dorydate.parts import ROOT
-from dorydate.wasm.pack import Refused, hash_of, joined, page, title_of
+from dorydate.wasm.pack import Refused, bare_style, hash_of, joined, page, read_octets, spell_octets, title_of
 
 NODE = shutil.which("node") or shutil.which("nodejs")
 
@@ -61,7 +63,26 @@ class Joined(unittest.TestCase):
             self.joined({"main.js": 'import { b } from "./b.js";\n', "b.js": 'import { a } from "./main.js";\nexport const b = 1;\n'})
 
 
+class Octets(unittest.TestCase):
+    def test_what_is_spelled_ends_no_block_and_is_read_again(self) -> None:
+        octets = random.Random(1).randbytes(20_000)
+        self.assertNotRegex(spell_octets(octets), "[<`]")
+        self.assertEqual(read_octets(spell_octets(octets)), octets)
+
+    @unittest.skipUnless(NODE, "Node is absent")
+    def test_the_page_reads_what_is_spelled(self) -> None:
+        rows = [random.Random(size).randbytes(size) for size in [*range(12), 3000]] + [b"\xff" * 7, bytes(7)]
+        texts = json.dumps([spell_octets(it) for it in rows])
+        script = f"""import {{ unpacked }} from {json.dumps(f"{ROOT}/web/run/embedded.js")};
+            for (const text of {texts}) console.log(Buffer.from(await unpacked(text)).toString("hex"));"""
+        ran = subprocess.run([NODE or "", "--input-type=module", "-"], input=script, capture_output=True, text=True)
+        self.assertEqual((ran.stdout.split("\n"), ran.stderr), ([*(it.hex() for it in rows), ""], ""))
+
+
 class Page(unittest.TestCase):
+    def test_a_style_has_no_comments_nor_indents(self) -> None:
+        self.assertEqual(bare_style("/* one\n * two */\na {\n    b: c; /* d */\n}\n\ne { f: g; }\n"), "a {\nb: c; \n}\ne { f: g; }\n")
+
     def test_a_hash_is_the_one_that_browsers_name(self) -> None:
         # of the text "alert('Hello, world.');", as the standard of Content Security Policy has it
         self.assertEqual(hash_of("alert('Hello, world.');"), "'sha256-qznLcsROx4GACP2dm0UCKCzCG+HiZ1guq6ZZDob/Tng='")

@@ -29,15 +29,39 @@ export function block(id) {
     return element.textContent ?? "";
 }
 
+const DIGITS = "0123456789ABCDEFGHIJKLMNOPQRSTUVWXYZabcdefghijklmnopqrstuvwxyz!#$%&()*+-;,=>?@^_.{|}~";
+
 /**
- * Opens what gzip packed and base64 spelled.
+ * The octets of a text in base85, as the packer spells them: five digits for four octets, and one more than the octets
+ * for those that are left.
+ *
+ * @param {string} text
+ * @returns {Uint8Array<ArrayBuffer>}
+ */
+export function octetsOf(text) {
+    const values = new Uint8Array(128).fill(DIGITS.length - 1);
+    for (let at = 0; at < DIGITS.length; at += 1) values[DIGITS.charCodeAt(at)] = at;
+    const groups = Math.ceil(text.length / 5);
+    const octets = new DataView(new ArrayBuffer(4 * groups));
+    for (let group = 0; group < groups; group += 1) {
+        let value = 0;
+        for (let at = 5 * group; at < 5 * group + 5; at += 1) {
+            value = 85 * value + (at < text.length ? values[text.charCodeAt(at)] : 84);
+        }
+        octets.setUint32(4 * group, value);
+    }
+    return new Uint8Array(octets.buffer, 0, text.length - groups);
+}
+
+/**
+ * Opens what gzip packed and base85 spelled.
  *
  * @param {string} text
  * @returns {Promise<ArrayBuffer>}
  */
 export async function unpacked(text) {
-    const packed = Uint8Array.from(atob(text.trim()), (letter) => letter.charCodeAt(0));
-    return new Response(new Blob([packed]).stream().pipeThrough(new DecompressionStream("gzip"))).arrayBuffer();
+    const packed = new Blob([octetsOf(text)]);
+    return new Response(packed.stream().pipeThrough(new DecompressionStream("gzip"))).arrayBuffer();
 }
 
 /**

@@ -34,7 +34,7 @@ from dorydate.checks.cases import cases_below
 from dorydate.parts import ROOT
 from collections.abc import Callable
 from typing import Any
-from dorydate.wasm import binary, make, retarget
+from dorydate.wasm import binary, make, pack, retarget
 from dorydate.wasm.lower import CUT, I32, I64, LOCAL_GET, LOCAL_SET, STORED, Spares, Stores, lowered_store
 from dorydate.wasm.shims import build
 
@@ -188,6 +188,13 @@ def block_of(page: str, name: str) -> str:
     return str(found[0])
 
 
+def held_by(page: str) -> bytes:
+    """The module in a page. That of an older release is spelled in base64."""
+    text = block_of(page, "program")
+    is_older = re.fullmatch(r"[A-Za-z0-9+/=]+", text)
+    return gzip.decompress(base64.b64decode(text)) if is_older else pack.read_octets(text)
+
+
 def check_module(module: bytes, sources: str, is_proved: bool) -> None:
     """A module has to come from these sources, and to say whether it is proved as its compiler's mark does."""
     note = json.loads(binary.note_of(module, make.NOTE) or b"{}")
@@ -202,7 +209,7 @@ def check_module(module: bytes, sources: str, is_proved: bool) -> None:
 
 def check_page(page: str, sources: str, is_proved: bool, module: bytes | None = None) -> None:
     """A page has to hold the module, of these sources, and to forbid every request."""
-    held = gzip.decompress(base64.b64decode(block_of(page, "program")))
+    held = held_by(page)
     check_module(held, sources, is_proved)
     if module is not None and held != module:
         raise Wrong("the page holds another module than the one that is kept")
@@ -217,7 +224,7 @@ def check_released(page: str, note: dict[str, Any]) -> None:
     """The page of the last release has to be the one that its note names, and proved. It needn't be of today's sources."""
     if hashlib.sha256(page.encode()).hexdigest() != note["page"]:
         raise Wrong("released/dorydate.html is not the page that released/note.json tells of")
-    held = gzip.decompress(base64.b64decode(block_of(page, "program")))
+    held = held_by(page)
     if hashlib.sha256(held).hexdigest() != note["module"]:
         raise Wrong("released/dorydate.html holds another module than released/note.json tells of")
     if not note["proved"] or not retarget.is_proved(note["mark"]) or note["mark"] != make.mark_in(held):
@@ -253,12 +260,12 @@ def check_pages(program: str) -> None:
     with open(f"{program}.html", encoding="utf-8") as file, open(f"{program}.wasm", "rb") as held:
         page, module = file.read(), held.read()
     check_page(page, sources, is_proved, module)
-    packed = block_of(page, "program")
+    spelled = block_of(page, "program")
 
     def page_with(**changes: object) -> str:
         note = {**json.loads(binary.note_of(module, make.NOTE) or b"{}"), **changes}
         changed = make.noted(module, binary.note_of(module, "producers") or b"", note)
-        return page.replace(packed, base64.b64encode(gzip.compress(changed)).decode())
+        return page.replace(spelled, pack.spell_octets(changed))
 
     has_to_refuse("a module of other sources", check_page, page_with(sources="0" * 64), sources, is_proved)
     has_to_refuse("a module that hides what it is", check_page, page_with(proved=not is_proved), sources, is_proved)

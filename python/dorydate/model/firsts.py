@@ -63,8 +63,8 @@ class Firsts:
 
     def messages_on(self, log: Sequence[Crossing], life: Life, flow: Flow) -> list[tuple[int, Data]]:
         """The data of the messages on a flow after both of a life's requests, each with its place, the oldest first."""
-        way = "in" if life.receives() else "out"
-        return [(at, data(it.text, life.receives())) for at, it in enumerate(log) if at > self.begun(life) and isinstance(it, Passed) and it.kind == way and it.flow == flow]
+        way, first = "in" if life.receives() else "out", self.begun(life) + 1
+        return [(at, data(it.text, life.receives())) for at, it in enumerate(log[first:], first) if isinstance(it, Passed) and it.kind == way and it.flow == flow]
 
     def are_enough(self, life: Life, first: Sequence[tuple[int, Data]]) -> bool:
         """Whether there are as many messages as a life counts."""

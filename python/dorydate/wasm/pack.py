@@ -2,8 +2,8 @@
 
 FOLDER has `page.html`, `page.css` and `main.js`, the module of JavaScript that the page begins with (web/page, or another one). In
 `page.html` four comments say where what is packed goes: `<!-- policy -->`, `<!-- style -->`, `<!-- data -->` and `<!-- script -->`. The
-data are blocks that no browser runs: `program` (MODULE, by gzip and base64), `worker` (web/run/worker.js), `examples` (JSON by gzip and
-base64: a name, a title and the text of each input in examples/) and `opened` (inputs like these with which the page opens, if any).
+data are blocks that no browser runs: `program` (MODULE, by gzip and base85), `worker` (web/run/worker.js), `examples` (JSON by gzip and
+base85: a name, a title and the text of each input in examples/) and `opened` (inputs like these with which the page opens, if any).
 
 Modules are joined to one script, each in a function of its own, so names of two never meet. They may import names, or all names as one
 (`import * as it`), from other files, and export declarations and lists of names; anything else is refused. The policy of the page forbids
@@ -28,10 +28,12 @@ EXPORT = re.compile(r"^export\s+((?:async\s+)?function\s*\*?\s*(\w+)|class\s+(\w
 EXPORT_LIST = re.compile(r"^export\s+\{([^}]*)\};[ ]*$", re.MULTILINE)
 COMMENT = re.compile(r"/\*\*.*?\*/", re.DOTALL)  # where types are
 DOCUMENTATION = re.compile(r"^[ ]*/\*\*(?:[^*]|\*(?!/))*\*/[ ]*\n", re.MULTILINE)
-INDENT = re.compile(r"^[ ]+", re.MULTILINE)
+OF_STYLE = re.compile(r"/\*(?:[^*]|\*(?!/))*\*/")
+BLANK = re.compile(r"^\s+", re.MULTILINE)  # indents, and lines with nothing
 LEFT_OVER = re.compile(r"^(?:import|export)\b.*$|\bimport\(", re.MULTILINE)
 ALIAS = re.compile(r"(\w+)(?:\s+as\s+(\w+))?")
 ENDINGS = re.compile(r"\.(?:args|stdout|stderr|status|rows|md)$")
+AVOIDED, INSTEAD = "<`", ",."  # digits of base85 that would end a block, or a text in a script, and those in their place
 
 
 class Refused(Exception):
@@ -61,11 +63,16 @@ def names(text: str) -> list[tuple[str, str]]:
 
 
 def bare(text: str, path: str) -> str:
-    """A module without its comments of documentation and without indents, which a third of its octets are."""
+    """A module without its comments of documentation, indents and empty lines, which a third of its octets are."""
     text = DOCUMENTATION.sub("", text)
     if any(line.count("`") % 2 for line in text.splitlines()):
         raise Refused(f"{os.path.relpath(path, ROOT)} has a text in backticks over several lines, which isn't packed")
-    return INDENT.sub("", text)
+    return BLANK.sub("", text)
+
+
+def bare_style(text: str) -> str:
+    """A style without comments, indents and empty lines."""
+    return BLANK.sub("", OF_STYLE.sub("", text))
 
 
 def add(packed: Packed, path: str) -> int:
@@ -131,9 +138,14 @@ def block(name: str, kind: str, text: str) -> str:
     return f'<script type="{kind}" id="{name}">{text}</script>\n'
 
 
-def by_gzip(octets: bytes) -> str:
-    """Octets by gzip and base64."""
-    return base64.b64encode(gzip.compress(octets, 9, mtime=0)).decode()
+def spell_octets(octets: bytes) -> str:
+    """Octets by gzip and base85, with two other digits, so that no block ends too early."""
+    return base64.b85encode(gzip.compress(octets, 9, mtime=0)).decode().translate(str.maketrans(AVOIDED, INSTEAD))
+
+
+def read_octets(text: str) -> bytes:
+    """The octets that `spell_octets` spelled."""
+    return gzip.decompress(base64.b85decode(text.translate(str.maketrans(INSTEAD, AVOIDED))))
 
 
 def hash_of(text: str) -> str:
@@ -143,15 +155,15 @@ def hash_of(text: str) -> str:
 
 def page(folder: str, module: bytes, first: list[dict[str, str]] | None = None) -> str:
     """The page, whole. `first` are inputs that it has before the examples, and that it opens with."""
-    style, script = f"\n{read(f'{folder}/page.css')}", f"\n{joined(f'{folder}/main.js')}"
+    style, script = f"\n{bare_style(read(f'{folder}/page.css'))}", f"\n{joined(f'{folder}/main.js')}"
     if "</style" in style or "</script" in script:
         raise Refused("the style or the script would end too early")
     policy = f"default-src 'none'; script-src {hash_of(script)} 'wasm-unsafe-eval'; style-src {hash_of(style)}; worker-src blob:; base-uri 'none'; form-action 'none'"
     examples = json.dumps(examples_in(f"{ROOT}/examples"), ensure_ascii=False)
-    data = block("program", "application/octet-stream", by_gzip(module))
+    data = block("program", "application/octet-stream", spell_octets(module))
     data += block("worker", "text/plain", joined(f"{ROOT}/web/run/worker.js"))
     data += block("opened", "application/json", json.dumps(first or [], ensure_ascii=False).replace("<", "\\u003c"))
-    data += block("examples", "application/octet-stream", by_gzip(examples.encode()))
+    data += block("examples", "application/octet-stream", spell_octets(examples.encode()))
     parts = {
         "policy": f'<meta http-equiv="Content-Security-Policy" content="{policy}">',
         "style": f"<style>{style}</style>",
