@@ -12,6 +12,7 @@ pub mod Given
 pub mod Goes
 pub mod Handed
 pub mod Later
+pub mod Parted
 pub mod Run
 pub mod Source
 pub mod Starts

@@ -1,37 +1,36 @@
--- How many CLS two hosts have said and heard of a connection, by the ends that they have of it.
+-- How many CLS a host has said and heard of a connection, by the end that it has of it.
 use Rattle.std.proofs.Common.{◌≡◌, ℕ, ◌+◌, ◌≤◌, ◌&&◌, Bool, true, false, List, [], ◌∷◌, ◌++◌, refl, ap, sym, subst, ◌∙◌, arith}
 use Rattle.interface.specs.Host.{Host}
 use Rattle.host_pairs.specs.Entries.{is_sent}
 use Rattle.host_pairs.specs.declared.entry.Entry.{Entry}
 use Rattle.host_keeps_pairing.specs.Ends.{end_of, is_past, standing}
 use Rattle.pairing_law.specs.Ends.{End}
-use Rattle.pairing_law.specs.Links.{Sockets, Who, Receiver, Sender}
+use Rattle.pairing_law.specs.Links.{Sockets, Who}
 use Rattle.pairing_law.specs.Marks.{Ask, Close, IsOlder, Mark, closes}
 use Rattle.pairing_law.specs.Sides.{Side}
-use Rattle.pairing_law.proofs.lemmas.{Half, Joined, count, stays_same}
+use Rattle.pairing_law.proofs.lemmas.{Half, count, stays_same}
 use Rattle.reset_law.specs.Stays as stay
 use Rattle.sockets.specs.Pairs.{pair_with}
 use Rattle.net_sim.specs.Story.{Moment, events_of, program}
 use Rattle.net_sim.specs.Timeline.{crossings_of}
-use Rattle.net_sim.proofs.lemmas.{Coupled}
 use Rattle.world_keeps_pairing.specs.Free.{law_events, origin_in}
-use Rattle.world_keeps_pairing.proofs.lemmas.{IsPair, Tie, all_tied, are_origins, at_texts, foreign_of, half, other, own_of, served_in}
+use Rattle.world_keeps_pairing.proofs.lemmas.{IsPair, Tie, at_texts, foreign_of, half, other, own_of}
 use Rattle.world_keeps_streams.proofs.Deeds.Effects.{Among}
 use Rattle.world_keeps_streams.proofs.Lives.Left.{entry_end}
-use Rattle.world_keeps_streams.proofs.Requests.Now.{joined_halves, side_stays}
-use Rattle.world_keeps_streams.proofs.Requests.Sides.{Lawful, coupled_in}
+use Rattle.world_keeps_streams.proofs.Requests.Now.{side_stays}
+use Rattle.world_keeps_streams.proofs.Requests.Sides.{Lawful}
 
 closes_more : (new word : List Mark) → closes word ≤ closes (new ++ word)
 closes_more [] word = omega arith
 closes_more (Ask p ∷ new) word = closes_more new word
 closes_more (Close ∷ new) word = let l : closes word ≤ closes (new ++ word) = closes_more new word in omega (arith, l)
 
-closes_said : (heard said : List Mark) → IsOlder heard said → closes heard ≤ closes said
+pub closes_said : (heard said : List Mark) → IsOlder heard said → closes heard ≤ closes said
 closes_said heard said o = subst (λ (w : List Mark). closes heard ≤ closes w) (sym o.1) (closes_more o.0 heard)
 
 -- ---- one host
 
-abbrev side_of : Sockets → Who → Host → Host → List Moment → Side
+abbrev pub side_of : Sockets → Who → Host → Host → List Moment → Side
 side_of s who h p ms = half h p (at_texts s who) (at_texts s (other who)) (law_events ms)
 
 -- as many as there were connections before this one, and one more where the end has said its own, or heard its partner's
@@ -57,7 +56,7 @@ module _ (hosts : List Host) (ms : List Moment) (l : Lawful hosts ms) (s : Socke
   abbrev end_now : Entry → End
   end_now e = end_of (origin_in (crossings_of ms) h p) (standing e)
 
-  counted : Tie s q who h p (origin_in (crossings_of ms) h p) ms → (floor above : ℕ) (there : Side)
+  pub counted : Tie s q who h p (origin_in (crossings_of ms) h p) ms → (floor above : ℕ) (there : Side)
       → Half floor above (side_of s who h p ms) there
       → stay.stays h p (events_of ms) ≡ true → (e : Entry)
       → Among e (pair_with p (program h ms).peers).entries → e.own ≡ own_of who s → e.foreign ≡ foreign_of who s
@@ -90,53 +89,8 @@ module _ (hosts : List Host) (ms : List Moment) (l : Lawful hosts ms) (s : Socke
 -- ---- both hosts
 
 -- who has heard one more than it has said has a peer that has said one more than it has heard
-bounds : (m n : ℕ) (v w : Bool) → m + 1 ≤ n + count v → n + count w ≤ m → (v ≡ true) × (w ≡ false)
+pub bounds : (m n : ℕ) (v w : Bool) → m + 1 ≤ n + count v → n + count w ≤ m → (v ≡ true) × (w ≡ false)
 bounds m n true true up down = absurd (omega (arith, up, down))
 bounds m n true false up down = (refl, refl)
 bounds m n false true up down = absurd (omega (arith, up, down))
 bounds m n false false up down = absurd (omega (arith, up, down))
-
--- where two hosts stay, and the receiver's end is there and has heard the sender's CLS, that of the sender has gone out, and it has heard none
-module _ (hosts : List Host) (ms : List Moment) (l : Lawful hosts ms) (a b : Host) (s : Sockets) (q : IsPair s) where
-  pub sender_closed : stay.stays a b (events_of ms) ≡ true → stay.stays b a (events_of ms) ≡ true
-      → (e : Entry) → Among e (pair_with b (program a ms).peers).entries → e.own ≡ s.receive → e.foreign ≡ s.send
-      → e.partner_closed ≡ true
-      → (f : Entry) → Among f (pair_with a (program b ms).peers).entries → f.own ≡ s.send → f.foreign ≡ s.receive
-      → (is_sent f.closing ≡ true) × (f.partner_closed ≡ false)
-  sender_closed mine theirs e e_in e_own e_foreign heard f f_in f_own f_foreign =
-      bounds here.now there.now (is_sent f.closing) f.partner_closed
-      (let x : closes (side_of s Receiver a b ms).heard ≡ here.now + 1 = here.heard ∙ ap (λ (v : Bool). here.now + count v) heard in
-      omega (arith, up, x, there.said))
-      (let x : closes (side_of s Receiver a b ms).said ≡ here.now + 0 = here.said ∙ ap (λ (v : Bool). here.now + count v) unsent in
-      omega (arith, down, x, there.heard)) where
-        k : Coupled hosts ms
-        k = coupled_in hosts ms l
-
-        j : Joined (side_of s Receiver a b ms) (side_of s Sender b a ms)
-        j = joined_halves hosts ms l a b s q
-
-        here : Counted (side_of s Receiver a b ms).said (side_of s Receiver a b ms).heard
-            (is_sent e.closing) e.partner_closed
-        here =
-            counted hosts ms l s q Receiver a b
-            (((all_tied hosts (origin_in (crossings_of ms)) ms (are_origins 0 (crossings_of ms) [] ms refl) k.story k.run (served_in hosts ms l.2)).tied a b).receiver s q)
-            j.floor j.other (side_of s Sender b a ms) j.here mine e e_in e_own e_foreign
-
-        unsent : is_sent e.closing ≡ false
-        unsent = by (is_sent e.closing) refl where
-          by : (v : Bool) → is_sent e.closing ≡ v → v ≡ false
-          by false t = refl
-          by true t = absurd (let two : (true && true) ≡ false = ap (λ (v : Bool). v && true) (sym t) ∙ ap (λ (v : Bool). is_sent e.closing && v) (sym heard) ∙ here.live in cc)
-
-        there : Counted (side_of s Sender b a ms).said (side_of s Sender b a ms).heard
-            (is_sent f.closing) f.partner_closed
-        there =
-            counted hosts ms l s q Sender b a
-            (((all_tied hosts (origin_in (crossings_of ms)) ms (are_origins 0 (crossings_of ms) [] ms refl) k.story k.run (served_in hosts ms l.2)).tied a b).sender s q)
-            j.other j.floor (side_of s Receiver a b ms) j.there theirs f f_in f_own f_foreign
-
-        up : closes (side_of s Receiver a b ms).heard ≤ closes (side_of s Sender b a ms).said
-        up = closes_said _ _ j.here.older
-
-        down : closes (side_of s Sender b a ms).heard ≤ closes (side_of s Receiver a b ms).said
-        down = closes_said _ _ j.there.older

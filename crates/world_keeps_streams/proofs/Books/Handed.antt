@@ -1,6 +1,7 @@
 -- A receiving life that its partner has closed, and no user of its host, took all that was handed over in the life that it matches.
 use Rattle.std.proofs.Common.{◌≡◌, inl, inr, ◌==◌, Bool, true, false, List, [], ◌∷◌, ◌++◌, map, refl, ap, sym, subst, ◌∙◌}
 use Rattle.std.proofs.lemmas.Bool.{eqb-true}
+use Rattle.std.proofs.lemmas.List.{append_assoc}
 use Rattle.std.specs.List.{Contains}
 use Rattle.interface.specs.Calls.{Seen}
 use Rattle.interface.specs.Host.{Host}
@@ -22,14 +23,14 @@ use Rattle.world_keeps_lives.specs.Drained.{AllSent, ClosedFirst}
 use Rattle.world_keeps_lives.specs.Lives.{HasOpenEnd}
 use Rattle.world_keeps_lives.proofs.lemmas.{drained, live}
 use Rattle.world_keeps_pairing.proofs.lemmas.{book_run}
-use Rattle.world_keeps_streams.specs.Closes.{AllHanded, IsClosedByPartner, TookHanded, WasClosedBy}
+use Rattle.world_keeps_streams.specs.Closes.{AllHanded, HasLeft, IsClosedByPartner, TookHanded, WasClosedBy}
 use Rattle.world_keeps_streams.proofs.Deeds.Effects.{Among}
 use Rattle.world_keeps_streams.proofs.Lives.Lists.{IsOf, Named, contains, grown, is_of, named_itself, of_left, of_map}
 use Rattle.world_keeps_streams.proofs.Requests.Sides.{Heard, Lawful, Own, lives_in}
 use Rattle.world_keeps_streams.proofs.Books.All.{all_given}
 use Rattle.world_keeps_streams.proofs.Books.Arrives.{end_at, rest_lawful, stays_of}
 use Rattle.world_keeps_streams.proofs.Books.Books.{one_own}
-use Rattle.world_keeps_streams.proofs.Books.Counts.{sender_closed}
+use Rattle.world_keeps_streams.proofs.Books.Parted.{sender_closed}
 use Rattle.world_keeps_streams.proofs.Books.Later.{closes_whole, named_request}
 
 sent_cls : (c : Closing) → is_sent c ≡ true → has_cls c ≡ true
@@ -83,21 +84,29 @@ at_socket x s h = eqb-true h.end.own x.socket (both h.end.mine (h.end.own == x.s
 
 -- ---- the sending life closed first
 
--- where a receiving life has taken the CLS of the life that it matches, which isn't over
-module _ (hosts : List Host) (newer ms : List Moment) (l : Lawful hosts (newer ++ ms)) (x s : Life)
-    (x_in : Contains (lives_in (newer ++ ms)) x) (s_in : Contains (lives_in (newer ++ ms)) s)
-    (m : Match (crossings_of (newer ++ ms)) x s)
-    (r : Life) (f : IsClosedByPartner ms r) (x_same : own_request x ≡ own_request r)
+-- where a receiving life has taken the CLS of the life that it matches, which isn't over or whose host has left since
+module _ (hosts : List Host) (newer between ms : List Moment) (l : Lawful hosts (newer ++ (between ++ ms))) (x s : Life)
+    (x_in : Contains (lives_in (newer ++ (between ++ ms))) x) (s_in : Contains (lives_in (newer ++ (between ++ ms))) s)
+    (m : Match (crossings_of (newer ++ (between ++ ms))) x s)
+    (r : Life) (f : IsClosedByPartner (between ++ ms) r) (x_same : own_request x ≡ own_request r)
     (p : Life) (there : Contains (lives_in ms) p) (goes : p.ended ≡ false)
-    (s_same : own_request s ≡ own_request p) where
-  old : Lawful hosts ms
-  old = rest_lawful hosts newer ms l
+    (s_same : own_request s ≡ own_request p) (left : HasLeft p.host p.peer between ms) where
+  old : Lawful hosts (between ++ ms)
+  old = rest_lawful hosts newer (between ++ ms) l
+
+  oldest : Lawful hosts ms
+  oldest = rest_lawful hosts between ms old
 
   of_receiver : Named r x
-  of_receiver = names_of hosts newer ms l r x (is_of r (lives_in ms) f.there) (is_of x (lives_in (newer ++ ms)) x_in) x_same
+  of_receiver = names_of hosts newer (between ++ ms) l r x (is_of r (lives_in (between ++ ms)) f.there) (is_of x (lives_in (newer ++ (between ++ ms))) x_in) x_same
+
+  all_moments : newer ++ (between ++ ms) ≡ (newer ++ between) ++ ms
+  all_moments = sym (append_assoc newer between ms)
 
   of_sender : Named p s
-  of_sender = names_of hosts newer ms l p s (is_of p (lives_in ms) there) (is_of s (lives_in (newer ++ ms)) s_in) s_same
+  of_sender =
+      names_of hosts (newer ++ between) ms (subst (λ (ns : List Moment). Lawful hosts ns) all_moments l) p s (is_of p (lives_in ms) there)
+      (subst (λ (ns : List Moment). IsOf s (lives_in ns)) all_moments (is_of s (lives_in (newer ++ (between ++ ms))) s_in)) s_same
 
   host : p.host ≡ r.peer
   host = sym (sym of_receiver.peer ∙ m.peers.0 ∙ of_sender.host)
@@ -117,10 +126,13 @@ module _ (hosts : List Host) (newer ms : List Moment) (l : Lawful hosts (newer +
   theirs : stay.stays r.peer r.host (events_of ms) ≡ true
   theirs =
       subst (λ (h : Host). stay.stays h r.host (events_of ms) ≡ true) host
-      (subst (λ (g : Host). stay.stays p.host g (events_of ms) ≡ true) peer (stays_of hosts ms old p there goes))
+      (subst (λ (g : Host). stay.stays p.host g (events_of ms) ≡ true) peer (stays_of hosts ms oldest p there goes))
+
+  left_there : HasLeft r.peer r.host between ms
+  left_there = subst (λ (h : Host). HasLeft h r.host between ms) host (subst (λ (g : Host). HasLeft p.host g between ms) peer left)
 
   open_end : HasOpenEnd (program p.host ms) p
-  open_end = live hosts ms old.0 old.1 old.2 p there goes
+  open_end = live hosts ms oldest.0 oldest.1 oldest.2 p there goes
 
   among : Among open_end.end (pair_with r.host (program r.peer ms).peers).entries
   among =
@@ -129,16 +141,16 @@ module _ (hosts : List Host) (newer ms : List Moment) (l : Lawful hosts (newer +
 
   closing_end : (is_sent open_end.end.closing ≡ true) × (open_end.end.partner_closed ≡ false)
   closing_end =
-      sender_closed hosts ms old r.host r.peer (record { receive = r.socket; send = r.foreign })
-      (f.receiving, ap is_send_socket (sym socket) ∙ sending) (stays_of hosts ms old r f.there f.goes) theirs
-      f.end.end (end_at r (program r.host ms) f.end).0 (at_socket r (program r.host ms) f.end) f.end.foreign f.closed
+      sender_closed hosts between ms old oldest r.host r.peer (record { receive = r.socket; send = r.foreign })
+      (f.receiving, ap is_send_socket (sym socket) ∙ sending) left_there (stays_of hosts (between ++ ms) old r f.there f.goes) theirs
+      f.end.end (end_at r (program r.host (between ++ ms)) f.end).0 (at_socket r (program r.host (between ++ ms)) f.end) f.end.foreign f.closed
       open_end.end among (at_socket p (program p.host ms) open_end ∙ socket) (open_end.foreign ∙ foreign)
 
-  it_closed : ClosedFirst (newer ++ ms) s
+  it_closed : ClosedFirst (newer ++ (between ++ ms)) s
   it_closed = record {
-    later = newer;
+    later = newer ++ between;
     earlier = ms;
-    is = refl;
+    is = all_moments;
     sender = p;
     there = there;
     first = record {
@@ -157,11 +169,11 @@ module _ (hosts : List Host) (ms : List Moment) (l : Lawful hosts ms) (x : Life)
   first_of : (s : Life) → Contains (lives_in ms) s → WasClosedBy ms s x → ClosedFirst ms s
   first_of s there w =
       subst
-      (λ (ns : List Moment). Lawful hosts ns → Contains (lives_in ns) x → Contains (lives_in ns) s
-      → Match (crossings_of ns) x s → ClosedFirst ns s)
-      (sym w.closed.is)
-      (λ k i j m. it_closed hosts w.closed.later w.closed.earlier k x s i j m w.closed.receiver w.closed.then w.closed.same
-      w.partner w.there w.goes w.same)
+      (λ (ns : List Moment). Lawful hosts ns → Contains (lives_in ns) x → Contains (lives_in ns) s → Match (crossings_of ns) x s → ClosedFirst ns s)
+      (sym (w.closed.is ∙ ap (λ (ns : List Moment). w.closed.later ++ ns) w.parts))
+      (λ k i j m. it_closed hosts w.closed.later w.between w.last k x s i j m w.closed.receiver
+      (subst (λ (ns : List Moment). IsClosedByPartner ns w.closed.receiver) w.parts w.closed.then) w.closed.same
+      w.partner w.there w.goes w.same w.left)
       l w.closed.there there w.matches
 
   each : (lives : List Life) (ts : List (List Bool)) → AllSent ms lives ts

@@ -21,9 +21,10 @@ use Rattle.sockets.specs.Worked.{first, second}
 use Rattle.world_keeps_streams.specs.Calls.{own_calls}
 use Rattle.world_keeps_lives.specs.WorkedFormed.{gave}
 use Rattle.world_keeps_streams.specs.Closes.{IsClosedByPartner, WasClosedBy}
-use Rattle.world_keeps_streams.specs.Worked.{close_back, ended_moments, quit_moments, took_eight}
+use Rattle.world_keeps_streams.specs.Worked.{close_back, close_sent, closing_moments, ended_moments, quit_moments, stopped_moments, took_eight}
 use Rattle.net_sim.specs.Story.{Crossed, program}
 use Rattle.net_sim.specs.Worked.{eight}
+use Rattle.net_sim.specs.WorkedMoments.{sent_moments}
 use Rattle.world_keeps_lives.proofs.lemmas.{none_there}
 use Rattle.world_keeps_streams.proofs.law.worked_closes.Goals as goal
 
@@ -129,11 +130,54 @@ unfolding octets_of orders_of read_of command_of packed_count accepted refusal s
 closed_by = record {
   closed = record { there = (1, omega arith, refl); later = []; earlier = ended_moments; is = refl; receiver = took_eight; then = closed_there; same = refl };
   matches = record { receiving = refl; sending = refl; peers = (refl, refl); sockets = (refl, refl); asked = refl; answered = refl };
+  between = [];
+  last = ended_moments;
+  parts = refl;
   partner = gave;
   there = (0, omega arith, refl);
   goes = refl;
   same = refl;
+  left = tt;
 }
+
+closed_here : IsClosedByPartner stopped_moments took_eight
+unfolding octets_of orders_of read_of command_of packed_count accepted refusal served served_notices next_out offered is_other are_others
+closed_here = record {
+  there = (1, omega arith, refl);
+  receiving = refl;
+  goes = refl;
+  end = record {
+    end = record (spent 8 (granted 2 100 (asked_with_size 10 8 (asked_at 6 (receiving_end 16 33 2))))) { closing = closing.Queued; partner_closed = true };
+    one = refl;
+    others = λ other away. none_there 16 second other (program first stopped_moments).peers (refl, tt) away;
+    foreign = refl;
+    own = refl;
+    partner = refl;
+  };
+  closed = refl;
+  link = 2;
+  linked = refl;
+  unclosed = none_closes second 2 (name_now numbered second (own_calls first second stopped_moments) 16 33) (own_calls first second stopped_moments) refl;
+}
+
+pub returns-clause-left : goal.returns-clause-left
+unfolding octets_of orders_of read_of command_of packed_count accepted refusal served served_notices next_out offered
+returns-clause-left c = record {
+  closed = record { there = (1, omega arith, refl); later = []; earlier = stopped_moments; is = refl; receiver = took_eight; then = closed_here; same = refl };
+  matches = record { receiving = refl; sending = refl; peers = (refl, refl); sockets = (refl, refl); asked = refl; answered = refl };
+  between = Crossed (crossing.In close_sent) ∷ Crossed (crossing.Down second) ∷ [];
+  last = closing_moments sent_moments;
+  parts = refl;
+  partner = gave;
+  there = (0, omega arith, refl);
+  goes = refl;
+  same = refl;
+  left = (refl, (refl, tt));
+}
+
+pub returns-clause-stays : goal.returns-clause-stays
+unfolding octets_of orders_of read_of command_of packed_count accepted refusal served served_notices next_out offered
+returns-clause-stays c h = let no : true ≡ false = h.0 in absurd (cc)
 
 pub returns-clause-whole : goal.returns-clause-whole
 returns-clause-whole c = closed_by
