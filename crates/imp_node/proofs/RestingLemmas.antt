@@ -129,7 +129,8 @@ port_free [] k none = refl
 port_free (port ∷ ports) zero none = omega (arith, none, sum_by-cons busy_channels port ports)
 port_free (port ∷ ports) (suc k) none = port_free ports k (omega (arith, none, sum_by-cons busy_channels port ports))
 
-record IsIdle (s : State) (k : ℕ) : Type 0 where
+-- no packet waits, neither for a channel nor at this end for its acknowledgement
+pub record IsIdle (s : State) (k : ℕ) : Type 0 where
   pub waits : length s.store ≡ 0
   pub free : length (packets_in (port_at s.ports k).line.sending) ≡ 0
 
@@ -140,7 +141,8 @@ taken_again s k acks idle =
     let line : End = (port_at s.ports k).line in
     ap (λ (channels : List Channel). set s.ports k (record (port_at s.ports k) { line = record line { sending = channels } })) (all_free acks line.sending idle.free) ∙ set-get_or s.ports k down_port
 
-routes_again : (up : Bool) (s : State) (k : ℕ) (acks : List Bool) (distances : List ℕ) → IsIdle s k → (up ≡ true → get_or s.routes.heard k None ≡ Some distances)
+-- where no packet waits, distances that were heard last do nothing when they are heard again, nor does any frame at an end that is down
+pub routes_again : (up : Bool) (s : State) (k : ℕ) (acks : List Bool) (distances : List ℕ) → IsIdle s k → (up ≡ true → get_or s.routes.heard k None ≡ Some distances)
     → (if up then taken_frame (answer_to (port_at s.ports k).line (record { acks = acks; content = content.Routes distances })) k (record { acks = acks; content = content.Routes distances }) s else ignored s) ≡ ignored s
 routes_again false s k acks distances idle heard = refl
 routes_again true s k acks distances idle heard =
@@ -159,6 +161,7 @@ hears_again s k acks distances none heard =
 
 -- ---- a frame of which only acknowledgement bits matter
 
+-- a frame that comes in at an end that is down is lost
 pub quiet_down : (s : State) (k : ℕ) (f : Frame) → (port_at s.ports k).up ≡ false → from_line s k f ≡ ignored s
 quiet_down s k f down = ap (λ (up : Bool). if up then taken_frame (answer_to (port_at s.ports k).line f) k f s else ignored s) down
 

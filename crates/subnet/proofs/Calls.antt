@@ -7,7 +7,6 @@ pub mod Carries
 pub mod Carrying
 pub mod Delivering
 pub mod Ending
-pub mod Hearing
 pub mod Highest
 pub mod Joining
 pub mod Living

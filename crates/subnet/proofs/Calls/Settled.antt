@@ -18,11 +18,10 @@ use Rattle.imp_node.specs.State.{State, ImpTurn, port_at}
 use Rattle.imp_node.specs.Arrival.{from_line, ignored}
 use Rattle.imp_channel.specs.Holding.{packets_in}
 use Rattle.imp_node.specs.Lines.{on_port, told_by, told_from, route, resent_by, resent_from, resend}
-use Rattle.imp_node.proofs.lemmas.{at_set, none_resent, pump_with}
+use Rattle.imp_node.proofs.lemmas.{at_set, none_resent, pump_with, quiet_down, routes_again}
 use Rattle.subnet.specs.Net.{Net, Wire, no_wire, imp_at, wire_at, ends_at, port_of, line_places, line_from, followed_by, with_frame, put_on, put_one, put_all, with_turn, frames_on, far_end, without_at, dropping}
 use Rattle.subnet.specs.Events.{at_imp, delivered, deliver, drop_frame, refreshed, all_refreshed, carried, turn_of, all_turns, quiet_round}
 use Rattle.subnet.specs.Inside.Settled.{near_end, IsFree, IsStill, IsStillOn, IsSettled, is_silent, stores_nothing}
-use Rattle.subnet.proofs.Calls.Hearing.{hears_again, lost_there}
 use Rattle.subnet.proofs.Calls.Resending.{all_resent}
 use Rattle.subnet.proofs.Calls.Resting.{rests_at}
 use Rattle.subnet.proofs.Calls.Telling.{all_from, all_told, put_both}
@@ -215,8 +214,9 @@ heard_by s k q (Some t) up waits still = by (port_at t.ports q).up refl where
   told = routes_frame (port_at s.ports k).line (vector_of s.routes)
 
   by : (b : Bool) → (port_at t.ports q).up ≡ b → from_line t q told ≡ ignored t
-  by true there = hears_again t q (port_at s.ports k).line.expected (vector_of s.routes) there waits (still up there).2 (still up there).0
-  by false down = lost_there t q told down
+  by true there =
+      routes_again (port_at t.ports q).up t q (port_at s.ports k).line.expected (vector_of s.routes) (record { waits = waits; free = (still up there).2 }) (λ _. (still up there).0)
+  by false down = quiet_down t q told down
 
 put_told : (n : Net) (lines : List Wire) (i k : ℕ) (s : State) → IsSettled n → imp_at n.imps i ≡ Some s → AreStill n lines → AreStill n (put_all lines i (told_by (vector_of s.routes) k (port_at s.ports k)))
 put_told n lines i k s settled is still = by (port_at s.ports k).up refl where
@@ -242,7 +242,7 @@ lost_by s k q (Some t) f up busy still = by (port_at t.ports q).up refl where
 
   by : (b : Bool) → (port_at t.ports q).up ≡ b → from_line t q f ≡ ignored t
   by true there = absurd (omega (arith, busy, none there))
-  by false down = lost_there t q f down
+  by false down = quiet_down t q f down
 
 put_resent : (n : Net) (lines : List Wire) (i k : ℕ) (s : State) → IsSettled n → imp_at n.imps i ≡ Some s → AreStill n lines → AreStill n (put_all lines i (resent_by k (port_at s.ports k)))
 put_resent n lines i k s settled is still = by (length (packets_in port.line.sending)) refl where
