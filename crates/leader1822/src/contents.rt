@@ -6,7 +6,8 @@ ghost use Rattle.interface.specs.Host.{Host, is_host, same_host};
 ghost use Rattle.leader1822.specs.Boxes as boxes;
 ghost use Rattle.leader1822.specs.Boxes.{queued_if, told_dead};
 ghost use Rattle.leader1822.specs.Inside.Held.{IsIndexed, IsKept, is_message, is_unanswered, put, answer_if, cleared, flows_dead, held_admitted, held_offered, held_taken, held_given_up, held_stopped};
-ghost use Rattle.leader1822.specs.Inside.Held.{held_started};
+ghost use Rattle.leader1822.specs.Inside.Held.{held_started, with_answer, with_answer_for_running, with_dead, with_message};
+ghost use Rattle.leader1822.specs.Inside.Held.{without_answers, without_first_answer, without_first_message, without_message, without_rfnm};
 ghost use Rattle.leader1822.specs.Inside.Named.{IsNamed};
 ghost use Rattle.leader1822.specs.Inside.Shown.{waiting_in};
 ghost use Rattle.leader1822.specs.Inside.Soundness.{KeepsLog};
@@ -258,7 +259,7 @@ impl Contents {
 
     /// Puts a message after those that wait for its destination.
     fn enqueue(&mut self, message: HostMessage) -> Result<(), AllocError>
-        ensures ok { OnOk result (self.new ≡ record { boxes = record self.old.boxes { messages = boxes.queued_for self.old.boxes.messages message.flow.destination message }; flows = map.insert self.old.flows message.flow pending.Message }) }
+        ensures ok { OnOk result (self.new ≡ with_message self.old message) }
         ensures err { OnErr result (KeepsLog self.old.boxes self.new.boxes) }
     {
         let flow = message.flow;
@@ -269,7 +270,7 @@ impl Contents {
 
     /// Puts an answer after those that wait for the source of its flow.
     fn answer(&mut self, kind: Answer, flow: &Flow) -> Result<(), AllocError>
-        ensures ok { OnOk result (self.new ≡ record { boxes = record self.old.boxes { answers = boxes.queued_for self.old.boxes.answers flow.now.source (kind, flow.now) }; flows = map.insert self.old.flows flow.now (pending.Answer kind) }) }
+        ensures ok { OnOk result (self.new ≡ with_answer self.old kind flow.now) }
         ensures err { OnErr result (KeepsLog self.old.boxes self.new.boxes) }
     {
         self.flows.set(*flow, Pending::Answer(kind))?;
@@ -278,7 +279,7 @@ impl Contents {
 
     /// Tells the source of a flow this answer in place of whatever waits of the flow, if the source is up.
     fn tell(&mut self, kind: Answer, flow: &Flow) -> Result<(), AllocError>
-        ensures ok { OnOk result (self.new ≡ record { boxes = record self.old.boxes { answers = queued_if (boxes.is_running self.old.boxes.hosts self.old.boxes.down flow.now.source) self.old.boxes.answers flow.now.source (kind, flow.now) }; flows = put self.old.flows flow.now (answer_if (boxes.is_running self.old.boxes.hosts self.old.boxes.down flow.now.source) kind) }) }
+        ensures ok { OnOk result (self.new ≡ with_answer_for_running self.old kind flow.now) }
         ensures err { OnErr result (KeepsLog self.old.boxes self.new.boxes) }
     {
         if self.is_running(&flow.source) {
@@ -323,7 +324,7 @@ impl Contents {
     /// Takes the oldest answer that waits for the host.
     fn take_answer(&mut self, host: &HostAddr) -> Option<(Answer, Flow)>
         ensures found { result ≡ boxes.first_of_list (boxes.for_host self.old.boxes.answers host.now) }
-        ensures left { self.new ≡ record self.old { boxes = record self.old.boxes { answers = boxes.with_queue self.old.boxes.answers host.now (boxes.rest (boxes.for_host self.old.boxes.answers host.now)) } } }
+        ensures left { self.new ≡ record self.old { boxes = without_first_answer self.old.boxes host.now } }
         ensures unchanged { result ≡ None → self.new ≡ self.old }
     {
         self.answers.pop(host)
@@ -332,7 +333,7 @@ impl Contents {
     /// Takes the oldest message that waits for the host.
     fn take_message(&mut self, host: &HostAddr) -> Option<HostMessage>
         ensures found { result ≡ boxes.first_of_list (boxes.for_host self.old.boxes.messages host.now) }
-        ensures left { self.new ≡ record self.old { boxes = record self.old.boxes { messages = boxes.with_queue self.old.boxes.messages host.now (boxes.rest (boxes.for_host self.old.boxes.messages host.now)) } } }
+        ensures left { self.new ≡ record self.old { boxes = without_first_message self.old.boxes host.now } }
         ensures unchanged { result ≡ None → self.new ≡ self.old }
     {
         self.messages.pop(host)
@@ -405,7 +406,7 @@ impl Contents {
     /// Gives up a message that waits.
     fn give_up_message(&mut self, flow: Flow) -> Result<(), AllocError>
         requires { length (filter (boxes.is_of flow) (boxes.for_host self.old.boxes.messages flow.destination)) ≡ 1 }
-        ensures ok { OnOk result (self.new ≡ record { boxes = record self.old.boxes { messages = boxes.with_queue self.old.boxes.messages flow.destination (filter (λ m. not (boxes.is_of flow m)) (boxes.for_host self.old.boxes.messages flow.destination)); answers = boxes.with_queue self.old.boxes.answers flow.source (boxes.for_host self.old.boxes.answers flow.source ++ boxes.one_if (not (is_host self.old.boxes.down flow.source)) (answer.Incomplete, flow)) }; flows = put self.old.flows flow (answer_if (not (is_host self.old.boxes.down flow.source)) answer.Incomplete) }) }
+        ensures ok { OnOk result (self.new ≡ without_message self.old flow) }
         ensures grows { OnErr result (is_host self.old.boxes.down flow.source ≡ false) }
         ensures err { OnErr result (KeepsLog self.old.boxes self.new.boxes) }
     {
@@ -422,7 +423,7 @@ impl Contents {
     fn give_up_rfnm(&mut self, flow: Flow)
         requires one { length (filter (boxes.is_rfnm_about flow) (boxes.for_host self.old.boxes.answers flow.source)) ≡ 1 }
         requires known { IsSome (map.get self.old.flows flow) }
-        ensures { self.new ≡ record { boxes = record self.old.boxes { messages = boxes.with_queue self.old.boxes.messages flow.destination (boxes.for_host self.old.boxes.messages flow.destination); answers = boxes.with_queue self.old.boxes.answers flow.source (filter (λ a. not (boxes.is_rfnm_about flow a)) (boxes.for_host self.old.boxes.answers flow.source) ++ (answer.Incomplete, flow) ∷ []) }; flows = map.insert self.old.flows flow (pending.Answer answer.Incomplete) } }
+        ensures { self.new ≡ without_rfnm self.old flow }
     {
         self.messages.stays(&flow.destination);
         self.answers.replace_rfnm(&flow);
@@ -441,7 +442,7 @@ impl Contents {
 
     /// Clears the answers that wait for a host.
     fn drop_answers(&mut self, host: &HostAddr)
-        ensures { self.new ≡ record { boxes = record self.old.boxes { answers = boxes.with_queue self.old.boxes.answers host.now [] }; flows = cleared self.old.flows (boxes.for_host self.old.boxes.answers host.now) } }
+        ensures { self.new ≡ without_answers self.old host.now }
     {
         if let Some(answers) = self.answers.take(host) {
             forget_all(&mut self.flows, answers);
@@ -458,7 +459,7 @@ impl Contents {
 
     /// Gives the sources of these messages Dead, if they are up.
     fn tell_dead(&mut self, messages: VecDeque<HostMessage>) -> Result<(), AllocError>
-        ensures ok { OnOk result (self.new ≡ record { boxes = record self.old.boxes { answers = told_dead self.old.boxes.hosts self.old.boxes.down self.old.boxes.answers messages.items }; flows = flows_dead self.old.boxes.hosts self.old.boxes.down self.old.flows messages.items }) }
+        ensures ok { OnOk result (self.new ≡ with_dead self.old messages.items) }
         ensures err { OnErr result (KeepsLog self.old.boxes self.new.boxes) }
     {
         let mut messages = messages;

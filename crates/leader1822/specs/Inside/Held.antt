@@ -1,9 +1,9 @@
 -- The boxes, and a map that says at once whether something of a flow waits.
-use Rattle.std.specs.Prelude.{◌≡◌, Bool, true, false, not, List, [], ◌∷◌, ◌++◌, Option, Some, None, IsSome, if◌then◌else◌}
+use Rattle.std.specs.Prelude.{◌≡◌, Bool, filter, true, false, not, List, [], ◌∷◌, ◌++◌, Option, Some, None, IsSome, if◌then◌else◌}
 use Rattle.std.specs.FinMap as map
 use Rattle.interface.specs.Host.{Host, is_host}
 use Rattle.interface.specs.Flow.{flow_cmp}
-use Rattle.leader1822.specs.Boxes.{Boxes, WaitingAnswer, for_host, queued_if, is_rfnm, is_running, offered, inbound_taken, given_up, host_stopped, host_started}
+use Rattle.leader1822.specs.Boxes.{Boxes, WaitingAnswer, for_host, is_of, is_rfnm_about, one_if, queued_for, queued_if, rest, told_dead, with_queue, is_rfnm, is_running, offered, inbound_taken, given_up, host_stopped, host_started}
 use Rattle.leader1822.specs.Inside.Named.{IsNamed}
 use Rattle.leader1822.specs.Inside.Soundness.{texts_for, kinds_for, IsSound}
 use Rattle.interface.specs.declared.address.Flow.{Flow}
@@ -103,3 +103,66 @@ held_stopped c h = record {
 
 abbrev pub held_started : Held → Host → Held
 held_started c h = record { boxes = host_started c.boxes h; flows = c.flows }
+
+-- ---- the steps that these calls are made of
+
+-- a message waits for its destination, and an answer for the source of its flow
+abbrev pub with_message : Held → HostMessage → Held
+with_message c m = record {
+  boxes = record c.boxes { messages = queued_for c.boxes.messages m.flow.destination m };
+  flows = map.insert c.flows m.flow pending.Message;
+}
+
+abbrev pub with_answer : Held → Answer → Flow → Held
+with_answer c kind f = record {
+  boxes = record c.boxes { answers = queued_for c.boxes.answers f.source (kind, f) };
+  flows = map.insert c.flows f (pending.Answer kind);
+}
+
+-- or no answer, where the source doesn't run
+abbrev pub with_answer_for_running : Held → Answer → Flow → Held
+with_answer_for_running c kind f = record {
+  boxes = record c.boxes { answers = queued_if (is_running c.boxes.hosts c.boxes.down f.source) c.boxes.answers f.source (kind, f) };
+  flows = put c.flows f (answer_if (is_running c.boxes.hosts c.boxes.down f.source) kind);
+}
+
+-- Dead waits of each of these messages whose source runs
+abbrev pub with_dead : Held → List HostMessage → Held
+with_dead c ms = record {
+  boxes = record c.boxes { answers = told_dead c.boxes.hosts c.boxes.down c.boxes.answers ms };
+  flows = flows_dead c.boxes.hosts c.boxes.down c.flows ms;
+}
+
+-- without the first answer, or message, that waits for a host; without all answers for it
+abbrev pub without_first_answer : Boxes → Host → Boxes
+without_first_answer b h = record b { answers = with_queue b.answers h (rest (for_host b.answers h)) }
+
+abbrev pub without_first_message : Boxes → Host → Boxes
+without_first_message b h = record b { messages = with_queue b.messages h (rest (for_host b.messages h)) }
+
+abbrev pub without_answers : Held → Host → Held
+without_answers c h = record {
+  boxes = record c.boxes { answers = with_queue c.boxes.answers h [] };
+  flows = cleared c.flows (for_host c.boxes.answers h);
+}
+
+-- Incomplete takes the place of a message that waits, if the source is up, and of an RFNM that waits
+abbrev pub without_message : Held → Flow → Held
+without_message c f = record {
+  boxes = record c.boxes {
+    messages = with_queue c.boxes.messages f.destination (filter (λ m. not (is_of f m)) (for_host c.boxes.messages f.destination));
+    answers = with_queue c.boxes.answers f.source
+        (for_host c.boxes.answers f.source ++ one_if (not (is_host c.boxes.down f.source)) (answer.Incomplete, f));
+  };
+  flows = put c.flows f (answer_if (not (is_host c.boxes.down f.source)) answer.Incomplete);
+}
+
+abbrev pub without_rfnm : Held → Flow → Held
+without_rfnm c f = record {
+  boxes = record c.boxes {
+    messages = with_queue c.boxes.messages f.destination (for_host c.boxes.messages f.destination);
+    answers = with_queue c.boxes.answers f.source
+        (filter (λ a. not (is_rfnm_about f a)) (for_host c.boxes.answers f.source) ++ (answer.Incomplete, f) ∷ []);
+  };
+  flows = map.insert c.flows f (pending.Answer answer.Incomplete);
+}
