@@ -17,3 +17,4 @@ pub mod Examples
 pub mod Making
 pub mod Sides
 pub mod Moves
+pub mod Laws

@@ -4,8 +4,7 @@
 //! The functions `worked_..` state the rules by examples: each row is one that another reading of its rule
 //! would fail.
 
-ghost use Rattle.std.specs.Prelude.{◌≡◌, ℕ, ◌-◌, ◌<◌, ◌==◌, if◌then◌else◌, true, false, List, [], ◌∷◌, ◌++◌, length, map, replicate, All, Any, ◌⊎◌, Some, None};
-ghost use Rattle.interface.specs.Host.{most_imps};
+ghost use Rattle.std.specs.Prelude.{◌≡◌, ℕ, ◌==◌, if◌then◌else◌, true, false, [], ◌∷◌, ◌++◌, length, map, replicate, All, Any, ◌⊎◌, Some, None};
 ghost use Rattle.interface.specs.declared.address.Flow.{Flow};
 ghost use Rattle.interface.specs.declared.message.HostMessage.{HostMessage};
 ghost use Rattle.imp_channel.specs.Holding.{carried_by};
@@ -14,10 +13,9 @@ ghost use Rattle.interface.specs.declared.carrier.CarrierFault.TheVariants as fa
 ghost use Rattle.interface.specs.declared.crossing.Answer.TheVariants as answer;
 ghost use Rattle.interface.specs.declared.crossing.Inbound.TheVariants as inbound;
 ghost use Rattle.packetiser.specs.declared.packet.PacketKind.TheVariants as kind;
-ghost use Rattle.imp_channel.specs.declared.frame.Content.TheVariants as content;
-ghost use Rattle.routing.specs.Vector.{infinite};
 ghost use Rattle.imp_node.specs.Arrival.{Old, arrival, from_line, from_line_refusal, ignored};
-ghost use Rattle.imp_node.specs.Examples.{host, flow, only_packet, first_packet, unmarked_packet, packets_to, packet_frame, ack_frame, from_1, from_2, from_3, from_3_near_2, imp, busy, messages_between, queueing, serving, slots_of, empty_message, sent_imp, sent_answered, sent_never, noting, after_question, told_back, question_from, sent_within};
+ghost use Rattle.imp_node.specs.Examples.{host, flow, only_packet, first_packet, unmarked_packet, packets_to, packet_frame, ack_frame, from_2, from_3, from_3_near_2, imp, busy, messages_between};
+ghost use Rattle.imp_node.specs.Examples.{queueing, serving, slots_of, empty_message, sent_imp, sent_answered, sent_never, noting, after_question, told_back, question_from, sent_within};
 ghost use Rattle.imp_node.specs.Flows.{answer_packet, is_idle, next_number, noted};
 ghost use Rattle.imp_node.specs.Lines.{on_port, route, resend, end_down, end_up, end_down_refusal, end_up_refusal};
 ghost use Rattle.imp_node.specs.Asking.{ask, ask_refusal};
@@ -25,21 +23,31 @@ ghost use Rattle.imp_node.specs.Contents.{packets, messages};
 ghost use Rattle.imp_node.specs.Making.{Leaves, from_host_makes, from_line_makes, to_host_makes, ask_makes, host_down_makes};
 ghost use Rattle.imp_node.specs.Offering.{begins, way_of, way_has_room, from_host, from_host_refusal};
 ghost use Rattle.imp_node.specs.Pump.{pump};
-ghost use Rattle.imp_node.specs.Queries.{outstanding, last, kept, packet_has, message_has, holds, is_request_between, is_message_between, holds_data, holds_packet, packet_touches, message_touches, touches};
+ghost use Rattle.imp_node.specs.Queries.{outstanding, last, kept, packet_has, message_has, holds, is_request_between, is_message_between, holds_data, holds_packet, packet_touches, message_touches};
+ghost use Rattle.imp_node.specs.Queries.{touches};
 ghost use Rattle.imp_node.specs.Room.{stored_count};
-ghost use Rattle.imp_node.specs.State.{State, host_at, is_up, opening_node};
-ghost use Rattle.imp_node.specs.Stopping.{give_up, give_up_refusal, forget_refusal, abandon_refusal, host_down_refusal, host_up_refusal, forget, abandon, stopped, message_returned, host_down, host_up};
-ghost use Rattle.imp_node.specs.Sides.{IsImp, sender, receiver, answers_of, ended_with, fated_with, AllUnmoved, Moved};
-ghost use Rattle.imp_node.specs.Moves.{OfferMoves, ArrivalSays, FrameMoves, ReturningMoves, Becomes, without_first, sender_told, source_down, destination_down, source_up, destination_up};
+ghost use Rattle.imp_node.specs.State.{State, host_at, opening_node};
+ghost use Rattle.imp_node.specs.Stopping.{give_up, give_up_refusal, forget_refusal, host_down_refusal, host_up_refusal, forget, abandon, stopped, message_returned, host_down, host_up};
+ghost use Rattle.imp_node.specs.Sides.{IsImp, sender, receiver, ended_with, AllUnmoved, Moved};
+ghost use Rattle.imp_node.specs.Moves.{OfferMoves, ArrivalSays, FrameMoves, ReturningMoves, Becomes, source_down, destination_down};
 ghost use Rattle.imp_node.specs.declared.waiting.Message.{Message};
-ghost use Rattle.imp_node.specs.declared.waiting.Told.{Told};
 ghost use Rattle.std.specs.FinMap as map;
-ghost use Rattle.link_table.specs.Flows.{release_in};
 ghost use Rattle.link_table.specs.Keys.{is_from};
 ghost use Rattle.link_table.specs.declared.destination.Fate.TheVariants as fate;
 ghost use Rattle.packetiser.specs.PacketFields.{PacketFields, IsPacket};
-ghost use Rattle.imp_node.specs.Taking.{is_from_here, to_host, to_host_refusal, next_for, gives};
-ghost use Rattle.imp_node.specs.Turns.{from_line_grows, to_host_grows, resend_grows, route_grows, end_down_grows, end_up_grows, give_up_grows, ask_grows, forget_grows, abandon_grows, host_down_grows, host_up_grows};
+ghost use Rattle.imp_node.specs.Taking.{to_host, to_host_refusal, next_for, gives};
+ghost use Rattle.imp_node.specs.Turns.{from_line_grows, to_host_grows, resend_grows, route_grows, end_down_grows, end_up_grows, give_up_grows, ask_grows, forget_grows, abandon_grows, host_down_grows};
+ghost use Rattle.imp_node.specs.Turns.{host_up_grows};
+ghost use Rattle.imp_node.specs.Laws.Moving.{MovingAnswerTaken, MovingHostUp, MovingMessageTaken};
+ghost use Rattle.imp_node.specs.Laws.Asking.{AskingNoData};
+ghost use Rattle.imp_node.specs.Laws.WorkedPump.{WorkedPumpFreed, WorkedPumpInOrder};
+ghost use Rattle.imp_node.specs.Laws.WorkedRoom.{WorkedRoomRepeated};
+ghost use Rattle.imp_node.specs.Laws.WorkedRoutes.{WorkedRoutesChannelsInOrder, WorkedRoutesRerouted, WorkedRoutesTold};
+ghost use Rattle.imp_node.specs.Laws.WorkedArrivals.{WorkedArrivalsLost, WorkedArrivalsNoSlot, WorkedArrivalsSlotCleared, WorkedArrivalsUndeliverable};
+ghost use Rattle.imp_node.specs.Laws.WorkedHosts.{WorkedHostsBlockedFirst, WorkedHostsDead, WorkedHostsGivesNothing, WorkedHostsHere, WorkedHostsNowhere};
+ghost use Rattle.imp_node.specs.Laws.WorkedFates.{WorkedFatesOlderStopped, WorkedFatesOlderTaken, WorkedFatesRepeatFrees, WorkedFatesRepeatKeeps, WorkedFatesStopped, WorkedFatesUnmarked};
+ghost use Rattle.imp_node.specs.Laws.WorkedFates.{WorkedFatesUnmarkedAsked};
+ghost use Rattle.imp_node.specs.Laws.WorkedAnswers.{WorkedAnswersBeginsNone, WorkedAnswersInQueue, WorkedAnswersNoData, WorkedAnswersQuestions, WorkedAnswersSlots};
 
 /// Which packets are in an IMP, and in the frames that it puts on lines, after each call: those that were in
 /// it, and those that the rule of the call makes. Nothing else comes about.
@@ -82,11 +90,9 @@ pub fn moving()
     ensures from_line { (s : State) (k : ℕ) (f : Frame) → FrameMoves f s (from_line s k f).state }
     ensures arrivals { (s : State) (p : PacketFields) → ArrivalSays (arrival s p) s p }
 
-    // a host takes the oldest answer that waits for it: its flow has one answer less
-    ensures answer_taken { (s : State) (h : ℕ) (t : Told) (others : List Told) → is_up s h ≡ true → (host_at s h).answers ≡ t ∷ others → t.flow.source.host ≡ h → Moved s (to_host s h).state t.flow (record (sender s t.flow) { answers = answers_of t.flow others }) (receiver s t.flow) }
+    ensures answer_taken { MovingAnswerTaken }
 
-    // else the oldest message: its flow has one message less, its fate is Taken, and its source is informed where it is at this IMP
-    ensures message_taken { (s : State) (h : ℕ) (m : Message) (others : List Message) → is_up s h ≡ true → (host_at s h).answers ≡ [] → (host_at s h).queue ≡ m ∷ others → m.flow.destination.host ≡ h → Moved s (to_host s h).state m.flow (sender_told (is_from_here s m) (release_in m.number (map.get s.sources m.flow)) answer.Rfnm (sender s m.flow)) (without_first others m.flow (fated_with m.number fate.Taken (receiver s m.flow))) }
+    ensures message_taken { MovingMessageTaken }
 
     // if neither waits, nothing changes
     ensures nothing_taken { (s : State) (h : ℕ) → (host_at s h).answers ≡ [] → (host_at s h).queue ≡ [] → AllUnmoved s (to_host s h).state }
@@ -99,8 +105,7 @@ pub fn moving()
     ensures stopped { (s : State) (h : ℕ) (f : Flow) → Becomes s (stopped s h) f (source_down (f.source.host == h) (sender s f)) (destination_down (f.destination.host == h) (receiver s f)) }
     ensures returned { (m : Message) (s : State) → ReturningMoves m s (message_returned m s) }
 
-    // a host comes up
-    ensures host_up { (s : State) (h : ℕ) (f : Flow) → h < length s.hosts → Becomes s (host_up s h).state f (source_up (f.source.host == h) (sender s f)) (destination_up (f.destination.host == h) (receiver s f)) }
+    ensures host_up { MovingHostUp }
 
     // the other calls move no flow
     ensures resend { (s : State) → AllUnmoved s (resend s).state }
@@ -143,7 +148,7 @@ pub fn asking()
 
     // the same of data from one IMP to another, questions counted, and of anything of a flow from or to an IMP
     ensures data { (s : State) (from to : ℕ) → holds_data s from to ≡ true → Any (λ p. is_request_between from to p ≡ true) (packets s) ⊎ Any (λ m. is_message_between from to m ≡ true) (messages s) }
-    ensures no_data { (s : State) (from to : ℕ) → holds_data s from to ≡ false → All (λ p. is_request_between from to p ≡ false) (packets s) × All (λ m. is_message_between from to m ≡ false) (messages s) }
+    ensures no_data { AskingNoData }
     ensures touched { (s : State) (imp : ℕ) → touches s imp ≡ true → Any (λ p. packet_touches imp p ≡ true) (packets s) ⊎ Any (λ m. message_touches imp m ≡ true) (messages s) }
     ensures untouched { (s : State) (imp : ℕ) → touches s imp ≡ false → All (λ p. packet_touches imp p ≡ false) (packets s) × All (λ m. message_touches imp m ≡ false) (messages s) }
 
@@ -157,16 +162,14 @@ pub fn asking()
 
 /// Waiting packets go out in order, into the lowest free channels of their routes' lines.
 pub fn worked_pump()
-    // two packets for a neighbour that was heard go into channels 0 and 1 of its line
-    ensures in_order { (pump [] (imp 1 (Some from_2 ∷ []) (packets_to 2 2))).frames ≡ on_port 0 (packet_frame 0 (only_packet (flow (host 0 1) (host 0 2) 0) 0)) ∷ on_port 0 (packet_frame 1 (only_packet (flow (host 0 1) (host 0 2) 1) 0)) ∷ [] }
+    ensures in_order { WorkedPumpInOrder }
     ensures gone { (pump [] (imp 1 (Some from_2 ∷ []) (packets_to 2 2))).state.store ≡ [] }
 
     // of nine packets the ninth waits, and a packet after it that is for another neighbour goes out
     ensures overtaken { map (λ out. out.port) (pump [] (imp 1 (Some from_2 ∷ Some from_3 ∷ []) (packets_to 2 9 ++ packets_to 3 1))).frames ≡ replicate 8 0 ++ 1 ∷ [] }
     ensures waits { (pump [] (imp 1 (Some from_2 ∷ Some from_3 ∷ []) (packets_to 2 9 ++ packets_to 3 1))).state.store ≡ only_packet (flow (host 0 1) (host 0 2) 8) 0 ∷ [] }
 
-    // once its channel is acknowledged it goes out, under the channel's other bit
-    ensures freed { (from_line (busy 9) 0 ack_frame).frames ≡ on_port 0 (record { acks = replicate 8 false; content = content.Packet (record { channel = 0; bit = true; packet = only_packet (flow (host 0 1) (host 0 2) 8) 0 }) }) ∷ [] }
+    ensures freed { WorkedPumpFreed }
 
     // packets without a live route are dropped
     ensures dropped { (pump [] (imp 1 (None ∷ Some from_3 ∷ []) (packets_to 2 2))).state ≡ imp 1 (None ∷ Some from_3 ∷ []) [] }
@@ -190,8 +193,7 @@ pub fn worked_room()
     ensures stored { (from_line (busy 31) 1 (packet_frame 0 (only_packet (flow (host 0 3) (host 0 2) 5) 0))).frames ≡ on_port 1 ack_frame ∷ [] }
     ensures waiting { length (from_line (busy 31) 1 (packet_frame 0 (only_packet (flow (host 0 3) (host 0 2) 5) 0))).state.store ≡ 24 }
 
-    // a repeat calls for no room and changes nothing, but is acknowledged again
-    ensures repeated { from_line (from_line (busy 31) 1 (packet_frame 0 (only_packet (flow (host 0 3) (host 0 2) 5) 0))).state 1 (packet_frame 0 (only_packet (flow (host 0 3) (host 0 2) 5) 0)) ≡ record { state = (from_line (busy 31) 1 (packet_frame 0 (only_packet (flow (host 0 3) (host 0 2) 5) 0))).state; frames = on_port 1 ack_frame ∷ [] } }
+    ensures repeated { WorkedRoomRepeated }
 
     // a host's message of one packet has room beside 31 packets, and none beside 32
     ensures offered { from_host_refusal (busy 31) (empty_message (flow (host 0 1) (host 0 2) 40)) ≡ None }
@@ -200,11 +202,9 @@ pub fn worked_room()
 
 /// What an IMP announces of routes, and that packets find another one.
 pub fn worked_routes()
-    // the middle one of three IMPs in a row
-    ensures told { (route (imp 2 (Some from_1 ∷ Some from_3 ∷ []) [])).frames ≡ map (λ k. on_port k (record { acks = replicate 8 false; content = content.Routes (1 ∷ 0 ∷ 1 ∷ replicate (most_imps - 3) infinite) })) (0 ∷ 1 ∷ []) }
+    ensures told { WorkedRoutesTold }
 
-    // a packet in a channel of a line that goes down takes the line of another neighbour that knows a route
-    ensures rerouted { (end_down (pump [] (imp 1 (Some from_2 ∷ Some from_3_near_2 ∷ []) (packets_to 2 1))).state 0).frames ≡ on_port 1 (packet_frame 0 (only_packet (flow (host 0 1) (host 0 2) 0) 0)) ∷ [] }
+    ensures rerouted { WorkedRoutesRerouted }
 
     // and is dropped where none does
     ensures unrouted { (end_down (busy 1) 0).frames ≡ [] }
@@ -213,8 +213,7 @@ pub fn worked_routes()
     // of nine packets eight are in channels: the one that waits goes first on the other line, and the last of the eight waits now
     ensures waiting_first { (end_down (pump [] (imp 1 (Some from_2 ∷ Some from_3_near_2 ∷ []) (packets_to 2 9))).state 0).state.store ≡ only_packet (flow (host 0 1) (host 0 2) 7) 0 ∷ [] }
 
-    // and those of channels go in order of their channels
-    ensures channels_in_order { (end_down (pump [] (imp 1 (Some from_2 ∷ Some from_3_near_2 ∷ []) (packets_to 2 2))).state 0).frames ≡ on_port 1 (packet_frame 0 (only_packet (flow (host 0 1) (host 0 2) 0) 0)) ∷ on_port 1 (packet_frame 1 (only_packet (flow (host 0 1) (host 0 2) 1) 0)) ∷ [] }
+    ensures channels_in_order { WorkedRoutesChannelsInOrder }
 
     // what is not acknowledged is sent again, in order of its channels
     ensures sent_again { (resend (busy 2)).frames ≡ (pump [] (imp 1 (Some from_2 ∷ Some from_3 ∷ []) (packets_to 2 2))).frames }
@@ -228,25 +227,22 @@ pub fn worked_arrivals()
 
     // the sixteenth message has room, and for the seventeenth the frame counts as lost
     ensures sixteen { length (host_at (from_line (serving (messages_between (host 0 2) (host 0 1) 15)) 0 (packet_frame 0 (only_packet (flow (host 0 2) (host 0 1) 50) 0))).state 0).queue ≡ 16 }
-    ensures lost { from_line (serving (messages_between (host 0 2) (host 0 1) 16)) 0 (packet_frame 0 (only_packet (flow (host 0 2) (host 0 1) 50) 0)) ≡ ignored (serving (messages_between (host 0 2) (host 0 1) 16)) }
+    ensures lost { WorkedArrivalsLost }
 
     // a body without a mark calls for no room in the queue: it is acknowledged, and no message waits
     ensures unmarked { (from_line (serving (messages_between (host 0 2) (host 0 1) 16)) 0 (packet_frame 0 (unmarked_packet (flow (host 0 2) (host 0 1) 50) 0))).frames ≡ on_port 0 ack_frame ∷ [] }
     ensures no_message { (host_at (from_line (serving []) 0 (packet_frame 0 (unmarked_packet (flow (host 0 2) (host 0 1) 50) 0))).state 0).queue ≡ [] }
 
-    // a piece of a longer message is lost where eight other flows have the slots, and kept beside seven
-    ensures no_slot { from_line (record (serving []) { slots = slots_of 8 }) 0 (packet_frame 0 (first_packet (flow (host 0 2) (host 0 1) 8) 0 (replicate 1008 false))) ≡ ignored (record (serving []) { slots = slots_of 8 }) }
+    ensures no_slot { WorkedArrivalsNoSlot }
     ensures eighth_slot { length (from_line (record (serving []) { slots = slots_of 7 }) 0 (packet_frame 0 (first_packet (flow (host 0 2) (host 0 1) 7) 0 (replicate 1008 false)))).state.slots ≡ 8 }
 
-    // a message for a host that isn't there is acknowledged, and Dead goes back
-    ensures undeliverable { (from_line (serving []) 0 (packet_frame 0 (only_packet (flow (host 0 2) (host 2 1) 5) 7))).frames ≡ on_port 0 ack_frame ∷ on_port 0 (record (packet_frame 0 (answer_packet kind.Dead (flow (host 0 2) (host 2 1) 5) 7)) { acks = ack_frame.acks }) ∷ [] }
+    ensures undeliverable { WorkedArrivalsUndeliverable }
 
     // that Dead calls for room: beside 32 packets the frame counts as lost, but not where no live route leads to the source
     ensures dead_has_room { from_line (busy 32) 1 (packet_frame 0 (only_packet (flow (host 0 3) (host 2 1) 5) 0)) ≡ ignored (busy 32) }
     ensures dead_is_dropped { (from_line (busy 32) 1 (packet_frame 0 (only_packet (flow (host 0 5) (host 2 1) 5) 0))).frames ≡ on_port 1 ack_frame ∷ [] }
 
-    // a piece for a host that is down clears its flow's slot, and no other
-    ensures slot_cleared { (from_line (host_down (record (serving []) { slots = slots_of 2 }) 0).state 0 (packet_frame 0 (first_packet (flow (host 0 2) (host 0 1) 1) 0 (replicate 1008 false)))).state.slots ≡ slots_of 1 }
+    ensures slot_cleared { WorkedArrivalsSlotCleared }
 
     // an answer to a message that isn't outstanding is acknowledged, and nothing waits for the host
     ensures stale { (from_line (serving []) 0 (packet_frame 0 (answer_packet kind.Rfnm (flow (host 0 1) (host 0 2) 5) 0))).frames ≡ on_port 0 ack_frame ∷ [] }
@@ -328,8 +324,7 @@ pub fn worked_asking()
 
 /// Hosts at IMP 1: what they send, take and leave to others.
 pub fn worked_hosts()
-    // nothing was heard of IMP 2, so Dead waits at once, no frame goes out, and no number is begun
-    ensures nowhere { (host_at (from_host (imp 1 (None ∷ []) []) (empty_message (flow (host 0 1) (host 0 2) 7))).state 0).answers ≡ record { kind = answer.Dead; flow = flow (host 0 1) (host 0 2) 7 } ∷ [] }
+    ensures nowhere { WorkedHostsNowhere }
     ensures nothing_sent { (from_host (imp 1 (None ∷ []) []) (empty_message (flow (host 0 1) (host 0 2) 7))).frames ≡ [] }
     ensures accepted { from_host_refusal (imp 1 (None ∷ []) []) (empty_message (flow (host 0 1) (host 0 2) 7)) ≡ None }
     ensures blocked { from_host_refusal (from_host (imp 1 (None ∷ []) []) (empty_message (flow (host 0 1) (host 0 2) 7))).state (empty_message (flow (host 0 1) (host 0 2) 7)) ≡ Some fault.Blocked }
@@ -340,10 +335,9 @@ pub fn worked_hosts()
     // within one IMP a message waits after fifteen others, and has no room after sixteen
     ensures within { from_host_refusal (queueing (messages_between (host 0 1) (host 1 1) 15)) (empty_message (flow (host 0 1) (host 1 1) 17)) ≡ None }
     ensures queue_full { from_host_refusal (queueing (messages_between (host 0 1) (host 1 1) 16)) (empty_message (flow (host 0 1) (host 1 1) 18)) ≡ Some fault.NoRoom }
-    ensures here { (host_at (from_host (queueing (messages_between (host 0 1) (host 1 1) 15)) (empty_message (flow (host 0 1) (host 1 1) 17))).state 1).queue ≡ messages_between (host 0 1) (host 1 1) 16 }
+    ensures here { WorkedHostsHere }
 
-    // a flow that isn't idle is blocked, whether or not there would be room
-    ensures blocked_first { from_host_refusal (from_host (queueing (messages_between (host 0 1) (host 1 1) 15)) (empty_message (flow (host 0 1) (host 1 1) 17))).state (empty_message (flow (host 0 1) (host 1 1) 17)) ≡ Some fault.Blocked }
+    ensures blocked_first { WorkedHostsBlockedFirst }
 
     // the refusals before that: a host of another IMP, a host that isn't there
     ensures other_imp { from_host_refusal (imp 1 (Some from_2 ∷ []) []) (empty_message (flow (host 0 3) (host 0 2) 7)) ≡ Some fault.NoSuch }
@@ -359,8 +353,7 @@ pub fn worked_hosts()
     // a source at the same IMP whose message is not outstanding any more gets none
     ensures given_up { (host_at (to_host (queueing (messages_between (host 0 1) (host 1 1) 1)) 1).state 0).answers ≡ [] }
 
-    // a host that goes down gives Dead to the source of each message that waited, and not to itself
-    ensures dead { (host_down (serving (messages_between (host 0 1) (host 0 1) 1 ++ messages_between (host 0 2) (host 0 1) 2)) 0).frames ≡ on_port 0 (packet_frame 0 (answer_packet kind.Dead (flow (host 0 2) (host 0 1) 2) 0)) ∷ on_port 0 (packet_frame 1 (answer_packet kind.Dead (flow (host 0 2) (host 0 1) 3) 0)) ∷ [] }
+    ensures dead { WorkedHostsDead }
     ensures cleared { host_at (host_down (serving (messages_between (host 0 2) (host 0 1) 2)) 0).state 0 ≡ record { up = false; answers = []; queue = [] } }
 
     // only where there is room: beside 31 packets the first Dead is stored, and the second is not
@@ -368,7 +361,7 @@ pub fn worked_hosts()
 
     // a host gets something where an answer or a message waits, and nothing refuses the taking
     ensures gives { (gives (serving (messages_between (host 0 2) (host 0 1) 1)) 0 ≡ true) × (gives (from_host (imp 1 (None ∷ []) []) (empty_message (flow (host 0 1) (host 0 2) 7))).state 0 ≡ true) }
-    ensures gives_nothing { (gives (serving []) 0 ≡ false) × (gives (serving []) 2 ≡ false) × (gives (record (serving (messages_between (host 0 2) (host 0 1) 1)) { store = packets_to 2 32 }) 0 ≡ false) }
+    ensures gives_nothing { WorkedHostsGivesNothing }
 
     // nothing waits: nothing is given
     ensures nothing { (to_host_refusal (serving []) 0 ≡ None) × (next_for (serving []) 0 ≡ None) × ((to_host (serving []) 0).frames ≡ []) }
@@ -404,20 +397,16 @@ pub fn worked_flows()
 /// What is kept of messages that were not taken, and what a repeat brings. Host 0 at IMP 1 is served over port 0, from host 0 at
 /// IMP 2 on link 2.
 pub fn worked_fates()
-    // a body without a mark never comes: that is noted of its number, and so a question about it is answered
-    ensures unmarked { map.get (from_line (serving []) 0 (packet_frame 0 (unmarked_packet (flow (host 0 2) (host 0 1) 2) 0))).state.kept (flow (host 0 2) (host 0 1) 2) ≡ Some (record { number = 0; fate = fate.Never }) }
-    ensures unmarked_asked { (from_line (from_line (serving []) 0 (packet_frame 0 (unmarked_packet (flow (host 0 2) (host 0 1) 2) 0))).state 0 (packet_frame 1 (answer_packet kind.Ask (flow (host 0 2) (host 0 1) 2) 0))).frames ≡ on_port 0 (record { acks = true ∷ true ∷ replicate 6 false; content = content.Nothing }) ∷ on_port 0 (record (packet_frame 0 (answer_packet kind.Never (flow (host 0 2) (host 0 1) 2) 0)) { acks = true ∷ true ∷ replicate 6 false }) ∷ [] }
+    ensures unmarked { WorkedFatesUnmarked }
+    ensures unmarked_asked { WorkedFatesUnmarkedAsked }
 
-    // a message that waits for a host that goes down is dead, and not one that never came
-    ensures stopped { map.get (host_down (noted (flow (host 0 2) (host 0 1) 2) 0 fate.Waits (serving (messages_between (host 0 2) (host 0 1) 1))) 0).state.kept (flow (host 0 2) (host 0 1) 2) ≡ Some (record { number = 0; fate = fate.Dead }) }
+    ensures stopped { WorkedFatesStopped }
 
-    // what becomes of message 0 is passed over where number 5 was noted since
-    ensures older_stopped { map.get (host_down (noted (flow (host 0 2) (host 0 1) 2) 5 fate.Waits (serving (messages_between (host 0 2) (host 0 1) 1))) 0).state.kept (flow (host 0 2) (host 0 1) 2) ≡ Some (record { number = 5; fate = fate.Waits }) }
-    ensures older_taken { map.get (to_host (noted (flow (host 0 2) (host 0 1) 2) 5 fate.Waits (serving (messages_between (host 0 2) (host 0 1) 1))) 0).state.kept (flow (host 0 2) (host 0 1) 2) ≡ Some (record { number = 5; fate = fate.Waits }) }
+    ensures older_stopped { WorkedFatesOlderStopped }
+    ensures older_taken { WorkedFatesOlderTaken }
 
-    // the acknowledgement bits of a repeat count: they free the channel of the packet that went out. Without them it stays there
-    ensures repeat_frees { packets (from_line (from_line sent_imp 0 (packet_frame 0 (only_packet (flow (host 0 2) (host 0 1) 2) 0))).state 0 (record (packet_frame 0 (only_packet (flow (host 0 2) (host 0 1) 2) 0)) { acks = ack_frame.acks })).state ≡ [] }
-    ensures repeat_keeps { packets (from_line (from_line sent_imp 0 (packet_frame 0 (only_packet (flow (host 0 2) (host 0 1) 2) 0))).state 0 (packet_frame 0 (only_packet (flow (host 0 2) (host 0 1) 2) 0))).state ≡ only_packet (flow (host 0 1) (host 0 2) 7) 0 ∷ [] }
+    ensures repeat_frees { WorkedFatesRepeatFrees }
+    ensures repeat_keeps { WorkedFatesRepeatKeeps }
 {}
 
 /// What comes up again, and what is thrown away.
@@ -475,7 +464,7 @@ pub fn worked_answers()
     ensures end_is_down { end_down_refusal (end_down (serving []) 0).state 0 ≡ Some fault.IsDown }
     ensures end_is_up { end_up_refusal (serving []) 0 ≡ Some fault.IsUp }
     ensures own_numbers { (forget_refusal (serving []) 1 ≡ Some fault.NoSuch) × (forget_refusal (serving []) 2 ≡ None) }
-    ensures slots { (abandon_refusal (record (serving []) { slots = slots_of 1 }) (flow (host 0 2) (host 0 1) 0) ≡ None) × (abandon_refusal (record (serving []) { slots = slots_of 1 }) (flow (host 0 2) (host 0 1) 1) ≡ Some fault.NoSuch) }
+    ensures slots { WorkedAnswersSlots }
 
     // a taking whose RFNM has no room is refused, and a frame at an end that is down is ignored
     ensures no_room { to_host_refusal (record (serving (messages_between (host 0 2) (host 0 1) 1)) { store = packets_to 2 32 }) 0 ≡ Some fault.NoRoom }
@@ -485,7 +474,7 @@ pub fn worked_answers()
     ensures in_channel { (holds (busy 9) (flow (host 0 1) (host 0 2) 0) 0 ≡ true) × (holds (busy 9) (flow (host 0 1) (host 0 2) 0) 1 ≡ false) }
     ensures waiting { (holds (busy 9) (flow (host 0 1) (host 0 2) 8) 0 ≡ true) × (holds (busy 9) (flow (host 0 1) (host 0 2) 9) 0 ≡ false) }
     ensures in_slot { holds (record (serving []) { slots = slots_of 1 }) (flow (host 0 2) (host 0 1) 0) 0 ≡ true }
-    ensures in_queue { (holds (serving (messages_between (host 0 2) (host 0 1) 1)) (flow (host 0 2) (host 0 1) 2) 0 ≡ true) × (holds_data (serving (messages_between (host 0 2) (host 0 1) 1)) 2 1 ≡ true) }
+    ensures in_queue { WorkedAnswersInQueue }
 
     // a packet that waits and one in a channel are held in the store or a channel; a piece in a slot is not
     ensures packet_held { (holds_packet (imp 1 (None ∷ []) (packets_to 2 1)) ≡ true) × (holds_packet (busy 1) ≡ true) }
@@ -496,12 +485,11 @@ pub fn worked_answers()
 
     // data from one IMP to another; an RFNM is none, but is something of a flow from or to both
     ensures data { (holds_data (busy 1) 1 2 ≡ true) × (holds_data (busy 1) 2 1 ≡ false) × (touches (busy 1) 1 ≡ true) × (touches (busy 1) 2 ≡ true) × (touches (busy 1) 3 ≡ false) }
-    ensures no_data { (holds_data (imp 1 [] (answer_packet kind.Rfnm (flow (host 0 2) (host 0 1) 5) 0 ∷ [])) 2 1 ≡ false) × (touches (imp 1 [] (answer_packet kind.Rfnm (flow (host 0 2) (host 0 1) 5) 0 ∷ [])) 2 ≡ true) }
+    ensures no_data { WorkedAnswersNoData }
 
-    // a question counts as data, and what reports that a message never came doesn't
-    ensures questions { (holds_data (imp 1 [] (answer_packet kind.Ask (flow (host 0 2) (host 0 1) 5) 0 ∷ [])) 2 1 ≡ true) × (holds_data (imp 1 [] (answer_packet kind.Never (flow (host 0 2) (host 0 1) 5) 0 ∷ [])) 2 1 ≡ false) }
+    ensures questions { WorkedAnswersQuestions }
 
     // what would begin a number: from a host here that is up, to an IMP with a route or a host here that is up
     ensures begins { (begins (imp 1 (Some from_2 ∷ []) []) (flow (host 0 1) (host 0 2) 7) ≡ true) × (begins (imp 1 (Some from_2 ∷ []) []) (flow (host 0 1) (host 1 1) 7) ≡ true) }
-    ensures begins_none { (begins (imp 1 (None ∷ []) []) (flow (host 0 1) (host 0 2) 7) ≡ false) × (begins (imp 1 (Some from_2 ∷ []) []) (flow (host 0 3) (host 0 2) 7) ≡ false) × (begins (imp 1 (Some from_2 ∷ []) []) (flow (host 0 1) (host 2 1) 7) ≡ false) }
+    ensures begins_none { WorkedAnswersBeginsNone }
 {}

@@ -11,3 +11,5 @@ pub mod Worked
 pub mod Others
 pub mod Owned
 pub mod Due
+pub mod Laws
+pub mod Checks

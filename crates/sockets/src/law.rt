@@ -1,6 +1,6 @@
 //! What the definitions of the network control program come to: laws of one host, and worked dialogues.
 
-ghost use Rattle.std.specs.Prelude.{◌≡◌, ℕ, List, [], ◌∷◌, ◌++◌, Option, Some, None, replicate, true, false, if◌then◌else◌};
+ghost use Rattle.std.specs.Prelude.{◌≡◌, ℕ, List, [], ◌∷◌, ◌++◌, Some, None, replicate, true, false, if◌then◌else◌};
 ghost use Rattle.bit_messages.specs.Octets.{bits_of};
 ghost use Rattle.interface.specs.Host.{Host, same_host};
 ghost use Rattle.interface.specs.declared.address.Flow.{Flow};
@@ -18,11 +18,14 @@ ghost use Rattle.sockets.specs.Requests.{refusal, served, served_notices};
 ghost use Rattle.sockets.specs.declared.peer.Peer.{Peer};
 ghost use Rattle.host_pairs.specs.Parcels.{Parcel, Reset, Reply, next_of};
 ghost use Rattle.sockets.specs.Sending.{message_for, next_in, next_out, offered};
-ghost use Rattle.sockets.specs.Worked.{first, second, third, talk, message, control, reset, opening_connection, closing, crossing, failing, sending, asking_back, giving_back, many_opened, twelve, second_after};
+ghost use Rattle.sockets.specs.Worked.{first, second, third, talk, message, control, reset, opening_connection, closing, crossing, failing, sending, giving_back, many_opened, twelve, second_after};
 ghost use Rattle.sockets.specs.declared.fault.NcpFault.TheVariants as fault;
 ghost use Rattle.host_pairs.specs.declared.notice.Notice.TheVariants as notice;
 ghost use Rattle.sockets.specs.declared.request.Request.{Request};
 ghost use Rattle.sockets.specs.declared.request.Request.TheVariants as request;
+ghost use Rattle.sockets.specs.Laws.WorkedDialogues.{WorkedDialoguesConnection, WorkedDialoguesData};
+ghost use Rattle.sockets.specs.Laws.WorkedMessages.{WorkedMessagesNoSocket};
+ghost use Rattle.sockets.specs.Laws.Others.{OthersAnswer, OthersOffer};
 
 /// Dialogues of two hosts, and the notices to each of them.
 pub fn worked_dialogues()
@@ -35,11 +38,9 @@ pub fn worked_dialogues()
     // a contact fails though its RST was taken, and the next one resets a pair that the second host held for open
     ensures failing { (talk failing).notices ≡ (second, notice.Ready first) ∷ (first, notice.ContactFailed second) ∷ (second, notice.PairReset first) ∷ (first, notice.Ready second) ∷ [] }
 
-    // a connection opens at its sender when the STR is out, at its receiver when that is taken; it ends at each when both CLS have passed
-    ensures connection { (talk (reset ++ opening_connection ++ closing)).notices ≡ (second, notice.Ready first) ∷ (first, notice.Ready second) ∷ (second, notice.Opened 33 first 16 8 7) ∷ (first, notice.Opened 16 second 33 6 10) ∷ (second, notice.Ended 33 first 16) ∷ (first, notice.Ended 16 second 33) ∷ [] }
+    ensures connection { WorkedDialoguesConnection }
 
-    // of thirteen octets the hundred bits granted cover twelve; then what is left is asked back
-    ensures data { (talk (reset ++ opening_connection ++ sending ++ asking_back)).notices ≡ (second, notice.Ready first) ∷ (first, notice.Ready second) ∷ (second, notice.Opened 33 first 16 8 7) ∷ (first, notice.Opened 16 second 33 6 10) ∷ (second, notice.Sent 33 (bits_of twelve)) ∷ (first, notice.Arrived 16 (bits_of twelve)) ∷ (first, notice.Returned 16 1 4) ∷ [] }
+    ensures data { WorkedDialoguesData }
 {}
 
 /// What a host says next, octet by octet.
@@ -49,8 +50,7 @@ pub fn worked_messages()
     ensures short { next_out (second_after (control first second (1 ∷ 0 ∷ 0 ∷ 0 ∷ []))) ≡ Some (control second first (11 ∷ 2 ∷ 1 ∷ replicate 9 0)) }
     ensures malformed { next_out (second_after (message first second 0 (0 ∷ 7 ∷ 0 ∷ 1 ∷ 0 ∷ 254 ∷ []))) ≡ Some (control second first (11 ∷ 3 ∷ 0 ∷ 7 ∷ 0 ∷ 1 ∷ 0 ∷ 254 ∷ replicate 4 0)) }
 
-    // a CLS of an unknown connection, and data on a link that no connection has
-    ensures no_socket { next_out (second_after (control first second (3 ∷ 0 ∷ 0 ∷ 0 ∷ 16 ∷ 0 ∷ 0 ∷ 0 ∷ 33 ∷ []))) ≡ Some (control second first (11 ∷ 4 ∷ 3 ∷ 0 ∷ 0 ∷ 0 ∷ 16 ∷ 0 ∷ 0 ∷ 0 ∷ 33 ∷ 0 ∷ [])) }
+    ensures no_socket { WorkedMessagesNoSocket }
     ensures not_connected { next_out (second_after (message first second 7 (0 ∷ 8 ∷ 0 ∷ 1 ∷ 0 ∷ 65 ∷ []))) ≡ Some (control second first (11 ∷ 5 ∷ 0 ∷ 8 ∷ 0 ∷ 1 ∷ 0 ∷ 65 ∷ replicate 4 0)) }
 
     // a request that nobody waits for is refused by a CLS
@@ -97,10 +97,9 @@ pub fn others()
 
     // a message is about its source, an answer about the destination of what is answered
     ensures message { (s : NcpState) (m : HostMessage) (stamp : ℕ) (h : Host) → same_host h m.flow.source ≡ false → pair_with h (accepted s (inbound.Message m) stamp).0.peers ≡ pair_with h s.peers }
-    ensures answer { (s : NcpState) (kind : Answer) (f : Flow) (stamp : ℕ) (h : Host) → same_host h f.destination ≡ false → pair_with h (accepted s (inbound.Answer kind f) stamp).0.peers ≡ pair_with h s.peers }
+    ensures answer { OthersAnswer }
 
-    // what goes out is about the peer that it goes to, a call about the peer that it names or whose connection it is
-    ensures offer { (s : NcpState) (stamp : ℕ) (p : Peer) (parcel : Parcel) (h : Host) → next_in s.peers ≡ Some (p, parcel) → same_host h p.host ≡ false → pair_with h (offered s stamp).0.peers ≡ pair_with h s.peers }
+    ensures offer { OthersOffer }
     ensures call { (s : NcpState) (r : Request) (h : Host) → is_about h (peer_of s r) ≡ false → pair_with h (served s r).peers ≡ pair_with h s.peers }
 {}
 

@@ -2,7 +2,8 @@
 
 ghost use Rattle.std.specs.Prelude.{◌≡◌, false, true, is_some, IfErr, IfOk, OnErr, IfSome, MatchOption, None, Some};
 ghost use Rattle.sockets.specs.Calls.{Turns};
-ghost use Rattle.host_pairs.specs.Outgoing.{IsThere, parcel_of};
+ghost use Rattle.sockets.specs.Checks.{IsNext};
+ghost use Rattle.host_pairs.specs.Outgoing.{IsThere};
 ghost use Rattle.sockets.specs.Pairs.{pair_with};
 ghost use Rattle.sockets.specs.Sending as sending;
 
@@ -16,7 +17,7 @@ use std::alloc::AllocError;
 impl Peers {
     /// Returns the first peer that something goes to, and what.
     fn next(&self) -> Option<(HostAddr, Outgoing)>
-        ensures next { MatchOption result (sending.next_in self.now ≡ None) (λ found. sending.next_in self.now ≡ Some (record { host = found.0; pair = pair_with found.0 self.now }, parcel_of (pair_with found.0 self.now).entries found.1)) }
+        ensures next { MatchOption result (sending.next_in self.now ≡ None) (λ found. IsNext self.now found.0 found.1) }
         ensures there { IfSome result (λ found. IsThere (pair_with found.0 self.now).entries found.1) }
     {
         let Some((peer, out)) = self.first() else {

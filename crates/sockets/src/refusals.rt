@@ -1,6 +1,7 @@
 //! Why a request of the user is refused.
 
 ghost use Rattle.std.specs.Prelude.{◌≡◌, MatchResult, Option, Some, None, is_some, ℕ, IfOk, false, true};
+ghost use Rattle.sockets.specs.Checks.{Checked, IsFreeFor, IsNotOpen, IsOpenAt, IsOwner, IsOwnerOnLink, IsOwnerSaying};
 ghost use Rattle.sockets.specs.Others.{owner_host};
 ghost use Rattle.sockets.specs.Pairs.{pair_with, owner_of};
 ghost use Rattle.sockets.specs.Peers.{AreInOrder};
@@ -124,7 +125,7 @@ impl Ncp {
         size: u8,
     ) -> Result<(SendSocket, ReceiveSocket, ByteSize), NcpFault>
         ensures ready { IfOk result (λ checked. is_ready (pair_with peer self.now.peers).phase ≡ true) }
-        ensures checked { MatchResult result (λ checked. (requests.open_send_refusal self.now peer own foreign size ≡ None) × (checked ≡ (own, foreign, size))) (λ f. requests.open_send_refusal self.now peer own foreign size ≡ Some f) }
+        ensures checked { Checked (requests.open_send_refusal self.now peer own foreign size) (λ checked. checked ≡ (own, foreign, size)) result }
     {
         if !self.is_ready(peer) {
             return Err(NcpFault::NotContacted);
@@ -149,7 +150,7 @@ impl Ncp {
         foreign: u32,
     ) -> Result<(ReceiveSocket, SendSocket, ConnectionLink), NcpFault>
         ensures ready { IfOk result (λ checked. is_ready (pair_with peer self.now.peers).phase ≡ true) }
-        ensures checked { MatchResult result (λ checked. (requests.open_receive_refusal self.now peer own foreign ≡ None) × (checked.0 ≡ own) × (checked.1 ≡ foreign) × (free_link (pair_with peer self.now.peers).entries ≡ Some checked.2)) (λ f. requests.open_receive_refusal self.now peer own foreign ≡ Some f) }
+        ensures checked { Checked (requests.open_receive_refusal self.now peer own foreign) (λ c. IsFreeFor self.now peer own foreign c.0 c.1 c.2) result }
     {
         if !self.is_ready(peer) {
             return Err(NcpFault::NotContacted);
@@ -169,7 +170,7 @@ impl Ncp {
     /// Returns the open end on a socket, and its peer.
     fn open_end(&self, socket: u32) -> Result<(HostAddr, &Entry), NcpFault>
         ensures order { IfOk result (λ found. AreInOrder self.now.peers) }
-        ensures open { MatchResult result (λ found. (owner_of socket self.now.peers ≡ Some (found.0, found.1.now)) × (requests.on_open (λ e. None) (owner_of socket self.now.peers) ≡ None)) (λ f. (others : Entry → Option NcpFault) → requests.on_open others (owner_of socket self.now.peers) ≡ Some f) }
+        ensures open { MatchResult result (λ found. IsOpenAt self.now socket found.0 found.1.now) (IsNotOpen self.now socket) }
     {
         let Some((peer, entry)) = self.peers.owner(socket) else {
             return Err(NcpFault::NoSuchSocket);
@@ -183,7 +184,7 @@ impl Ncp {
     /// Returns the peer to which bits of a socket go.
     pub(crate) fn check_send(&self, socket: u32, bits: usize) -> Result<HostAddr, NcpFault>
         ensures order { IfOk result (λ peer. AreInOrder self.now.peers) }
-        ensures checked { MatchResult result (λ peer. (requests.send_refusal self.now socket bits ≡ None) × ((change : PairState → PairState) → at_owner self.now (owner_of socket self.now.peers) (λ e. change) ≡ with_peer self.now peer change)) (λ f. requests.send_refusal self.now socket bits ≡ Some f) }
+        ensures checked { Checked (requests.send_refusal self.now socket bits) (IsOwner self.now socket) result }
     {
         if socket % 2 == 0 {
             return Err(NcpFault::WrongEnd);
@@ -208,7 +209,7 @@ impl Ncp {
         messages: u16,
         bits: u32,
     ) -> Result<(HostAddr, u8), NcpFault>
-        ensures { MatchResult result (λ found. (requests.grant_refusal self.now socket messages bits ≡ None) × ((change : ℕ → PairState → PairState) → at_owner self.now (owner_of socket self.now.peers) (λ e. change (link_of e.link)) ≡ with_peer self.now found.0 (change found.1))) (λ f. requests.grant_refusal self.now socket messages bits ≡ Some f) }
+        ensures { Checked (requests.grant_refusal self.now socket messages bits) (λ found. IsOwnerOnLink self.now socket found.0 found.1) result }
     {
         if socket % 2 != 0 {
             return Err(NcpFault::WrongEnd);
@@ -228,7 +229,7 @@ impl Ncp {
 
     /// Returns the peer that is asked for allocation, and the link.
     pub(crate) fn check_ask_back(&self, socket: u32) -> Result<(HostAddr, u8), NcpFault>
-        ensures { MatchResult result (λ found. (requests.ask_back_refusal self.now socket ≡ None) × ((change : ℕ → PairState → PairState) → at_owner self.now (owner_of socket self.now.peers) (λ e. change (link_of e.link)) ≡ with_peer self.now found.0 (change found.1))) (λ f. requests.ask_back_refusal self.now socket ≡ Some f) }
+        ensures { Checked (requests.ask_back_refusal self.now socket) (λ found. IsOwnerOnLink self.now socket found.0 found.1) result }
     {
         if socket % 2 != 0 {
             return Err(NcpFault::WrongEnd);
@@ -246,7 +247,7 @@ impl Ncp {
     /// Returns the peer that is interrupted, and the command that does it.
     pub(crate) fn check_interrupt(&self, socket: u32) -> Result<(HostAddr, Command), NcpFault>
         ensures joint { IfOk result (λ found. is_alone found.1 ≡ false) }
-        ensures checked { MatchResult result (λ found. (requests.interrupt_refusal self.now socket ≡ None) × ((change : Command → PairState → PairState) → at_owner self.now (owner_of socket self.now.peers) (λ e. change (interrupt_of e)) ≡ with_peer self.now found.0 (change found.1))) (λ f. requests.interrupt_refusal self.now socket ≡ Some f) }
+        ensures checked { Checked (requests.interrupt_refusal self.now socket) (λ found. IsOwnerSaying self.now socket found.0 found.1) result }
     {
         let (peer, entry) = match self.open_end(socket) {
             Ok(found) => found,
@@ -262,7 +263,7 @@ impl Ncp {
     pub(crate) fn check_close(&self, socket: u32) -> Result<HostAddr, NcpFault>
         ensures host { IfOk result (λ peer. owner_host (owner_of socket self.now.peers) ≡ Some peer) }
         ensures order { IfOk result (λ peer. AreInOrder self.now.peers) }
-        ensures checked { MatchResult result (λ peer. (requests.close_fault (owner_of socket self.now.peers) ≡ None) × ((change : PairState → PairState) → at_owner self.now (owner_of socket self.now.peers) (λ e. change) ≡ with_peer self.now peer change)) (λ f. requests.close_fault (owner_of socket self.now.peers) ≡ Some f) }
+        ensures checked { Checked (requests.close_fault (owner_of socket self.now.peers)) (IsOwner self.now socket) result }
     {
         let Some((peer, entry)) = self.peers.owner(socket) else {
             return Err(NcpFault::NoSuchSocket);

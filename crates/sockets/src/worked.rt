@@ -1,24 +1,33 @@
 //! What the definitions of the network control program come to, rule by rule: one worked row for each reading of a
 //! rule that would be wrong. The functions do nothing; each clause is a row.
 
-ghost use Rattle.std.specs.Prelude.{◌≡◌, ℕ, [], ◌∷◌, ◌++◌, Some, None, map, take, replicate, true};
-ghost use Rattle.std.specs.List.{range_with_len};
+ghost use Rattle.std.specs.Prelude.{◌≡◌, ℕ, [], ◌∷◌, ◌++◌, Some, None, take, replicate, true};
 ghost use Rattle.bit_messages.specs.Octets.{bits_of};
 ghost use Rattle.sockets.specs.Accepting.{accepted};
-ghost use Rattle.host_pairs.specs.Control.{Legal, Wrong, orders_of, control_text};
 ghost use Rattle.host_pairs.specs.Parcels.{Bytes, next_bytes};
 ghost use Rattle.sockets.specs.Memory.{newly_kept};
 ghost use Rattle.sockets.specs.Pairs.{NcpState};
 ghost use Rattle.sockets.specs.Requests.{refusal, served, served_notices};
 ghost use Rattle.sockets.specs.Sending.{next_out, offered};
-ghost use Rattle.sockets.specs.Worked.{first, second, third, neighbour, open_sender, talk, news, message, control, on_link, control_heard, got, answer_heard, gone, delivered, reset, closing, sending, many_opened, twelve, opened_connection, closed_early, opening_by_sender, closed_unasked, both_asking, one_refused, refused_closed, draining, own_reset, own_opening, first_in, second_in, closed, want, rst_out, rst_taken, ready, want_again, two_senders, every_command, RTS, STR, CLS, ALL, GVB, RET, INR, INS, ECO, ERP, ERR, RST, RRP};
+ghost use Rattle.sockets.specs.Worked.{first, second, third, neighbour, open_sender, talk, news, message, control, on_link, control_heard, got, answer_heard, gone, delivered, reset, closing, sending};
+ghost use Rattle.sockets.specs.Worked.{many_opened, twelve, opened_connection, closed_early, opening_by_sender, closed_unasked, both_asking, one_refused, refused_closed, draining, own_reset};
+ghost use Rattle.sockets.specs.Worked.{own_opening, first_in, second_in, closed, want, rst_out, rst_taken, ready, want_again, two_senders, every_command, RTS, STR, CLS, ALL, GVB, RET, INR, INS, ECO};
+ghost use Rattle.sockets.specs.Worked.{ERP, ERR, RST, RRP};
 ghost use Rattle.interface.specs.declared.address.Flow.{Flow};
 ghost use Rattle.interface.specs.declared.crossing.Answer.TheVariants as answer;
 ghost use Rattle.interface.specs.declared.crossing.Inbound.TheVariants as inbound;
-ghost use Rattle.ncp_control.specs.declared.command.Command.TheVariants as command;
 ghost use Rattle.sockets.specs.declared.fault.NcpFault.TheVariants as fault;
 ghost use Rattle.host_pairs.specs.declared.notice.Notice.TheVariants as notice;
 ghost use Rattle.sockets.specs.declared.request.Request.TheVariants as request;
+ghost use Rattle.sockets.specs.Laws.WorkedRequests.{WorkedRequestsCommandsOfASender, WorkedRequestsLinkInUse, WorkedRequestsNoLongerListening, WorkedRequestsReceiverNotOpen};
+ghost use Rattle.sockets.specs.Laws.WorkedRequests.{WorkedRequestsSenderNotOpen};
+ghost use Rattle.sockets.specs.Laws.WorkedLinks.{WorkedLinksRefusedWithoutFreeLink};
+ghost use Rattle.sockets.specs.Laws.WorkedClosings.{WorkedClosingsCalledOffCloses, WorkedClosingsClosesAtOnce, WorkedClosingsCommandsWhenClosing};
+ghost use Rattle.sockets.specs.Laws.WorkedData.{WorkedDataAnotherSize, WorkedDataBitsAreUsed, WorkedDataGrantsAddUp, WorkedDataInOrder, WorkedDataNoBytesCostAMessage, WorkedDataPastTheBits};
+ghost use Rattle.sockets.specs.Laws.WorkedData.{WorkedDataPastTheMessages, WorkedDataReturnedOnce, WorkedDataTooMuchReturned, WorkedDataTooShort, WorkedDataWhatIsLeft};
+ghost use Rattle.sockets.specs.Laws.WorkedResets.{WorkedResetsClosesAfterFailure, WorkedResetsLostDropsConnections, WorkedResetsRrpWhenSilent, WorkedResetsRstWaitsForEach, WorkedResetsStillAwaited};
+ghost use Rattle.sockets.specs.Laws.WorkedPhases.{WorkedPhasesReadyCommands};
+ghost use Rattle.sockets.specs.Laws.WorkedErrors.{WorkedErrorsEachLength, WorkedErrorsEachText, WorkedErrorsGoesOn};
 
 /// What becomes of a request of the peer.
 pub fn worked_requests()
@@ -31,8 +40,7 @@ pub fn worked_requests()
     ensures second_after_refusal { next_out (control_heard (second_in reset) first (RTS 16 33 5 ++ RTS 16 33 6)).0 ≡ Some (control second first (CLS 33 16 ++ ERR 3 (RTS 16 33 6) 0)) }
     ensures refused_without_link { next_out (control_heard (second_in reset) first (RTS 16 33 5 ++ RTS 18 35 5 ++ INR 5)).0 ≡ Some (control second first (CLS 33 16 ++ CLS 35 18 ++ ERR 5 (INR 5) 8)) }
 
-    // a link in use is looked at before all else: the socket keeps listening. So it is while the end is closing
-    ensures link_in_use { next_out (control_heard (served (second_in opened_connection) (request.Listen 35 8)) first (RTS 18 35 2 ++ RTS 18 35 3)).0 ≡ Some (control second first (ERR 3 (RTS 18 35 2) 0 ++ STR 35 18 8)) }
+    ensures link_in_use { WorkedRequestsLinkInUse }
     ensures link_of_closing { next_out (control_heard (second_in opened_connection) first (CLS 16 33 ++ RTS 18 35 2)).0 ≡ Some (control second first (CLS 33 16 ++ ERR 3 (RTS 18 35 2) 0)) }
 
     // a socket listens for one request, whoever makes it, and answers with its own size; a receiver takes the sender's
@@ -40,12 +48,10 @@ pub fn worked_requests()
     ensures opened_by_sender { news reset opening_by_sender ≡ (first, notice.Opened 16 second 33 8 7) ∷ (second, notice.Opened 33 first 16 6 10) ∷ [] }
     ensures size_of_sender { (got (served (first_in (reset ++ opening_by_sender)) (request.Grant 16 1 9)) second 2 (0 ∷ 8 ∷ 0 ∷ 1 ∷ 0 ∷ 65 ∷ [])).1 ≡ notice.Arrived 16 (bits_of (65 ∷ [])) ∷ [] }
 
-    // a socket that has stopped listening refuses
-    ensures no_longer_listening { next_out (control_heard (served (served (second_in reset) (request.Listen 33 8)) (request.Close 33)) first (RTS 16 33 5)).0 ≡ Some (control second first (CLS 33 16)) }
+    ensures no_longer_listening { WorkedRequestsNoLongerListening }
 
-    // until an end is open, its link is not connected
-    ensures receiver_not_open { next_out (got (served ready (request.OpenReceive second 16 33)) second 2 (0 ∷ 8 ∷ 0 ∷ 0 ∷ 0 ∷ [])).0 ≡ Some (control first second (RTS 16 33 2 ++ ERR 5 (0 ∷ 8 ∷ 0 ∷ 0 ∷ 0 ∷ []) 5)) }
-    ensures sender_not_open { next_out (control_heard (served (second_in reset) (request.Listen 33 8)) first (RTS 16 33 5 ++ ALL 5 1 8)).0 ≡ Some (control second first (STR 33 16 8 ++ ERR 5 (ALL 5 1 8) 2)) }
+    ensures receiver_not_open { WorkedRequestsReceiverNotOpen }
+    ensures sender_not_open { WorkedRequestsSenderNotOpen }
 
     // what is closed before its request has gone out sends both, and its end is notified of; the refused end at the other host is not
     ensures closed_unasked_says { next_out (served (served ready (request.OpenReceive second 16 33)) (request.Close 16)) ≡ Some (control first second (RTS 16 33 2 ++ CLS 16 33)) }
@@ -56,8 +62,7 @@ pub fn worked_requests()
     ensures asked_for { (control_heard (served ready (request.OpenReceive second 16 33)) second (STR 33 16 8)).1 ≡ [] }
     ensures asks_too { (offered (control_heard (served ready (request.OpenReceive second 16 33)) second (STR 33 16 8)).0 21).1 ≡ notice.Opened 16 second 33 21 20 ∷ [] }
 
-    // commands and data about the link of the other end's kind find no connection
-    ensures commands_of_a_sender { next_out (control_heard (first_in opened_connection) second (ALL 2 1 1 ++ GVB 2 1 1 ++ INR 2)).0 ≡ Some (control first second (ERR 5 (ALL 2 1 1) 2 ++ ERR 5 (GVB 2 1 1) 6 ++ ERR 5 (INR 2) 8)) }
+    ensures commands_of_a_sender { WorkedRequestsCommandsOfASender }
     ensures commands_of_a_receiver { next_out (control_heard (second_in opened_connection) first (RET 2 0 0 ++ INS 2)).0 ≡ Some (control second first (ERR 5 (RET 2 0 0) 2 ++ ERR 5 (INS 2) 8)) }
     ensures data_to_a_sender { next_out (got (second_in opened_connection) first 2 (0 ∷ 8 ∷ 0 ∷ 0 ∷ 0 ∷ [])).0 ≡ Some (control second first (ERR 5 (0 ∷ 8 ∷ 0 ∷ 0 ∷ 0 ∷ []) 5)) }
 {}
@@ -80,8 +85,7 @@ pub fn worked_links()
     ensures listens_without_link { refusal (control_heard (served (first_in (reset ++ many_opened)) (request.Listen 76 8)) second (STR 33 76 8)).0 (request.Grant 76 0 0) ≡ Some fault.NoSuchSocket }
     ensures listens_on { refusal (control_heard (served (first_in (reset ++ many_opened)) (request.Listen 76 8)) second (STR 33 76 8)).0 (request.Listen 76 8) ≡ Some fault.InUse }
 
-    // twelve requests go into each message, so the third one has six of them and the CLS
-    ensures refused_without_free_link { next_out (delivered (delivered (control_heard (served (first_in (reset ++ many_opened)) (request.Listen 76 8)) second (STR 33 76 8)).0 second 0) second 0) ≡ Some (control first second (RTS 64 33 26 ++ RTS 66 33 27 ++ RTS 68 33 28 ++ RTS 70 33 29 ++ RTS 72 33 30 ++ RTS 74 33 31 ++ CLS 76 33)) }
+    ensures refused_without_free_link { WorkedLinksRefusedWithoutFreeLink }
 {}
 
 /// How a connection ends.
@@ -102,13 +106,13 @@ pub fn worked_closings()
     // the partner's CLS drops what waits to be sent, and what is out has to be answered first; then commands about the link do nothing
     ensures called_off { (control_heard (gone (second_in (opened_connection ++ sending))) first (CLS 16 33 ++ ALL 2 1 8 ++ GVB 2 128 128 ++ INR 2)).1 ≡ [] }
     ensures called_off_waits { next_out (control_heard (gone (second_in (opened_connection ++ sending))) first (CLS 16 33 ++ ALL 2 1 8 ++ GVB 2 128 128 ++ INR 2)).0 ≡ None }
-    ensures called_off_closes { next_out (answer_heard (control_heard (gone (second_in (opened_connection ++ sending))) first (CLS 16 33 ++ ALL 2 1 8)).0 answer.Rfnm first 2).0 ≡ Some (control second first (CLS 33 16)) }
+    ensures called_off_closes { WorkedClosingsCalledOffCloses }
 
     // a receiving end closes at once; then data and commands about its link do nothing
     ensures data_when_closing { next_out (got (served (first_in opened_connection) (request.Close 16)) second 2 (0 ∷ 8 ∷ 0 ∷ 1 ∷ 0 ∷ 65 ∷ [])).0 ≡ Some (control first second (CLS 16 33)) }
-    ensures commands_when_closing { next_out (control_heard (served (first_in opened_connection) (request.Close 16)) second (RET 2 0 0 ++ RET 2 1 1 ++ INS 2)).0 ≡ Some (control first second (CLS 16 33)) }
+    ensures commands_when_closing { WorkedClosingsCommandsWhenClosing }
     ensures untold_when_closing { (control_heard (served (first_in opened_connection) (request.Close 16)) second (RET 2 0 0 ++ INS 2)).1 ≡ [] }
-    ensures closes_at_once { next_out (served (served (gone (second_in (opened_connection ++ sending))) (request.OpenReceive first 18 35)) (request.Close 18)) ≡ Some (control second first (RTS 18 35 2 ++ CLS 18 35)) }
+    ensures closes_at_once { WorkedClosingsClosesAtOnce }
 {}
 
 /// What becomes of data, and of an allocation.
@@ -119,17 +123,15 @@ pub fn worked_data()
 
     // no bytes are data too, and cost a message
     ensures no_bytes { (got (served (first_in opened_connection) (request.Grant 16 1 16)) second 2 (0 ∷ 8 ∷ 0 ∷ 0 ∷ 0 ∷ [])).1 ≡ notice.Arrived 16 [] ∷ [] }
-    ensures no_bytes_cost_a_message { next_out (got (got (served (first_in opened_connection) (request.Grant 16 1 16)) second 2 (0 ∷ 8 ∷ 0 ∷ 0 ∷ 0 ∷ [])).0 second 2 (0 ∷ 8 ∷ 0 ∷ 0 ∷ 0 ∷ [])).0 ≡ Some (control first second (ALL 2 1 16 ++ ERR 3 (0 ∷ 8 ∷ 0 ∷ 0 ∷ 0 ∷ []) 5)) }
+    ensures no_bytes_cost_a_message { WorkedDataNoBytesCostAMessage }
 
-    // past what was granted, in bits or in messages, data are an ERR, and so is another size, and a message that ends too soon
-    ensures past_the_bits { next_out (got (served (first_in opened_connection) (request.Grant 16 1 16)) second 2 (0 ∷ 8 ∷ 0 ∷ 3 ∷ 0 ∷ 65 ∷ 66 ∷ 67 ∷ [])).0 ≡ Some (control first second (ALL 2 1 16 ++ ERR 3 (0 ∷ 8 ∷ 0 ∷ 3 ∷ 0 ∷ 65 ∷ 66 ∷ 67 ∷ []) 2)) }
+    ensures past_the_bits { WorkedDataPastTheBits }
     ensures untold_past_the_bits { (got (served (first_in opened_connection) (request.Grant 16 1 16)) second 2 (0 ∷ 8 ∷ 0 ∷ 3 ∷ 0 ∷ 65 ∷ 66 ∷ 67 ∷ [])).1 ≡ [] }
-    ensures past_the_messages { next_out (got (served (first_in opened_connection) (request.Grant 16 0 16)) second 2 (0 ∷ 8 ∷ 0 ∷ 1 ∷ 0 ∷ 65 ∷ [])).0 ≡ Some (control first second (ALL 2 0 16 ++ ERR 3 (0 ∷ 8 ∷ 0 ∷ 1 ∷ 0 ∷ 65 ∷ []) 4)) }
-    ensures another_size { next_out (got (served (first_in opened_connection) (request.Grant 16 1 16)) second 2 (0 ∷ 4 ∷ 0 ∷ 1 ∷ 0 ∷ 240 ∷ [])).0 ≡ Some (control first second (ALL 2 1 16 ++ ERR 3 (0 ∷ 4 ∷ 0 ∷ 1 ∷ 0 ∷ 240 ∷ []) 4)) }
-    ensures too_short { next_out (got (served (first_in opened_connection) (request.Grant 16 1 16)) second 2 (0 ∷ 8 ∷ 0 ∷ 2 ∷ 0 ∷ 65 ∷ [])).0 ≡ Some (control first second (ALL 2 1 16 ++ ERR 3 (0 ∷ 8 ∷ 0 ∷ 2 ∷ 0 ∷ 65 ∷ []) 4)) }
+    ensures past_the_messages { WorkedDataPastTheMessages }
+    ensures another_size { WorkedDataAnotherSize }
+    ensures too_short { WorkedDataTooShort }
 
-    // a RET of more than there is, in messages or in bits, is an ERR and takes nothing
-    ensures too_much_returned { next_out (control_heard (served (first_in opened_connection) (request.Grant 16 1 16)) second (RET 2 2 0 ++ RET 2 0 17 ++ RET 2 1 16)).0 ≡ Some (control first second (ALL 2 1 16 ++ ERR 3 (RET 2 2 0) 2 ++ ERR 3 (RET 2 0 17) 2)) }
+    ensures too_much_returned { WorkedDataTooMuchReturned }
     ensures returned { (control_heard (served (first_in opened_connection) (request.Grant 16 1 16)) second (RET 2 2 0 ++ RET 2 0 17 ++ RET 2 1 16)).1 ≡ notice.Returned 16 1 16 ∷ [] }
 
     // nothing may be granted, asked back and returned
@@ -138,15 +140,13 @@ pub fn worked_data()
     ensures nothing_given_back { next_out (control_heard (second_in opened_connection) first (GVB 2 128 128)).0 ≡ Some (control second first (RET 2 0 0)) }
     ensures nothing_returned { (control_heard (first_in opened_connection) second (RET 2 0 0)).1 ≡ notice.Returned 16 0 0 ∷ [] }
 
-    // what was granted adds up; what was used, given back or returned is taken off
-    ensures bits_are_used { next_out (got (got (served (first_in opened_connection) (request.Grant 16 3 16)) second 2 (0 ∷ 8 ∷ 0 ∷ 1 ∷ 0 ∷ 65 ∷ [])).0 second 2 (0 ∷ 8 ∷ 0 ∷ 2 ∷ 0 ∷ 65 ∷ 66 ∷ [])).0 ≡ Some (control first second (ALL 2 3 16 ++ ERR 3 (0 ∷ 8 ∷ 0 ∷ 2 ∷ 0 ∷ 65 ∷ 66 ∷ []) 3)) }
-    ensures grants_add_up { (got (served (served (first_in opened_connection) (request.Grant 16 1 16)) (request.Grant 16 0 8)) second 2 (0 ∷ 8 ∷ 0 ∷ 3 ∷ 0 ∷ 65 ∷ 66 ∷ 67 ∷ [])).1 ≡ notice.Arrived 16 (bits_of (65 ∷ 66 ∷ 67 ∷ [])) ∷ [] }
-    ensures returned_once { next_out (control_heard (served (first_in opened_connection) (request.Grant 16 1 16)) second (RET 2 1 8 ++ RET 2 1 8 ++ RET 2 0 8)).0 ≡ Some (control first second (ALL 2 1 16 ++ ERR 3 (RET 2 1 8) 2)) }
+    ensures bits_are_used { WorkedDataBitsAreUsed }
+    ensures grants_add_up { WorkedDataGrantsAddUp }
+    ensures returned_once { WorkedDataReturnedOnce }
     ensures given_back_once { next_out (control_heard (second_in (opened_connection ++ sending)) first (GVB 2 64 200 ++ GVB 2 128 128)).0 ≡ Some (control second first (RET 2 1 100 ++ RET 2 1 0)) }
 
-    // bits go out in the order of the calls, and what is left goes next
-    ensures in_order { next_out (control_heard (served (served (second_in opened_connection) (request.Send 33 (bits_of (65 ∷ [])))) (request.Send 33 (bits_of (66 ∷ [])))) first (ALL 2 1 8 ++ ALL 2 1 8)).0 ≡ Some (message second first 2 (0 ∷ 8 ∷ 0 ∷ 2 ∷ 0 ∷ 65 ∷ 66 ∷ [])) }
-    ensures what_is_left { next_out (control_heard (answer_heard (gone (second_in (opened_connection ++ sending))) answer.Rfnm first 2).0 first (ALL 2 0 4)).0 ≡ Some (message second first 2 (0 ∷ 8 ∷ 0 ∷ 1 ∷ 0 ∷ 13 ∷ [])) }
+    ensures in_order { WorkedDataInOrder }
+    ensures what_is_left { WorkedDataWhatIsLeft }
     ensures nothing_sent { next_out (control_heard (served (second_in opened_connection) (request.Send 33 [])) first (ALL 2 1 8)).0 ≡ None }
 
     // either end is informed that the other interrupts
@@ -183,13 +183,13 @@ pub fn worked_resets()
     // once the RST was taken another failure ends the contact, but not while an RRP is owed
     ensures reply_failed { (answer_heard (gone (control_heard rst_taken second RST).0) answer.Incomplete second 0).1 ≡ notice.ContactFailed second ∷ [] }
     ensures reply_failed_while_owing { (answer_heard (control_heard (gone (control_heard rst_taken second RST).0) second RST).0 answer.Incomplete second 0).1 ≡ [] }
-    ensures still_awaited { (control_heard (answer_heard (control_heard (gone (control_heard rst_taken second RST).0) second RST).0 answer.Incomplete second 0).0 second RRP).1 ≡ notice.Ready second ∷ [] }
+    ensures still_awaited { WorkedResetsStillAwaited }
 
     // so it is with a pair that is ready
     ensures lost_when_ready { (answer_heard (gone (served ready (request.Echo second 65))) answer.Dead second 0).1 ≡ notice.PairReset second ∷ [] }
     ensures closed_when_lost { refusal (answer_heard (gone (served ready (request.Echo second 65))) answer.Dead second 0).0 (request.Echo second 65) ≡ Some fault.NotContacted }
     ensures as_at_the_opening { answer_heard (served (gone (served ready (request.Echo second 65))) (request.Echo second 66)) answer.Dead second 0 ≡ (closed, notice.PairReset second ∷ []) }
-    ensures lost_drops_connections { refusal (answer_heard (gone (served (first_in opened_connection) (request.Interrupt 16))) answer.Dead second 0).0 (request.Grant 16 0 0) ≡ Some fault.NoSuchSocket }
+    ensures lost_drops_connections { WorkedResetsLostDropsConnections }
     ensures lost_by_not_taken { answer_heard (served (gone (served ready (request.Echo second 65))) (request.Echo second 66)) answer.NotTaken second 0 ≡ (closed, notice.PairReset second ∷ []) }
     ensures reset_drops_connections { refusal (control_heard (first_in opened_connection) second RST).0 (request.Grant 16 0 0) ≡ Some fault.NoSuchSocket }
     ensures reset_of_another_peer { refusal (control_heard (first_in opened_connection) third RST).0 (request.Grant 16 0 0) ≡ None }
@@ -201,8 +201,7 @@ pub fn worked_resets()
     // NotTaken does what Incomplete does, whatever the host has out
     ensures as_incomplete { (s : NcpState) (f : Flow) (stamp : ℕ) → accepted s (inbound.Answer answer.NotTaken f) stamp ≡ accepted s (inbound.Answer answer.Incomplete f) stamp }
 
-    // a link is free by any answer, also while an RRP is owed, and an end that waited for that closes then
-    ensures closes_after_failure { next_out (delivered (control_heard (answer_heard (served (control_heard (served (gone (second_in (opened_connection ++ sending))) (request.Listen 35 8)) first (RST ++ RTS 16 35 2)).0 (request.Close 35)) answer.Incomplete first 2).0 first (ECO 65)).0 first 0) ≡ Some (control second first (STR 35 16 8 ++ CLS 35 16 ++ ERP 65)) }
+    ensures closes_after_failure { WorkedResetsClosesAfterFailure }
 
     // an RRP that comes before the RFNM of the RST may belong to an older RST: another RST goes out. An RST of the peer changes nothing of that
     ensures early_reply { (answer_heard (control_heard rst_out second RRP).0 answer.Rfnm second 0).1 ≡ [] }
@@ -221,9 +220,9 @@ pub fn worked_resets()
     // RST and RRP wait for the answers of all links, and nothing else goes while they do. RST goes before RRP
     ensures rst_is_silent { next_out (served (gone (second_in (opened_connection ++ sending))) (request.Contact first)) ≡ None }
     ensures rst_when_silent { next_out (answer_heard (served (gone (second_in (opened_connection ++ sending))) (request.Contact first)) answer.Rfnm first 2).0 ≡ Some (control second first RST) }
-    ensures rst_waits_for_each { next_out (answer_heard (served (gone (control_heard (gone (second_in (opened_connection ++ sending))) first (ECO 65)).0) (request.Contact first)) answer.Rfnm first 0).0 ≡ None }
+    ensures rst_waits_for_each { WorkedResetsRstWaitsForEach }
     ensures rrp_is_silent { next_out (control_heard (gone (second_in (opened_connection ++ sending))) first (RST ++ ECO 65)).0 ≡ None }
-    ensures rrp_when_silent { next_out (answer_heard (control_heard (gone (second_in (opened_connection ++ sending))) first (RST ++ ECO 65)).0 answer.Rfnm first 2).0 ≡ Some (control second first RRP) }
+    ensures rrp_when_silent { WorkedResetsRrpWhenSilent }
     ensures rst_first { next_out (served (control_heard ready second RST).0 (request.Contact second)) ≡ Some (control first second RST) }
     ensures rrp_after_rst { next_out (delivered (served (control_heard ready second RST).0 (request.Contact second)) second 0) ≡ Some (control first second RRP) }
 
@@ -261,8 +260,7 @@ pub fn worked_phases()
     ensures rst_taken_data { got rst_taken second 5 (0 ∷ 8 ∷ 0 ∷ 1 ∷ 0 ∷ 65 ∷ []) ≡ (rst_taken, []) }
     ensures rst_taken_malformed { got rst_taken second 0 (0 ∷ 7 ∷ 0 ∷ 1 ∷ 0 ∷ []) ≡ (rst_taken, []) }
 
-    // when the pair is ready each has its answer
-    ensures ready_commands { next_out (control_heard (second_in reset) first every_command).0 ≡ Some (control second first (CLS 33 16 ++ CLS 18 35 ++ ERR 4 (CLS 20 37) 1 ++ ERR 5 (ALL 6 1 8) 2 ++ ERR 5 (GVB 6 64 128) 6 ++ ERR 5 (RET 7 2 9) 2 ++ ERR 5 (INR 6) 8 ++ ERR 5 (INS 7) 8 ++ ERP 65 ++ ERR 1 (14 ∷ []) 9)) }
+    ensures ready_commands { WorkedPhasesReadyCommands }
     ensures ready_notices { (control_heard (second_in reset) first every_command).1 ≡ notice.Echoed first 66 ∷ notice.RemoteError first 77 (take 10 twelve) ∷ [] }
 
     // an RST is answered by an RRP in every phase; it opens a closed pair, and is notified of where the pair was closed or ready
@@ -282,12 +280,10 @@ pub fn worked_phases()
 
 /// What is answered by ERR, and what an ERR quotes.
 pub fn worked_errors()
-    // of an RTS with too few octets, those that are there are quoted, in each length
-    ensures each_length { map (λ k. orders_of (control_text (take k (RTS 16 33 5)))) (range_with_len 0 11) ≡ [] ∷ (Wrong 2 (1 ∷ []) ∷ []) ∷ (Wrong 2 (1 ∷ 0 ∷ []) ∷ []) ∷ (Wrong 2 (1 ∷ 0 ∷ 0 ∷ []) ∷ []) ∷ (Wrong 2 (1 ∷ 0 ∷ 0 ∷ 0 ∷ []) ∷ []) ∷ (Wrong 2 (1 ∷ 0 ∷ 0 ∷ 0 ∷ 16 ∷ []) ∷ []) ∷ (Wrong 2 (1 ∷ 0 ∷ 0 ∷ 0 ∷ 16 ∷ 0 ∷ []) ∷ []) ∷ (Wrong 2 (1 ∷ 0 ∷ 0 ∷ 0 ∷ 16 ∷ 0 ∷ 0 ∷ []) ∷ []) ∷ (Wrong 2 (1 ∷ 0 ∷ 0 ∷ 0 ∷ 16 ∷ 0 ∷ 0 ∷ 0 ∷ []) ∷ []) ∷ (Wrong 2 (1 ∷ 0 ∷ 0 ∷ 0 ∷ 16 ∷ 0 ∷ 0 ∷ 0 ∷ 33 ∷ []) ∷ []) ∷ (Legal (command.Rts 16 33 5) ∷ []) ∷ [] }
+    ensures each_length { WorkedErrorsEachLength }
     ensures short_quoted { next_out (control_heard (second_in reset) first (take 9 (RTS 16 33 5))).0 ≡ Some (control second first (ERR 2 (take 9 (RTS 16 33 5)) 1)) }
 
-    // of a message with fewer bits than it announces, or than a header has, the text is quoted, filled with zeros
-    ensures each_text { map (λ n. orders_of (take n (control_text (RTS 16 33 5)))) (0 ∷ 8 ∷ 39 ∷ 40 ∷ 41 ∷ 48 ∷ 119 ∷ []) ≡ (Wrong 3 [] ∷ []) ∷ (Wrong 3 (0 ∷ []) ∷ []) ∷ (Wrong 3 (0 ∷ 8 ∷ 0 ∷ 10 ∷ 0 ∷ []) ∷ []) ∷ (Wrong 3 (0 ∷ 8 ∷ 0 ∷ 10 ∷ 0 ∷ []) ∷ []) ∷ (Wrong 3 (0 ∷ 8 ∷ 0 ∷ 10 ∷ 0 ∷ 0 ∷ []) ∷ []) ∷ (Wrong 3 (0 ∷ 8 ∷ 0 ∷ 10 ∷ 0 ∷ 1 ∷ []) ∷ []) ∷ (Wrong 3 (0 ∷ 8 ∷ 0 ∷ 10 ∷ 0 ∷ 1 ∷ 0 ∷ 0 ∷ 0 ∷ 16 ∷ 0 ∷ 0 ∷ 0 ∷ 33 ∷ 4 ∷ []) ∷ []) ∷ [] }
+    ensures each_text { WorkedErrorsEachText }
 
     // bits after those that it announces are ignored
     ensures more_than_announced { next_out (got (second_in reset) first 0 (3 ∷ 8 ∷ 0 ∷ 2 ∷ 5 ∷ 9 ∷ 65 ∷ 9 ∷ 66 ∷ [])).0 ≡ Some (control second first (ERP 65)) }
@@ -296,8 +292,7 @@ pub fn worked_errors()
     ensures greatest_control { (control_heard (second_in reset) first (replicate 118 0 ++ ERP 65)).1 ≡ notice.Echoed first 65 ∷ [] }
     ensures too_great_control { next_out (control_heard (second_in reset) first (replicate 119 0 ++ ECO 65)).0 ≡ Some (control second first (ERR 3 (0 ∷ 8 ∷ 0 ∷ 121 ∷ 0 ∷ []) 5)) }
 
-    // after a field outside its range the reading continues; after an illegal code and missing octets it doesn't, but what came before is heard
-    ensures goes_on { next_out (control_heard (second_in reset) first (RTS 16 33 1 ++ RTS 17 33 5 ++ RTS 16 34 5 ++ RTS 16 33 32 ++ STR 33 16 0 ++ ECO 65)).0 ≡ Some (control second first (ERR 3 (RTS 16 33 1) 0 ++ ERR 3 (RTS 17 33 5) 0 ++ ERR 3 (RTS 16 34 5) 0 ++ ERR 3 (RTS 16 33 32) 0 ++ ERR 3 (STR 33 16 0) 0 ++ ERP 65)) }
+    ensures goes_on { WorkedErrorsGoesOn }
     ensures ends_at_an_illegal_code { next_out (control_heard (second_in reset) first (ECO 65 ++ 14 ∷ ECO 66)).0 ≡ Some (control second first (ERP 65 ++ ERR 1 (14 ∷ ECO 66) 7)) }
 
     // an ERR with any code is notified of and never answered
