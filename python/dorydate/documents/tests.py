@@ -8,7 +8,7 @@ import tempfile
 import unittest
 from unittest import mock
 
-from dorydate.documents import anchors, believed, crates_page, dialect, paragraphs, rules
+from dorydate.documents import anchors, believed, crates_page, dialect, named_crates, paragraphs, rules
 from dorydate.drawings import facts, formats, hosts, network, pictures, repository
 from dorydate.drawings.svg import Drawing
 from dorydate.parts import ROOT
@@ -101,6 +101,10 @@ class Pages(unittest.TestCase):
             with mock.patch.object(dialect, "LIMITS", path), mock.patch.object(dialect, "counts", return_value={"docs": {"told": 9, "behind": 0}}):
                 dialect.lowered()
                 self.assertEqual(dialect.limits(), {"docs": {"told": 5, "behind": 0}})
+
+    def test_a_crate_that_is_named_without_need_is_named(self) -> None:
+        code = "use low::Bits;\nghost use Rattle.middle.specs.A.{a};\nlet high = std::other::high;\n"
+        self.assertEqual(named_crates.unnamed("top", "low middle high", code), ["crates.txt: top doesn't use high"])
 
     def test_the_nearest_crates_are_those_that_no_other_one_brings(self) -> None:
         direct: dict[str, list[str]] = {"low": [], "middle": ["low"], "high": ["low", "middle"]}
