@@ -21,39 +21,10 @@ use Rattle.imp_node.specs.declared.waiting.Told.{Told}
 use Rattle.script.specs.Steps.{Lacks}
 use Rattle.script.proofs.lemmas.{unmarked_where}
 use Rattle.trace.specs.Texts.{answer_object, bits_members, bool_text, flow_members, member, object, quoted}
+pub use Rattle.trace.proofs.lemmas.{Any, bool_spelled, word_closed}
 use Rattle.trace.proofs.lemmas.{AreClosed, IsClosed, SameThen, Spelled, Words, also_closed, answer_spelled, bits_closed, bits_same, decimal_closed, first_same, flow_closed, flow_same, is_plain, member_once, none_closed, object_closed, object_once, other_first, plain_closed, quoted_once, rest_same, short_once, string_closed, strings_spelled}
 use Rattle.subnet_trace.specs.Texts.{awaits_host, bit_text, bits_text, channel_text, fate_word, flow_object, held_members, kept_text, kind_word, packet_text, piece_members, source_text, standing_word, told_text, whole_text}
 use Rattle.subnet_trace.specs.Told.{IsAnswerTold, IsChannelTold, IsFlowNamed, IsKeptTold, IsMessageTold, IsPacketTold, IsShort, IsSourceTold}
-
--- any value of this kind
-abbrev pub Any : {X : Type 0} → X → Type 0
-Any x = Unit {0}
-
--- ---- plain words
-
-plain_all : (t : List ℕ) → list_all is_plain t ≡ true → All (λ c. is_plain c ≡ true) t
-plain_all [] h = All-nil (λ c. is_plain c ≡ true)
-plain_all (c ∷ t) h = by (λ k. plain_all t k) (is_plain c) refl h where
-  by : (list_all is_plain t ≡ true → All (λ x. is_plain x ≡ true) t) → (b : Bool) → is_plain c ≡ b → list_all is_plain (c ∷ t) ≡ true → All (λ x. is_plain x ≡ true) (c ∷ t)
-  by more true e all = All-cons (λ x. is_plain x ≡ true) c t e (more (rw e at all))
-  by more false e all = absurd (let bad : false ≡ true = rw e at all in cc)
-
-pub word_closed : (c : ℕ) (t : List ℕ) → list_all is_plain (c ∷ t) ≡ true → IsClosed (c ∷ t)
-word_closed c t plain = plain_closed (c ∷ t) (λ e. absurd (cc)) (plain_all (c ∷ t) plain)
-
-is_true_word : List ℕ → Bool
-is_true_word word = bytes_eq word (codes "true")
-
-bool_again : (b : Bool) → is_true_word (bool_text b) ≡ b
-unfolding is_true_word
-bool_again true = refl
-bool_again false = refl
-
-pub bool_spelled : Spelled bool_text Any
-bool_spelled = record { closed = closed; once = λ b c p q e. sym (bool_again b) ∙ ap is_true_word e ∙ bool_again c } where
-  closed : (b : Bool) → Any b → IsClosed (bool_text b)
-  closed true any = word_closed 116 (codes "rue") refl
-  closed false any = word_closed 102 (codes "alse") refl
 
 -- ---- bits
 

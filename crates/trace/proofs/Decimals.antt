@@ -107,7 +107,7 @@ short_once m n p q e = sym (decimal_is_IsNumeral_wide m p).1 ∙ ap (digits_valu
 
 -- ---- octets
 
-digits_lack : (mark : ℕ) → mark < 48 → (word : List ℕ) → list_all is_upper_digit word ≡ true → Lacks mark word
+pub digits_lack : (mark : ℕ) → mark < 48 → (word : List ℕ) → list_all is_upper_digit word ≡ true → Lacks mark word
 digits_lack mark low [] h = All-nil (λ x. (x == mark) ≡ false)
 digits_lack mark low (c ∷ word) h = by (λ k. digits_lack mark low word k) (is_upper_digit c) refl h where
   digit_apart : (d : ℕ) → is_upper_digit d ≡ true → (d == mark) ≡ false

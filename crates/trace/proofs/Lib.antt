@@ -3,6 +3,7 @@ pub mod Closed
 pub mod Decimals
 pub mod Left
 pub mod Named
+pub mod PlainWords
 pub mod Printed
 pub mod Asking
 pub mod FirstLine

@@ -24,7 +24,7 @@ use Rattle.trace.proofs.Closed.{AreClosed, IsClosed, Spelled, Words, also_closed
 
 -- ---- hosts
 
-host_words : Words host_text IsHostNamed
+pub host_words : Words host_text IsHostNamed
 host_words = record { plain = plain; once = once } where
   plain : (h : Host) → IsHostNamed h → Lacks 34 (host_text h)
   plain h is =

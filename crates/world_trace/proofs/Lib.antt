@@ -1,5 +1,10 @@
+mod CommandTexts
 mod Ends
 mod Failures
+mod Fields
 mod Lines
 mod Lists
+mod Programs
+mod Running
 mod Telling
+mod Whole

@@ -9,6 +9,7 @@
 #![tactic(auto)]
 
 mod commands;
+pub mod law;
 mod line;
 mod pairs;
 mod services;

@@ -12,7 +12,7 @@ ghost use Rattle.ncp_control.specs.declared.command.Command.TheVariants as comma
 ghost use Rattle.net_sim.specs.Carriers.{shown};
 ghost use Rattle.net_sim.specs.World.{WorldState};
 ghost use Rattle.net_sim.specs.declared.event.Event.TheVariants as event;
-ghost use Rattle.sockets.specs.Pairs.{opening_state};
+ghost use Rattle.sockets.specs.Pairs.{NcpState, opening_state};
 ghost use Rattle.sockets.specs.Worked.{first, second};
 ghost use Rattle.terminal.specs.Machines.{opening_echo};
 ghost use Rattle.world_script.specs.declared.event.WorldEvent.{WorldEvent};
@@ -40,6 +40,9 @@ pub fn worked_pairs()
 pub fn worked_hosts()
     ensures up { program_text (Some (record (opening_state first) { listening = record { socket = 1; size = 32 } ∷ [] })) ≡ codes "{\"pairs\":[],\"listening\":[{\"socket\":1,\"size\":32}]}" }
     ensures down { program_text None ≡ codes "null" }
+
+    // its text leaves out whose program it is, and whether it has run out of memory
+    ensures left_out { (s : NcpState) → program_text (Some (record s { own = second; spent = true })) ≡ program_text (Some s) }
     ensures server { service_object (service.Server (record (opening_server 1 100) { user = Some (record { peer = first; socket = 16 }) })) ≡ codes "{\"kind\":\"server\",\"listen\":1,\"sockets\":{\"receive\":100,\"send\":101},\"met\":{\"user\":{\"host\":\"0/1\",\"socket\":16},\"receiving\":null,\"sending\":null},\"over\":false}" }
     ensures running { running_object (record no_services { running = service.Echo (opening_echo 100 101) ∷ []; typing = Some 19 }) ≡ codes "{\"typing\":19,\"running\":[{\"kind\":\"echo\",\"sockets\":{\"receive\":100,\"send\":101}}]}" }
 {}

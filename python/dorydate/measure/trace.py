@@ -2,8 +2,8 @@
 
 Over plain mailboxes the scripts repeat four lines, after the topology of examples/first-message: a message is sent, taken and
 answered, and every fourth line has nothing to do; and they are calms, in which the same happens. Over a subnet messages go over a
-chain of four IMPs, once with each frame delivered and dropped by a line of its own, and once in calms. Both ways are run in turn, so
-that a busy machine slows both. A time is the processor time from the start of the process to its end, the best of the rounds. At
+chain of four IMPs, once with each frame delivered and dropped by a line of its own, and once in calms. Hosts with programs grant, send
+and take over both carriers, in calms. Both ways are run in turn, so that a busy machine slows both. A time is the processor time from the start of the process to its end, the best of the rounds. At
 most three times is wanted.
 
 It is not part of the gate.
@@ -16,6 +16,7 @@ import subprocess
 import tempfile
 
 from dorydate.measure import processor_time, written
+from dorydate.measure.worlds import CARRIERS, opened, ready
 from dorydate.parts import ROOT, proved_program
 
 TOPOLOGY = 'carrier = "plain"\nraw = true\n[[imp]]\nid = 1\nhosts = 1\n[[imp]]\nid = 2\nhosts = 1\n%\n'
@@ -28,11 +29,23 @@ BACK = [f"{call} {line} {way} 0" for line in (2, 1, 0) for way in "-+" for call 
 HOPS = ["out 0/1 0/4 5 24 414243", *OVER, "take 0/4", *BACK, "take 0/1"]
 NEITHER_AND_TRACE: tuple[list[str], list[str]] = [], ["--trace"]
 QUIET = ["out 0/1 0/4 5 24 414243", "calm 2"]
-KINDS: list[tuple[str, str, list[str], list[str]]] = [
+Kind = tuple[str, str, list[str], list[str]]  # its name, its topology, its first lines, and the lines that are repeated
+
+
+def of_programs(carrier: str) -> Kind:
+    """Hosts with programs over this carrier: ten octets are granted, sent and taken, again and again."""
+    topology, other, rounds = CARRIERS[carrier]
+    message = ["grant 0/1 132 1 80", f"send {other} 133 80 {'5A' * 10}", f"calm {2 * rounds}"]
+    return f"programs over {carrier}, calms", topology, ready(other, rounds) + opened(other, "0/1", rounds), message
+
+
+KINDS: list[Kind] = [
     ("plain mailboxes, single events", TOPOLOGY, [], SINGLE),
     ("plain mailboxes, calms", TOPOLOGY, [], CALM),
     ("a chain of 4 IMPs, single events", CHAIN, ["calm 4"], HOPS),
     ("a chain of 4 IMPs, calms", CHAIN, ["calm 4"], QUIET),
+    of_programs("plain mailboxes"),
+    of_programs("a chain of 4 IMPs"),
 ]
 
 

@@ -1,0 +1,38 @@
+-- The texts of programs and services say all of a world but its carrier and what is kept.
+use Rattle.std.proofs.Common.{◌≡◌, List, [], ◌∷◌, Some, refl, sym, ◌∙◌}
+use Rattle.std.proofs.lemmas.List.Elements.{All-cons, All-head, All-nil, All-tail}
+use Rattle.std.specs.List.{All}
+use Rattle.host_services.specs.Services.{no_services}
+use Rattle.interface.specs.Calls.{Calls}
+use Rattle.interface.specs.Host.{Host}
+use Rattle.net_sim.specs.World.{WorldState, opening_seats, opening_services, opening_world}
+use Rattle.sockets.specs.Pairs.{opening_state}
+use Rattle.trace.specs.Named.{IsHostNamed}
+use Rattle.world_trace.specs.Told.{HaveSameTexts, IsListenerTold, IsPairTold, IsSeatTold, IsServed, IsServiceTold, IsWorldTold}
+use Rattle.world_trace.proofs.Programs.{programs_once}
+use Rattle.world_trace.proofs.Running.{services_once}
+
+pub whole : {C : Type 0} (one other : WorldState C) → IsWorldTold one → IsWorldTold other → HaveSameTexts one other → other ≡ record one { carrier = other.carrier; kept = other.kept }
+whole one other p q same =
+    let seats : other.seats ≡ one.seats = sym (programs_once one.seats other.seats same.seats p.programs q.programs same.programs) in
+    let served : other.services ≡ one.services = sym (services_once one.services other.services same.served p.services q.services same.services) in
+    let stopped : other.stopped ≡ one.stopped = q.running ∙ sym p.running in
+    λ i. record { carrier = other.carrier; seats = seats i; services = served i; kept = other.kept; stopped = stopped i }
+
+-- ---- the opening
+
+programs_told : (hosts : List Host) → All IsHostNamed hosts → All IsSeatTold (opening_seats hosts)
+programs_told [] all = All-nil IsSeatTold
+programs_told (h ∷ hosts) all =
+    All-cons IsSeatTold (record { host = h; program = Some (opening_state h) }) (opening_seats hosts)
+    (record { host = All-head IsHostNamed h hosts all; program = record { own = refl; unspent = refl; peers = All-nil IsPairTold; listening = All-nil IsListenerTold } })
+    (programs_told hosts (All-tail IsHostNamed h hosts all))
+
+services_told : (hosts : List Host) → All IsHostNamed hosts → All IsServed (opening_services hosts)
+services_told [] all = All-nil IsServed
+services_told (h ∷ hosts) all =
+    All-cons IsServed (record { host = h; services = no_services }) (opening_services hosts)
+    (record { host = All-head IsHostNamed h hosts all; typing = tt; running = All-nil IsServiceTold }) (services_told hosts (All-tail IsHostNamed h hosts all))
+
+pub opening_told : {C : Type 0} (calls : Calls C) (c : C) → All IsHostNamed (calls.seen c).hosts → IsWorldTold (opening_world calls c)
+opening_told calls c all = record { running = refl; programs = programs_told (calls.seen c).hosts all; services = services_told (calls.seen c).hosts all }

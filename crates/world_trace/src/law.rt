@@ -1,0 +1,18 @@
+//! What traces of worlds promise, as laws over their definitions. The functions here do nothing: each clause is the law.
+
+ghost use Rattle.std.specs.List.{All};
+ghost use Rattle.std.specs.Prelude.{◌≡◌};
+ghost use Rattle.net_sim.specs.World.{WorldState, opening_world};
+ghost use Rattle.trace.specs.Named.{IsHostNamed};
+ghost use Rattle.world_trace.specs.Told.{HaveSameTexts, IsWorldTold};
+
+use interface::Carrier;
+
+/// The texts of programs and services say all of a world but its carrier, which has parts of its own, and what is kept: two worlds of the same hosts
+/// with the same texts differ in nothing else. That each world to which a replay comes is one of which `IsWorldTold` holds isn't proved.
+pub fn whole<C: Carrier>()
+    ensures texts { (one other : WorldState C) → IsWorldTold one → IsWorldTold other → HaveSameTexts one other → other ≡ record one { carrier = other.carrier; kept = other.kept } }
+
+    // so is each world at its opening whose hosts can be named
+    ensures opening { (c : C) → All IsHostNamed (C.calls.seen c).hosts → IsWorldTold (opening_world C.calls c) }
+{}
