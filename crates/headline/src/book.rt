@@ -21,8 +21,7 @@ use net_sim::{Book, World};
 /// (`arrives`). Where a host gets RFNM of data, they were taken at an earlier moment, once (`answered`): so it means that they arrived, unless the
 /// receiving end was closing or gone. And a receiving life whose end its partner has
 /// closed, and no user of its host, took all that its partner sent (`closes`), also once it is over. It took all that was handed over in the life that it
-/// matches, if that wasn't over when the CLS was taken, or only because its host had left (`handed`), since a sender that closes first has sent all of
-/// that (`drained`). A receiving life whose
+/// matches, if that had begun when the CLS was taken (`handed`), since a sender that closes first has sent all of that (`drained`). A receiving life whose
 /// end is open has all that was sent while nothing waits for it and its partner continues (`rests`).
 /// The crossings determine the bits of all lives (`firsts`): a life's messages are the first on its link after both of its requests, and each message
 /// that went out is one of a sending life.

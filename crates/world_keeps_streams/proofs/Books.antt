@@ -7,6 +7,7 @@ pub mod Books
 pub mod Clauses
 pub mod Closes
 pub mod Counts
+pub mod Ended
 pub mod Firsts
 pub mod Given
 pub mod Goes
@@ -17,4 +18,5 @@ pub mod Run
 pub mod Source
 pub mod Starts
 pub mod Streams
+pub mod Unasked
 pub mod Whole

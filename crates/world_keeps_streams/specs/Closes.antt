@@ -1,11 +1,9 @@
 -- What the end of a connection by CLS says to the user who receives (NIC 8246, CLS).
 use Rattle.std.specs.Prelude.{◌≡◌, ℕ, Bool, false, true, List, [], ◌∷◌, ◌++◌, Some}
 use Rattle.std.specs.List.{Contains}
-use Rattle.interface.specs.Host.{Host}
 use Rattle.interface.specs.declared.crossing.Crossing.{Crossing}
 use Rattle.promise.specs.Safe.{Match, own_request, receives}
-use Rattle.reset_law.specs.Stays.{stays}
-use Rattle.net_sim.specs.Story.{Moment, events_of, program}
+use Rattle.net_sim.specs.Story.{Moment, program}
 use Rattle.net_sim.specs.Timeline.{crossings_of}
 use Rattle.net_sim.specs.Told.{kept_in}
 use Rattle.promise.specs.declared.life.Life.{Life}
@@ -43,23 +41,13 @@ AllClose moments = (later earlier : List Moment) → moments ≡ later ++ earlie
 
 -- ---- what was handed over
 
--- at none of these moments, after older ones, is a host together with its peer: its pair was reset, or it has stopped
-abbrev pub HasLeft : Host → Host → List Moment → List Moment → Type 0
-HasLeft h p [] older = Unit {0}
-HasLeft h p (x ∷ moments) older = (stays h p (events_of (x ∷ (moments ++ older))) ≡ false) × HasLeft h p moments older
-
--- and of the sending life that it matches: that wasn't over at that moment, or was because its host had left
+-- and of the sending life that it matches: that had begun by then
 pub record WasClosedBy (moments : List Moment) (sender receiver : Life) : Type 0 where
   pub closed : WasClosedByPartner moments receiver
   pub matches : Match (crossings_of moments) receiver sender
-  pub between : List Moment
-  pub last : List Moment
-  pub parts : closed.earlier ≡ between ++ last
   pub partner : Life
-  pub there : Contains (kept_in last).book.lives partner
-  pub goes : partner.ended ≡ false
+  pub there : Contains (kept_in closed.earlier).book.lives partner
   pub same : own_request sender ≡ own_request partner
-  pub left : HasLeft partner.host partner.peer between last
 
 -- it took all that was handed over in that life
 abbrev pub TookHanded : List Moment → Life → List Life → List (List Bool) → Type 0

@@ -26,13 +26,13 @@ ghost use Rattle.net_sim.specs.World.{WorldState};
 ghost use Rattle.net_sim.specs.Worked.{eight};
 ghost use Rattle.net_sim.specs.WorkedMoments.{bits_sent, connected, eight_sent, sent_moments};
 ghost use Rattle.world_keeps_lives.specs.Firsts.{FirstBook};
-ghost use Rattle.world_keeps_streams.specs.Worked.{close_back, close_sent, closing_moments, ended_moments, over_eight, over_gave, quit_moments, stopped_moments, took, took_eight};
+ghost use Rattle.world_keeps_streams.specs.Worked.{close_back, ended_moments, over_eight, over_gave, quit_moments, stopped_moments, took, took_eight};
 ghost use Rattle.world_keeps_streams.specs.Answered.{AllAnswered, HasArrived};
 ghost use Rattle.world_keeps_streams.specs.Arrivals.{AllArrive, Arrives, ComesFor};
 ghost use Rattle.world_keeps_streams.specs.Calls.{own_calls, numbered_by_peer};
 ghost use Rattle.world_keeps_streams.specs.Rests.{AllRest, AreAtRest};
 ghost use Rattle.world_keeps_lives.specs.WorkedFormed.{gave};
-ghost use Rattle.world_keeps_streams.specs.Closes.{AllClose, AllHanded, EachHanded, HasLeft, IsClosedByPartner, TookAll, TookHanded, WasClosedBy, WasClosedByPartner};
+ghost use Rattle.world_keeps_streams.specs.Closes.{AllClose, AllHanded, EachHanded, IsClosedByPartner, TookAll, TookHanded, WasClosedBy, WasClosedByPartner};
 
 use interface::Carrier;
 
@@ -71,7 +71,7 @@ pub fn lives()
     // a receiving life whose end its partner has closed, and no user of its host, took all that its partner sent; it stays so whatever becomes of both lives
     ensures closes { (hosts : List Host) (moments : List Moment) → HaveAddresses hosts → mail.IsRun hosts (crossings_of moments) → IsTimeline hosts moments → (receiver : Life) → WasClosedByPartner moments receiver → TookAll (crossings_of moments) (kept_in moments).book.lives receiver }
 
-    // and all that was handed over in the life that it matches, if that wasn't over when the CLS was taken, or was because its host had left
+    // and all that was handed over in the life that it matches, if that had begun when the CLS was taken
     ensures handed { (hosts : List Host) (moments : List Moment) → HaveAddresses hosts → mail.IsRun hosts (crossings_of moments) → IsTimeline hosts moments → EachHanded moments }
 
     // the messages of each life are the first on its link after both of its requests, and each message that goes out is one of a sending life: so crossings
@@ -138,10 +138,9 @@ pub fn worked_closes()
     ensures stopped { WasClosedByPartner (Crossed (crossing.Down dialogue.first) ∷ ended_moments) over_eight }
     ensures open { IsClosedByPartner sent_moments took_eight → ⊥ }
 
-    // the life that it matches wasn't over, or was since its host had stopped: all that was handed over there is what was taken, and not less
+    // the life that it matches had begun, and isn't over, or is since its host has stopped: all that was handed over there is what was taken, and not less
     ensures whole { WasClosedBy ended_moments gave took_eight }
     ensures left { WasClosedBy stopped_moments over_gave took_eight }
-    ensures stays { HasLeft dialogue.second dialogue.first (Crossed (crossing.In close_sent) ∷ []) (closing_moments sent_moments) → ⊥ }
     ensures handed { TookHanded ended_moments took_eight (gave ∷ []) (eight ∷ []) }
     ensures unsent { TookHanded ended_moments took_eight (gave ∷ []) ((eight ++ true ∷ []) ∷ []) → ⊥ }
     ensures quit { IsClosedByPartner quit_moments took → ⊥ }

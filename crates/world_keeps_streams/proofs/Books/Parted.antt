@@ -18,11 +18,15 @@ use Rattle.net_sim.proofs.lemmas.{Coupled}
 use Rattle.world_keeps_pairing.specs.Free.{law_events, origin_in}
 use Rattle.world_keeps_pairing.specs.Steps.{keeps}
 use Rattle.world_keeps_pairing.proofs.lemmas.{IsPair, all_hears, all_says, all_tied, are_origins, at_texts, before, hears_if, left_if, met_if, other, served_in}
-use Rattle.world_keeps_streams.specs.Closes.{HasLeft}
 use Rattle.world_keeps_streams.proofs.Books.Counts.{Counted, bounds, closes_said, counted, side_of}
 use Rattle.world_keeps_streams.proofs.Deeds.Effects.{Among}
 use Rattle.world_keeps_streams.proofs.Requests.Now.{joined_halves, side_stays}
 use Rattle.world_keeps_streams.proofs.Requests.Sides.{Lawful, begins_same, coupled_in}
+
+-- at none of these moments, after older ones, is a host together with its peer: its pair was reset, or it has stopped
+abbrev pub HasLeft : Host → Host → List Moment → List Moment → Type 0
+HasLeft h p [] older = Unit {0}
+HasLeft h p (x ∷ moments) older = (stay.stays h p (events_of (x ∷ (moments ++ older))) ≡ false) × HasLeft h p moments older
 
 -- ---- marks
 
@@ -63,7 +67,7 @@ module _ (h p : Host) (spoken heard : List (List Bool) → List Mark) (e : Event
   abbrev next : Side
   next = met_if (stay.begins h p e events) (before h p spoken heard e events x)
 
-  said_now : stay.begins h p e events ≡ false → next.said ≡ spoke.said
+  pub said_now : stay.begins h p e events ≡ false → next.said ≡ spoke.said
   said_now none =
       ap (λ (v : Bool). (met_if v (before h p spoken heard e events x)).said) none
       ∙ left_said (keeps h p e events) (hears_if (stay.stays h p events) (heard (stay.heard_by p h 0 e)) spoke)
@@ -99,15 +103,15 @@ silent h p (Out x y k (Other text)) events on off = by (are h p x y) refl where
 
 -- ---- a moment more
 
+pub no_begin : (h p : Host) (e : Event) (events : List Event) → stay.stays h p (e ∷ events) ≡ false → stay.begins h p e events ≡ false
+no_begin h p e events off = by (stay.begins h p e events) off where
+  by : (v : Bool) → (v || (stay.ready h p (e ∷ events) && not (stay.takes_reset h p e) && stay.stays h p events)) ≡ false → v ≡ false
+  by true off = off
+  by false off = refl
+
 module _ (s : Sockets) (who : Who) (h p : Host) where
   half_stays : (ms : List Moment) → (side_of s who h p ms).stays ≡ stay.stays h p (events_of ms)
   half_stays ms = side_stays h p (at_texts s who) (at_texts s (other who)) (law_events ms) ∙ stays_same h p (events_of ms)
-
-  no_begin : (h p : Host) (e : Event) (events : List Event) → stay.stays h p (e ∷ events) ≡ false → stay.begins h p e events ≡ false
-  no_begin h p e events off = by (stay.begins h p e events) off where
-    by : (v : Bool) → (v || (stay.ready h p (e ∷ events) && not (stay.takes_reset h p e) && stay.stays h p events)) ≡ false → v ≡ false
-    by true off = off
-    by false off = refl
 
   grows_by : (y : Moment) (ms : List Moment) → stay.begins h p (event_in y) (events_of ms) ≡ false → closes (side_of s who h p ms).said ≤ closes (side_of s who h p (y ∷ ms)).said
   grows_by y ms none =
@@ -143,7 +147,32 @@ module _ (s : Sockets) (who : Who) (h p : Host) where
 
 -- ---- both hosts
 
--- where a receiver's end is there and has heard the sender's CLS, that of the sender has gone out, and it has heard none: now, or before its host left
+-- where a receiver's end is there and has heard the sender's CLS, its host has heard one more than it has said
+module _ (hosts : List Host) (ms : List Moment) (l : Lawful hosts ms) (a b : Host) (s : Sockets) (q : IsPair s) (mine : stay.stays a b (events_of ms) ≡ true)
+    (e : Entry) (e_in : Among e (pair_with b (program a ms).peers).entries) (own : e.own ≡ s.receive) (foreign : e.foreign ≡ s.send) (heard : e.partner_closed ≡ true) where
+  j : Joined (side_of s Receiver a b ms) (side_of s Sender b a ms)
+  j = joined_halves hosts ms l a b s q
+
+  here : Counted (side_of s Receiver a b ms).said (side_of s Receiver a b ms).heard (is_sent e.closing) e.partner_closed
+  here =
+      let c : Coupled hosts ms = coupled_in hosts ms l in
+      counted hosts ms l s q Receiver a b
+      (((all_tied hosts (origin_in (crossings_of ms)) ms (are_origins 0 (crossings_of ms) [] ms refl) c.story c.run (served_in hosts ms l.2)).tied a b).receiver s q)
+      j.floor j.other (side_of s Sender b a ms) j.here mine e e_in own foreign
+
+  unsent : is_sent e.closing ≡ false
+  unsent = by (is_sent e.closing) refl where
+    by : (v : Bool) → is_sent e.closing ≡ v → v ≡ false
+    by false t = refl
+    by true t = absurd (let two : (true && true) ≡ false = ap (λ (v : Bool). v && true) (sym t) ∙ ap (λ (v : Bool). is_sent e.closing && v) (sym heard) ∙ here.live in cc)
+
+  pub heard_more : closes (side_of s Receiver a b ms).heard ≡ closes (side_of s Receiver a b ms).said + 1
+  heard_more =
+      let x : closes (side_of s Receiver a b ms).heard ≡ here.now + 1 = here.heard ∙ ap (λ (v : Bool). here.now + count v) heard in
+      let y : closes (side_of s Receiver a b ms).said ≡ here.now + 0 = here.said ∙ ap (λ (v : Bool). here.now + count v) unsent in
+      omega (arith, x, y)
+
+-- and the end of the sender's CLS has gone out, and has heard none: now, or before its host left
 module _ (hosts : List Host) (between last : List Moment) (l : Lawful hosts (between ++ last)) (older : Lawful hosts last) (a b : Host) (s : Sockets) (q : IsPair s) where
   pub sender_closed : HasLeft b a between last → stay.stays a b (events_of (between ++ last)) ≡ true → stay.stays b a (events_of last) ≡ true
       → (e : Entry) → Among e (pair_with b (program a (between ++ last)).peers).entries → e.own ≡ s.receive → e.foreign ≡ s.send
@@ -151,29 +180,14 @@ module _ (hosts : List Host) (between last : List Moment) (l : Lawful hosts (bet
       → (f : Entry) → Among f (pair_with a (program b last).peers).entries → f.own ≡ s.send → f.foreign ≡ s.receive
       → (is_sent f.closing ≡ true) × (f.partner_closed ≡ false)
   sender_closed left mine theirs e e_in e_own e_foreign heard f f_in f_own f_foreign =
-      bounds here.now there.now (is_sent f.closing) f.partner_closed
-      (let x : closes (side_of s Receiver a b (between ++ last)).heard ≡ here.now + 1 = here.heard ∙ ap (λ (v : Bool). here.now + count v) heard in
-      omega (arith, up, x, there.said))
-      (let x : closes (side_of s Receiver a b (between ++ last)).said ≡ here.now + 0 = here.said ∙ ap (λ (v : Bool). here.now + count v) unsent in
-      omega (arith, down, x, there.heard)) where
+      let more : closes (side_of s Receiver a b (between ++ last)).heard ≡ closes (side_of s Receiver a b (between ++ last)).said + 1 = heard_more hosts (between ++ last) l a b s q mine e e_in e_own e_foreign heard in
+      bounds (closes (side_of s Receiver a b (between ++ last)).said) there.now (is_sent f.closing) f.partner_closed
+      (omega (arith, up, more, there.said)) (omega (arith, down, there.heard)) where
         j : Joined (side_of s Receiver a b (between ++ last)) (side_of s Sender b a (between ++ last))
         j = joined_halves hosts (between ++ last) l a b s q
 
         k : Joined (side_of s Receiver a b last) (side_of s Sender b a last)
         k = joined_halves hosts last older a b s q
-
-        here : Counted (side_of s Receiver a b (between ++ last)).said (side_of s Receiver a b (between ++ last)).heard (is_sent e.closing) e.partner_closed
-        here =
-            let c : Coupled hosts (between ++ last) = coupled_in hosts (between ++ last) l in
-            counted hosts (between ++ last) l s q Receiver a b
-            (((all_tied hosts (origin_in (crossings_of (between ++ last))) (between ++ last) (are_origins 0 (crossings_of (between ++ last)) [] (between ++ last) refl) c.story c.run (served_in hosts (between ++ last) l.2)).tied a b).receiver s q)
-            j.floor j.other (side_of s Sender b a (between ++ last)) j.here mine e e_in e_own e_foreign
-
-        unsent : is_sent e.closing ≡ false
-        unsent = by (is_sent e.closing) refl where
-          by : (v : Bool) → is_sent e.closing ≡ v → v ≡ false
-          by false t = refl
-          by true t = absurd (let two : (true && true) ≡ false = ap (λ (v : Bool). v && true) (sym t) ∙ ap (λ (v : Bool). is_sent e.closing && v) (sym heard) ∙ here.live in cc)
 
         there : Counted (side_of s Sender b a last).said (side_of s Sender b a last).heard (is_sent f.closing) f.partner_closed
         there =
@@ -188,5 +202,5 @@ module _ (hosts : List Host) (between last : List Moment) (l : Lawful hosts (bet
         down : closes (side_of s Sender b a last).heard ≤ closes (side_of s Receiver a b (between ++ last)).said
         down =
             let heard_before : closes (side_of s Sender b a last).heard ≤ closes (side_of s Receiver a b last).said = closes_said _ _ k.there.older in
-            let more : closes (side_of s Receiver a b last).said ≤ closes (side_of s Receiver a b (between ++ last)).said = grows_on s Receiver a b between last left in
-            omega (arith, heard_before, more)
+            let grown : closes (side_of s Receiver a b last).said ≤ closes (side_of s Receiver a b (between ++ last)).said = grows_on s Receiver a b between last left in
+            omega (arith, heard_before, grown)

@@ -80,6 +80,7 @@ module _ (a b : Host) (Own Heard : List Moment → ℕ → ℕ → ℕ → ℕ �
     pub g : ℕ
     pub gave : Gave s (sender_now numbered_by_peer a (suc link) (own_calls b a ms)) (numbered s.foreign s.socket g)
     pub heard : Heard ms s.foreign s.socket s.partner_stamp g
+    pub gone : s.ended ≡ true → suc g ≤ gone_now a (own_calls b a ms) s.socket s.foreign
 
   pub record HasReceives (ms : List Moment) (n c : ℕ) : Type 0 where
     pub life : Life

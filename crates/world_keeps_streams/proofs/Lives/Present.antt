@@ -126,6 +126,7 @@ module _ (hosts : List Host) (a b : Host) (mine : (ms : List Moment) → Lawful 
             messages = t.messages;
           };
           heard = heard_request stays (suc n) g x i r c;
+          gone = c.over;
         }
 
   -- ---- lives that are there

@@ -21,10 +21,9 @@ use Rattle.sockets.specs.Worked.{first, second}
 use Rattle.world_keeps_streams.specs.Calls.{own_calls}
 use Rattle.world_keeps_lives.specs.WorkedFormed.{gave}
 use Rattle.world_keeps_streams.specs.Closes.{IsClosedByPartner, WasClosedBy}
-use Rattle.world_keeps_streams.specs.Worked.{close_back, close_sent, closing_moments, ended_moments, quit_moments, stopped_moments, took_eight}
+use Rattle.world_keeps_streams.specs.Worked.{close_back, ended_moments, over_gave, quit_moments, stopped_moments, took_eight}
 use Rattle.net_sim.specs.Story.{Crossed, program}
 use Rattle.net_sim.specs.Worked.{eight}
-use Rattle.net_sim.specs.WorkedMoments.{sent_moments}
 use Rattle.world_keeps_lives.proofs.lemmas.{none_there}
 use Rattle.world_keeps_streams.proofs.law.worked_closes.Goals as goal
 
@@ -130,14 +129,9 @@ unfolding octets_of orders_of read_of command_of packed_count accepted refusal s
 closed_by = record {
   closed = record { there = (1, omega arith, refl); later = []; earlier = ended_moments; is = refl; receiver = took_eight; then = closed_there; same = refl };
   matches = record { receiving = refl; sending = refl; peers = (refl, refl); sockets = (refl, refl); asked = refl; answered = refl };
-  between = [];
-  last = ended_moments;
-  parts = refl;
   partner = gave;
   there = (0, omega arith, refl);
-  goes = refl;
   same = refl;
-  left = tt;
 }
 
 closed_here : IsClosedByPartner stopped_moments took_eight
@@ -165,19 +159,10 @@ unfolding octets_of orders_of read_of command_of packed_count accepted refusal s
 returns-clause-left c = record {
   closed = record { there = (1, omega arith, refl); later = []; earlier = stopped_moments; is = refl; receiver = took_eight; then = closed_here; same = refl };
   matches = record { receiving = refl; sending = refl; peers = (refl, refl); sockets = (refl, refl); asked = refl; answered = refl };
-  between = Crossed (crossing.In close_sent) ∷ Crossed (crossing.Down second) ∷ [];
-  last = closing_moments sent_moments;
-  parts = refl;
-  partner = gave;
+  partner = over_gave;
   there = (0, omega arith, refl);
-  goes = refl;
   same = refl;
-  left = (refl, (refl, tt));
 }
-
-pub returns-clause-stays : goal.returns-clause-stays
-unfolding octets_of orders_of read_of command_of packed_count accepted refusal served served_notices next_out offered
-returns-clause-stays c h = let no : true ≡ false = h.0 in absurd (cc)
 
 pub returns-clause-whole : goal.returns-clause-whole
 returns-clause-whole c = closed_by

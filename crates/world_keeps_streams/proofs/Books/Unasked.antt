@@ -1,0 +1,160 @@
+-- The requests that a host said since it met its peer last aren't those of lives from before.
+use Rattle.std.proofs.Common.{◌≡◌, ◌⊎◌, inl, inr, ℕ, suc, ◌<◌, ◌==◌, ◌&&◌, if◌then◌else◌, Bool, true, false, List, [], ◌∷◌, ◌++◌, length, map, take, refl, ap, sym, subst, ◌∙◌, arith}
+use Rattle.std.specs.List.{Contains}
+use Rattle.interface.specs.Host.{Host}
+use Rattle.interface.specs.declared.crossing.Crossing.{Crossing}
+use Rattle.interface.specs.declared.crossing.Crossing.TheVariants as crossing
+use Rattle.ncp_control.specs.Numbers.{is_send_socket}
+use Rattle.ncp_control.specs.declared.command.Command.{Command}
+use Rattle.ncp_control.specs.declared.command.Command.TheVariants as command
+use Rattle.host_pairs.specs.Control.{Legal, Order, Wrong, orders_of}
+use Rattle.host_keeps_pairing.specs.Words.{mark_of, marks_in}
+use Rattle.pairing_law.specs.Links.{Receiver, Sender, Sockets}
+use Rattle.pairing_law.specs.Marks.{Ask, Asks, Close, Mark}
+use Rattle.pairing_law.specs.Places.{placed_event, tagged}
+use Rattle.pairing_law.specs.Sides.{Side, says}
+use Rattle.reset_law.specs.Events.{Contact, Down, Event, Idle, In, Other, Out, Reply, Reset, Told, Up, are, place}
+use Rattle.reset_law.specs.Stays as stay
+use Rattle.reset_law.proofs.lemmas.{begins_either}
+use Rattle.promise.specs.Formed.{CrossedAt}
+use Rattle.promise.specs.Safe.{sends}
+use Rattle.promise.specs.declared.life.Life.{Life}
+use Rattle.net_sim.specs.Story.{Moment, event_in, events_of}
+use Rattle.net_sim.specs.Timeline.{crossings_of}
+use Rattle.net_sim.proofs.lemmas.{place_same}
+use Rattle.world_keeps_lives.specs.Firsts.{FirstBook, Linked}
+use Rattle.world_keeps_pairing.specs.Free.{law_events}
+use Rattle.world_keeps_pairing.proofs.lemmas.{IsPair, all_says, at_texts, before, foreign_of, heard_is, met_if, own_of}
+use Rattle.world_keeps_streams.proofs.Books.All.{all_given}
+use Rattle.world_keeps_streams.proofs.Books.Clauses.{Older, older, settled_s}
+use Rattle.world_keeps_streams.proofs.Books.Counts.{side_of}
+use Rattle.world_keeps_streams.proofs.Books.Firsts.{firsts}
+use Rattle.world_keeps_streams.proofs.Books.Goes.{since_bound, since_on}
+use Rattle.world_keeps_streams.proofs.Books.Parted.{said_now}
+use Rattle.world_keeps_streams.proofs.Books.Run.{below}
+use Rattle.world_keeps_streams.proofs.Books.Whole.{since}
+use Rattle.world_keeps_streams.proofs.Lives.Lists.{IsOf, of_take}
+use Rattle.world_keeps_streams.proofs.Requests.Sides.{Heard, Lawful, Own, begins_same, lives_in}
+
+-- ---- where a request went out
+
+abbrev pub AllAt : ℕ → List Mark → Type 0
+AllAt n [] = Unit {0}
+AllAt n (Ask k ∷ ms) = (k ≡ n) × AllAt n ms
+AllAt n (Close ∷ ms) = AllAt n ms
+
+all_at_both : (n : ℕ) (xs ys : List Mark) → AllAt n xs → AllAt n ys → AllAt n (xs ++ ys)
+all_at_both n [] ys a b = b
+all_at_both n (Ask k ∷ xs) ys a b = (a.0, all_at_both n xs ys a.1 b)
+all_at_both n (Close ∷ xs) ys a b = all_at_both n xs ys a b
+
+at_if : (n : ℕ) (v : Bool) (m : Mark) → AllAt n (m ∷ []) → AllAt n (if v then m ∷ [] else [])
+at_if n true m a = a
+at_if n false m a = tt
+
+of_command : (n own foreign : ℕ) (c : Command) → AllAt n (mark_of n own foreign c)
+of_command n own foreign (command.Rts receive send link) = at_if n (receive == own && send == foreign) (Ask n) (refl, tt)
+of_command n own foreign (command.Str send receive size) = at_if n (send == own && receive == foreign) (Ask n) (refl, tt)
+of_command n own foreign (command.Cls mine yours) = at_if n (mine == own && yours == foreign) Close tt
+of_command n own foreign (command.All l a b) = tt
+of_command n own foreign (command.Gvb l a b) = tt
+of_command n own foreign (command.Ret l a b) = tt
+of_command n own foreign (command.Inr l) = tt
+of_command n own foreign (command.Ins l) = tt
+of_command n own foreign (command.Eco octet) = tt
+of_command n own foreign (command.Erp octet) = tt
+of_command n own foreign (command.Err code detail) = tt
+of_command n own foreign command.Nop = tt
+of_command n own foreign command.Rst = tt
+of_command n own foreign command.Rrp = tt
+
+of_orders : (n own foreign : ℕ) (orders : List Order) → AllAt n (marks_in n own foreign orders)
+of_orders n own foreign [] = tt
+of_orders n own foreign (Legal c ∷ orders) = all_at_both n (mark_of n own foreign c) (marks_in n own foreign orders) (of_command n own foreign c) (of_orders n own foreign orders)
+of_orders n own foreign (Wrong code octets ∷ orders) = of_orders n own foreign orders
+
+-- what a sender says by an event it says at its place
+module _ (s : Sockets) (q : IsPair s) (h p : Host) where
+  of_event : (e : Event) (events : List Event) → AllAt (place events) (at_texts s Sender (stay.said_by h p 0 (placed_event e events)))
+  of_event (Contact x y) events = tt
+  of_event (In x y k m) events = tt
+  of_event (Told x y k kind) events = tt
+  of_event (Down x) events = tt
+  of_event (Up x) events = tt
+  of_event Idle events = tt
+  of_event (Out x y k Reset) events = tt
+  of_event (Out x y k Reply) events = tt
+  of_event (Out x y k (Other text)) events = by (are h p x y && 0 == k) where
+    by : (v : Bool) → AllAt (place events) (at_texts s Sender (if v then tagged (place events) text ∷ [] else []))
+    by false = tt
+    by true =
+        subst (λ (ms : List Mark). AllAt (place events) ms) (sym (heard_is s q Receiver (place events) text))
+        (of_orders (place events) (foreign_of Receiver s) (own_of Receiver s) (orders_of text))
+
+-- what is asked for after marks was asked for before, or is of their place
+asked_by : (k n there : ℕ) (ms : List Mark) (x : Side) → AllAt there ms → Asks k n (all_says ms x).said → (n ≡ there) ⊎ Asks k n x.said
+asked_by k n there [] x at a = inr a
+asked_by k n there (Ask j ∷ ms) x at a = elim (asked_by k n there ms (says (Ask j) x) at.1 a) [ inl is ↦ inl is | inr b ↦ by x.stays b ] where
+  by : (v : Bool) → Asks k n (if v then Ask j ∷ x.said else x.said) → (n ≡ there) ⊎ Asks k n x.said
+  by true (inl new) = inl (new.0 ∙ at.0)
+  by true (inr old) = inr old
+  by false b = inr b
+asked_by k n there (Close ∷ ms) x at a = elim (asked_by k n there ms (says Close x) at a) [ inl is ↦ inl is | inr b ↦ by x.stays b ] where
+  by : (v : Bool) → Asks k n (if v then Close ∷ x.said else x.said) → (n ≡ there) ⊎ Asks k n x.said
+  by true b = inr b
+  by false b = inr b
+
+-- ---- a life's own request went out before
+
+crossed_less : (n : ℕ) (c : Crossing) (log : List Crossing) → CrossedAt n c log → n < length log
+crossed_less n c [] h = absurd h
+crossed_less n c (d ∷ log) (inl here) = let e : n ≡ length log = here.1 in omega (arith, e)
+crossed_less n c (d ∷ log) (inr older) = let l : n < length log = crossed_less n c log older in omega (arith, l)
+
+life_of_link : (x : Life) (links : List Linked) → IsOf x (map (λ (p : Linked). p.life) links) → (p : Linked) × Contains links p × (p.life ≡ x)
+life_of_link x [] i = absurd i
+life_of_link x (p ∷ links) (inl e) = (p, (0, omega arith, refl), sym e)
+life_of_link x (p ∷ links) (inr i) =
+    let r : (v : Linked) × Contains links v × (v.life ≡ x) = life_of_link x links i in
+    (r.0, (suc r.1.0, (let l : r.1.0 < length links = r.1.1 in omega (arith, l)), r.1.2), r.2)
+
+own_below : (hosts : List Host) (ms : List Moment) → Lawful hosts ms → (x : Life) → IsOf x (lives_in ms) → x.own_stamp < length (crossings_of ms)
+own_below hosts ms l x i =
+    let b : FirstBook (crossings_of ms) (lives_in ms) = firsts hosts ms l in
+    let r : (p : Linked) × Contains b.links p × (p.life ≡ x) = life_of_link x b.links (subst (λ (ys : List Life). IsOf x ys) (sym b.all) i) in
+    let c : CrossedAt r.0.life.own_stamp (crossing.Out (b.first r.0 r.1).own.message) (crossings_of ms) = (b.first r.0 r.1).own.crossed in
+    subst (λ (y : Life). y.own_stamp < length (crossings_of ms)) r.2 (crossed_less r.0.life.own_stamp (crossing.Out (b.first r.0 r.1).own.message) (crossings_of ms) c)
+
+-- ---- lives from before both met last
+
+module _ (hosts : List Host) (a b : Host) (s : Sockets) (q : IsPair s) where
+  said_new : (y : Moment) (ms : List Moment) → stay.begins a b (event_in y) (events_of ms) ≡ true → (side_of s Sender b a (y ∷ ms)).said ≡ []
+  said_new y ms new =
+      let begins : stay.begins b a (placed_event (event_in y) (events_of ms)) (law_events ms) ≡ true =
+      begins_same b a (event_in y) (events_of ms) ∙ begins_either b a (event_in y) (events_of ms) ∙ new in
+      ap (λ (v : Bool). (met_if v (before b a (at_texts s Sender) (at_texts s Receiver) (placed_event (event_in y) (events_of ms)) (law_events ms) (side_of s Sender b a ms))).said) begins
+
+  pub unasked : (ms : List Moment) → Lawful hosts ms → (x : Life) → IsOf x (take (since a b ms) (lives_in ms)) → x.host ≡ b → x.peer ≡ a → sends x ≡ true
+      → (k : ℕ) → Asks k x.own_stamp (side_of s Sender b a ms).said → ⊥
+  unasked [] l x i host peer kind k asks = absurd i
+  unasked (y ∷ ms) l x i host peer kind k asks = by (stay.begins a b (event_in y) (events_of ms)) refl (unasked ms (below hosts y ms l)) where
+    by : (v : Bool) → stay.begins a b (event_in y) (events_of ms) ≡ v
+        → ((z : Life) → IsOf z (take (since a b ms) (lives_in ms)) → z.host ≡ b → z.peer ≡ a → sends z ≡ true → (k : ℕ) → Asks k z.own_stamp (side_of s Sender b a ms).said → ⊥) → ⊥
+    by true new rest = subst (λ (word : List Mark). Asks k x.own_stamp word) (said_new y ms new) asks
+    by false none rest =
+        let o : Older (since a b ms) ms y x = older (since a b ms) ms y x (since_bound a b ms) (subst (λ (n : ℕ). IsOf x (take n (lives_in (y ∷ ms)))) (since_on a b y ms none) i) in
+        let kind_o : sends o.life ≡ true = ap is_send_socket o.socket ∙ kind in
+        let over : o.life.ended ≡ true = (settled_s hosts a b (Own a b) (Heard a b) (all_given hosts a b) ms (below hosts y ms l) o.life o.there (o.host ∙ host) (o.peer ∙ peer) kind_o).over in
+        let same : x.own_stamp ≡ o.life.own_stamp = ap (λ (z : Life). z.own_stamp) (o.same over) in
+        let begins : stay.begins b a (placed_event (event_in y) (events_of ms)) (law_events ms) ≡ false =
+        begins_same b a (event_in y) (events_of ms) ∙ begins_either b a (event_in y) (events_of ms) ∙ none in
+        let spoke : Asks k x.own_stamp (all_says (at_texts s Sender (stay.said_by b a 0 (placed_event (event_in y) (events_of ms)))) (side_of s Sender b a ms)).said =
+        subst (λ (word : List Mark). Asks k x.own_stamp word)
+        (said_now b a (at_texts s Sender) (at_texts s Receiver) (placed_event (event_in y) (events_of ms)) (law_events ms) (side_of s Sender b a ms) begins) asks in
+        elim (asked_by k x.own_stamp (place (events_of ms)) (at_texts s Sender (stay.said_by b a 0 (placed_event (event_in y) (events_of ms)))) (side_of s Sender b a ms) (of_event s q b a (event_in y) (events_of ms)) spoke) [
+          | inl new ↦
+              (let less : o.life.own_stamp < length (crossings_of ms) = own_below hosts ms (below hosts y ms l) o.life (of_take (since a b ms) o.life (lives_in ms) o.there) in
+              let here : place (events_of ms) ≡ length (crossings_of ms) = place_same ms in
+              absurd (omega (arith, less, here, new, same)))
+          | inr old ↦ rest o.life o.there (o.host ∙ host) (o.peer ∙ peer) kind_o k (subst (λ (n : ℕ). Asks k n (side_of s Sender b a ms).said) same old)
+        ]
