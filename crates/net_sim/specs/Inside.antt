@@ -6,6 +6,7 @@ pub mod Places
 pub mod Endings
 pub mod Seats
 pub mod Parts
+pub mod Growing
 pub mod Held
 pub mod Calm
 pub mod Undo

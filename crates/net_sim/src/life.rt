@@ -5,6 +5,7 @@ ghost use Rattle.net_sim.specs.Book as book;
 ghost use Rattle.net_sim.specs.Book.{lives_at, lives_between, lives_with, lives_on, changed_when};
 ghost use Rattle.net_sim.specs.Inside.Counts.{IsWithin};
 ghost use Rattle.net_sim.specs.Inside.Endings.{ends};
+ghost use Rattle.net_sim.specs.Inside.Growing.{grown};
 ghost use Rattle.net_sim.specs.Inside.Undo.{AreNoted, IsEndNoted, IsNoted, cut_amount, life_back, mark_of};
 
 use crate::tally::Tally;
@@ -39,6 +40,30 @@ pub(crate) enum Ending {
     On {
         /// The host whose lives they are.
         host: HostAddr,
+    },
+}
+
+/// By what a life grows.
+#[derive(Drop)]
+pub(crate) enum Growth<'a> {
+    /// A message that was sent or taken.
+    Message {
+        /// Its bits.
+        bits: &'a Bits,
+    },
+    /// What was granted.
+    Grant {
+        /// How many messages.
+        messages: u16,
+        /// How many bits.
+        bits: u32,
+    },
+    /// What was returned of that.
+    Return {
+        /// How many messages.
+        messages: u16,
+        /// How many bits.
+        bits: u32,
     },
 }
 
@@ -155,19 +180,18 @@ pub(crate) fn put_back(life: &mut Life, was: &Mark)
     cut_to(&mut life.returned, &was.returned);
 }
 
-/// Adds a message that was sent or taken at a socket to this life, with its bits: in this life, where it is that of
-/// the socket. How it was is noted.
-pub(crate) fn carry_at(
+/// Lets a life grow, where it is that of the socket. How it was is noted.
+pub(crate) fn grow_at(
     life: &mut Life,
     at: usize,
     host: HostAddr,
     socket: u32,
-    bits: &Bits,
+    growth: &Growth,
     changes: &mut Tally,
     done: &mut Vec<Undo>,
 ) -> Result<(), AllocError>
     requires { IsWithin changes.old life.old }
-    ensures done { OnOk result (life.new ≡ changed_when (lives_at host socket life.old) (book.carried bits.now) life.old) }
+    ensures done { OnOk result (life.new ≡ changed_when (lives_at host socket life.old) (grown growth.now) life.old) }
     ensures noted { IsNoted at done.old.items life.old done.new.items life.new }
     ensures within { IsWithin changes.new life.new }
     ensures more { changes.old ≤ changes.new }
@@ -180,66 +204,14 @@ pub(crate) fn carry_at(
         at,
         was: mark(life),
     })?;
-    life.bits.append(bits)?;
-    life.messages += 1;
-    Ok(())
-}
-
-/// Adds what was granted at a socket. How the life was is noted.
-pub(crate) fn grant_at(
-    life: &mut Life,
-    at: usize,
-    host: HostAddr,
-    socket: u32,
-    messages: u16,
-    bits: u32,
-    changes: &mut Tally,
-    done: &mut Vec<Undo>,
-) -> Result<(), AllocError>
-    requires { IsWithin changes.old life.old }
-    ensures done { OnOk result (life.new ≡ changed_when (lives_at host socket life.old) (book.granted messages bits) life.old) }
-    ensures noted { IsNoted at done.old.items life.old done.new.items life.new }
-    ensures within { IsWithin changes.new life.new }
-    ensures more { changes.old ≤ changes.new }
-{
-    if !is_at(life, host, socket) {
-        return Ok(());
+    match growth {
+        Growth::Message { bits } => {
+            life.bits.append(bits)?;
+            life.messages += 1;
+        }
+        Growth::Grant { messages, bits } => add_to(&mut life.granted, *messages, *bits),
+        Growth::Return { messages, bits } => add_to(&mut life.returned, *messages, *bits),
     }
-    changes.add_one()?;
-    done.push(Undo::Changed {
-        at,
-        was: mark(life),
-    })?;
-    add_to(&mut life.granted, messages, bits);
-    Ok(())
-}
-
-/// Adds what was returned at a socket. How the life was is noted.
-pub(crate) fn give_back_at(
-    life: &mut Life,
-    at: usize,
-    host: HostAddr,
-    socket: u32,
-    messages: u16,
-    bits: u32,
-    changes: &mut Tally,
-    done: &mut Vec<Undo>,
-) -> Result<(), AllocError>
-    requires { IsWithin changes.old life.old }
-    ensures done { OnOk result (life.new ≡ changed_when (lives_at host socket life.old) (book.returned messages bits) life.old) }
-    ensures noted { IsNoted at done.old.items life.old done.new.items life.new }
-    ensures within { IsWithin changes.new life.new }
-    ensures more { changes.old ≤ changes.new }
-{
-    if !is_at(life, host, socket) {
-        return Ok(());
-    }
-    changes.add_one()?;
-    done.push(Undo::Changed {
-        at,
-        was: mark(life),
-    })?;
-    add_to(&mut life.returned, messages, bits);
     Ok(())
 }
 

@@ -7,12 +7,13 @@ ghost use Rattle.net_sim.specs.Book.{lives_at, where_it, handed_to};
 ghost use Rattle.net_sim.specs.Inside.Counts.{AreWithin, IsWithin};
 ghost use Rattle.net_sim.specs.Inside.Endings.{ends};
 ghost use Rattle.net_sim.specs.Inside.Lives as all;
-ghost use Rattle.net_sim.specs.Inside.Lives.{LivesState};
+ghost use Rattle.net_sim.specs.Inside.Growing.{grown};
+ghost use Rattle.net_sim.specs.Inside.Lives.{LivesState, handed_over, lives_grown, state};
 ghost use Rattle.net_sim.specs.Inside.Open.{AreKept, Holds};
 ghost use Rattle.net_sim.specs.Inside.Undo.{all_undone, GoesBack};
 
 use crate::book::Page;
-use crate::life::{Ending, carry_at, end_at, give_back_at, grant_at, hand_at, nothing};
+use crate::life::{Ending, Growth, end_at, grow_at, hand_at, nothing};
 use crate::open::Open;
 use crate::tally::Tally;
 use crate::undo::{Undo, take_back};
@@ -62,7 +63,7 @@ fn end(
     ensures done { OnOk result (lives.new ≡ where_it (ends ending.now) book.life_ended lives.old) }
     ensures kept { AreKept lives.old lives.new }
     ensures within { (n : ℕ) → AreWithin n lives.old → AreWithin n lives.new }
-    ensures back { (handed : List (List Bool)) → GoesBack done.old.items (record { lives = lives.old; handed = handed }) done.new.items (record { lives = lives.new; handed = handed }) }
+    ensures back { (handed : List (List Bool)) → GoesBack done.old.items (state lives.old handed) done.new.items (state lives.new handed) }
 {
     for at in places {
         end_at(&mut lives[*at], *at, ending, done)?;
@@ -70,91 +71,25 @@ fn end(
     Ok(())
 }
 
-/// Adds a message that was sent or taken to the life of a socket.
-fn carry(
+/// Lets the life of a socket grow.
+fn grow(
     lives: &mut [Life],
     places: &[usize],
     host: HostAddr,
     socket: u32,
-    bits: &Bits,
+    growth: &Growth,
     changes: &mut Tally,
     done: &mut Vec<Undo>,
 ) -> Result<(), AllocError>
     requires places { Holds (lives_at host socket) places.now lives.old }
     requires within { AreWithin changes.old lives.old }
-    ensures done { OnOk result (lives.new ≡ where_it (lives_at host socket) (book.carried bits.now) lives.old) }
+    ensures done { OnOk result (lives.new ≡ where_it (lives_at host socket) (grown growth.now) lives.old) }
     ensures kept { AreKept lives.old lives.new }
     ensures within { AreWithin changes.new lives.new }
-    ensures back { (handed : List (List Bool)) → GoesBack done.old.items (record { lives = lives.old; handed = handed }) done.new.items (record { lives = lives.new; handed = handed }) }
+    ensures back { (handed : List (List Bool)) → GoesBack done.old.items (state lives.old handed) done.new.items (state lives.new handed) }
 {
     for at in places {
-        carry_at(&mut lives[*at], *at, host, socket, bits, changes, done)?;
-    }
-    Ok(())
-}
-
-/// Adds what was granted to the life of a socket.
-fn grant(
-    lives: &mut [Life],
-    places: &[usize],
-    host: HostAddr,
-    socket: u32,
-    messages: u16,
-    bits: u32,
-    changes: &mut Tally,
-    done: &mut Vec<Undo>,
-) -> Result<(), AllocError>
-    requires places { Holds (lives_at host socket) places.now lives.old }
-    requires within { AreWithin changes.old lives.old }
-    ensures done { OnOk result (lives.new ≡ where_it (lives_at host socket) (book.granted messages bits) lives.old) }
-    ensures kept { AreKept lives.old lives.new }
-    ensures within { AreWithin changes.new lives.new }
-    ensures back { (handed : List (List Bool)) → GoesBack done.old.items (record { lives = lives.old; handed = handed }) done.new.items (record { lives = lives.new; handed = handed }) }
-{
-    for at in places {
-        grant_at(
-            &mut lives[*at],
-            *at,
-            host,
-            socket,
-            messages,
-            bits,
-            changes,
-            done,
-        )?;
-    }
-    Ok(())
-}
-
-/// Adds what was returned to the life of a socket.
-fn give_back(
-    lives: &mut [Life],
-    places: &[usize],
-    host: HostAddr,
-    socket: u32,
-    messages: u16,
-    bits: u32,
-    changes: &mut Tally,
-    done: &mut Vec<Undo>,
-) -> Result<(), AllocError>
-    requires places { Holds (lives_at host socket) places.now lives.old }
-    requires within { AreWithin changes.old lives.old }
-    ensures done { OnOk result (lives.new ≡ where_it (lives_at host socket) (book.returned messages bits) lives.old) }
-    ensures kept { AreKept lives.old lives.new }
-    ensures within { AreWithin changes.new lives.new }
-    ensures back { (handed : List (List Bool)) → GoesBack done.old.items (record { lives = lives.old; handed = handed }) done.new.items (record { lives = lives.new; handed = handed }) }
-{
-    for at in places {
-        give_back_at(
-            &mut lives[*at],
-            *at,
-            host,
-            socket,
-            messages,
-            bits,
-            changes,
-            done,
-        )?;
+        grow_at(&mut lives[*at], *at, host, socket, growth, changes, done)?;
     }
     Ok(())
 }
@@ -171,7 +106,7 @@ fn hand(
 ) -> Result<(), AllocError>
     requires { Holds (lives_at host socket) places.now lives.now }
     ensures done { OnOk result (handed.new ≡ handed_to (lives_at host socket) bits.now lives.now handed.old) }
-    ensures back { GoesBack done.old.items (record { lives = lives.now; handed = handed.old }) done.new.items (record { lives = lives.now; handed = handed.new }) }
+    ensures back { GoesBack done.old.items (state lives.now handed.old) done.new.items (state lives.now handed.new) }
 {
     for at in places {
         if *at < handed.len() {
@@ -227,77 +162,25 @@ impl Lives {
         end(&mut self.lives, self.open.of(ending), ending, done)
     }
 
-    /// Adds a message that was sent or taken to the life of a socket.
-    fn carry(
+    /// Lets the life of a socket grow.
+    fn grow(
         &mut self,
         host: HostAddr,
         socket: u32,
-        bits: &Bits,
+        growth: &Growth,
         done: &mut Vec<Undo>,
     ) -> Result<(), AllocError>
-        ensures done { OnOk result (self.new ≡ record { lives = where_it (lives_at host socket) (book.carried bits.now) self.old.lives; handed = self.old.handed }) }
+        ensures done { OnOk result (self.new ≡ lives_grown host socket growth.now self.old) }
         ensures back { GoesBack done.old.items self.old done.new.items self.new }
     {
         self.open.know(self.alloc, &self.lives)?;
         let places = self.open.at(host, socket);
-        carry(
+        grow(
             &mut self.lives,
             places,
             host,
             socket,
-            bits,
-            &mut self.changes,
-            done,
-        )
-    }
-
-    /// Adds what was granted to the life of a socket.
-    fn grant(
-        &mut self,
-        host: HostAddr,
-        socket: u32,
-        messages: u16,
-        bits: u32,
-        done: &mut Vec<Undo>,
-    ) -> Result<(), AllocError>
-        ensures done { OnOk result (self.new ≡ record { lives = where_it (lives_at host socket) (book.granted messages bits) self.old.lives; handed = self.old.handed }) }
-        ensures back { GoesBack done.old.items self.old done.new.items self.new }
-    {
-        self.open.know(self.alloc, &self.lives)?;
-        let places = self.open.at(host, socket);
-        grant(
-            &mut self.lives,
-            places,
-            host,
-            socket,
-            messages,
-            bits,
-            &mut self.changes,
-            done,
-        )
-    }
-
-    /// Adds what was returned to the life of a socket.
-    fn give_back(
-        &mut self,
-        host: HostAddr,
-        socket: u32,
-        messages: u16,
-        bits: u32,
-        done: &mut Vec<Undo>,
-    ) -> Result<(), AllocError>
-        ensures done { OnOk result (self.new ≡ record { lives = where_it (lives_at host socket) (book.returned messages bits) self.old.lives; handed = self.old.handed }) }
-        ensures back { GoesBack done.old.items self.old done.new.items self.new }
-    {
-        self.open.know(self.alloc, &self.lives)?;
-        let places = self.open.at(host, socket);
-        give_back(
-            &mut self.lives,
-            places,
-            host,
-            socket,
-            messages,
-            bits,
+            growth,
             &mut self.changes,
             done,
         )
@@ -311,7 +194,7 @@ impl Lives {
         bits: &Bits,
         done: &mut Vec<Undo>,
     ) -> Result<(), AllocError>
-        ensures done { OnOk result (self.new ≡ record { lives = self.old.lives; handed = handed_to (lives_at host socket) bits.now self.old.lives self.old.handed }) }
+        ensures done { OnOk result (self.new ≡ handed_over host socket bits.now self.old) }
         ensures back { GoesBack done.old.items self.old done.new.items self.new }
     {
         self.open.know(self.alloc, &self.lives)?;
@@ -405,13 +288,19 @@ impl Lives {
             }
             Notice::PairReset { peer } => self.end(&Ending::With { host, peer: *peer }, done),
             Notice::Sent { socket, bits } | Notice::Arrived { socket, bits } => {
-                self.carry(host, *socket, bits, done)
+                self.grow(host, *socket, &Growth::Message { bits }, done)
             }
             Notice::Returned {
                 socket,
                 messages,
                 bits,
-            } => self.give_back(host, *socket, *messages, *bits, done),
+            } => {
+                let growth = Growth::Return {
+                    messages: *messages,
+                    bits: *bits,
+                };
+                self.grow(host, *socket, &growth, done)
+            }
             Notice::Ready { .. }
             | Notice::ContactFailed { .. }
             | Notice::Interrupt { .. }
@@ -435,7 +324,13 @@ impl Lives {
                 socket,
                 messages,
                 bits,
-            } => self.grant(host, *socket, *messages, *bits, done),
+            } => {
+                let growth = Growth::Grant {
+                    messages: *messages,
+                    bits: *bits,
+                };
+                self.grow(host, *socket, &growth, done)
+            }
             Request::Send { socket, bits } => self.hand(host, *socket, bits, done),
             Request::Contact { .. }
             | Request::Listen { .. }

@@ -3,13 +3,11 @@ use Rattle.std.proofs.Common.{◌≡◌, inl, inr, ℕ, ◌+◌, ◌<◌, ◌≤
 use Rattle.std.proofs.lemmas.List.{drop_more}
 use Rattle.std.proofs.Math.Seq.{take-append_seam}
 use Rattle.promise.specs.declared.life.Life.{Life}
+pub use Rattle.net_sim.specs.Inside.Lives.{state}
 use Rattle.net_sim.specs.Inside.Lives.{LivesState}
 use Rattle.net_sim.specs.Inside.Places.{changed_here}
 use Rattle.net_sim.specs.Inside.Undo.{Undo, life_back, reopened, cut_here, undone, all_undone, GoesBack, IsEndNoted, IsNoted, AreNoted}
 use Rattle.net_sim.specs.declared.undo.Undo.TheVariants as undo
-
-abbrev pub state : List Life → List (List Bool) → LivesState
-state lives handed = record { lives = lives; handed = handed }
 
 -- one thing more was done
 last_undone : (us : List Undo) (u : Undo) (s : LivesState) → all_undone (us ++ u ∷ []) s ≡ all_undone us (undone u s)

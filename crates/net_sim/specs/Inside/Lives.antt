@@ -9,8 +9,9 @@ use Rattle.promise.specs.declared.life.Life.{Life}
 use Rattle.promise.specs.declared.book.Told.{Told}
 use Rattle.promise.specs.declared.book.Called.{Called}
 use Rattle.host_services.specs.declared.report.Reported.{Reported}
-use Rattle.net_sim.specs.Book.{Kept, where_it, lives_crossed, lives_told, lives_asked, handed_told, handed_asked}
+use Rattle.net_sim.specs.Book.{Kept, lives_at, where_it, handed_to, lives_crossed, lives_told, lives_asked, handed_told, handed_asked}
 use Rattle.net_sim.specs.Inside.Endings.{Ending, ends}
+use Rattle.net_sim.specs.Inside.Growing.{Growth, grown}
 
 pub record LivesState : Type 0 where
   pub lives : List Life
@@ -18,6 +19,9 @@ pub record LivesState : Type 0 where
 
 abbrev pub none : LivesState
 none = record { lives = []; handed = [] }
+
+abbrev pub state : List Life → List (List Bool) → LivesState
+state lives handed = record { lives = lives; handed = handed }
 
 abbrev pub of_kept : Kept → LivesState
 of_kept k = record { lives = k.book.lives; handed = k.handed }
@@ -36,6 +40,14 @@ lives_state_told h n l = record { lives = lives_told h n l.lives; handed = hande
 
 abbrev pub asked : Host → Request → LivesState → LivesState
 asked h r l = record { lives = lives_asked h r l.lives; handed = handed_asked h r l.lives l.handed }
+
+-- the life of a host's socket grows
+abbrev pub lives_grown : Host → ℕ → Growth → LivesState → LivesState
+lives_grown h socket g l = state (where_it (lives_at h socket) (grown g) l.lives) l.handed
+
+-- bits were handed over to be sent at a host's socket
+abbrev pub handed_over : Host → ℕ → List Bool → LivesState → LivesState
+handed_over h socket bits l = state l.lives (handed_to (lives_at h socket) bits l.lives l.handed)
 
 -- in the order in which they are
 abbrev pub all_crossed : List Crossing → LivesState → LivesState

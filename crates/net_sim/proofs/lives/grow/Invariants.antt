@@ -1,16 +1,17 @@
 use Rattle.std.proofs.Common.{◌≡◌, Bool, List, drop}
-use Rattle.net_sim.specs.Book.{lives_at, granted}
+use Rattle.net_sim.specs.Book.{lives_at}
+use Rattle.net_sim.specs.Inside.Growing.{grown}
 use Rattle.net_sim.specs.Inside.Counts.{AreWithin}
 use Rattle.net_sim.specs.Inside.Open.{AreKept}
 use Rattle.net_sim.specs.Inside.Undo.{GoesBack}
 use Rattle.net_sim.proofs.Books.Places.{changed_at, where_here}
 use Rattle.net_sim.proofs.Books.Undoing.{state}
-use Rattle.net_sim.proofs.lives.grant.Given as goal
+use Rattle.net_sim.proofs.lives.grow.Given as goal
 
 -- what is left makes of the lives what the whole does, each is where it was, their counts are within what the changes allow, and what was done is noted
 abbrev pub invariant-loop-at : goal.invariant-loop-at
 invariant-loop-at l = record {
-  rest : changed_at (where_here (lives_at l.host l.socket) (granted l.messages l.bits)) (drop l.at-index l.places) l.lives ≡ changed_at (where_here (lives_at l.host l.socket) (granted l.messages l.bits)) l.places l.fn.lives;
+  rest : changed_at (where_here (lives_at l.host l.socket) (grown l.growth)) (drop l.at-index l.places) l.lives ≡ changed_at (where_here (lives_at l.host l.socket) (grown l.growth)) l.places l.fn.lives;
   kept : AreKept l.fn.lives l.lives;
   within : AreWithin l.changes l.lives;
   back : (handed : List (List Bool)) → GoesBack l.fn.done.items (state l.fn.lives handed) l.done.items (state l.lives handed);
