@@ -2,33 +2,25 @@
 
 ghost use Rattle.std.specs.Prelude.{◌≡◌};
 ghost use Rattle.net_sim.specs.Carriers.{shown};
-ghost use Rattle.net_sim.specs.Inside.Parts.{IsOnce, AreLive, hosts_of, hosts_served, running, world_ended};
+ghost use Rattle.net_sim.specs.Inside.Parts.{IsOnce, AreLive, hosts_of, hosts_served, world_after, world_of};
 ghost use Rattle.net_sim.specs.Whole.{IsNamed};
 ghost use Rattle.net_sim.specs.World.{EventGives, Net, Quiet, Offer, Take, Ask, Server, User, Typed};
 
 use crate::asking::is_addressed;
-use crate::book::Book;
 use crate::hosting::likely_place;
-use crate::parts::{
-    ask_at, change, go_out, hear, next_out, server_at, type_at, up_at, up_near, user_at,
-};
-use crate::seat::{Seat, ServiceSeat};
+use crate::parts::Hosts;
 use crate::{Event, WorldFault};
 use host_services::TypedLine;
 use interface::{Carrier, HostAddr, NetEvent};
 use sockets::Request;
-use std::alloc::Global;
 
 /// Lets an event happen inside the network, or to a host.
 pub(crate) fn happen<C: Carrier>(
-    alloc: Global,
     carrier: &mut C,
-    seats: &mut [Seat],
-    services: &mut [ServiceSeat],
-    book: &mut Book,
+    hosts: &mut Hosts,
     event: NetEvent,
 ) -> Result<(), WorldFault>
-    ensures { EventGives (shown C.calls) (running carrier.old seats.old services.old book.old) (Net event) result (world_ended carrier.new seats.new services.new book.new result) }
+    ensures { EventGives (shown C.calls) (world_of carrier.old hosts.old) (Net event) result (world_after carrier.new hosts.new result) }
 {
     let before = carrier.log().len();
     if let Err(fault) = carrier.step(event) {
@@ -38,17 +30,12 @@ pub(crate) fn happen<C: Carrier>(
     if news.is_empty() {
         return Ok(());
     }
-    change(alloc, seats, services, book, news)
+    hosts.change(news)
 }
 
 /// Passes a quiet round of the network.
-pub(crate) fn pass<C: Carrier>(
-    carrier: &mut C,
-    seats: &mut [Seat],
-    services: &mut [ServiceSeat],
-    book: &mut Book,
-) -> Result<(), WorldFault>
-    ensures { EventGives (shown C.calls) (running carrier.old seats.old services.old book.old) Quiet result (world_ended carrier.new seats.new services.new book.new result) }
+pub(crate) fn pass<C: Carrier>(carrier: &mut C, hosts: &mut Hosts) -> Result<(), WorldFault>
+    ensures { EventGives (shown C.calls) (world_of carrier.old hosts.old) Quiet result (world_after carrier.new hosts.new result) }
 {
     if let Err(fault) = carrier.quiet_round() {
         return Err(WorldFault::Carrier(fault));
@@ -58,57 +45,43 @@ pub(crate) fn pass<C: Carrier>(
 
 /// Offers a host's next message to the network. Its seat is looked for at a likely place first.
 pub(crate) fn offer<C: Carrier>(
-    alloc: Global,
     carrier: &mut C,
-    seats: &mut [Seat],
-    services: &mut [ServiceSeat],
-    book: &mut Book,
+    hosts: &mut Hosts,
     likely: usize,
     host: HostAddr,
 ) -> Result<(), WorldFault>
-    requires once { IsOnce (hosts_of seats.old) }
-    requires live { AreLive seats.old }
-    requires order { hosts_served services.old ≡ hosts_of seats.old }
-    ensures { EventGives (shown C.calls) (running carrier.old seats.old services.old book.old) (Offer host) result (world_ended carrier.new seats.new services.new book.new result) }
+    requires once { IsOnce (hosts_of hosts.old.seats.items) }
+    requires live { AreLive hosts.old.seats.items }
+    requires order { hosts_served hosts.old.services.items ≡ hosts_of hosts.old.seats.items }
+    ensures { EventGives (shown C.calls) (world_of carrier.old hosts.old) (Offer host) result (world_after carrier.new hosts.new result) }
 {
-    let at = up_near(seats, likely, host)?;
-    let Some(message) = next_out(seats, at)? else {
+    let at = hosts.up_near(likely, host)?;
+    let Some(message) = hosts.next_out(at)? else {
         return Ok(());
     };
     let before = carrier.log().len();
     if let Err(fault) = carrier.offer_out(message) {
         return Err(WorldFault::Carrier(fault));
     }
-    go_out(alloc, seats, services, at, book, &carrier.log()[before..])
+    hosts.go_out(at, &carrier.log()[before..])
 }
 
 /// Lets a host take what came for it. Its seat is looked for at a likely place first.
 pub(crate) fn take<C: Carrier>(
-    alloc: Global,
     carrier: &mut C,
-    seats: &mut [Seat],
-    services: &mut [ServiceSeat],
-    book: &mut Book,
+    hosts: &mut Hosts,
     likely: usize,
     host: HostAddr,
 ) -> Result<(), WorldFault>
-    requires once { IsOnce (hosts_of seats.old) }
-    requires live { AreLive seats.old }
-    requires order { hosts_served services.old ≡ hosts_of seats.old }
-    ensures { EventGives (shown C.calls) (running carrier.old seats.old services.old book.old) (Take host) result (world_ended carrier.new seats.new services.new book.new result) }
+    requires once { IsOnce (hosts_of hosts.old.seats.items) }
+    requires live { AreLive hosts.old.seats.items }
+    requires order { hosts_served hosts.old.services.items ≡ hosts_of hosts.old.seats.items }
+    ensures { EventGives (shown C.calls) (world_of carrier.old hosts.old) (Take host) result (world_after carrier.new hosts.new result) }
 {
-    let at = up_near(seats, likely, host)?;
+    let at = hosts.up_near(likely, host)?;
     let before = carrier.log().len();
     match carrier.take_in(host) {
-        Ok(Some(inbound)) => hear(
-            alloc,
-            seats,
-            services,
-            at,
-            book,
-            &carrier.log()[before..],
-            inbound,
-        ),
+        Ok(Some(inbound)) => hosts.hear(at, &carrier.log()[before..], inbound),
         Ok(None) => Ok(()),
         Err(fault) => Err(WorldFault::Carrier(fault)),
     }
@@ -116,131 +89,110 @@ pub(crate) fn take<C: Carrier>(
 
 /// Asks a host's program for something on behalf of its user.
 pub(crate) fn ask<C: Carrier>(
-    alloc: Global,
     carrier: &mut C,
-    seats: &mut [Seat],
-    services: &mut [ServiceSeat],
-    book: &mut Book,
+    hosts: &mut Hosts,
     host: HostAddr,
     request: &Request,
 ) -> Result<(), WorldFault>
-    requires once { IsOnce (hosts_of seats.old) }
-    requires live { AreLive seats.old }
-    requires order { hosts_served services.old ≡ hosts_of seats.old }
-    ensures { EventGives (shown C.calls) (running carrier.old seats.old services.old book.old) (Ask host request.now) result (world_ended carrier.new seats.new services.new book.new result) }
+    requires once { IsOnce (hosts_of hosts.old.seats.items) }
+    requires live { AreLive hosts.old.seats.items }
+    requires order { hosts_served hosts.old.services.items ≡ hosts_of hosts.old.seats.items }
+    ensures { EventGives (shown C.calls) (world_of carrier.old hosts.old) (Ask host request.now) result (world_after carrier.new hosts.new result) }
 {
     // for the proof only: the carrier is asked nothing else here, and `log` says what it shows, which stays the same
     let _ = carrier.log();
-    let at = up_at(seats, host)?;
-    ask_at(alloc, seats, services, at, book, request)
+    let at = hosts.up_at(host)?;
+    hosts.ask_at(at, request)
 }
 
 /// Starts a server on a host.
 pub(crate) fn begin_server<C: Carrier>(
-    alloc: Global,
     carrier: &mut C,
-    seats: &mut [Seat],
-    services: &mut [ServiceSeat],
-    book: &mut Book,
+    hosts: &mut Hosts,
     host: HostAddr,
     listen: u32,
     base: u32,
 ) -> Result<(), WorldFault>
-    requires once { IsOnce (hosts_of seats.old) }
-    requires live { AreLive seats.old }
-    requires order { hosts_served services.old ≡ hosts_of seats.old }
-    ensures { EventGives (shown C.calls) (running carrier.old seats.old services.old book.old) (Server host listen base) result (world_ended carrier.new seats.new services.new book.new result) }
+    requires once { IsOnce (hosts_of hosts.old.seats.items) }
+    requires live { AreLive hosts.old.seats.items }
+    requires order { hosts_served hosts.old.services.items ≡ hosts_of hosts.old.seats.items }
+    ensures { EventGives (shown C.calls) (world_of carrier.old hosts.old) (Server host listen base) result (world_after carrier.new hosts.new result) }
 {
     // for the proof only, as in `ask`
     let _ = carrier.log();
-    let at = up_at(seats, host)?;
-    server_at(alloc, seats, services, at, book, listen, base)
+    let at = hosts.up_at(host)?;
+    hosts.server_at(at, listen, base)
 }
 
 /// Starts a user on a host.
 pub(crate) fn begin_user<C: Carrier>(
-    alloc: Global,
     carrier: &mut C,
-    seats: &mut [Seat],
-    services: &mut [ServiceSeat],
-    book: &mut Book,
+    hosts: &mut Hosts,
     host: HostAddr,
     peer: HostAddr,
     listen: u32,
     own: u32,
 ) -> Result<(), WorldFault>
-    requires once { IsOnce (hosts_of seats.old) }
-    requires live { AreLive seats.old }
-    requires order { hosts_served services.old ≡ hosts_of seats.old }
-    ensures { EventGives (shown C.calls) (running carrier.old seats.old services.old book.old) (User host peer listen own) result (world_ended carrier.new seats.new services.new book.new result) }
+    requires once { IsOnce (hosts_of hosts.old.seats.items) }
+    requires live { AreLive hosts.old.seats.items }
+    requires order { hosts_served hosts.old.services.items ≡ hosts_of hosts.old.seats.items }
+    ensures { EventGives (shown C.calls) (world_of carrier.old hosts.old) (User host peer listen own) result (world_after carrier.new hosts.new result) }
 {
     // for the proof only, as in `ask`
     let _ = carrier.log();
-    let at = up_at(seats, host)?;
-    user_at(alloc, seats, services, at, book, peer, listen, own)
+    let at = hosts.up_at(host)?;
+    hosts.user_at(at, peer, listen, own)
 }
 
 /// Types a line at a host.
 pub(crate) fn type_line<C: Carrier>(
-    alloc: Global,
     carrier: &mut C,
-    seats: &mut [Seat],
-    services: &mut [ServiceSeat],
-    book: &mut Book,
+    hosts: &mut Hosts,
     host: HostAddr,
     line: &TypedLine,
 ) -> Result<(), WorldFault>
-    requires once { IsOnce (hosts_of seats.old) }
-    requires live { AreLive seats.old }
-    requires order { hosts_served services.old ≡ hosts_of seats.old }
-    ensures { EventGives (shown C.calls) (running carrier.old seats.old services.old book.old) (Typed host line.now) result (world_ended carrier.new seats.new services.new book.new result) }
+    requires once { IsOnce (hosts_of hosts.old.seats.items) }
+    requires live { AreLive hosts.old.seats.items }
+    requires order { hosts_served hosts.old.services.items ≡ hosts_of hosts.old.seats.items }
+    ensures { EventGives (shown C.calls) (world_of carrier.old hosts.old) (Typed host line.now) result (world_after carrier.new hosts.new result) }
 {
     // for the proof only, as in `ask`
     let _ = carrier.log();
-    let at = up_at(seats, host)?;
-    type_at(alloc, seats, services, at, book, line)
+    let at = hosts.up_at(host)?;
+    hosts.type_at(at, line)
 }
 
 /// Lets any of the eight events happen.
 pub(crate) fn follow<C: Carrier>(
-    alloc: Global,
     carrier: &mut C,
-    seats: &mut [Seat],
-    services: &mut [ServiceSeat],
-    book: &mut Book,
+    hosts: &mut Hosts,
     event: &Event,
 ) -> Result<(), WorldFault>
-    requires once { IsOnce (hosts_of seats.old) }
-    requires live { AreLive seats.old }
-    requires order { hosts_served services.old ≡ hosts_of seats.old }
-    ensures { EventGives (shown C.calls) (running carrier.old seats.old services.old book.old) event.now result (world_ended carrier.new seats.new services.new book.new result) }
+    requires once { IsOnce (hosts_of hosts.old.seats.items) }
+    requires live { AreLive hosts.old.seats.items }
+    requires order { hosts_served hosts.old.services.items ≡ hosts_of hosts.old.seats.items }
+    ensures { EventGives (shown C.calls) (world_of carrier.old hosts.old) event.now result (world_after carrier.new hosts.new result) }
 {
     match event {
-        Event::Net(event) => happen(alloc, carrier, seats, services, book, *event),
-        Event::Quiet => pass(carrier, seats, services, book),
+        Event::Net(event) => happen(carrier, hosts, *event),
+        Event::Quiet => pass(carrier, hosts),
         Event::Offer(host) => {
-            let likely = likely_place(seats, *host);
-            offer(alloc, carrier, seats, services, book, likely, *host)
+            let likely = likely_place(&hosts.seats, *host);
+            offer(carrier, hosts, likely, *host)
         }
         Event::Take(host) => {
-            let likely = likely_place(seats, *host);
-            take(alloc, carrier, seats, services, book, likely, *host)
+            let likely = likely_place(&hosts.seats, *host);
+            take(carrier, hosts, likely, *host)
         }
-        Event::Ask(host, request) => ask(alloc, carrier, seats, services, book, *host, request),
-        Event::Server { host, listen, base } => begin_server(
-            alloc, carrier, seats, services, book, *host, *listen, *base,
-        ),
+        Event::Ask(host, request) => ask(carrier, hosts, *host, request),
+        Event::Server { host, listen, base } => begin_server(carrier, hosts, *host, *listen, *base),
         Event::User {
             host,
             peer,
             listen,
             own,
-        } => begin_user(
-            alloc, carrier, seats, services, book, *host, *peer, *listen, *own,
-        ),
-        Event::Typed { host, line } => {
-            type_line(alloc, carrier, seats, services, book, *host, line)
-        }
+        } => begin_user(carrier, hosts, *host, *peer, *listen, *own),
+        Event::Typed { host, line } => { type_line(carrier, hosts, *host, line) }
     }
 }
 

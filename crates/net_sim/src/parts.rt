@@ -6,7 +6,7 @@ ghost use Rattle.host_services.specs.Services.{ServicesState, opening_desk};
 ghost use Rattle.host_services.specs.Turns.{server_begun, user_begun};
 ghost use Rattle.host_services.specs.TypedLines.{line_bits};
 ghost use Rattle.net_sim.specs.Book.{all_told, all_crossed, asked};
-ghost use Rattle.net_sim.specs.Inside.Parts.{Sits, Serves, AreDone, IsAway, IsOnce, AreLive, hosts_of};
+ghost use Rattle.net_sim.specs.Inside.Parts.{Sits, Serves, IsAway, IsOnce, AreLive, hosts_of, OfHostAt, SaysNext, AreTended, AreAnswered, AreBegun, AreRefused, LacksMemory, crossed_by, line_sent};
 ghost use Rattle.net_sim.specs.World as world;
 ghost use Rattle.net_sim.specs.World.{turn_of};
 ghost use Rattle.sockets.specs.Accepting.{accepted};
@@ -26,16 +26,19 @@ use interface::{CarrierFault, Crossing, HostAddr, HostMessage, Inbound};
 use sockets::{NcpFault, Request};
 use std::alloc::Global;
 
-/// Returns the place where a host's program runs.
-pub(crate) fn up_at(seats: &[Seat], host: HostAddr) -> Result<usize, WorldFault>
-    requires once { IsOnce (hosts_of seats.now) }
-    ensures { MatchResult result (λ at. (s : NcpState) × Sits host at s seats.now) (λ f. IsAway host f seats.now) }
-{
-    up_near(seats, likely_place(seats, host), host)
+/// The hosts of a world: their programs, what else runs on them, and the book of what happens to them.
+///
+/// The seat and the services of a host are at the same place, in the carrier's order.
+#[derive(Drop)]
+pub(crate) struct Hosts {
+    pub(crate) seats: Vec<Seat>,
+    pub(crate) services: Vec<ServiceSeat>,
+    pub(crate) book: Book,
+    pub(crate) alloc: Global,
 }
 
-/// Returns the same place, if a likely place of the host's seat is known. It is looked at before the others.
-pub(crate) fn up_near(seats: &[Seat], likely: usize, host: HostAddr) -> Result<usize, WorldFault>
+/// Returns the place where a host's program runs. A likely place of its seat is looked at before the others.
+fn up_near(seats: &[Seat], likely: usize, host: HostAddr) -> Result<usize, WorldFault>
     requires once { IsOnce (hosts_of seats.now) }
     ensures { MatchResult result (λ at. (s : NcpState) × Sits host at s seats.now) (λ f. IsAway host f seats.now) }
 {
@@ -48,33 +51,11 @@ pub(crate) fn up_near(seats: &[Seat], likely: usize, host: HostAddr) -> Result<u
     Ok(at)
 }
 
-/// Hands what came for a host to its program. The last of the log, from a place on, has just crossed.
-pub(crate) fn hear(
-    alloc: Global,
-    seats: &mut [Seat],
-    services: &mut [ServiceSeat],
-    at: usize,
-    book: &mut Book,
-    news: &[Crossing],
-    inbound: Inbound,
-) -> Result<(), WorldFault>
-    requires within { at < length seats.old }
-    requires services { at < length services.old }
-    requires live { AreLive seats.old }
-    ensures done { (h : Host) (s : NcpState) (x : ServicesState) → Sits h at s seats.old → Serves h at x services.old → OnOk result (AreDone h (turn_of h (length book.old.book.notices) x (accepted s inbound (length book.old.book.crossings))) seats.old services.old (all_told h (accepted s inbound (length book.old.book.crossings)).1 (all_crossed (reverse news.now) book.old)) seats.new services.new book.new) }
-    ensures kept { IfErr result (λ f. (f ≡ world.Program problem.OutOfMemory) × (book.new ≡ book.old)) }
-{
-    let Ok(()) = services[at].hear(alloc, &mut seats[at], book, news, inbound) else {
-        return Err(WorldFault::Program(NcpFault::OutOfMemory));
-    };
-    Ok(())
-}
-
 /// Returns what a host's program says next. It needs memory only if it says something.
 #[tactic(auto, unfolding(sockets::specs::Sending::next_out))]
-pub(crate) fn next_out(seats: &[Seat], at: usize) -> Result<Option<HostMessage>, WorldFault>
+fn next_out(seats: &[Seat], at: usize) -> Result<Option<HostMessage>, WorldFault>
     requires within { at < length seats.now }
-    ensures { (h : Host) (s : NcpState) → Sits h at s seats.now → MatchResult result (λ message. message ≡ sending.next_out s) (λ f. (is_some (sending.next_out s) ≡ true) × (f ≡ world.Program problem.OutOfMemory)) }
+    ensures { (h : Host) (s : NcpState) → Sits h at s seats.now → SaysNext s result }
 {
     let Some(program) = &seats[at].program else {
         return Ok(None);
@@ -85,71 +66,10 @@ pub(crate) fn next_out(seats: &[Seat], at: usize) -> Result<Option<HostMessage>,
     Ok(message)
 }
 
-/// Lets a host's program know that its next message went out. The last of the log, from a place on, has just crossed.
-pub(crate) fn go_out(
-    alloc: Global,
-    seats: &mut [Seat],
-    services: &mut [ServiceSeat],
-    at: usize,
-    book: &mut Book,
-    news: &[Crossing],
-) -> Result<(), WorldFault>
-    requires within { at < length seats.old }
-    requires services { at < length services.old }
-    requires live { AreLive seats.old }
-    ensures done { (h : Host) (s : NcpState) (x : ServicesState) → Sits h at s seats.old → Serves h at x services.old → OnOk result (AreDone h (turn_of h (length book.old.book.notices) x (sending.offered s (length book.old.book.crossings))) seats.old services.old (all_told h (sending.offered s (length book.old.book.crossings)).1 (all_crossed (reverse news.now) book.old)) seats.new services.new book.new) }
-    ensures kept { IfErr result (λ f. (f ≡ world.Program problem.OutOfMemory) × (book.new ≡ book.old)) }
-{
-    let Ok(()) = services[at].go_out(alloc, &mut seats[at], book, news) else {
-        return Err(WorldFault::Program(NcpFault::OutOfMemory));
-    };
-    Ok(())
-}
-
-/// Stops and starts hosts. The last of the log, from a place on, has just crossed.
-#[tactic(auto, using(crate::proofs::Books::InOrder::turned_reversed, crate::proofs::Books::InOrder::emptied_reversed))]
-pub(crate) fn change(
-    alloc: Global,
-    seats: &mut [Seat],
-    services: &mut [ServiceSeat],
-    book: &mut Book,
-    news: &[Crossing],
-) -> Result<(), WorldFault>
-    ensures done { OnOk result (seats.new ≡ world.all_turned (reverse news.now) seats.old) }
-    ensures services { OnOk result (services.new ≡ world.all_emptied (reverse news.now) services.old) }
-    ensures told { OnOk result (book.new ≡ all_crossed (reverse news.now) book.old) }
-    ensures kept { IfErr result (λ f. (f ≡ world.Program problem.OutOfMemory) × (book.new ≡ book.old)) }
-{
-    let Ok(()) = book.cross(news) else {
-        return Err(WorldFault::Program(NcpFault::OutOfMemory));
-    };
-    turn_all(alloc, seats, news);
-    empty_all(alloc, services, news);
-    Ok(())
-}
-
-/// Asks a host's program for something on behalf of its user.
-pub(crate) fn ask_at(
-    alloc: Global,
-    seats: &mut [Seat],
-    services: &mut [ServiceSeat],
-    at: usize,
-    book: &mut Book,
-    request: &Request,
-) -> Result<(), WorldFault>
-    requires within { at < length seats.old }
-    requires services { at < length services.old }
-    requires live { AreLive seats.old }
-    ensures refused { (h : Host) (s : NcpState) (f : NcpFault) → Sits h at s seats.old → refusal s request.now ≡ Some f → (result ≡ Err (world.Program f)) × ((seats.new ≡ seats.old) × ((services.new ≡ services.old) × (book.new ≡ book.old))) }
-    ensures served { (h : Host) (s : NcpState) (x : ServicesState) → Sits h at s seats.old → Serves h at x services.old → refusal s request.now ≡ None → MatchResult result (λ _. AreDone h (turn_of h (length book.old.book.notices) x (served s request.now, served_notices s request.now)) seats.old services.old (all_told h (served_notices s request.now) (asked h request.now book.old)) seats.new services.new book.new) (λ f. (f ≡ world.Program problem.OutOfMemory) × (book.new ≡ book.old)) }
-{
-    services[at].ask(alloc, &mut seats[at], book, request)
-}
-
 /// Returns why a host's program would refuse to send a line.
 #[tactic(auto, unfolding(sockets::specs::Requests::refusal))]
 fn line_refusal(seat: &Seat, socket: u32, line: &TypedLine) -> Option<NcpFault>
-    ensures { (s : NcpState) → seat.now.program ≡ Some s → result ≡ refusal s (requests.Send socket (line_bits line.now)) }
+    ensures { (s : NcpState) → seat.now.program ≡ Some s → result ≡ refusal s (line_sent socket line.now) }
 {
     let Some(program) = &seat.program else {
         return None;
@@ -157,79 +77,167 @@ fn line_refusal(seat: &Seat, socket: u32, line: &TypedLine) -> Option<NcpFault>
     program.send_refusal(socket, line.bits())
 }
 
-/// Types a line at a host, at the terminal that came last.
-pub(crate) fn type_at(
-    alloc: Global,
-    seats: &mut [Seat],
-    services: &mut [ServiceSeat],
-    at: usize,
-    book: &mut Book,
-    line: &TypedLine,
-) -> Result<(), WorldFault>
-    requires within { at < length seats.old }
-    requires services { at < length services.old }
-    requires live { AreLive seats.old }
-    ensures without { (h : Host) (x : ServicesState) → Serves h at x services.old → x.typing ≡ None → (result ≡ Err (world.Program problem.NotOpen)) × ((seats.new ≡ seats.old) × ((services.new ≡ services.old) × (book.new ≡ book.old))) }
-    ensures refused { (h : Host) (s : NcpState) (x : ServicesState) (socket : ℕ) (f : NcpFault) → Sits h at s seats.old → Serves h at x services.old → x.typing ≡ Some socket → refusal s (requests.Send socket (line_bits line.now)) ≡ Some f → (result ≡ Err (world.Program f)) × ((seats.new ≡ seats.old) × ((services.new ≡ services.old) × (book.new ≡ book.old))) }
-    ensures served { (h : Host) (s : NcpState) (x : ServicesState) (socket : ℕ) → Sits h at s seats.old → Serves h at x services.old → x.typing ≡ Some socket → refusal s (requests.Send socket (line_bits line.now)) ≡ None → MatchResult result (λ _. AreDone h (turn_of h (length book.old.book.notices) x (served s (requests.Send socket (line_bits line.now)), served_notices s (requests.Send socket (line_bits line.now)))) seats.old services.old (all_told h (served_notices s (requests.Send socket (line_bits line.now))) (asked h (requests.Send socket (line_bits line.now)) book.old)) seats.new services.new book.new) (λ f. (f ≡ world.Program problem.OutOfMemory) × (book.new ≡ book.old)) }
-{
-    let Some(socket) = services[at].services.typing() else {
-        return Err(WorldFault::Program(NcpFault::NotOpen));
-    };
-    let Ok(request) = line.request(socket.number()) else {
-        let refusal = line_refusal(&seats[at], socket.number(), line);
-        return Err(WorldFault::Program(refusal.unwrap_or(NcpFault::OutOfMemory)));
-    };
-    ask_at(alloc, seats, services, at, book, &request)
-}
+impl Hosts {
+    /// Returns the place where a host's program runs.
+    pub(crate) fn up_at(&self, host: HostAddr) -> Result<usize, WorldFault>
+        requires once { IsOnce (hosts_of self.now.seats.items) }
+        ensures { MatchResult result (λ at. (s : NcpState) × Sits host at s self.now.seats.items) (λ f. IsAway host f self.now.seats.items) }
+    {
+        self.up_near(likely_place(&self.seats, host), host)
+    }
 
-/// Starts a server at a host.
-pub(crate) fn server_at(
-    alloc: Global,
-    seats: &mut [Seat],
-    services: &mut [ServiceSeat],
-    at: usize,
-    book: &mut Book,
-    listen: u32,
-    base: u32,
-) -> Result<(), WorldFault>
-    requires within { at < length seats.old }
-    requires services { at < length services.old }
-    ensures done { (h : Host) (s : NcpState) (x : ServicesState) → Sits h at s seats.old → Serves h at x services.old → OnOk result (AreDone h (server_begun listen base x (opening_desk h (length book.old.book.notices) s)) seats.old services.old book.old seats.new services.new book.new) }
-    ensures kept { IfErr result (λ f. (f ≡ world.Program problem.OutOfMemory) × (book.new ≡ book.old)) }
-{
-    let Some(program) = seats[at].program.take() else {
-        return Ok(());
-    };
-    let Ok(program) = services[at].begin_server(alloc, book, program, listen, base) else {
-        return Err(WorldFault::Program(NcpFault::OutOfMemory));
-    };
-    seats[at].program = Some(program);
-    Ok(())
-}
+    /// Returns the same place, if a likely place of the host's seat is known. It is looked at before the others.
+    pub(crate) fn up_near(&self, likely: usize, host: HostAddr) -> Result<usize, WorldFault>
+        requires once { IsOnce (hosts_of self.now.seats.items) }
+        ensures { MatchResult result (λ at. (s : NcpState) × Sits host at s self.now.seats.items) (λ f. IsAway host f self.now.seats.items) }
+    {
+        up_near(&self.seats, likely, host)
+    }
 
-/// Starts a user at a host.
-pub(crate) fn user_at(
-    alloc: Global,
-    seats: &mut [Seat],
-    services: &mut [ServiceSeat],
-    at: usize,
-    book: &mut Book,
-    peer: HostAddr,
-    listen: u32,
-    own: u32,
-) -> Result<(), WorldFault>
-    requires within { at < length seats.old }
-    requires services { at < length services.old }
-    ensures done { (h : Host) (s : NcpState) (x : ServicesState) → Sits h at s seats.old → Serves h at x services.old → OnOk result (AreDone h (user_begun peer listen own x (opening_desk h (length book.old.book.notices) s)) seats.old services.old book.old seats.new services.new book.new) }
-    ensures kept { IfErr result (λ f. (f ≡ world.Program problem.OutOfMemory) × (book.new ≡ book.old)) }
-{
-    let Some(program) = seats[at].program.take() else {
-        return Ok(());
-    };
-    let Ok(program) = services[at].begin_user(alloc, book, program, peer, listen, own) else {
-        return Err(WorldFault::Program(NcpFault::OutOfMemory));
-    };
-    seats[at].program = Some(program);
-    Ok(())
+    /// Returns what a host's program says next. It needs memory only if it says something.
+    pub(crate) fn next_out(&self, at: usize) -> Result<Option<HostMessage>, WorldFault>
+        requires within { at < length self.now.seats.items }
+        ensures { (h : Host) (s : NcpState) → Sits h at s self.now.seats.items → SaysNext s result }
+    {
+        next_out(&self.seats, at)
+    }
+
+    /// Hands what came for a host to its program. The last of the log, from a place on, has just crossed.
+    pub(crate) fn hear(
+        &mut self,
+        at: usize,
+        news: &[Crossing],
+        inbound: Inbound,
+    ) -> Result<(), WorldFault>
+        requires within { at < length self.old.seats.items }
+        requires services { at < length self.old.services.items }
+        requires live { AreLive self.old.seats.items }
+        ensures done { OfHostAt at self.old (λ h s x. OnOk result (AreTended h x (accepted s inbound (length self.old.book.book.crossings)) (crossed_by news.now self.old) self.old self.new)) }
+        ensures kept { IfErr result (LacksMemory self.old self.new) }
+    {
+        let Ok(()) = self.services[at].hear(
+            self.alloc,
+            &mut self.seats[at],
+            &mut self.book,
+            news,
+            inbound,
+        ) else {
+            return Err(WorldFault::Program(NcpFault::OutOfMemory));
+        };
+        Ok(())
+    }
+
+    /// Lets a host's program know that its next message went out. The last of the log, from a place on, has just crossed.
+    pub(crate) fn go_out(&mut self, at: usize, news: &[Crossing]) -> Result<(), WorldFault>
+        requires within { at < length self.old.seats.items }
+        requires services { at < length self.old.services.items }
+        requires live { AreLive self.old.seats.items }
+        ensures done { OfHostAt at self.old (λ h s x. OnOk result (AreTended h x (sending.offered s (length self.old.book.book.crossings)) (crossed_by news.now self.old) self.old self.new)) }
+        ensures kept { IfErr result (LacksMemory self.old self.new) }
+    {
+        let Ok(()) = self.services[at].go_out(self.alloc, &mut self.seats[at], &mut self.book, news)
+        else {
+            return Err(WorldFault::Program(NcpFault::OutOfMemory));
+        };
+        Ok(())
+    }
+
+    /// Stops and starts hosts. The last of the log, from a place on, has just crossed.
+    #[tactic(auto, using(crate::proofs::Books::InOrder::turned_reversed, crate::proofs::Books::InOrder::emptied_reversed))]
+    pub(crate) fn change(&mut self, news: &[Crossing]) -> Result<(), WorldFault>
+        ensures done { OnOk result (self.new.seats.items ≡ world.all_turned (reverse news.now) self.old.seats.items) }
+        ensures services { OnOk result (self.new.services.items ≡ world.all_emptied (reverse news.now) self.old.services.items) }
+        ensures told { OnOk result (self.new.book ≡ all_crossed (reverse news.now) self.old.book) }
+        ensures kept { IfErr result (LacksMemory self.old self.new) }
+    {
+        let Ok(()) = self.book.cross(news) else {
+            return Err(WorldFault::Program(NcpFault::OutOfMemory));
+        };
+        turn_all(self.alloc, &mut self.seats, news);
+        empty_all(self.alloc, &mut self.services, news);
+        Ok(())
+    }
+
+    /// Asks a host's program for something on behalf of its user.
+    pub(crate) fn ask_at(&mut self, at: usize, request: &Request) -> Result<(), WorldFault>
+        requires within { at < length self.old.seats.items }
+        requires services { at < length self.old.services.items }
+        requires live { AreLive self.old.seats.items }
+        ensures refused { (h : Host) (s : NcpState) (f : NcpFault) → Sits h at s self.old.seats.items → refusal s request.now ≡ Some f → AreRefused f result self.old self.new }
+        ensures served { OfHostAt at self.old (λ h s x. refusal s request.now ≡ None → AreAnswered h s x request.now result self.old self.new) }
+    {
+        self.services[at].ask(self.alloc, &mut self.seats[at], &mut self.book, request)
+    }
+
+    /// Types a line at a host, at the terminal that came last.
+    pub(crate) fn type_at(&mut self, at: usize, line: &TypedLine) -> Result<(), WorldFault>
+        requires within { at < length self.old.seats.items }
+        requires services { at < length self.old.services.items }
+        requires live { AreLive self.old.seats.items }
+        ensures without { (h : Host) (x : ServicesState) → Serves h at x self.old.services.items → x.typing ≡ None → AreRefused problem.NotOpen result self.old self.new }
+        ensures refused { OfHostAt at self.old (λ h s x. (n : ℕ) (f : NcpFault) → x.typing ≡ Some n → refusal s (line_sent n line.now) ≡ Some f → AreRefused f result self.old self.new) }
+        ensures served { OfHostAt at self.old (λ h s x. (n : ℕ) → x.typing ≡ Some n → refusal s (line_sent n line.now) ≡ None → AreAnswered h s x (line_sent n line.now) result self.old self.new) }
+    {
+        let Some(socket) = self.services[at].services.typing() else {
+            return Err(WorldFault::Program(NcpFault::NotOpen));
+        };
+        let Ok(request) = line.request(socket.number()) else {
+            let refusal = line_refusal(&self.seats[at], socket.number(), line);
+            return Err(WorldFault::Program(refusal.unwrap_or(NcpFault::OutOfMemory)));
+        };
+        self.ask_at(at, &request)
+    }
+
+    /// Starts a server at a host.
+    pub(crate) fn server_at(&mut self, at: usize, listen: u32, base: u32) -> Result<(), WorldFault>
+        requires within { at < length self.old.seats.items }
+        requires services { at < length self.old.services.items }
+        ensures done { OfHostAt at self.old (λ h s x. OnOk result (AreBegun h (server_begun listen base x (opening_desk h (length self.old.book.book.notices) s)) self.old self.new)) }
+        ensures kept { IfErr result (LacksMemory self.old self.new) }
+    {
+        let Some(program) = self.seats[at].program.take() else {
+            return Ok(());
+        };
+        let Ok(program) = self.services[at].begin_server(
+            self.alloc,
+            &mut self.book,
+            program,
+            listen,
+            base,
+        ) else {
+            return Err(WorldFault::Program(NcpFault::OutOfMemory));
+        };
+        self.seats[at].program = Some(program);
+        Ok(())
+    }
+
+    /// Starts a user at a host.
+    pub(crate) fn user_at(
+        &mut self,
+        at: usize,
+        peer: HostAddr,
+        listen: u32,
+        own: u32,
+    ) -> Result<(), WorldFault>
+        requires within { at < length self.old.seats.items }
+        requires services { at < length self.old.services.items }
+        ensures done { OfHostAt at self.old (λ h s x. OnOk result (AreBegun h (user_begun peer listen own x (opening_desk h (length self.old.book.book.notices) s)) self.old self.new)) }
+        ensures kept { IfErr result (LacksMemory self.old self.new) }
+    {
+        let Some(program) = self.seats[at].program.take() else {
+            return Ok(());
+        };
+        let Ok(program) = self.services[at].begin_user(
+            self.alloc,
+            &mut self.book,
+            program,
+            peer,
+            listen,
+            own,
+        ) else {
+            return Err(WorldFault::Program(NcpFault::OutOfMemory));
+        };
+        self.seats[at].program = Some(program);
+        Ok(())
+    }
 }

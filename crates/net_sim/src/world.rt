@@ -13,6 +13,7 @@ ghost use Rattle.net_sim.specs.World.{opening_world, StepGives, RunGives, Offer,
 
 use crate::book::Book;
 use crate::events::{follow, is_named, offer, take};
+use crate::parts::Hosts;
 use crate::seat::{Seat, ServiceSeat, opening_seats, opening_services};
 use crate::{Event, WorldFault};
 use interface::{Carrier, CarrierFault, HostAddr};
@@ -29,22 +30,20 @@ use std::marker::Model;
 #[derive(Drop)]
 pub struct World<C: Carrier> {
     carrier: C,
-    seats: Vec<Seat>,
-    services: Vec<ServiceSeat>,
-    book: Book,
+    hosts: Hosts,
     stopped: bool,
-    alloc: Global,
 }
 
 impl<C: Carrier> Model for World<C> {
     ghost use Rattle.net_sim.specs.Inside.Held.{IsHeld};
+    ghost use Rattle.net_sim.specs.Inside.Parts.{world_of_hosts};
     ghost use Rattle.net_sim.specs.World.{WorldState};
 
     ghost Value = { WorldState C };
 
-    ghost view = { λ w. record { carrier = w.carrier; seats = w.seats.items; services = w.services.items; kept = w.book; stopped = w.stopped } };
+    ghost view = { λ w. world_of_hosts w.carrier w.hosts w.stopped };
 
-    ghost invariant = { λ w. IsHeld C.calls.seen (record { carrier = w.carrier; seats = w.seats.items; services = w.services.items; kept = w.book; stopped = w.stopped }) };
+    ghost invariant = { λ w. IsHeld C.calls.seen (world_of_hosts w.carrier w.hosts w.stopped) };
 }
 
 impl<C: Carrier> World<C> {
@@ -62,11 +61,13 @@ impl<C: Carrier> World<C> {
         are_addresses(carrier.hosts());
         Ok(World {
             carrier,
-            seats,
-            services,
-            book: Book::new(alloc),
+            hosts: Hosts {
+                seats,
+                services,
+                book: Book::new(alloc),
+                alloc,
+            },
             stopped: false,
-            alloc,
         })
     }
 
@@ -77,7 +78,7 @@ impl<C: Carrier> World<C> {
         ensures value { result.now ≡ self.now.kept }
         ensures lawful { IsLawful C.calls.seen (C.calls.seen self.now.carrier).hosts self.now }
     {
-        &self.book
+        &self.hosts.book
     }
 
     /// Returns what was handed over to be sent, a list of bits for each life, in the order in which the book has the
@@ -100,7 +101,7 @@ impl<C: Carrier> World<C> {
     pub fn services(&self) -> &[ServiceSeat]
         ensures { result.now ≡ self.now.services }
     {
-        &self.services
+        &self.hosts.services
     }
 
     /// Returns the hosts with their programs, in the carrier's order.
@@ -108,7 +109,7 @@ impl<C: Carrier> World<C> {
         ensures value { result.now ≡ self.now.seats }
         ensures once { self.now.stopped ≡ false → IsOnce (hosts_of self.now.seats) }
     {
-        &self.seats
+        &self.hosts.seats
     }
 
     /// Returns whether running out of memory has stopped it.
@@ -167,14 +168,7 @@ impl<C: Carrier> World<C> {
             return Err(WorldFault::Carrier(CarrierFault::Stopped));
         }
         is_named(event);
-        let done = follow(
-            self.alloc,
-            &mut self.carrier,
-            &mut self.seats,
-            &mut self.services,
-            &mut self.book,
-            event,
-        );
+        let done = follow(&mut self.carrier, &mut self.hosts, event);
         // for the proof only: the log is a run of the mailboxes, which is a part of what a world keeps
         let _ = self.carrier.log();
         self.stopped = runs_out(&done);
@@ -188,15 +182,7 @@ impl<C: Carrier> World<C> {
         if self.stopped {
             return Err(WorldFault::Carrier(CarrierFault::Stopped));
         }
-        let taken = take(
-            self.alloc,
-            &mut self.carrier,
-            &mut self.seats,
-            &mut self.services,
-            &mut self.book,
-            likely,
-            host,
-        );
+        let taken = take(&mut self.carrier, &mut self.hosts, likely, host);
         // for the proof only, as in `follow`
         let _ = self.carrier.log();
         self.stopped = runs_out(&taken);
@@ -211,15 +197,7 @@ impl<C: Carrier> World<C> {
         if self.stopped {
             return Err(WorldFault::Carrier(CarrierFault::Stopped));
         }
-        let sent = offer(
-            self.alloc,
-            &mut self.carrier,
-            &mut self.seats,
-            &mut self.services,
-            &mut self.book,
-            likely,
-            host,
-        );
+        let sent = offer(&mut self.carrier, &mut self.hosts, likely, host);
         // for the proof only, as in `follow`
         let _ = self.carrier.log();
         self.stopped = runs_out(&sent);

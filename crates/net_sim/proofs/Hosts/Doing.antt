@@ -1,5 +1,5 @@
 -- What the services of a host did in a call, put together from its steps.
-use Rattle.std.proofs.Common.{◌≡◌, ℕ, zero, suc, List, [], ◌∷◌, Option, Some, None, Result, Ok, Err, MatchResult, OnOk, slice_index_or, slice_set, refl, ap, sym, subst, ◌∙◌}
+use Rattle.std.proofs.Common.{◌≡◌, ℕ, zero, suc, List, [], ◌∷◌, Option, Some, None, Result, Ok, Err, OnOk, slice_index_or, slice_set, refl, ap, sym, subst, ◌∙◌}
 use Rattle.std.proofs.lemmas.List.{append-nil, get_or-set_same, set-get_or}
 use Rattle.interface.specs.Host.{Host}
 use Rattle.host_pairs.specs.declared.notice.Notice.{Notice}
@@ -8,7 +8,7 @@ use Rattle.host_services.specs.Turns.{passed_by, services_told}
 use Rattle.host_services.specs.declared.report.Reported.{Reported}
 use Rattle.net_sim.specs.Book.{Kept, all_asked, all_reported, all_told}
 use Rattle.net_sim.specs.Inside.Parts.{AreDone, IsDone, IsSettled, Serves, Sits}
-use Rattle.net_sim.specs.World.{ServiceSeat, Seat, WorldFault, turn_of}
+use Rattle.net_sim.specs.World.{ServiceSeat, Seat, turn_of}
 use Rattle.sockets.specs.Calls.{Turns}
 use Rattle.sockets.specs.Pairs.{NcpState}
 use Rattle.sockets.specs.declared.fault.NcpFault.{NcpFault}
@@ -46,34 +46,30 @@ set_twice (x ∷ xs) zero a b = refl
 set_twice {A} (x ∷ xs) (suc i) a b = ap (λ (ys : List A). x ∷ ys) (set_twice xs i a b)
 
 -- a seat that gave its program away has one again
-put_back : (h : Host) (place : ℕ) (s p : NcpState) (q : Option NcpState) (seats : List Seat) (o u : Seat) → Sits h place s seats
-    → slice_set (slice_set seats place (record { host = (slice_index_or seats place o).host; program = q })) place
-    (record { host = (slice_index_or (slice_set seats place (record { host = (slice_index_or seats place o).host; program = q })) place u).host; program = Some p })
-    ≡ slice_set seats place (record { host = h; program = Some p })
-put_back h place s p q seats o u sits =
-    let a : Seat = record { host = (slice_index_or seats place o).host; program = q } in
-    let mine : (slice_index_or seats place o).host ≡ h = ap (λ (y : Seat). y.host) (sits.is o) in
-    let got : slice_index_or (slice_set seats place (record { host = (slice_index_or seats place o).host; program = q })) place u ≡ record { host = (slice_index_or seats place o).host; program = q } = get_or-set_same seats place a u sits.within in
-    ap (λ (g : Host). slice_set (slice_set seats place (record { host = (slice_index_or seats place o).host; program = q })) place (record { host = g; program = Some p })) (ap (λ (y : Seat). y.host) got ∙ mine)
+put_back : (h : Host) (place : ℕ) (s p : NcpState) (q : Option NcpState) (seats : List Seat) (o u : Seat) → Sits h place s seats → o ≡ slice_index_or seats place o
+    → u ≡ slice_index_or (slice_set seats place (record { host = o.host; program = q })) place u
+    → slice_set (slice_set seats place (record { host = o.host; program = q })) place (record { host = u.host; program = Some p }) ≡ slice_set seats place (record { host = h; program = Some p })
+put_back h place s p q seats o u sits o_is u_is =
+    let a : Seat = record { host = o.host; program = q } in
+    let mine : o.host ≡ h = ap (λ (y : Seat). y.host) (o_is ∙ sits.is o) in
+    let got : u ≡ record { host = o.host; program = q } = u_is ∙ get_or-set_same seats place a u sits.within in
+    ap (λ (g : Host). slice_set (slice_set seats place (record { host = o.host; program = q })) place (record { host = g; program = Some p })) (ap (λ (y : Seat). y.host) got ∙ mine)
     ∙ set_twice seats place a (record { host = h; program = Some p })
 
 -- a call that took a host's program out of its seat, let its services have their turns, and put it back
 pub call_done : (h : Host) (place : ℕ) (s taken p : NcpState) (x : ServicesState) (q : Option NcpState) (seats : List Seat) (all : List ServiceSeat) (o u : Seat) (w y : ServiceSeat) (k1 : Kept)
     (turn : Host → ServicesState → NcpState → ServicesState × ServiceDeskState) (before : Host → NcpState → Kept)
-    → Sits h place s seats → Serves h place x all → (slice_index_or seats place o).program ≡ Some taken → y.host ≡ (slice_index_or all place w).host
-    → IsDone (slice_index_or all place w).host (turn (slice_index_or all place w).host (slice_index_or all place w).services taken) (before (slice_index_or all place w).host taken) p y.services k1
-    → AreDone h (turn h x s) seats all (before h s)
-    (slice_set (slice_set seats place (record { host = (slice_index_or seats place o).host; program = q })) place
-    (record { host = (slice_index_or (slice_set seats place (record { host = (slice_index_or seats place o).host; program = q })) place u).host; program = Some p })) (slice_set all place y) k1
-call_done h place s taken p x q seats all o u w y k1 turn before sits serves had host d =
-    let same : taken ≡ s = same_some taken s (sym had ∙ ap (λ (z : Seat). z.program) (sits.is o)) in
-    let old : slice_index_or all place w ≡ record { host = h; services = x } = serves.is w in
+    → Sits h place s seats → Serves h place x all → o ≡ slice_index_or seats place o → u ≡ slice_index_or (slice_set seats place (record { host = o.host; program = q })) place u → w ≡ slice_index_or all place w
+    → o.program ≡ Some taken → y.host ≡ w.host → IsDone w.host (turn w.host w.services taken) (before w.host taken) p y.services k1
+    → AreDone h (turn h x s) seats all (before h s) (slice_set (slice_set seats place (record { host = o.host; program = q })) place (record { host = u.host; program = Some p })) (slice_set all place y) k1
+call_done h place s taken p x q seats all o u w y k1 turn before sits serves o_is u_is w_is had host d =
+    let same : taken ≡ s = same_some taken s (sym had ∙ ap (λ (z : Seat). z.program) (o_is ∙ sits.is o)) in
+    let old : w ≡ record { host = h; services = x } = w_is ∙ serves.is w in
     let D : ServiceSeat → NcpState → Type 0 = λ z t. IsDone z.host (turn z.host z.services t) (before z.host t) p y.services k1 in
     let here : IsDone h (turn h x s) (before h s) p y.services k1 = subst (λ (t : NcpState). D (record { host = h; services = x }) t) same (subst (λ (z : ServiceSeat). D z taken) old d) in
     let new : y ≡ record { host = h; services = y.services } = ap (λ (g : Host). with_host g y.services) (host ∙ ap (λ (z : ServiceSeat). z.host) old) in
-    all_done h place s x y.services (turn h x s) seats (slice_set (slice_set seats place (record { host = (slice_index_or seats place o).host; program = q })) place
-    (record { host = (slice_index_or (slice_set seats place (record { host = (slice_index_or seats place o).host; program = q })) place u).host; program = Some p })) all (slice_set all place y) (before h s) k1 p sits serves here
-    (put_back h place s p q seats o u sits) (ap (λ (z : ServiceSeat). slice_set all place z) new) where
+    all_done h place s x y.services (turn h x s) seats (slice_set (slice_set seats place (record { host = o.host; program = q })) place (record { host = u.host; program = Some p })) all (slice_set all place y) (before h s) k1 p sits serves here
+    (put_back h place s p q seats o u sits o_is u_is) (ap (λ (z : ServiceSeat). slice_set all place z) new) where
       with_host : Host → ServicesState → ServiceSeat
       with_host g z = record { host = g; services = z }
 
@@ -179,38 +175,3 @@ pub refused_at : {E : Type 0} (place : ℕ) (seats : List Seat) (all : List Serv
     → (r ≡ q) × ((seat ≡ slice_index_or seats place o) × ((y ≡ slice_index_or all place w) × (k1 ≡ k))) → (r ≡ q) × ((slice_set seats place seat ≡ seats) × ((slice_set all place y ≡ all) × (k1 ≡ k)))
 refused_at place seats all o seat w y k k1 r q e =
     (e.0, (ap (λ (z : Seat). slice_set seats place z) e.1.0 ∙ set-get_or seats place o, (ap (λ (z : ServiceSeat). slice_set all place z) e.1.1.0 ∙ set-get_or all place w, e.1.1.1)))
-
--- the same at the places of a host's seat and its services
-pub settled_here : (h : Host) (place : ℕ) (s : NcpState) (x : ServicesState) (seats : List Seat) (all : List ServiceSeat) (o seat : Seat) (w y : ServiceSeat) (k1 : Kept)
-    (turn : Host → ServicesState → NcpState → ServicesState × ServiceDeskState) (before : Host → NcpState → Kept)
-    → Sits h place s seats → Serves h place x all
-    → IsSettled (slice_index_or all place w).host (slice_index_or seats place o).host (turn (slice_index_or all place w).host (slice_index_or all place w).services s) (before (slice_index_or all place w).host s) seat y k1
-    → AreDone h (turn h x s) seats all (before h s) (slice_set seats place seat) (slice_set all place y) k1
-settled_here h place s x seats all o seat w y k1 turn before sits serves d =
-    let old : slice_index_or all place w ≡ record { host = h; services = x } = serves.is w in
-    let mine : (slice_index_or seats place o).host ≡ h = ap (λ (z : Seat). z.host) (sits.is o) in
-    let served : IsSettled h (slice_index_or seats place o).host (turn h x s) (before h s) seat y k1 =
-    subst (λ (z : ServiceSeat). IsSettled z.host (slice_index_or seats place o).host (turn z.host z.services s) (before z.host s) seat y k1) old d in
-    let here : IsSettled h h (turn h x s) (before h s) seat y k1 = subst (λ (g : Host). IsSettled h g (turn h x s) (before h s) seat y k1) mine served in
-    record {
-      seats_are = ap (λ (z : Seat). slice_set seats place z) here.seat_is ∙ sits.set (Some (turn h x s).1.program);
-      services_are = ap (λ (z : ServiceSeat). slice_set all place z) here.services_are ∙ serves.set (turn h x s).0;
-      kept_is = here.kept_is;
-    }
-
-pub settled_done : (h : Host) (place : ℕ) (s : NcpState) (x : ServicesState) (seats : List Seat) (all : List ServiceSeat) (o seat : Seat) (w y : ServiceSeat) (k1 : Kept)
-    (turn : Host → ServicesState → NcpState → ServicesState × ServiceDeskState) (before : Host → NcpState → Kept)
-    → Sits h place s seats → Serves h place x all
-    → ((u : NcpState) → (slice_index_or seats place o).program ≡ Some u → IsSettled (slice_index_or all place w).host (slice_index_or seats place o).host (turn (slice_index_or all place w).host (slice_index_or all place w).services u) (before (slice_index_or all place w).host u) seat y k1)
-    → AreDone h (turn h x s) seats all (before h s) (slice_set seats place seat) (slice_set all place y) k1
-settled_done h place s x seats all o seat w y k1 turn before sits serves settled =
-    settled_here h place s x seats all o seat w y k1 turn before sits serves (settled s (ap (λ (z : Seat). z.program) (sits.is o)))
-
--- a request that isn't refused is served, or memory runs out
-pub asked_done : (P : WorldFault → Type 0) (r : Result (Unit {0}) WorldFault) (h : Host) (place : ℕ) (s : NcpState) (x : ServicesState) (seats : List Seat) (all : List ServiceSeat) (o seat : Seat) (w y : ServiceSeat) (k1 : Kept)
-    (turn : Host → ServicesState → NcpState → ServicesState × ServiceDeskState) (before : Host → NcpState → Kept)
-    → Sits h place s seats → Serves h place x all
-    → MatchResult r (λ _. IsSettled (slice_index_or all place w).host (slice_index_or seats place o).host (turn (slice_index_or all place w).host (slice_index_or all place w).services s) (before (slice_index_or all place w).host s) seat y k1) P
-    → MatchResult r (λ _. AreDone h (turn h x s) seats all (before h s) (slice_set seats place seat) (slice_set all place y) k1) P
-asked_done P (Ok done) h place s x seats all o seat w y k1 turn before sits serves d = settled_here h place s x seats all o seat w y k1 turn before sits serves d
-asked_done P (Err f) h place s x seats all o seat w y k1 turn before sits serves d = d

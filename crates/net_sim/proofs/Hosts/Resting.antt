@@ -1,5 +1,5 @@
 -- A round that changes nothing: the carrier rests, and no host that is up has anything to say.
-use Rattle.std.proofs.Common.{◌≡◌, ℕ, ◌+◌, ◌-◌, ◌<◌, zero, suc, Bool, true, false, ◌||◌, ◌==◌, List, [], ◌∷◌, length, find, slice_get, cond, if◌then◌else◌, Option, Some, None, Result, Ok, Err, refl, ap, sym, subst, ◌∙◌, arith}
+use Rattle.std.proofs.Common.{◌≡◌, ℕ, ◌+◌, ◌-◌, ◌<◌, zero, suc, Bool, true, false, ◌||◌, ◌==◌, List, [], ◌∷◌, length, find, cond, if◌then◌else◌, Option, Some, None, Result, Ok, Err, refl, ap, sym, subst, ◌∙◌, arith}
 use Rattle.std.proofs.lemmas.Bool.{eqb-true}
 use Rattle.std.proofs.lemmas.Bool.Decides.{nat_tests}
 use Rattle.std.specs.Bool.{MatchBool}
@@ -14,7 +14,7 @@ use Rattle.sockets.specs.Pairs.{NcpState}
 use Rattle.sockets.specs.Sending.{next_out}
 use Rattle.net_sim.specs.Carriers.{shown}
 use Rattle.net_sim.specs.Inside.Calm.{CarrierRests, IsSilent, IsSilentAt}
-use Rattle.net_sim.specs.World.{WorldState, WorldFault, Carrier, Event, Quiet, Offer, Take, Seat, seat_of, Refuses, Does, OfferGives, TakeGives, AtProgram, AtSeat, EventGives, StepGives, stops, Repeats, TurnsOf, up_in, Calms}
+use Rattle.net_sim.specs.World.{WorldState, WorldFault, Carrier, Event, Quiet, Offer, Take, Seat, seat_of, Refuses, OfferGives, TakeGives, AtSeat, EventGives, StepGives, stops, Repeats, TurnsOf, up_in, Calms}
 use Rattle.net_sim.proofs.Hosts.Calming.{Passed, none_repeated}
 
 -- ---- what a carrier shows that rests

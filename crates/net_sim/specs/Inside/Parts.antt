@@ -1,11 +1,22 @@
 -- A world's parts, and where a host sits.
-use Rattle.std.specs.Prelude.{◌≡◌, ◌<◌, ℕ, Bool, true, false, List, [], ◌∷◌, length, map, Option, Some, None, Result, Ok, Err, slice_index_or, slice_set, All, IfSome}
+use Rattle.std.specs.Prelude.{◌≡◌, ◌<◌, ℕ, Bool, true, false, List, [], ◌∷◌, length, map, Option, Some, None, Result, Ok, Err, slice_index_or, slice_set, All, IfSome, MatchResult, is_some, reverse}
 use Rattle.interface.specs.Host.{Host, same_host, is_host}
+use Rattle.interface.specs.declared.message.HostMessage.{HostMessage}
 use Rattle.interface.specs.declared.carrier.CarrierFault.TheVariants as fault
 use Rattle.host_services.specs.Services.{ServicesState, ServiceDeskState}
-use Rattle.net_sim.specs.Book.{Kept}
-use Rattle.net_sim.specs.World.{WorldState, WorldFault, Carrier, Seat, ServiceSeat, seat_of, seated, services_of, serviced, done_by, wants_memory}
+use Rattle.net_sim.specs.Book.{Kept, all_crossed, all_told, asked}
+use Rattle.net_sim.specs.World.{WorldState, WorldFault, Carrier, Program, Seat, ServiceSeat, seat_of, seated, services_of, serviced, done_by, turn_of, wants_memory}
+use Rattle.host_services.specs.TypedLines.{line_bits}
+use Rattle.interface.specs.declared.crossing.Crossing.{Crossing}
+use Rattle.host_pairs.specs.declared.notice.Notice.{Notice}
 use Rattle.sockets.specs.Pairs.{NcpState}
+use Rattle.sockets.specs.Requests.{served, served_notices}
+use Rattle.sockets.specs.Sending.{next_out}
+use Rattle.sockets.specs.declared.fault.NcpFault.{NcpFault}
+use Rattle.sockets.specs.declared.fault.NcpFault.TheVariants as problem
+use Rattle.sockets.specs.declared.request.Request.{Request}
+use Rattle.sockets.specs.declared.request.Request.TheVariants as requests
+pub use Rattle.net_sim.specs.declared.parts.Hosts.{Hosts}
 
 abbrev pub runs_out : Result (Unit {0}) WorldFault → Bool
 runs_out (Ok done) = false
@@ -16,6 +27,16 @@ running c seats services k = record { carrier = c; seats = seats; services = ser
 
 abbrev pub world_ended : {C : Type 0} → C → List Seat → List ServiceSeat → Kept → Result (Unit {0}) WorldFault → WorldState C
 world_ended c seats services k r = record { carrier = c; seats = seats; services = services; kept = k; stopped = runs_out r }
+
+-- a world of a carrier and hosts: as it is, while it runs, and after an event with this answer
+abbrev pub world_of_hosts : {C : Type 0} → C → Hosts → Bool → WorldState C
+world_of_hosts c h stopped = record { carrier = c; seats = h.seats.items; services = h.services.items; kept = h.book; stopped = stopped }
+
+abbrev pub world_of : {C : Type 0} → C → Hosts → WorldState C
+world_of c h = running c h.seats.items h.services.items h.book
+
+abbrev pub world_after : {C : Type 0} → C → Hosts → Result (Unit {0}) WorldFault → WorldState C
+world_after c h r = world_ended c h.seats.items h.services.items h.book r
 
 -- each host has one seat
 abbrev pub IsOnce : List Host → Type 0
@@ -68,3 +89,45 @@ pub record AreDone (h : Host) (t : ServicesState × ServiceDeskState) (seats : L
   pub seats_are : seats_after ≡ seated h (Some t.1.program) seats
   pub services_are : all_after ≡ serviced h t.0 all
   pub kept_is : kept ≡ done_by h t.1 before
+
+-- what a host's program says next, or there is no memory for that
+abbrev pub SaysNext : NcpState → Result (Option HostMessage) WorldFault → Type 0
+SaysNext s r = MatchResult r (λ message. message ≡ next_out s) (λ f. (is_some (next_out s) ≡ true) × (f ≡ Program problem.OutOfMemory))
+
+-- ---- the hosts of a world before a call at one of them, and after it
+
+-- of the host whose program runs here, and its services, this is so
+abbrev pub OfHostAt : ℕ → Hosts → (Host → NcpState → ServicesState → Type 0) → Type 0
+OfHostAt at hosts P = (h : Host) (s : NcpState) (x : ServicesState) → Sits h at s hosts.seats.items → Serves h at x hosts.services.items → P h s x
+
+-- after a host's program made this of the call, with what was kept by then, its services had their turns
+abbrev pub AreTended : Host → ServicesState → NcpState × List Notice → Kept → Hosts → Hosts → Type 0
+AreTended h x turn k old new = AreDone h (turn_of h (length old.book.book.notices) x turn) old.seats.items old.services.items (all_told h turn.1 k) new.seats.items new.services.items new.book
+
+-- a request of a host's user was served
+abbrev pub AreServed : Host → NcpState → ServicesState → Request → Hosts → Hosts → Type 0
+AreServed h s x r old new = AreTended h x (served s r, served_notices s r) (asked h r old.book) old new
+
+-- a server or a user has begun on a host
+abbrev pub AreBegun : Host → ServicesState × ServiceDeskState → Hosts → Hosts → Type 0
+AreBegun h t old new = AreDone h t old.seats.items old.services.items old.book new.seats.items new.services.items new.book
+
+-- the call was refused like this, and nothing changed
+abbrev pub AreRefused : NcpFault → Result (Unit {0}) WorldFault → Hosts → Hosts → Type 0
+AreRefused f r old new = (r ≡ Err (Program f)) × ((new.seats.items ≡ old.seats.items) × ((new.services.items ≡ old.services.items) × (new.book ≡ old.book)))
+
+-- memory ran out, and nothing was written down
+abbrev pub LacksMemory : Hosts → Hosts → WorldFault → Type 0
+LacksMemory old new f = (f ≡ Program problem.OutOfMemory) × (new.book ≡ old.book)
+
+-- a request that isn't refused is served, or memory runs out
+abbrev pub AreAnswered : Host → NcpState → ServicesState → Request → Result (Unit {0}) WorldFault → Hosts → Hosts → Type 0
+AreAnswered h s x request r old new = MatchResult r (λ _. AreServed h s x request old new) (LacksMemory old new)
+
+-- what is sent at a socket for a line
+abbrev pub line_sent : ℕ → List ℕ → Request
+line_sent socket line = requests.Send socket (line_bits line)
+
+-- this crossed, oldest first
+abbrev pub crossed_by : List Crossing → Hosts → Kept
+crossed_by news h = all_crossed (reverse news) h.book

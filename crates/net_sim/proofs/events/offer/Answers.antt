@@ -13,18 +13,18 @@ returns-in_err-message g c =
     let calls : Calls g.row.C.Denot = shown g.C.Carrier.calls in
     let sits = c.in_ok-at.ensures in
     let none = c.in_err-message.ensures c.args.host sits.0 sits.1 in
-    offer_halts calls c.args.host c.in_ok-at.at sits.0 c.args.carrier.now c.args.seats.now c.args.services.now c.args.book.now c.in_err-message.field-0.0 c.from_residual-in_err-message.result sits.1 none.0 none.1 (search rules)
+    offer_halts calls c.args.host c.in_ok-at.at sits.0 c.args.carrier.now c.args.hosts.now.seats.items c.args.hosts.now.services.items c.args.hosts.now.book c.in_err-message.field-0.0 c.from_residual-in_err-message.result sits.1 none.0 none.1 (search rules)
 
 pub go_out-requires-clause-services : goal.go_out-requires-clause-services
 go_out-requires-clause-services g c =
     let sits = c.in_ok-at.ensures in
-    let here : Serves c.args.host c.in_ok-at.at (services_of c.args.host c.args.services.now) c.args.services.now = serves c.args.host c.in_ok-at.at sits.0 c.args.seats.now c.args.services.now c.requires.once c.requires.order sits.1 in
+    let here : Serves c.args.host c.in_ok-at.at (services_of c.args.host c.args.hosts.now.services.items) c.args.hosts.now.services.items = serves c.args.host c.in_ok-at.at sits.0 c.args.hosts.now.seats.items c.args.hosts.now.services.items c.requires.once c.requires.order sits.1 in
     here.within
 
 pub returns : goal.returns
 returns g c =
     let calls : Calls g.row.C.Denot = shown g.C.Carrier.calls in
     let sits = c.in_ok-at.ensures in
-    let here : Serves c.args.host c.in_ok-at.at (services_of c.args.host c.args.services.now) c.args.services.now = serves c.args.host c.in_ok-at.at sits.0 c.args.seats.now c.args.services.now c.requires.once c.requires.order sits.1 in
-    offer_ends calls c.args.host c.in_ok-at.at sits.0 c.in-Some.message c.args.carrier.now c.offer_out.new.self c.args.seats.now c.go_out.new.seats c.args.services.now c.go_out.new.services c.args.book.now c.go_out.new.book (take (length c.log.result.now - length c.log-before.result.now) (drop (length c.log-before.result.now) c.log.result.now)) c.go_out.result
-    sits.1 (sym (c.in_ok-message.ensures c.args.host sits.0 sits.1) ∙ c.in-Some.is) (search rules) (newest (crossing.Out c.in-Some.message ∷ []) (g.C.Carrier.calls.seen c.args.carrier.now).log (g.C.Carrier.calls.seen c.offer_out.new.self).log c.log-before.result.now c.log.result.now c.log-before.ensures.value c.log.ensures.value (ap (λ (s : Seen). s.log) c.in_default-offer_out.ensures.shown.shown)) (c.go_out.ensures.done c.args.host sits.0 (services_of c.args.host c.args.services.now) sits.1 here) c.go_out.ensures.kept
+    let here : Serves c.args.host c.in_ok-at.at (services_of c.args.host c.args.hosts.now.services.items) c.args.hosts.now.services.items = serves c.args.host c.in_ok-at.at sits.0 c.args.hosts.now.seats.items c.args.hosts.now.services.items c.requires.once c.requires.order sits.1 in
+    offer_ends calls c.args.host c.in_ok-at.at sits.0 c.in-Some.message c.args.carrier.now c.offer_out.new.self c.args.hosts.now.seats.items c.go_out.new.self.seats.items c.args.hosts.now.services.items c.go_out.new.self.services.items c.args.hosts.now.book c.go_out.new.self.book (take (length c.log.result.now - length c.log-before.result.now) (drop (length c.log-before.result.now) c.log.result.now)) c.go_out.result
+    sits.1 (sym (c.in_ok-message.ensures c.args.host sits.0 sits.1) ∙ c.in-Some.is) (search rules) (newest (crossing.Out c.in-Some.message ∷ []) (g.C.Carrier.calls.seen c.args.carrier.now).log (g.C.Carrier.calls.seen c.offer_out.new.self).log c.log-before.result.now c.log.result.now c.log-before.ensures.value c.log.ensures.value (ap (λ (s : Seen). s.log) c.in_default-offer_out.ensures.shown.shown)) (c.go_out.ensures.done c.args.host sits.0 (services_of c.args.host c.args.hosts.now.services.items) sits.1 here) c.go_out.ensures.kept

@@ -10,13 +10,13 @@ use Rattle.net_sim.proofs.events.take.Goals as goal
 pub hear-requires-clause-services : goal.hear-requires-clause-services
 hear-requires-clause-services g c =
     let sits = c.in_ok-at.ensures in
-    let here : Serves c.args.host c.in_ok-at.at (services_of c.args.host c.args.services.now) c.args.services.now = serves c.args.host c.in_ok-at.at sits.0 c.args.seats.now c.args.services.now c.requires.once c.requires.order sits.1 in
+    let here : Serves c.args.host c.in_ok-at.at (services_of c.args.host c.args.hosts.now.services.items) c.args.hosts.now.services.items = serves c.args.host c.in_ok-at.at sits.0 c.args.hosts.now.seats.items c.args.hosts.now.services.items c.requires.once c.requires.order sits.1 in
     here.within
 
 pub returns-in-Ok-Some : goal.returns-in-Ok-Some
 returns-in-Ok-Some g c =
     let calls : Calls g.row.C.Denot = shown g.C.Carrier.calls in
     let sits = c.in_ok-at.ensures in
-    let here : Serves c.args.host c.in_ok-at.at (services_of c.args.host c.args.services.now) c.args.services.now = serves c.args.host c.in_ok-at.at sits.0 c.args.seats.now c.args.services.now c.requires.once c.requires.order sits.1 in
-    take_ends calls c.args.host c.in_ok-at.at sits.0 c.in-Ok-Some.inbound c.args.carrier.now c.take_in.new.self c.args.seats.now c.hear.new.seats c.args.services.now c.hear.new.services c.args.book.now c.hear.new.book (take (length c.log.result.now - length c.log-before.result.now) (drop (length c.log-before.result.now) c.log.result.now)) c.hear.result
-    sits.1 (search rules) (newest (crossing_of c.in-Ok-Some.inbound ∷ []) (g.C.Carrier.calls.seen c.args.carrier.now).log (g.C.Carrier.calls.seen c.take_in.new.self).log c.log-before.result.now c.log.result.now c.log-before.ensures.value c.log.ensures.value (take_shown (g.C.Carrier.calls.seen c.args.carrier.now) c.args.host c.in-Ok-Some.field-0 c.in-Ok-Some.inbound (g.C.Carrier.calls.seen c.take_in.new.self) c.in-Ok-Some.ensures.shown (search rules))) (c.hear.ensures.done c.args.host sits.0 (services_of c.args.host c.args.services.now) sits.1 here) c.hear.ensures.kept
+    let here : Serves c.args.host c.in_ok-at.at (services_of c.args.host c.args.hosts.now.services.items) c.args.hosts.now.services.items = serves c.args.host c.in_ok-at.at sits.0 c.args.hosts.now.seats.items c.args.hosts.now.services.items c.requires.once c.requires.order sits.1 in
+    take_ends calls c.args.host c.in_ok-at.at sits.0 c.in-Ok-Some.inbound c.args.carrier.now c.take_in.new.self c.args.hosts.now.seats.items c.hear.new.self.seats.items c.args.hosts.now.services.items c.hear.new.self.services.items c.args.hosts.now.book c.hear.new.self.book (take (length c.log.result.now - length c.log-before.result.now) (drop (length c.log-before.result.now) c.log.result.now)) c.hear.result
+    sits.1 (search rules) (newest (crossing_of c.in-Ok-Some.inbound ∷ []) (g.C.Carrier.calls.seen c.args.carrier.now).log (g.C.Carrier.calls.seen c.take_in.new.self).log c.log-before.result.now c.log.result.now c.log-before.ensures.value c.log.ensures.value (take_shown (g.C.Carrier.calls.seen c.args.carrier.now) c.args.host c.in-Ok-Some.field-0 c.in-Ok-Some.inbound (g.C.Carrier.calls.seen c.take_in.new.self) c.in-Ok-Some.ensures.shown (search rules))) (c.hear.ensures.done c.args.host sits.0 (services_of c.args.host c.args.hosts.now.services.items) sits.1 here) c.hear.ensures.kept

@@ -1,5 +1,4 @@
-use Rattle.std.proofs.Common.{rules, ◌≡◌, List, length, ◌++◌, take, drop, ℕ, sym, subst, ap, ◌∙◌}
-use Rattle.std.proofs.Math.Seq.{take-append_seam}
+use Rattle.std.proofs.Common.{rules, ◌≡◌, List, sym, subst, ap, ◌∙◌}
 use Rattle.net_sim.specs.Carriers.{shown}
 use Rattle.net_sim.specs.Inside.Held.{IsHeld}
 use Rattle.net_sim.specs.Inside.Parts.{AreLive, IsOnce, world_ended, hosts_of, hosts_served, running, runs_out}
@@ -11,30 +10,26 @@ use Rattle.net_sim.proofs.world.World.offer_near.Goals as goal
 pub offer-sent-requires-clause-once : goal.offer-sent-requires-clause-once
 offer-sent-requires-clause-once g c =
     let held : IsHeld g.C.Carrier.calls.seen c.args.self.now = search rules in
-    let seats : c.deref_mut.result.now ≡ c.args.self.now.seats = search rules in
+    let seats : c.self.inside.hosts.seats.items ≡ c.args.self.now.seats = search rules in
     subst (λ (s : List Seat). IsOnce (hosts_of s)) (sym seats) (held_once g.C.Carrier.calls.seen c.args.self.now held (search rules))
 
 pub offer-sent-requires-clause-live : goal.offer-sent-requires-clause-live
 offer-sent-requires-clause-live g c =
     let held : IsHeld g.C.Carrier.calls.seen c.args.self.now = search rules in
-    let seats : c.deref_mut.result.now ≡ c.args.self.now.seats = search rules in
+    let seats : c.self.inside.hosts.seats.items ≡ c.args.self.now.seats = search rules in
     subst AreLive (sym seats) (held_live g.C.Carrier.calls.seen c.args.self.now held (search rules))
 
 pub offer-sent-requires-clause-order : goal.offer-sent-requires-clause-order
 offer-sent-requires-clause-order g c =
     let held : IsHeld g.C.Carrier.calls.seen c.args.self.now = search rules in
-    let seats : c.deref_mut.result.now ≡ c.args.self.now.seats = search rules in
-    let services : c.deref_mut-2.result.now ≡ c.args.self.now.services = search rules in
+    let seats : c.self.inside.hosts.seats.items ≡ c.args.self.now.seats = search rules in
+    let services : c.self.inside.hosts.services.items ≡ c.args.self.now.services = search rules in
     ap (λ (s : List ServiceSeat). hosts_served s) services ∙ held_order g.C.Carrier.calls.seen c.args.self.now held (search rules) ∙ ap (λ (s : List Seat). hosts_of s) (sym seats)
 
 pub invariant_of-self : goal.invariant_of-self
 invariant_of-self g c =
     let calls : Calls g.row.C.Denot = g.C.Carrier.calls in
     let held : IsHeld g.C.Carrier.calls.seen c.args.self.now = search rules in
-    let seats : take c.self.inside.seats.len (c.offer-sent.new.seats ++ drop (length c.offer-sent.new.seats) c.self.inside.seats.items) ≡ c.offer-sent.new.seats =
-    ap (λ (n : ℕ). take n (c.offer-sent.new.seats ++ drop (length c.offer-sent.new.seats) c.self.inside.seats.items)) (search rules) ∙ take-append_seam c.offer-sent.new.seats (drop (length c.offer-sent.new.seats) c.self.inside.seats.items) in
-    let services : take c.self.inside.services.len (c.offer-sent.new.services ++ drop (length c.offer-sent.new.services) c.self.inside.services.items) ≡ c.offer-sent.new.services =
-    ap (λ (n : ℕ). take n (c.offer-sent.new.services ++ drop (length c.offer-sent.new.services) c.self.inside.services.items)) (search rules) ∙ take-append_seam c.offer-sent.new.services (drop (length c.offer-sent.new.services) c.self.inside.services.items) in
     let stop : c.runs_out-self-inside.result ≡ runs_out c.offer-sent.result = search rules in
-    let gives : EventGives (shown calls) (running c.args.self.now.carrier c.args.self.now.seats c.args.self.now.services c.args.self.now.kept) (Offer c.args.host) c.offer-sent.result (world_ended c.offer-sent.new.carrier c.offer-sent.new.seats c.offer-sent.new.services c.offer-sent.new.book c.offer-sent.result) = search rules in
-    rw (seats, services, stop) (followed_held calls (Offer c.args.host) c.args.self.now c.offer-sent.new.carrier c.offer-sent.new.seats c.offer-sent.new.services c.offer-sent.new.book c.offer-sent.result held tt (search rules) gives c.log.ensures.run)
+    let gives : EventGives (shown calls) (running c.args.self.now.carrier c.args.self.now.seats c.args.self.now.services c.args.self.now.kept) (Offer c.args.host) c.offer-sent.result (world_ended c.offer-sent.new.carrier c.offer-sent.new.hosts.seats.items c.offer-sent.new.hosts.services.items c.offer-sent.new.hosts.book c.offer-sent.result) = search rules in
+    rw stop (followed_held calls (Offer c.args.host) c.args.self.now c.offer-sent.new.carrier c.offer-sent.new.hosts.seats.items c.offer-sent.new.hosts.services.items c.offer-sent.new.hosts.book c.offer-sent.result held tt (search rules) gives c.log.ensures.run)
