@@ -3,6 +3,7 @@ pub mod EntryLemmas
 pub mod FoundLemmas
 pub mod GoingLemmas
 pub mod GoneLemmas
+pub mod HeldLemmas
 pub mod LinkLemmas
 pub mod ListenerLemmas
 pub mod NoticeLemmas

@@ -11,6 +11,7 @@ ghost use Rattle.host_pairs.specs.declared.notice.Notice.TheVariants as notice;
 use crate::Notice;
 use crate::desk::Desk;
 use crate::entry::Entry;
+use crate::held::Ends;
 use crate::outgoing::sending_place;
 use bit_messages::{BitFault, Bits};
 use std::alloc::{AllocError, Global};
@@ -49,6 +50,7 @@ fn behind(alloc: Global, bits: &Bits, count: usize) -> Result<Bits, AllocError>
 fn take_front(alloc: Global, bits: &mut Bits, count: usize) -> Result<Bits, AllocError>
     ensures front { IfOk result (λ front. front ≡ take count bits.old) }
     ensures rest { OnOk result (bits.new ≡ drop count bits.old) }
+    ensures kept { OnErr result (bits.new ≡ bits.old) }
 {
     if bits.len() <= count {
         return Ok(mem::replace(bits, Bits::new(alloc)));
@@ -60,9 +62,10 @@ fn take_front(alloc: Global, bits: &mut Bits, count: usize) -> Result<Bits, Allo
 
 impl Entry {
     /// Counts bits as gone out in a message. Returns them.
-    fn send(&mut self, alloc: Global, bits: u32) -> Result<Bits, AllocError>
+    pub(crate) fn send(&mut self, alloc: Global, bits: u32) -> Result<Bits, AllocError>
         ensures sent { IfOk result (λ sent. sent ≡ take bits self.old.bits) }
         ensures gone { OnOk result (self.new ≡ parcels.bits_gone bits self.old) }
+        ensures kept { OnErr result (self.new ≡ self.old) }
     {
         let sent = take_front(alloc, &mut self.bits, bits as usize)?;
         self.allocation.messages = self.allocation.messages.saturating_sub(1);
@@ -75,24 +78,27 @@ impl Entry {
 /// one as a rule, and then they aren't copied.
 fn send_bits(
     alloc: Global,
-    entries: &mut [Entry],
+    ends: &mut Ends,
     busy: &[u8],
     link: u8,
     at: usize,
     bits: u32,
 ) -> Result<Bits, AllocError>
-    requires { at < length entries.old }
-    ensures sent { IfOk result (λ sent. sent ≡ take bits (end_at entries.old at).bits) }
-    ensures gone { OnOk result (entries.new ≡ changed_first (parcels.may_send_on busy.now link) (parcels.bits_gone bits) entries.old) }
+    requires { at < length ends.old }
+    ensures sent { IfOk result (λ sent. sent ≡ take bits (end_at ends.old at).bits) }
+    ensures gone { OnOk result (ends.new ≡ changed_first (parcels.may_send_on busy.now link) (parcels.bits_gone bits) ends.old) }
 {
-    let Some(place) = sending_place(entries, busy, link) else {
-        return front(alloc, &entries[at].bits, bits as usize);
+    let Some(place) = sending_place(ends.as_slice(), busy, link) else {
+        return front(alloc, &ends.as_slice()[at].bits, bits as usize);
     };
     if place == at {
-        return entries[at].send(alloc, bits);
+        let sent = ends.send(alloc, at, bits)?;
+        ends.look_again();
+        return Ok(sent);
     }
-    let sent = front(alloc, &entries[at].bits, bits as usize)?;
-    let _ = entries[place].send(alloc, bits)?;
+    let sent = front(alloc, &ends.as_slice()[at].bits, bits as usize)?;
+    let _ = ends.send(alloc, place, bits)?;
+    ends.look_again();
     Ok(sent)
 }
 
@@ -108,7 +114,7 @@ impl Desk {
         requires { at < length self.old.entries }
         ensures { OnOk result (self.new ≡ desk_told (notice.Sent (end_at self.old.entries at).own (take bits (end_at self.old.entries at).bits) ∷ []) (changed (parcels.may_send_on busy.now (parcels.link_of (end_at self.old.entries at).link)) (parcels.bits_gone bits) self.old)) }
     {
-        let entry = &self.entries[at];
+        let entry = &self.entries.as_slice()[at];
         let socket = entry.own;
         let link = entry.link_number();
         let sent = send_bits(alloc, &mut self.entries, busy, link, at, bits)?;

@@ -10,10 +10,7 @@ ghost use Rattle.std.specs.List.{list_any};
 
 use crate::Notice;
 use crate::desk::Desk;
-use crate::ends::{
-    ask_on_link, ask_with_size, close, close_by_partner, free_link, give_back, grant, place,
-    queue_closings, sweep, take_back, tell_endings,
-};
+use crate::ends::{free_link, place};
 use crate::entry::Entry;
 use crate::found::{Found, receiver_on, sender_on};
 use crate::listener::{listener_on, stop_listening};
@@ -58,10 +55,10 @@ impl Desk {
         ensures state { OnOk result (self.new ≡ desk_told (opening_notices peer (entry_at own foreign self.old.entries)) self.old) }
         ensures memory { OnErr result (said self.old < said (desk_told (opening_notices peer (entry_at own foreign self.old.entries)) self.old)) }
     {
-        let Some(at) = place(&self.entries, own, foreign) else {
+        let Some(at) = place(self.entries.as_slice(), own, foreign) else {
             return Ok(());
         };
-        let entry = &self.entries[at];
+        let entry = &self.entries.as_slice()[at];
         if entry.is_ending() {
             return Ok(());
         }
@@ -90,7 +87,7 @@ impl Desk {
         ensures state { OnOk result (self.new ≡ commands.matched peer own foreign (commands.asked_on_link stamp link) self.old) }
         ensures memory { OnErr result (said self.old < said (commands.matched peer own foreign (commands.asked_on_link stamp link) self.old)) }
     {
-        ask_on_link(&mut self.entries, own, foreign, stamp, link);
+        self.entries.ask_on_link(own, foreign, stamp, link);
         self.tell_opening(peer, own, foreign)
     }
 
@@ -106,7 +103,7 @@ impl Desk {
         ensures state { OnOk result (self.new ≡ commands.matched peer own foreign (commands.asked_with_size stamp size) self.old) }
         ensures memory { OnErr result (said self.old < said (commands.matched peer own foreign (commands.asked_with_size stamp size) self.old)) }
     {
-        ask_with_size(&mut self.entries, own, foreign, stamp, size);
+        self.entries.ask_with_size(own, foreign, stamp, size);
         self.tell_opening(peer, own, foreign)
     }
 
@@ -128,11 +125,11 @@ impl Desk {
             send: own,
             link,
         };
-        if has_sender_on(&self.entries, link.number()) {
+        if has_sender_on(self.entries.as_slice(), link.number()) {
             return self.fault(alloc, ERRONEOUS, &command);
         }
-        match place(&self.entries, own.number(), foreign.number()) {
-            Some(sender) if self.entries[sender].partner.is_some() => {
+        match place(self.entries.as_slice(), own.number(), foreign.number()) {
+            Some(sender) if self.entries.as_slice()[sender].partner.is_some() => {
                 self.fault(alloc, ERRONEOUS, &command)
             }
             Some(_) => self.match_rts(peer, own.number(), foreign.number(), stamp, link),
@@ -181,8 +178,8 @@ impl Desk {
         ensures state { OnOk result (self.new ≡ commands.str_taken peer own foreign size stamp self.old) }
         ensures memory { OnErr result (said self.old < said (commands.str_taken peer own foreign size stamp self.old)) }
     {
-        match place(&self.entries, own.number(), foreign.number()) {
-            Some(receiver) if self.entries[receiver].partner.is_some() => {
+        match place(self.entries.as_slice(), own.number(), foreign.number()) {
+            Some(receiver) if self.entries.as_slice()[receiver].partner.is_some() => {
                 let command = Command::Str {
                     send: foreign,
                     receive: own,
@@ -211,7 +208,7 @@ impl Desk {
         let Some(_) = listener_on(&self.listening, own.number()) else {
             return self.refuse(alloc, own.number(), foreign.number(), stamp);
         };
-        let Some(link) = free_link(&self.entries) else {
+        let Some(link) = free_link(self.entries.as_slice()) else {
             return self.refuse(alloc, own.number(), foreign.number(), stamp);
         };
         let mut entry = Entry::receiving(alloc, own.number(), foreign.number(), link);
@@ -235,9 +232,7 @@ impl Desk {
         ensures state { OnOk result (self.new ≡ settled busy.now self.old) }
         ensures memory { OnErr result (said self.old < said (settled busy.now self.old)) }
     {
-        queue_closings(&self.entries, busy, &mut self.queue)?;
-        close(&mut self.entries, busy);
-        Ok(())
+        self.entries.settle(busy, &mut self.queue)
     }
 
     /// Removes each end that is over, and notifies the user of this host's own.
@@ -245,9 +240,7 @@ impl Desk {
         ensures state { OnOk result (self.new ≡ swept peer self.old) }
         ensures memory { OnErr result (said self.old < said (swept peer self.old)) }
     {
-        tell_endings(&self.entries, peer, &mut self.notices)?;
-        sweep(&mut self.entries);
-        Ok(())
+        self.entries.sweep(peer, &mut self.notices)
     }
 
     /// Takes a CLS.
@@ -262,17 +255,17 @@ impl Desk {
         ensures state { OnOk result (self.new ≡ commands.cls_taken peer busy.now own foreign self.old) }
         ensures memory { OnErr result (said self.old < said (commands.cls_taken peer busy.now own foreign self.old)) }
     {
-        let Some(at) = place(&self.entries, own, foreign) else {
+        let Some(at) = place(self.entries.as_slice(), own, foreign) else {
             let command = Command::Cls {
                 own: foreign,
                 foreign: own,
             };
             return self.fault(alloc, NO_SOCKET, &command);
         };
-        if self.entries[at].partner_closed {
+        if self.entries.as_slice()[at].partner_closed {
             return Ok(());
         }
-        close_by_partner(&mut self.entries, alloc, own, foreign);
+        self.entries.close_by_partner(alloc, own, foreign);
         self.settle(busy)?;
         self.sweep(peer)
     }
@@ -285,7 +278,7 @@ impl Desk {
     fn grant(&mut self, link: u8, messages: u16, bits: u32)
         ensures { self.new ≡ commands.changed (sends_on link) (commands.granted messages bits) self.old }
     {
-        grant(&mut self.entries, link, messages, bits);
+        self.entries.grant(link, messages, bits);
     }
 
     /// Takes an ALL: the receiver grants more.
@@ -304,7 +297,7 @@ impl Desk {
             messages,
             bits,
         };
-        match sender_on(&self.entries, link) {
+        match sender_on(self.entries.as_slice(), link) {
             Found::Open(_) => {
                 self.grant(link, messages, bits);
                 Ok(())
@@ -330,14 +323,14 @@ impl Desk {
             messages,
             bits,
         };
-        let at = match sender_on(&self.entries, link) {
+        let at = match sender_on(self.entries.as_slice(), link) {
             Found::Open(at) => at,
             Found::Ending => return Ok(()),
             Found::Unconnected => return self.fault(alloc, NOT_CONNECTED, &command),
         };
-        let mut allocation = self.entries[at].allocation;
+        let mut allocation = self.entries.as_slice()[at].allocation;
         let (given_messages, given_bits) = allocation.give_back(messages, bits);
-        give_back(&mut self.entries, link, messages, bits);
+        self.entries.give_back(link, messages, bits);
         self.queue(Command::Ret {
             link,
             messages: given_messages,
@@ -361,17 +354,17 @@ impl Desk {
             messages,
             bits,
         };
-        let at = match receiver_on(&self.entries, link) {
+        let at = match receiver_on(self.entries.as_slice(), link) {
             Found::Open(at) => at,
             Found::Ending => return Ok(()),
             Found::Unconnected => return self.fault(alloc, NOT_CONNECTED, &command),
         };
-        let allocation = self.entries[at].allocation;
+        let allocation = self.entries.as_slice()[at].allocation;
         if messages > allocation.messages || bits > allocation.bits {
             return self.fault(alloc, ERRONEOUS, &command);
         }
-        let socket = self.entries[at].own;
-        take_back(&mut self.entries, link, messages, bits);
+        let socket = self.entries.as_slice()[at].own;
+        self.entries.take_back(link, messages, bits);
         self.tell(Notice::Returned {
             socket,
             messages,
@@ -385,12 +378,12 @@ impl Desk {
         ensures memory { OnErr result (said self.old < said (commands.at_end (command.Inr link) commands.interrupted (commands.sender_on link self.old) self.old)) }
     {
         let command = Command::Inr { link };
-        let at = match sender_on(&self.entries, link) {
+        let at = match sender_on(self.entries.as_slice(), link) {
             Found::Open(at) => at,
             Found::Ending => return Ok(()),
             Found::Unconnected => return self.fault(alloc, NOT_CONNECTED, &command),
         };
-        let socket = self.entries[at].own;
+        let socket = self.entries.as_slice()[at].own;
         self.tell(Notice::Interrupt { socket })
     }
 
@@ -400,12 +393,12 @@ impl Desk {
         ensures memory { OnErr result (said self.old < said (commands.at_end (command.Ins link) commands.interrupted (commands.receiver_on link self.old) self.old)) }
     {
         let command = Command::Ins { link };
-        let at = match receiver_on(&self.entries, link) {
+        let at = match receiver_on(self.entries.as_slice(), link) {
             Found::Open(at) => at,
             Found::Ending => return Ok(()),
             Found::Unconnected => return self.fault(alloc, NOT_CONNECTED, &command),
         };
-        let socket = self.entries[at].own;
+        let socket = self.entries.as_slice()[at].own;
         self.tell(Notice::Interrupt { socket })
     }
 }

@@ -12,7 +12,6 @@ use crate::Notice;
 use crate::bits_gone::part;
 use crate::commands::{ERRONEOUS, NOT_CONNECTED};
 use crate::desk::Desk;
-use crate::ends::spend;
 use crate::entry::Entry;
 use crate::found::{Found, receiver_on};
 use bit_messages::Bits;
@@ -49,12 +48,12 @@ impl Desk {
         ensures state { OnOk result (self.new ≡ texts.data_taken link text.now self.old) }
         ensures memory { OnErr result (said self.old < said (texts.data_taken link text.now self.old)) }
     {
-        let at = match receiver_on(&self.entries, link) {
+        let at = match receiver_on(self.entries.as_slice(), link) {
             Found::Open(at) => at,
             Found::Ending => return Ok(()),
             Found::Unconnected => return self.fault_text(NOT_CONNECTED, text),
         };
-        let entry = &self.entries[at];
+        let entry = &self.entries.as_slice()[at];
         match DataHeader::read(text) {
             Some(header) if entry.accepts(&header) => {
                 let socket = entry.own;
@@ -78,7 +77,7 @@ impl Desk {
         ensures memory { OnErr result (said self.old < said (desk_told (notice.Arrived socket (texts.data_of bits text.now) ∷ []) (changed (receives_on link) (texts.spent bits) self.old))) }
     {
         let arrived = part(alloc, text, HEADER_BITS, HEADER_BITS + bits as usize)?;
-        spend(&mut self.entries, link, bits);
+        self.entries.spend(link, bits);
         self.tell(Notice::Arrived {
             socket,
             bits: arrived,

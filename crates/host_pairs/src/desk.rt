@@ -9,6 +9,7 @@ ghost use Rattle.host_pairs.specs.Desk.{command_queued, desk_told};
 
 use crate::Notice;
 use crate::entry::Entry;
+use crate::held::Ends;
 use crate::listener::Listeners;
 use crate::queue::Queue;
 use ncp_control::Command;
@@ -19,7 +20,7 @@ use std::marker::Model;
 /// the user is notified.
 #[derive(Drop)]
 pub(crate) struct Desk {
-    pub entries: Vec<Entry>,
+    pub entries: Ends,
     pub queue: Queue,
     pub listening: Listeners,
     pub notices: Vec<Notice>,
@@ -30,7 +31,7 @@ impl Model for Desk {
 
     ghost Value = { DeskState };
 
-    ghost view = { λ d. record { entries = d.entries.items; queue = d.queue; listening = d.listening; notices = d.notices.items } };
+    ghost view = { λ d. record { entries = d.entries; queue = d.queue; listening = d.listening; notices = d.notices.items } };
 }
 
 impl Desk {
@@ -56,8 +57,7 @@ impl Desk {
     pub(crate) fn join(&mut self, entry: Entry) -> Result<(), AllocError>
         ensures { OnOk result (self.new ≡ entry_joined entry self.old) }
     {
-        self.entries.push(entry)?;
-        Ok(())
+        self.entries.push(entry)
     }
 
     /// Queues an ERR about a command.

@@ -5,7 +5,6 @@ ghost use Rattle.ncp_control.specs.declared.command.Command.TheVariants as comma
 ghost use Rattle.host_pairs.specs.Parcels as parcels;
 
 use crate::desk::Desk;
-use crate::ends::{ask, send_cls};
 use interface::HostAddr;
 use ncp_control::Command;
 use std::alloc::AllocError;
@@ -22,7 +21,7 @@ impl Desk {
         ensures state { OnOk result (self.new ≡ parcels.request_gone peer stamp own foreign self.old) }
         ensures memory { OnErr result (length self.old.notices < length (parcels.request_gone peer stamp own foreign self.old).notices) }
     {
-        ask(&mut self.entries, own, foreign, stamp);
+        self.entries.ask(own, foreign, stamp);
         self.tell_opening(peer, own, foreign)
     }
 
@@ -31,7 +30,7 @@ impl Desk {
         ensures state { OnOk result (self.new ≡ parcels.command_gone peer 0 (command.Cls own foreign) self.old) }
         ensures memory { OnErr result (length self.old.notices < length (parcels.command_gone peer 0 (command.Cls own foreign) self.old).notices) }
     {
-        send_cls(&mut self.entries, own, foreign);
+        self.entries.send_cls(own, foreign);
         self.sweep(peer)
     }
 

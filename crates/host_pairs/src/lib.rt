@@ -19,6 +19,7 @@ mod ends;
 mod entry;
 mod found;
 mod gone;
+mod held;
 mod listener;
 mod notice;
 mod outgoing;
@@ -31,6 +32,7 @@ mod turn_gone;
 
 pub use ends::{free_link, own_place};
 pub use entry::{Closing, Entry, is_busy};
+pub use held::Ends;
 pub use listener::{Listener, Listeners, listens_on, stop_listening};
 pub use ncp_control::Phase;
 pub use notice::Notice;

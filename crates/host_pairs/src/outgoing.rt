@@ -10,6 +10,7 @@ ghost use Rattle.ncp_control.specs.declared.command.Command.{Command};
 ghost use Rattle.host_pairs.specs.declared.entry.Entry.{Entry};
 
 use crate::entry::{Entry, is_answered, is_busy};
+use crate::held::Ends;
 use crate::pair::Pair;
 use ncp_control::{ByteSize, packed_count};
 
@@ -76,7 +77,7 @@ impl Entry {
 
 /// Returns the lowest link of the ends that may send now.
 #[tactic(auto, using(crate::proofs::SendingLemmas::lower_step, crate::proofs::SendingLemmas::lower_end))]
-fn lowest_link(entries: &[Entry], busy: &[u8]) -> Option<u8>
+pub(crate) fn lowest_link(entries: &[Entry], busy: &[u8]) -> Option<u8>
     ensures { result ≡ parcels.lowest_link (filter (parcels.may_send busy.now) entries.now) }
 {
     let mut lowest = None;
@@ -136,12 +137,13 @@ fn first_sending(entries: &[Entry], busy: &[u8], link: u8) -> Option<usize>
 
 /// Returns the message of the end with the lowest link among those that may send.
 #[tactic(auto, using(crate::proofs::ParcelLemmas::within_message, crate::proofs::ParcelLemmas::within_bits))]
-fn next_bytes(entries: &[Entry], busy: &[u8]) -> Option<Outgoing>
-    ensures next { MatchOption result (parcels.next_bytes busy.now entries.now ≡ None) (λ out. parcels.next_bytes busy.now entries.now ≡ Some (parcel_of entries.now out)) }
-    ensures there { IfSome result (IsThere entries.now) }
-    ensures room { (queue : List Command) → IfSome result (HasRoom entries.now queue) }
+fn next_bytes(ends: &Ends, busy: &[u8]) -> Option<Outgoing>
+    ensures next { MatchOption result (parcels.next_bytes busy.now ends.now ≡ None) (λ out. parcels.next_bytes busy.now ends.now ≡ Some (parcel_of ends.now out)) }
+    ensures there { IfSome result (IsThere ends.now) }
+    ensures room { (queue : List Command) → IfSome result (HasRoom ends.now queue) }
 {
-    let link = lowest_link(entries, busy)?;
+    let link = ends.lowest_link(busy)?;
+    let entries = ends.as_slice();
     let at = sending_place(entries, busy, link)?;
     let entry = &entries[at];
     let size = entry.size?;

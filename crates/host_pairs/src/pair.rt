@@ -3,7 +3,7 @@
 ghost use Rattle.std.specs.Prelude.{◌≡◌};
 ghost use Rattle.host_pairs.specs.Pair.{opening_pair, is_opening};
 
-use crate::entry::Entry;
+use crate::held::Ends;
 use crate::queue::Queue;
 use ncp_control::Phase;
 use std::alloc::Global;
@@ -20,7 +20,7 @@ pub struct Pair {
     /// The links on which a message of this host has no answer yet.
     pub busy: Vec<u8>,
     /// The ends of connections with the peer, the oldest first.
-    pub entries: Vec<Entry>,
+    pub entries: Ends,
     /// The commands that wait to go out, the oldest first.
     pub queue: Queue,
 }
@@ -30,7 +30,7 @@ impl Model for Pair {
 
     ghost Value = { PairState };
 
-    ghost view = { λ p. record { phase = p.phase; owed = p.owed; busy = p.busy.items; entries = p.entries.items; queue = p.queue } };
+    ghost view = { λ p. record { phase = p.phase; owed = p.owed; busy = p.busy.items; entries = p.entries; queue = p.queue } };
 }
 
 impl Pair {
@@ -42,7 +42,7 @@ impl Pair {
             phase: Phase::Closed,
             owed: false,
             busy: Vec::new(alloc),
-            entries: Vec::new(alloc),
+            entries: Ends::new(alloc),
             queue: Queue::new(alloc),
         }
     }
@@ -54,7 +54,7 @@ impl Pair {
         self.phase == Phase::Closed
             && !self.owed
             && self.busy.is_empty()
-            && self.entries.is_empty()
+            && self.entries.as_slice().is_empty()
             && self.queue.is_empty()
     }
 }

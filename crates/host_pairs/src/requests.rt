@@ -8,49 +8,14 @@ ghost use Rattle.host_pairs.specs.Asked as asked;
 ghost use Rattle.host_pairs.specs.Asked.{interrupt_of, with_end, with_more_bits};
 ghost use Rattle.host_pairs.specs.Parcels.{link_of};
 
-use crate::ends::{close, own_place, place, queue_closings};
+use crate::ends::place;
 use crate::entry::Entry;
+use crate::held::Ends;
 use crate::pair::Pair;
 use crate::queue::Queue;
 use bit_messages::Bits;
 use ncp_control::{Allocation, Command, Phase};
 use std::alloc::{AllocError, Global};
-
-// ---- this host's own end on a socket
-
-/// Queues bits to be sent.
-fn add_bits(entries: &mut [Entry], socket: u32, bits: &Bits) -> Result<(), AllocError>
-    ensures state { OnOk result (entries.new ≡ changed_first (is_mine_on socket) (with_more_bits bits.now) entries.old) }
-    ensures memory { OnErr result (0 < length bits.now) }
-{
-    if let Some(at) = own_place(entries, socket) {
-        let entry = &mut entries[at];
-        let Ok(()) = entry.bits.append(bits) else {
-            return Err(AllocError);
-        };
-    }
-    Ok(())
-}
-
-/// Grants more.
-fn grant(entries: &mut [Entry], socket: u32, messages: u16, bits: u32)
-    ensures { entries.new ≡ changed_first (is_mine_on socket) (granted messages bits) entries.old }
-{
-    if let Some(at) = own_place(entries, socket) {
-        let entry = &mut entries[at];
-        entry.allocation.grant(messages, bits);
-    }
-}
-
-/// Marks the end to be closed by its user.
-fn call_off(entries: &mut [Entry], socket: u32)
-    ensures { entries.new ≡ changed_first (is_mine_on socket) called_off entries.old }
-{
-    if let Some(at) = own_place(entries, socket) {
-        let entry = &mut entries[at];
-        entry.call_off();
-    }
-}
 
 // ---- the pair
 
@@ -60,7 +25,7 @@ impl Pair {
         ensures { self.new ≡ asked.contacted self.old }
     {
         self.phase = Phase::Want;
-        self.entries = Vec::new(alloc);
+        self.entries = Ends::new(alloc);
         self.queue = Queue::new(alloc);
     }
 
@@ -86,7 +51,7 @@ impl Pair {
         ensures state { OnOk result (self.new ≡ with_end socket (with_more_bits bits.now) self.old) }
         ensures memory { OnErr result (0 < length bits.now) }
     {
-        add_bits(&mut self.entries, socket, bits)
+        self.entries.add_bits(socket, bits)
     }
 
     /// Grants the sender to a socket more, and queues the ALL that says so.
@@ -100,7 +65,7 @@ impl Pair {
         requires joint { is_alone command ≡ false }
         ensures { OnOk result (self.new ≡ asked.commanded command (with_end socket (granted messages bits) self.old)) }
     {
-        grant(&mut self.entries, socket, messages, bits);
+        self.entries.grant_more(socket, messages, bits);
         self.command(command)
     }
 
@@ -109,10 +74,8 @@ impl Pair {
         ensures state { OnOk result (self.new ≡ asked.closed_end socket self.old) }
         ensures memory { OnErr result (length self.old.queue < length (asked.closed_end socket self.old).queue) }
     {
-        call_off(&mut self.entries, socket);
-        queue_closings(&self.entries, &self.busy, &mut self.queue)?;
-        close(&mut self.entries, &self.busy);
-        Ok(())
+        self.entries.call_off(socket);
+        self.entries.settle(&self.busy, &mut self.queue)
     }
 }
 

@@ -132,7 +132,7 @@ impl Pair {
         ensures { result ≡ parcels.link_for (parcel_of self.now.entries out.now) }
     {
         match *out {
-            Outgoing::Bytes { at, .. } => self.entries[at].link_number(),
+            Outgoing::Bytes { at, .. } => self.entries.as_slice()[at].link_number(),
             Outgoing::Reset | Outgoing::Reply | Outgoing::Commands { .. } => 0,
         }
     }
@@ -150,7 +150,7 @@ impl Pair {
             Outgoing::Reply => signal_text(alloc, Command::Rrp),
             Outgoing::Commands { .. } => commands_text(alloc, &self.queue),
             Outgoing::Bytes { at, size, count } => {
-                data_text(alloc, size.bits(), count, &self.entries[at].bits)
+                data_text(alloc, size.bits(), count, &self.entries.as_slice()[at].bits)
             }
         }
     }

@@ -11,7 +11,7 @@ ghost use Rattle.ncp_control.specs.declared.command.Command.TheVariants as comma
 
 use crate::Notice;
 use crate::desk::Desk;
-use crate::ends::{has_closing, has_due};
+use crate::held::Ends;
 use crate::listener::Listeners;
 use crate::pair::Pair;
 use crate::queue::Queue;
@@ -58,7 +58,7 @@ impl Turn {
         ensures rest { self.new ≡ record { pair = record self.old.pair { entries = []; queue = [] }; listening = []; notices = self.old.notices } }
     {
         Desk {
-            entries: mem::replace(&mut self.pair.entries, Vec::new(alloc)),
+            entries: mem::replace(&mut self.pair.entries, Ends::new(alloc)),
             queue: mem::replace(&mut self.pair.queue, Queue::new(alloc)),
             listening: mem::replace(&mut self.listening, Listeners::new(alloc)),
             notices: Vec::new(alloc),
@@ -165,7 +165,7 @@ impl Turn {
         ensures state { OnOk result (self.new ≡ turns.settled_turn self.old) }
         ensures memory { OnErr result (0 < newly_said self.old (turns.settled_turn self.old)) }
     {
-        if !has_closing(&self.pair.entries, &self.pair.busy) {
+        if !self.pair.entries.has_closing(&self.pair.busy) {
             return Ok(());
         }
         let mut desk = self.desk(alloc);
@@ -181,7 +181,7 @@ impl Turn {
     fn forget(&mut self, alloc: Global)
         ensures { self.new ≡ record self.old { pair = record self.old.pair { entries = []; queue = [] } } }
     {
-        self.pair.entries = Vec::new(alloc);
+        self.pair.entries = Ends::new(alloc);
         self.pair.queue = Queue::new(alloc);
     }
 
@@ -248,7 +248,7 @@ impl Pair {
     pub fn is_quiet(&self) -> bool
         ensures { result ≡ turns.is_quiet self.now }
     {
-        self.phase.is_ready() && !has_due(&self.entries)
+        self.phase.is_ready() && !self.entries.has_due()
     }
 
     /// Marks a link as free of outstanding messages.

@@ -42,7 +42,7 @@ fn owned_by(alloc: Global, peers: &[Peer]) -> Result<BTreeSet<u32>, AllocError>
 {
     let mut sockets = BTreeSet::new(alloc);
     for peer in peers {
-        add_each(&mut sockets, &peer.pair.entries)?;
+        add_each(&mut sockets, peer.pair.entries.as_slice())?;
     }
     Ok(sockets)
 }

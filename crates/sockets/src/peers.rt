@@ -152,7 +152,7 @@ impl Peers {
             return None;
         }
         for peer in peers {
-            let entries = &peer.pair.entries;
+            let entries = peer.pair.entries.as_slice();
             if let Some(at) = own_place(entries, socket) {
                 return Some((peer.host, &entries[at]));
             }

@@ -80,7 +80,7 @@ impl Ncp {
         ensures { result.now ≡ (pair_with peer self.now.peers).entries }
     {
         match self.peers.pair(peer) {
-            Some(pair) => &pair.entries,
+            Some(pair) => pair.entries.as_slice(),
             None => &[],
         }
     }

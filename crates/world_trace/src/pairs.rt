@@ -221,7 +221,7 @@ impl Json for Peer {
     fn show<W: fmt::Write>(&self, f: &mut Formatter<W>) -> fmt::Result {
         let (peer, pair) = (Name(&self.host), &self.pair);
         let (phase, owed) = (PhaseWord(pair.phase), Flag(pair.owed));
-        let (busy, ends) = (Array(&pair.busy), Array(&pair.entries));
+        let (busy, ends) = (Array(&pair.busy), Array(pair.entries.as_slice()));
         let commands = Array(pair.queue.as_slice());
         write!(
             f,

@@ -16,7 +16,7 @@ import tempfile
 from collections.abc import Callable, Iterator
 from functools import partial
 
-from dorydate.measure import best_of_all, instructions, most_memory, written
+from dorydate.measure import best_of_all, build_of, instructions, most_memory, written
 from dorydate.measure import boxes, subnet, worlds
 
 HEAD = "| Measured | Network | Count | Instructions before | after | Times | Time before | after | Times | Memory before | after | Ten times the count |"
@@ -85,7 +85,9 @@ def words_of() -> argparse.Namespace:
 
 def main() -> None:
     words = words_of()
-    print(HEAD, f"|{'---|' * (HEAD.count('|') - 1)}", sep="\n")
+    for program in (words.before, words.after):
+        print(f"{program}: {build_of(program)}")
+    print("", HEAD, f"|{'---|' * (HEAD.count('|') - 1)}", sep="\n")
     with tempfile.TemporaryDirectory() as folder:
         for name, network, sizes in kinds():
             short: float | None = None

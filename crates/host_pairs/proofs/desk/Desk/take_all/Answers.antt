@@ -7,5 +7,5 @@ use Rattle.host_pairs.proofs.desk.Desk.take_all.Goals as goal
 
 pub returns-in-Open-clause-state : goal.returns-in-Open-clause-state
 returns-in-Open-clause-state c =
-    at_open c.deref.result.now c.in-Open.field-0 (found_in (find (sends_on c.args.link) c.deref.result.now)) (sender_on c.args.link c.args.self.now)
+    at_open c.as_slice.result.now c.in-Open.field-0 (found_in (find (sends_on c.args.link) c.as_slice.result.now)) (sender_on c.args.link c.args.self.now)
     (command.All c.args.link c.args.messages c.args.bits) (all_taken c.args.link c.args.messages c.args.bits) c.args.self.now _ c.in-Open.ensures (search rules) (λ e. c.grant.ensures)
