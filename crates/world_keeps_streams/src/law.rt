@@ -1,27 +1,16 @@
 //! What two programs of a world do on each link. The functions here do nothing: each clause is a law.
 
-ghost use Rattle.std.specs.Prelude.{◌≡◌, ℕ, ◌==◌, true, false, List, [], ◌∷◌, ◌++◌, None, Some, length};
-ghost use Rattle.std.specs.List.{Contains};
+ghost use Rattle.std.specs.Prelude.{◌≡◌, ℕ, true, List, [], ◌∷◌, ◌++◌, None, Some};
 ghost use Rattle.interface.specs.Host.{Host};
 ghost use Rattle.interface.specs.Mailboxes as mail;
-ghost use Rattle.interface.specs.declared.address.Flow.{Flow};
-ghost use Rattle.interface.specs.declared.crossing.Answer.TheVariants as answer;
 ghost use Rattle.interface.specs.declared.crossing.Crossing.TheVariants as crossing;
-ghost use Rattle.interface.specs.declared.message.HostMessage.{HostMessage};
-ghost use Rattle.host_keeps_streams.specs.Ends.{HasReceiver};
-ghost use Rattle.host_keeps_streams.specs.Histories.{AreAllowed, HasClosed, IsHistory, ends_now, name_now, numbered, receiver_now, sender_now};
-ghost use Rattle.host_keeps_streams.specs.Names.{IsSending};
-ghost use Rattle.stream_law.specs.Within.{AreGranted, IsPrefix};
-ghost use Rattle.reset_law.specs.Stays as stay;
-ghost use Rattle.sockets.specs.Pairs.{pair_with};
+ghost use Rattle.host_keeps_streams.specs.Histories.{numbered, receiver_now, sender_now};
 ghost use Rattle.sockets.specs.Worked as dialogue;
 ghost use Rattle.sockets.specs.declared.request.Request.TheVariants as request;
-ghost use Rattle.promise.specs.declared.life.Life.{Life};
 ghost use Rattle.net_sim.specs.Clean.{HaveAddresses, IsLawful};
-ghost use Rattle.promise.specs.Safe.{IsGranted, Match, Source, receives};
-ghost use Rattle.net_sim.specs.Story.{Asked, Crossed, Moment, events_of, program};
+ghost use Rattle.net_sim.specs.Story.{Asked, Crossed, Moment};
 ghost use Rattle.net_sim.specs.Timeline.{IsTimeline, crossings_of};
-ghost use Rattle.net_sim.specs.Told.{kept_in, notices_by};
+ghost use Rattle.net_sim.specs.Told.{notices_by};
 ghost use Rattle.net_sim.specs.World.{WorldState};
 ghost use Rattle.net_sim.specs.Worked.{eight};
 ghost use Rattle.net_sim.specs.WorkedMoments.{bits_sent, connected, eight_sent, sent_moments};
@@ -32,75 +21,80 @@ ghost use Rattle.world_keeps_streams.specs.Arrivals.{AllArrive, Arrives, ComesFo
 ghost use Rattle.world_keeps_streams.specs.Calls.{own_calls, numbered_by_peer};
 ghost use Rattle.world_keeps_streams.specs.Rests.{AllRest, AreAtRest};
 ghost use Rattle.world_keeps_lives.specs.WorkedFormed.{gave};
-ghost use Rattle.world_keeps_streams.specs.Closes.{AllClose, AllHanded, EachHanded, IsClosedByPartner, TookAll, TookHanded, WasClosedBy, WasClosedByPartner};
+ghost use Rattle.world_keeps_streams.specs.Closes.{AllClose, AllHanded, EachHanded, IsClosedByPartner, TookHanded, WasClosedBy, WasClosedByPartner};
+ghost use Rattle.world_keeps_streams.specs.Laws.Programs.{ProgramsCalls, ProgramsAllowed, ProgramsReceiver, ProgramsSender};
+ghost use Rattle.world_keeps_streams.specs.Laws.Streams.{StreamsFront, StreamsWhole, StreamsTaken, StreamsSent};
+ghost use Rattle.world_keeps_streams.specs.Laws.Lives.{LivesSource, LivesCloses, LivesFirsts, LivesArrives, LivesAnswered, LivesRests, LivesSent};
+ghost use Rattle.world_keeps_streams.specs.Laws.Worlds.{WorldsSource, WorldsSent};
+ghost use Rattle.world_keeps_streams.specs.Laws.WorkedCalls.{WorkedCallsFirst};
 
 use interface::Carrier;
 
 /// What each host's program does with a peer, over every list of moments in which what crosses is a run of the mailboxes.
 pub fn programs()
     // its calls since it dropped its ends with the peer last follow one another, and lead to the ends that it has
-    ensures calls { (hosts : List Host) (moments : List Moment) → HaveAddresses hosts → mail.IsRun hosts (crossings_of moments) → IsTimeline hosts moments → (a b : Host) → IsHistory b (own_calls a b moments) × (ends_now b (own_calls a b moments) ≡ (pair_with b (program a moments).peers).entries) }
+    ensures calls { ProgramsCalls }
 
     // each of them may be made, on each link of a connection: what the laws of one host's calls ask for is so
-    ensures allowed { (hosts : List Host) (moments : List Moment) → HaveAddresses hosts → mail.IsRun hosts (crossings_of moments) → IsTimeline hosts moments → (a b : Host) (link : ℕ) → (link == 0) ≡ false → AreAllowed numbered b link (own_calls a b moments) }
+    ensures allowed { ProgramsAllowed }
 
     // so what the program has on the link is what the law of streams has there
-    ensures receiver { (hosts : List Host) (moments : List Moment) → HaveAddresses hosts → mail.IsRun hosts (crossings_of moments) → IsTimeline hosts moments → (a b : Host) (link : ℕ) → (link == 0) ≡ false → HasReceiver (name_now numbered b (own_calls a b moments)) link (pair_with b (program a moments).peers).entries (receiver_now numbered b link (own_calls a b moments)) }
-    ensures sender { (hosts : List Host) (moments : List Moment) → HaveAddresses hosts → mail.IsRun hosts (crossings_of moments) → IsTimeline hosts moments → (a b : Host) (link : ℕ) → (link == 0) ≡ false → IsSending (name_now numbered b (own_calls a b moments)) link (pair_with b (program a moments).peers).entries (sender_now numbered b link (own_calls a b moments)) }
+    ensures receiver { ProgramsReceiver }
+    ensures sender { ProgramsSender }
 {}
 
 /// Two programs that stay together since both were through a reset, link by link and connection by connection. A connection is given by its two sockets
 /// and how many connections of theirs are over, which both count alike.
 pub fn streams()
     // what the one has taken in a connection is a prefix of what the other has sent in it
-    ensures front { (hosts : List Host) (moments : List Moment) → HaveAddresses hosts → mail.IsRun hosts (crossings_of moments) → IsTimeline hosts moments → (a b : Host) (link : ℕ) → (link == 0) ≡ false → stay.stays a b (events_of moments) ≡ true → stay.stays b a (events_of moments) ≡ true → (c : ℕ) → IsPrefix ((receiver_now numbered b link (own_calls a b moments)).taken c) ((sender_now numbered_by_peer a link (own_calls b a moments)).sent c) }
+    ensures front { StreamsFront }
 
     // and all of it, where it has heard the other's CLS and its own user hasn't closed the end
-    ensures whole { (hosts : List Host) (moments : List Moment) → HaveAddresses hosts → mail.IsRun hosts (crossings_of moments) → IsTimeline hosts moments → (a b : Host) (link : ℕ) → (link == 0) ≡ false → stay.stays a b (events_of moments) ≡ true → stay.stays b a (events_of moments) ≡ true → (c : ℕ) → (receiver_now numbered b link (own_calls a b moments)).over c ≡ true → (HasClosed numbered b link c (own_calls a b moments) → ⊥) → (receiver_now numbered b link (own_calls a b moments)).taken c ≡ (sender_now numbered_by_peer a link (own_calls b a moments)).sent c }
+    ensures whole { StreamsWhole }
 
     // with what was returned, what was taken is within what was granted, and so is what was sent
-    ensures taken { (hosts : List Host) (moments : List Moment) → HaveAddresses hosts → mail.IsRun hosts (crossings_of moments) → IsTimeline hosts moments → (a b : Host) (link : ℕ) → (link == 0) ≡ false → stay.stays a b (events_of moments) ≡ true → stay.stays b a (events_of moments) ≡ true → (c : ℕ) → AreGranted ((receiver_now numbered b link (own_calls a b moments)).taken c) ((receiver_now numbered b link (own_calls a b moments)).returned c) ((receiver_now numbered b link (own_calls a b moments)).granted c) }
-    ensures sent { (hosts : List Host) (moments : List Moment) → HaveAddresses hosts → mail.IsRun hosts (crossings_of moments) → IsTimeline hosts moments → (a b : Host) (link : ℕ) → (link == 0) ≡ false → stay.stays a b (events_of moments) ≡ true → stay.stays b a (events_of moments) ≡ true → (c : ℕ) → AreGranted ((sender_now numbered_by_peer a link (own_calls b a moments)).sent c) ((receiver_now numbered b link (own_calls a b moments)).returned c) ((receiver_now numbered b link (own_calls a b moments)).granted c) }
+    ensures taken { StreamsTaken }
+    ensures sent { StreamsSent }
 {}
 
 /// The lives of a book, over every list of moments in which what crosses is a run of the mailboxes.
 pub fn lives()
     // what a receiving life took is a prefix of what its one partner sent: where it took any bit there is one
-    ensures source { (hosts : List Host) (moments : List Moment) → HaveAddresses hosts → mail.IsRun hosts (crossings_of moments) → IsTimeline hosts moments → (receiver : Life) → Contains (kept_in moments).book.lives receiver → receives receiver ≡ true → (receiver.bits ≡ [] → ⊥) → Source (crossings_of moments) (kept_in moments).book.lives receiver }
+    ensures source { LivesSource }
 
     // a receiving life whose end its partner has closed, and no user of its host, took all that its partner sent; it stays so whatever becomes of both lives
-    ensures closes { (hosts : List Host) (moments : List Moment) → HaveAddresses hosts → mail.IsRun hosts (crossings_of moments) → IsTimeline hosts moments → (receiver : Life) → WasClosedByPartner moments receiver → TookAll (crossings_of moments) (kept_in moments).book.lives receiver }
+    ensures closes { LivesCloses }
 
     // and all that was handed over in the life that it matches, if that had begun when the CLS was taken
     ensures handed { (hosts : List Host) (moments : List Moment) → HaveAddresses hosts → mail.IsRun hosts (crossings_of moments) → IsTimeline hosts moments → EachHanded moments }
 
     // the messages of each life are the first on its link after both of its requests, and each message that goes out is one of a sending life: so crossings
     // determine the bits of all lives
-    ensures firsts { (hosts : List Host) (moments : List Moment) → HaveAddresses hosts → mail.IsRun hosts (crossings_of moments) → IsTimeline hosts moments → FirstBook (crossings_of moments) (kept_in moments).book.lives }
+    ensures firsts { LivesFirsts }
 
     // data that are taken where they come for a receiving life whose end is open, or that no user of its host has closed, arrive there, all of them
-    ensures arrives { (hosts : List Host) (moments : List Moment) (m : HostMessage) → HaveAddresses hosts → mail.IsRun hosts (crossings_of (Crossed (crossing.In m) ∷ moments)) → IsTimeline hosts (Crossed (crossing.In m) ∷ moments) → (receiver : Life) → ComesFor m moments receiver → Arrives m moments receiver }
+    ensures arrives { LivesArrives }
 
     // where a host gets RFNM of data, they were taken at an earlier moment, once, and arrived there if they came for such a life
-    ensures answered { (hosts : List Host) (moments : List Moment) (f : Flow) → HaveAddresses hosts → mail.IsRun hosts (crossings_of (Crossed (crossing.Answer answer.Rfnm f) ∷ moments)) → IsTimeline hosts (Crossed (crossing.Answer answer.Rfnm f) ∷ moments) → (f.link.0 == 0) ≡ false → HasArrived f moments }
+    ensures answered { LivesAnswered }
 
     // a receiving life at rest, whose end is open and for which nothing waits, took all that its partner sent
-    ensures rests { (hosts : List Host) (moments : List Moment) → HaveAddresses hosts → mail.IsRun hosts (crossings_of moments) → IsTimeline hosts moments → (receiver sender : Life) → AreAtRest moments receiver sender → (receiver.bits ≡ sender.bits) × (receiver.messages ≡ sender.messages) }
+    ensures rests { LivesRests }
 
     // what a sending life sent that it matches, with what was returned, is within what it granted
-    ensures sent { (hosts : List Host) (moments : List Moment) → HaveAddresses hosts → mail.IsRun hosts (crossings_of moments) → IsTimeline hosts moments → (receiver sender : Life) → Contains (kept_in moments).book.lives receiver → Contains (kept_in moments).book.lives sender → Match (crossings_of moments) receiver sender → IsGranted receiver sender.messages (length sender.bits) }
+    ensures sent { LivesSent }
 {}
 
 /// The same of the book of every world, whatever its carrier is made of.
 pub fn worlds<C: Carrier>()
-    ensures source { (hosts : List Host) (w : WorldState C) → IsLawful C.calls.seen hosts w → (receiver : Life) → Contains w.kept.book.lives receiver → receives receiver ≡ true → (receiver.bits ≡ [] → ⊥) → Source w.kept.book.crossings w.kept.book.lives receiver }
+    ensures source { WorldsSource C.calls.seen }
     ensures closes { (hosts : List Host) (w : WorldState C) → (lawful : IsLawful C.calls.seen hosts w) → AllClose lawful.whole.moments }
     ensures handed { (hosts : List Host) (w : WorldState C) → (lawful : IsLawful C.calls.seen hosts w) → AllHanded lawful.whole.moments }
     ensures firsts { (hosts : List Host) (w : WorldState C) → IsLawful C.calls.seen hosts w → FirstBook w.kept.book.crossings w.kept.book.lives }
     ensures arrives { (hosts : List Host) (w : WorldState C) → (lawful : IsLawful C.calls.seen hosts w) → AllArrive lawful.whole.moments }
     ensures answered { (hosts : List Host) (w : WorldState C) → (lawful : IsLawful C.calls.seen hosts w) → AllAnswered lawful.whole.moments }
     ensures rests { (hosts : List Host) (w : WorldState C) → (lawful : IsLawful C.calls.seen hosts w) → AllRest lawful.whole.moments }
-    ensures sent { (hosts : List Host) (w : WorldState C) → IsLawful C.calls.seen hosts w → (receiver sender : Life) → Contains w.kept.book.lives receiver → Contains w.kept.book.lives sender → Match w.kept.book.crossings receiver sender → IsGranted receiver sender.messages (length sender.bits) }
+    ensures sent { WorldsSent C.calls.seen }
 {}
 
 /// Data that are taken: eight bits, for an end that is open, and for one that its user has closed.
@@ -151,7 +145,7 @@ pub fn worked_calls()
     ensures none { (a b : Host) → own_calls a b [] ≡ [] }
 
     // the first host hears an RRP, asks for its end, says its RTS and hears the STR; and what it has on link 2 is the end of that connection
-    ensures first { (length (own_calls dialogue.first dialogue.second connected) ≡ 4) × ((receiver_now (λ own foreign gone. own) dialogue.second 2 (own_calls dialogue.first dialogue.second connected)).end ≡ Some 16) }
+    ensures first { WorkedCallsFirst }
 
     // the second has it too, with the sockets turned
     ensures second { (sender_now (λ own foreign gone. foreign) dialogue.first 2 (own_calls dialogue.second dialogue.first connected)).end ≡ Some 16 }

@@ -1,0 +1,6 @@
+-- Statements and rows that are too long for a line in src/, each named after its function and clause.
+pub mod Programs
+pub mod Streams
+pub mod Lives
+pub mod Worlds
+pub mod WorkedCalls
