@@ -3,10 +3,10 @@ use Rattle.std.proofs.Common.{◌≡◌, ℕ, ◌+◌, ◌*◌, ◌/◌, ◌%◌
 use Rattle.std.proofs.lemmas.List.{drop-drop, drop_all, get_or-drop, length-drop}
 use Rattle.std.proofs.lemmas.Grind.{flat_map-append}
 use Rattle.std.specs.Io.KnownBytes.{Appends}
+use Rattle.std.proofs.KnownBytes.{Appends-nil, Appends-trans}
 use Rattle.bit_messages.specs.Octets.{octet, octets_of}
 use Rattle.hex.specs.Hex.{encode_upper, encode_with, upper_digits}
 use Rattle.replay.specs.InTurn.{text_of}
-use Rattle.replay.proofs.lemmas.{appends_more, appends_none}
 use Rattle.script.specs.Input.{ended_line}
 use Rattle.script.specs.Spelling.{octets_text}
 use Rattle.book_log.specs.Log.{Book, handed_line, life_line, log_text, logged_line, text_of_lines}
@@ -43,7 +43,7 @@ pub record Written (bits : List Bool) (i : ℕ) (a b : Option (List ℕ)) : Type
   pub written : Appends a b front
 
 pub none_written : (bits : List Bool) (a : Option (List ℕ)) → Written bits 0 a a
-none_written bits a = record { front = []; whole = refl; written = appends_none a }
+none_written bits a = record { front = []; whole = refl; written = Appends-nil a }
 
 two_digits : (o : ℕ) (octets : List ℕ) → encode_upper (o ∷ octets) ≡ (slice_index upper_digits (o / 16) ∷ slice_index upper_digits (o % 16) ∷ []) ++ encode_upper octets
 unfolding encode_with
@@ -61,7 +61,7 @@ one_written bits i o a b c lt is h now =
       front = h.front ++ pair;
       whole = append_assoc h.front pair (encode_upper (octets_of (drop (8 * (i + 1)) bits)))
           ∙ ap (λ xs. h.front ++ xs) (sym (ap encode_upper next ∙ two_digits o (octets_of (drop (8 * (i + 1)) bits)))) ∙ h.whole;
-      written = appends_more a b c h.front pair h.written now;
+      written = Appends-trans a b c h.front pair h.written now;
     }
 
 none_left : (bits : List Bool) (i : ℕ) → length bits ≤ 8 * i → encode_upper (octets_of (drop (8 * i) bits)) ≡ []
@@ -86,7 +86,7 @@ some_bits (x ∷ bits) a b some h = h
 pub line_written : (front octets : List ℕ) (a b c d : Option (List ℕ)) → Appends a b (front ++ codes " ") → Appends b c octets → Appends c d (codes "\n") → Appends a d (ended_line (front ++ (codes " " ++ octets)))
 line_written front octets a b c d h k l =
     subst (Appends a d) (ap (λ xs. xs ++ codes "\n") (append_assoc front (codes " ") octets))
-    (appends_more a c d ((front ++ codes " ") ++ octets) (codes "\n") (appends_more a b c (front ++ codes " ") octets h k) l)
+    (Appends-trans a c d ((front ++ codes " ") ++ octets) (codes "\n") (Appends-trans a b c (front ++ codes " ") octets h k) l)
 
 -- ---- the whole
 
@@ -109,6 +109,6 @@ pub log_written : (b : Book) (first second third fourth last : Option (List ℕ)
     → Appends third fourth (text_of handed_line b.handed) → Appends fourth last (codes "end\n") → Appends first last (log_text b)
 log_written b first second third fourth last crossings lives handed end =
     subst (Appends first last) (sym (log_is b))
-    (appends_more first second last (text_of logged_line b.crossings) (text_of life_line b.lives ++ (text_of handed_line b.handed ++ codes "end\n")) crossings
-    (appends_more second third last (text_of life_line b.lives) (text_of handed_line b.handed ++ codes "end\n") lives
-    (appends_more third fourth last (text_of handed_line b.handed) (codes "end\n") handed end)))
+    (Appends-trans first second last (text_of logged_line b.crossings) (text_of life_line b.lives ++ (text_of handed_line b.handed ++ codes "end\n")) crossings
+    (Appends-trans second third last (text_of life_line b.lives) (text_of handed_line b.handed ++ codes "end\n") lives
+    (Appends-trans third fourth last (text_of handed_line b.handed) (codes "end\n") handed end)))

@@ -3,9 +3,9 @@ use Rattle.std.proofs.Common.{◌≡◌, ℕ, ◌<◌, ◌+◌, List, [], ◌∷
 use Rattle.std.proofs.lemmas.Grind.{flat_map-append}
 use Rattle.std.proofs.lemmas.List.{append_assoc, append-nil, drop_more, take-append-drop, take_more}
 use Rattle.std.specs.Io.KnownBytes.{Appends}
+use Rattle.std.proofs.KnownBytes.{Appends-nil, Appends-trans}
 use Rattle.script.specs.Input.{ended_line}
 use Rattle.replay.specs.InTurn.{EndsInTurn, Happening, HappensOnce, InTurn, ShowsFront, WritesLines, text_of}
-use Rattle.replay.proofs.Shown.{appends_more, appends_none}
 
 pub text_of-append : {L : Type 0} (text : L → List ℕ) (xs ys : List L) → text_of text (xs ++ ys) ≡ text_of text xs ++ text_of text ys
 text_of-append text xs ys = flat_map-append (λ s. ended_line (text s)) xs ys
@@ -16,7 +16,7 @@ pub text_more : {L : Type 0} (text : L → List ℕ) (xs : List L) (i : ℕ) (d 
 text_more text xs i d a b c lt before now =
     let all : text_of text (take (i + 1) xs) ≡ text_of text (take i xs) ++ ended_line (text (get_or xs i d)) =
     ap (text_of text) (take_more xs i d lt) ∙ text_of-append text (take i xs) (get_or xs i d ∷ []) ∙ ap (λ ys. text_of text (take i xs) ++ ys) (append-nil (ended_line (text (get_or xs i d)))) in
-    subst (Appends a c) (sym all) (appends_more a b c (text_of text (take i xs)) (ended_line (text (get_or xs i d))) before now)
+    subst (Appends a c) (sym all) (Appends-trans a b c (text_of text (take i xs)) (ended_line (text (get_or xs i d))) before now)
 
 -- ---- one event more
 
@@ -28,14 +28,14 @@ in_turn_more Happens old mid new (x ∷ events) e shown own (next, first, rest, 
     (next, first, rest ++ own, h, in_turn_more Happens next mid new events e rest own more k, ap (λ xs. xs ++ own) whole ∙ append_assoc first rest own)
 
 pub nothing_written : {S E L : Type 0} (Happens : Happening S E L) (text : L → List ℕ) (old : S) (a : Option (List ℕ)) → WritesLines text (InTurn Happens old [] old) a a
-nothing_written Happens text old a = record { shown = []; is_shown = (refl, refl); written = appends_none a }
+nothing_written Happens text old a = record { shown = []; is_shown = (refl, refl); written = Appends-nil a }
 
 pub one_written : {S E L : Type 0} (Happens : Happening S E L) (text : L → List ℕ) (old mid new : S) (events : List E) (e : E) (a b c : Option (List ℕ))
     → WritesLines text (InTurn Happens old events mid) a b → WritesLines text (Happens mid e new) b c → WritesLines text (InTurn Happens old (events ++ e ∷ []) new) a c
 one_written Happens text old mid new events e a b c h k = record {
   shown = h.shown ++ k.shown;
   is_shown = in_turn_more Happens old mid new events e h.shown k.shown h.is_shown k.is_shown;
-  written = subst (Appends a c) (sym (text_of-append text h.shown k.shown)) (appends_more a b c (text_of text h.shown) (text_of text k.shown) h.written k.written);
+  written = subst (Appends a c) (sym (text_of-append text h.shown k.shown)) (Appends-trans a b c (text_of text h.shown) (text_of text k.shown) h.written k.written);
 }
 
 -- the last event
@@ -49,7 +49,7 @@ pub last_written : {S E L : Type 0} (Happens Goes : Happening S E L) (text : L �
 last_written Happens Goes text old mid new events done e left a b c parts h k = record {
   shown = h.shown ++ k.shown;
   is_shown = last_shown Happens Goes old mid new events done e left h.shown k.shown parts h.is_shown k.is_shown;
-  written = subst (Appends a c) (sym (text_of-append text h.shown k.shown)) (appends_more a b c (text_of text h.shown) (text_of text k.shown) h.written k.written);
+  written = subst (Appends a c) (sym (text_of-append text h.shown k.shown)) (Appends-trans a b c (text_of text h.shown) (text_of text k.shown) h.written k.written);
 }
 
 -- ---- in a list that is gone through place by place

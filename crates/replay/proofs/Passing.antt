@@ -3,6 +3,7 @@ use Rattle.std.proofs.Common.{◌≡◌, ℕ, zero, suc, Bool, true, false, ◌|
 use Rattle.std.proofs.lemmas.Bool.{false≢true}
 use Rattle.std.proofs.lemmas.List.{append_assoc, append-nil, drop_all, drop_more, reverse-append}
 use Rattle.std.specs.Io.KnownBytes.{Appends}
+use Rattle.std.proofs.KnownBytes.{Appends-nil, Appends-trans}
 use Rattle.interface.specs.Calls.{Calls, Seen, is_halt, is_memory}
 use Rattle.interface.specs.Rest.{BringsNothing, Rests, TakesNothing}
 use Rattle.interface.specs.Host.{Host}
@@ -16,7 +17,7 @@ use Rattle.replay.specs.declared.events.ReplayFault.{ReplayFault}
 use Rattle.replay.specs.declared.events.ReplayFault.TheVariants as fault
 use Rattle.replay.specs.declared.print.Detail.{Detail}
 use Rattle.script.specs.declared.event.RawEvent.TheVariants as event
-use Rattle.replay.proofs.Shown.{appends_more, appends_none, gained, output-append, shown_crossings-append}
+use Rattle.replay.proofs.Shown.{gained, output-append, shown_crossings-append}
 
 pub grew_more : (old mid new : Seen) → Grew old mid → Grew mid new → Grew old new
 grew_more old mid new h k = record {
@@ -104,7 +105,7 @@ pub record Passed {C : Type 0} (calls : Calls C) (detail : Detail) (first : C) (
   pub written : Appends before after (output detail (shown_crossings crossings))
 
 pub none_passed : {C : Type 0} (calls : Calls C) (detail : Detail) (first : C) (times : ℕ) (a : Option (List ℕ)) → Passed calls detail first times 0 first a a
-none_passed calls detail first times a = record { few = omega arith; goes = λ left r new h. let same : left ≡ 0 + left = omega arith in subst (λ n. Rounds calls n first r new) same h; crossings = []; grown = refl; written = appends_none a }
+none_passed calls detail first times a = record { few = omega arith; goes = λ left r new h. let same : left ≡ 0 + left = omega arith in subst (λ n. Rounds calls n first r new) same h; crossings = []; grown = refl; written = Appends-nil a }
 
 is_done : (r : Result (Unit {0}) CarrierFault) → IfErr r (λ f. Halts (Err f)) → GoesOn r → r ≡ Ok tt
 is_done (Ok done) told goes = refl
@@ -117,7 +118,7 @@ grown_more old mid new cs ds h k = k ∙ ap (λ log. reverse ds ++ log) h ∙ sy
 written_more : (detail : Detail) (a b c : Option (List ℕ)) (cs ds : List Crossing) → Appends a b (output detail (shown_crossings cs)) → Appends b c (output detail (shown_crossings ds)) → Appends a c (output detail (shown_crossings (cs ++ ds)))
 written_more detail a b c cs ds h k =
     subst (Appends a c) (sym (ap (output detail) (shown_crossings-append cs ds) ∙ output-append detail (shown_crossings cs) (shown_crossings ds)))
-    (appends_more a b c (output detail (shown_crossings cs)) (output detail (shown_crossings ds)) h k)
+    (Appends-trans a b c (output detail (shown_crossings cs)) (output detail (shown_crossings ds)) h k)
 
 -- one round more
 pub one_passed : {C : Type 0} (calls : Calls C) (detail : Detail) (first now next : C) (times i : ℕ) (outcome : Result (Unit {0}) CarrierFault) (old_log new_log : List Crossing) (a b c : Option (List ℕ))

@@ -1,8 +1,9 @@
 -- What a replay shows, call by call.
 use Rattle.std.proofs.Common.{◌≡◌, ℕ, ◌<◌, ◌+◌, Bool, true, false, List, [], ◌∷◌, ◌++◌, length, get_or, take, drop, reverse, Option, Some, None, Result, Ok, Err, if◌then◌else◌, inr, refl, sym, ap, ◌∙◌, subst, arith, IfErr, OnOk, IsOk}
-use Rattle.std.proofs.lemmas.List.{append_assoc, append-nil, take_more, drop_all, drop_at, reverse-append, reverse-reverse}
+use Rattle.std.proofs.lemmas.List.{append-nil, take_more, drop_all, drop_at, reverse-append, reverse-reverse}
 use Rattle.std.proofs.lemmas.Bool.{false≢true}
 use Rattle.std.proofs.lemmas.Grind.{flat_map-append}
+use Rattle.std.proofs.KnownBytes.{Appends-trans}
 use Rattle.std.specs.Io.KnownBytes.{Appends}
 use Rattle.interface.specs.Host.{Host}
 use Rattle.interface.specs.Calls.{Calls, Seen, halted, is_memory, crossing_of, step_crossings, ShowsRefusal, ShowsCrossings, ShowsOffer, ShowsRound, ShowsStep, ShowsTake}
@@ -68,17 +69,6 @@ pub refused_step : (old : Seen) (e : NetEvent) (r : Result (Unit {0}) CarrierFau
 refused_step old e (Ok done) new h = tt
 refused_step old e (Err f) new h = refused old f new h
 
--- what is written after what was written
-pub appends_more : (a b c : Option (List ℕ)) (xs ys : List ℕ) → Appends a b xs → Appends b c ys → Appends a c (xs ++ ys)
-appends_more None b c xs ys h k = tt
-appends_more (Some a) None c xs ys h k = absurd h
-appends_more (Some a) (Some b) None xs ys h k = absurd k
-appends_more (Some a) (Some b) (Some c) xs ys h k = k ∙ ap (λ v. v ++ ys) h ∙ append_assoc a xs ys
-
-pub appends_none : (a : Option (List ℕ)) → Appends a a []
-appends_none None = tt
-appends_none (Some a) = sym (append-nil a)
-
 pub output-append : (detail : Detail) (xs ys : List Shown) → output detail (xs ++ ys) ≡ output detail xs ++ output detail ys
 output-append detail xs ys = flat_map-append (λ s. ended_line (shown_text detail s)) xs ys
 
@@ -94,7 +84,7 @@ crossing_written detail a b c crossings i d h before now =
     let all : output detail (shown_crossings (take (i + 1) crossings)) ≡ output detail (shown_crossings (take i crossings)) ++ line =
     ap (λ cs. output detail (shown_crossings cs)) (take_more crossings i d h) ∙ ap (output detail) (shown_crossings-append (take i crossings) (get_or crossings i d ∷ []))
     ∙ output-append detail (shown_crossings (take i crossings)) (Crossed (get_or crossings i d) ∷ []) ∙ ap (λ xs. output detail (shown_crossings (take i crossings)) ++ xs) (append-nil line) in
-    subst (Appends a c) (sym all) (appends_more a b c (output detail (shown_crossings (take i crossings))) line before now)
+    subst (Appends a c) (sym all) (Appends-trans a b c (output detail (shown_crossings (take i crossings))) line before now)
 
 pub crossings_of-append : (xs ys : List Shown) → crossings_of (xs ++ ys) ≡ crossings_of xs ++ crossings_of ys
 crossings_of-append [] ys = refl
@@ -122,7 +112,7 @@ pub print_ends : {W : Type 0} (contents : W → Option (List ℕ)) (detail : Det
 print_ends contents detail crossings outcome (Ok done) a mid new crossed refusal goes memory = (
   goes,
   subst (Appends a (contents new)) (sym (output-append detail (shown_crossings crossings) (shown_refusal outcome)))
-      (appends_more a (contents mid) (contents new) (output detail (shown_crossings crossings)) (output detail (shown_refusal outcome)) crossed refusal),
+      (Appends-trans a (contents mid) (contents new) (output detail (shown_crossings crossings)) (output detail (shown_refusal outcome)) crossed refusal),
 )
 print_ends contents detail crossings outcome (Err fault.OutOfMemory) a mid new crossed refusal goes memory =
     let out = memory refl in

@@ -3,6 +3,7 @@ use Rattle.std.proofs.Common.{◌≡◌, ℕ, ◌+◌, ◌/◌, ◌%◌, ◌<◌
 use Rattle.std.proofs.lemmas.List.{append_assoc, append-nil, drop_all}
 use Rattle.std.specs.Fmt.{decimal}
 use Rattle.std.specs.Io.KnownBytes.{Appends}
+use Rattle.std.proofs.KnownBytes.{Appends-nil, Appends-trans}
 use Rattle.hex.specs.Hex.{encode_upper, encode_with, upper_digits}
 use Rattle.hex.proofs.Pairs.{encode_with-drop}
 use Rattle.interface.specs.Printed.{crossing_text, flow_text}
@@ -15,7 +16,6 @@ use Rattle.script.specs.declared.event.RawEvent.TheVariants as event
 use Rattle.replay.specs.Output.{crossing_line, spelled}
 use Rattle.replay.specs.declared.print.Detail.{Detail}
 use Rattle.replay.specs.declared.print.Detail.TheVariants.{Texts}
-use Rattle.replay.proofs.Shown.{appends_more, appends_none}
 
 -- ---- octets
 
@@ -30,7 +30,7 @@ pub record Written (octets : List ℕ) (i : ℕ) (a b : Option (List ℕ)) : Typ
   pub written : Appends a b front
 
 pub none_written : (octets : List ℕ) (a : Option (List ℕ)) → Written octets 0 a a
-none_written octets a = record { front = []; whole = refl; written = appends_none a }
+none_written octets a = record { front = []; whole = refl; written = Appends-nil a }
 
 pub one_written : (octets : List ℕ) (i : ℕ) (a b c : Option (List ℕ)) → i < length octets → Written octets i a b → Appends b c (pair (slice_index octets i)) → Written octets (i + 1) a c
 one_written octets i a b c lt h now =
@@ -38,7 +38,7 @@ one_written octets i a b c lt h now =
     record {
       front = h.front ++ two;
       whole = append_assoc h.front two (encode_upper (drop (i + 1) octets)) ∙ ap (λ xs. h.front ++ xs) (sym (encode_with-drop upper_digits octets i lt)) ∙ h.whole;
-      written = appends_more a b c h.front two h.written now;
+      written = Appends-trans a b c h.front two h.written now;
     }
 
 pub all_written : (octets : List ℕ) (i : ℕ) (a b : Option (List ℕ)) → length octets ≤ i → Written octets i a b → Appends a b (encode_upper octets)
@@ -61,4 +61,4 @@ pub text_line : {E : Type 0} (detail : Detail) (c : Crossing) (outcome : Result 
 text_line detail c (Err f) first second third last is crossed behind end = tt
 text_line detail c (Ok x) first second third last is crossed behind end =
     subst (λ (d : Detail). Appends first last (ended_line (crossing_line d c))) (sym is)
-    (appends_more first third last (crossing_text c ++ spelled c) (codes "\n") (appends_more first second third (crossing_text c) (spelled c) crossed behind) end)
+    (Appends-trans first third last (crossing_text c ++ spelled c) (codes "\n") (Appends-trans first second third (crossing_text c) (spelled c) crossed behind) end)

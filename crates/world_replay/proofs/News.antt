@@ -3,10 +3,11 @@ use Rattle.std.proofs.Common.{arith, ◌≡◌, ℕ, ◌+◌, ◌-◌, ◌<◌, 
 use Rattle.std.proofs.lemmas.List.{append_assoc, append-nil, drop_all, drop_more, drop_min, drop-append-le, length-drop, take_min, take_more, take-append-drop, take-append-le}
 use Rattle.std.proofs.Math.Seq.{drop-append-add, take-append-add}
 use Rattle.std.specs.Io.KnownBytes.{Appends}
+use Rattle.std.proofs.KnownBytes.{Appends-nil, Appends-trans}
 use Rattle.host_services.specs.declared.report.Reported.{Reported}
 use Rattle.interface.specs.declared.crossing.Crossing.{Crossing}
 use Rattle.promise.specs.declared.book.Told.{Told}
-use Rattle.replay.proofs.lemmas.{appends_more, appends_none, text_of-append}
+use Rattle.replay.proofs.lemmas.{text_of-append}
 use Rattle.replay.specs.InTurn.{text_of}
 use Rattle.replay.specs.Output.{crossing_line}
 use Rattle.replay.specs.declared.print.Detail.{Detail}
@@ -34,14 +35,14 @@ shown_notices-append (x ∷ xs) ys = ap (λ zs. Noticed x ∷ zs) (shown_notices
 
 -- nothing is written yet
 pub fronts_none : (detail : Detail) (before : ℕ) (crossings : List Crossing) (a : Option (List ℕ)) → Fronts detail before crossings [] before crossings a a
-fronts_none detail before crossings a = record { shown = []; whole = λ more. refl; written = appends_none a }
+fronts_none detail before crossings a = record { shown = []; whole = λ more. refl; written = Appends-nil a }
 
 -- some news, and then others
 fronts_more : (detail : Detail) (first mid last : ℕ) (crossings left rest : List Crossing) (xs ys : List Shown) (a b c : Option (List ℕ)) → Fronts detail first crossings xs mid left a b → Fronts detail mid left ys last rest b c → Fronts detail first crossings (xs ++ ys) last rest a c
 fronts_more detail first mid last crossings left rest xs ys a b c h k = record {
   shown = h.shown ++ k.shown;
   whole = λ more. ap (shown_in_turn first crossings) (append_assoc xs ys more) ∙ h.whole (ys ++ more) ∙ ap (λ zs. h.shown ++ zs) (k.whole more) ∙ sym (append_assoc h.shown k.shown (shown_in_turn last rest more));
-  written = subst (Appends a c) (sym (output-append detail h.shown k.shown)) (appends_more a b c (output detail h.shown) (output detail k.shown) h.written k.written);
+  written = subst (Appends a c) (sym (output-append detail h.shown k.shown)) (Appends-trans a b c (output detail h.shown) (output detail k.shown) h.written k.written);
 }
 
 -- one piece of news after the crossings that were before it
@@ -53,7 +54,7 @@ one_front detail before crossings s a b c crossed told =
     record {
       shown = front ++ s ∷ [];
       whole = λ more. sym (append_assoc front (s ∷ []) (shown_in_turn (max before (place_of s)) (drop (place_of s - before) crossings) more));
-      written = subst (Appends a c) (sym (output-append detail front (s ∷ []) ∙ ap (λ xs. output detail front ++ xs) line)) (appends_more a b c (output detail front) (ended_line (shown_text detail s)) crossed told);
+      written = subst (Appends a c) (sym (output-append detail front (s ∷ []) ∙ ap (λ xs. output detail front ++ xs) line)) (Appends-trans a b c (output detail front) (ended_line (shown_text detail s)) crossed told);
     }
 
 max_zero : (n : ℕ) → max n 0 ≡ n
@@ -67,7 +68,7 @@ report_front : (detail : Detail) (before : ℕ) (crossings : List Crossing) (r :
 report_front detail before crossings r a b told =
     let none : shown_crossings (take (0 - before) crossings) ≡ [] = ap (λ n. shown_crossings (take n crossings)) (minus_zero before) in
     let here : Fronts detail before crossings (Said r ∷ []) (max before 0) (drop (0 - before) crossings) a b =
-    one_front detail before crossings (Said r) a a b (subst (λ xs. Appends a a (output detail xs)) (sym none) (appends_none a)) told in
+    one_front detail before crossings (Said r) a a b (subst (λ xs. Appends a a (output detail xs)) (sym none) (Appends-nil a)) told in
     subst (λ n. Fronts detail before crossings (Said r ∷ []) n crossings a b) (max_zero before)
     (subst (λ cs. Fronts detail before crossings (Said r ∷ []) (max before 0) cs a b) (ap (λ n. drop n crossings) (minus_zero before)) here)
 
@@ -125,7 +126,7 @@ pub all_fronts : (detail : Detail) (first : ℕ) (crossings : List Crossing) (ne
     → Appends a c (output detail (shown_in_turn first crossings news))
 all_fronts detail first crossings news later left a b c h crossed =
     let all : shown_in_turn first crossings news ≡ h.shown ++ shown_crossings left = ap (shown_in_turn first crossings) (sym (append-nil news)) ∙ h.whole [] in
-    subst (Appends a c) (sym (ap (output detail) all ∙ output-append detail h.shown (shown_crossings left))) (appends_more a b c (output detail h.shown) (output detail (shown_crossings left)) h.written crossed)
+    subst (Appends a c) (sym (ap (output detail) all ∙ output-append detail h.shown (shown_crossings left))) (Appends-trans a b c (output detail h.shown) (output detail (shown_crossings left)) h.written crossed)
 
 -- ---- all crossings are shown, and no others
 

@@ -2,13 +2,14 @@
 use Rattle.std.proofs.Common.{◌≡◌, ℕ, ◌+◌, true, false, List, [], ◌∷◌, ◌++◌, drop, length, reverse, Option, Result, Ok, Err, OnOk, refl, ap, sym, subst, ◌∙◌, arith}
 use Rattle.std.proofs.lemmas.List.{append_assoc, append-nil, append_cancel_left, append_cancel_right, drop_at, length-append, length-reverse, reverse-append, reverse-reverse}
 use Rattle.std.specs.Io.KnownBytes.{Appends}
+use Rattle.std.proofs.KnownBytes.{Appends-trans}
 use Rattle.net_sim.specs.Book.{Kept}
 use Rattle.net_sim.specs.Carriers.{shown}
 use Rattle.net_sim.specs.World.{CalmGives, WorldState, stops}
 use Rattle.interface.specs.Calls.{Calls}
 use Rattle.net_sim.specs.declared.event.WorldFault.{WorldFault}
 use Rattle.replay.specs.InTurn.{HappensOnce, ShowsFront}
-use Rattle.replay.proofs.lemmas.{appends_more, ends_front, grown_more, in_turn_once}
+use Rattle.replay.proofs.lemmas.{ends_front, grown_more, in_turn_once}
 use Rattle.replay.specs.Settled.{AreSettled, Grows}
 use Rattle.world_script.specs.declared.event.WorldEvent.{WorldEvent}
 use Rattle.world_script.specs.declared.event.WorldEvent.TheVariants as event
@@ -205,7 +206,7 @@ event_ends contents calls detail old e outcome new (Ok done) crossed told said a
       shown = gained gains ++ shown_refusal outcome;
       is_shown = record { outcome = outcome; gives = gives; goes_on = goes; gains = gains; lines = refl };
       written = subst (Appends a (contents last)) (sym (output-append detail (gained gains) (shown_refusal outcome)))
-          (appends_more a (contents mid) (contents last) (output detail (gained gains)) (output detail (shown_refusal outcome))
+          (Appends-trans a (contents mid) (contents last) (output detail (gained gains)) (output detail (shown_refusal outcome))
           (subst (λ xs. Appends a (contents mid) (output detail xs)) (news_is old.kept new.kept gains crossed told said is same alike) lines) refusal);
     }
 event_ends contents calls detail old e outcome new (Err fault.OutOfMemory) crossed told said a mid last gives is same alike lines refusal goes memory =

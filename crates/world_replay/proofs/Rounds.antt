@@ -4,12 +4,12 @@ use Rattle.std.proofs.lemmas.List.{append-nil}
 use Rattle.std.proofs.lemmas.Bool.{false≢true}
 use Rattle.std.specs.Bool.{MatchBool}
 use Rattle.std.specs.Io.KnownBytes.{Appends}
+use Rattle.std.proofs.KnownBytes.{Appends-nil, Appends-trans}
 use Rattle.net_sim.specs.World.{CalmGives, Calms, Does, Refuses, TurnsOf, WorldState, stops, up_in}
 use Rattle.interface.specs.Calls.{Calls}
 use Rattle.net_sim.specs.declared.event.WorldFault.{WorldFault}
 use Rattle.net_sim.specs.declared.event.WorldFault.TheVariants.{Carrier}
 use Rattle.interface.specs.declared.carrier.CarrierFault.TheVariants as carrier
-use Rattle.replay.proofs.lemmas.{appends_more, appends_none}
 use Rattle.replay.specs.declared.events.ReplayFault.{ReplayFault}
 use Rattle.replay.specs.declared.events.ReplayFault.TheVariants as fault
 use Rattle.replay.specs.declared.print.Detail.{Detail}
@@ -115,7 +115,7 @@ no_rounds calls detail w a = record {
   begun = λ e. refl;
   running = λ lt. absurd (omega (arith, lt));
   grew = grew_none w.kept;
-  written = appends_none a;
+  written = Appends-nil a;
 }
 
 -- where a round showed something, it is written after what was shown before
@@ -124,7 +124,7 @@ both_written : {C : Type 0} (detail : Detail) (old now mid : WorldState C) (g : 
 both_written detail old now mid g k a b c own before now_written is =
     subst (λ (shown : List Shown). Appends a c (output detail shown)) (sym (gained_more old.kept now.kept mid.kept g k))
     (subst (Appends a c) (sym (output-append detail (gained g.gains) (gained k.gains)))
-    (appends_more a b c (output detail (gained g.gains)) (output detail (gained k.gains)) before (subst (λ (shown : List Shown). Appends b c (output detail shown)) is now_written)))
+    (Appends-trans a b c (output detail (gained g.gains)) (output detail (gained k.gains)) before (subst (λ (shown : List Shown). Appends b c (output detail shown)) is now_written)))
 
 -- the world from which the calm began ran
 runs : {C : Type 0} (count : ℕ) (old now : WorldState C) → (count ≡ 0 → old ≡ now) → (0 < count → old.stopped ≡ false) → now.stopped ≡ false → old.stopped ≡ false
