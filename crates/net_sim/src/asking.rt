@@ -5,7 +5,7 @@ ghost use Rattle.std.specs.List.{flat_map};
 ghost use Rattle.host_services.specs.Services.{opening_desk};
 ghost use Rattle.host_services.specs.Turns.{server_begun, user_begun};
 ghost use Rattle.net_sim.specs.Book.{all_asked, all_reported, all_told, asked, contacts_asked};
-ghost use Rattle.net_sim.specs.Inside.Parts.{IsDone, IsSettled};
+ghost use Rattle.net_sim.specs.Inside.Parts.{Attends, Begins, IsNoMemory, OfProgram, RefusedIn, ServedIn, Settles, SettlesAsked};
 ghost use Rattle.net_sim.specs.Timeline.{IsAddressed, IsAsked};
 ghost use Rattle.net_sim.specs.World as world;
 ghost use Rattle.sockets.specs.Pairs.{NcpState};
@@ -159,8 +159,8 @@ fn has_text(request: &Request) -> bool {
 /// Asks the program in a seat for something, which it refuses or serves. Returns its notices.
 fn asked_of(seat: &mut Seat, request: &Request) -> Result<Vec<Notice>, WorldFault>
     requires live { IfSome seat.old.program (λ p. p.spent ≡ false) }
-    ensures refused { (s : NcpState) (f : NcpFault) → seat.old.program ≡ Some s → refusal s request.now ≡ Some f → (result ≡ Err (world.Program f)) × (seat.new ≡ seat.old) }
-    ensures served { (s : NcpState) → seat.old.program ≡ Some s → refusal s request.now ≡ None → MatchResult result (λ notices. (seat.new ≡ record { host = seat.old.host; program = Some (served s request.now) }) × (notices.items ≡ served_notices s request.now)) (λ f. f ≡ world.Program problem.OutOfMemory) }
+    ensures refused { OfProgram seat.old (λ s. (f : NcpFault) → refusal s request.now ≡ Some f → (result ≡ Err (world.Program f)) × (seat.new ≡ seat.old)) }
+    ensures served { OfProgram seat.old (λ s. refusal s request.now ≡ None → MatchResult result (λ notices. ServedIn seat.old s request.now seat.new notices.items) IsNoMemory) }
 {
     let Some(program) = &mut seat.program else {
         return Err(WorldFault::Program(NcpFault::OutOfMemory));
@@ -192,7 +192,7 @@ impl ServiceSeat {
         notices: Vec<Notice>,
     ) -> Result<Ncp, AllocError>
         ensures host { self.new.host ≡ self.old.host }
-        ensures done { IfOk result (λ after. IsDone self.old.host (world.turn_of self.old.host (length book.old.book.notices) self.old.services (program, notices.items)) (all_told self.old.host notices.items (asked self.old.host request.now book.old)) after self.new.services book.new) }
+        ensures done { IfOk result (λ after. Attends self.old (program, notices.items) book.old (asked self.old.host request.now book.old) after self.new book.new) }
         ensures kept { OnErr result (book.new ≡ book.old) }
     {
         let before = book.notices().len();
@@ -219,7 +219,7 @@ impl ServiceSeat {
         request: &Request,
         notices: Vec<Notice>,
     ) -> Result<(), AllocError>
-        ensures done { OnOk result ((s : NcpState) → seat.old.program ≡ Some s → IsSettled self.old.host seat.old.host (world.turn_of self.old.host (length book.old.book.notices) self.old.services (s, notices.items)) (all_told self.old.host notices.items (asked self.old.host request.now book.old)) seat.new self.new book.new) }
+        ensures done { OnOk result (OfProgram seat.old (λ s. Settles self.old seat.old (s, notices.items) book.old (asked self.old.host request.now book.old) seat.new self.new book.new)) }
         ensures kept { OnErr result (book.new ≡ book.old) }
     {
         if notices.is_empty() {
@@ -242,8 +242,8 @@ impl ServiceSeat {
         request: &Request,
     ) -> Result<(), WorldFault>
         requires live { IfSome seat.old.program (λ p. p.spent ≡ false) }
-        ensures refused { (s : NcpState) (f : NcpFault) → seat.old.program ≡ Some s → refusal s request.now ≡ Some f → (result ≡ Err (world.Program f)) × ((seat.new ≡ seat.old) × ((self.new ≡ self.old) × (book.new ≡ book.old))) }
-        ensures served { (s : NcpState) → seat.old.program ≡ Some s → refusal s request.now ≡ None → MatchResult result (λ _. IsSettled self.old.host seat.old.host (world.turn_of self.old.host (length book.old.book.notices) self.old.services (served s request.now, served_notices s request.now)) (all_told self.old.host (served_notices s request.now) (asked self.old.host request.now book.old)) seat.new self.new book.new) (λ f. (f ≡ world.Program problem.OutOfMemory) × (book.new ≡ book.old)) }
+        ensures refused { OfProgram seat.old (λ s. (f : NcpFault) → refusal s request.now ≡ Some f → RefusedIn f result self.old seat.old book.old seat.new self.new book.new) }
+        ensures served { OfProgram seat.old (λ s. refusal s request.now ≡ None → SettlesAsked self.old seat.old s request.now book.old result seat.new self.new book.new) }
     {
         let notices = asked_of(seat, request)?;
         let Ok(()) = self.answer(alloc, seat, book, request, notices) else {
@@ -262,7 +262,7 @@ impl ServiceSeat {
         base: u32,
     ) -> Result<Ncp, AllocError>
         ensures host { self.new.host ≡ self.old.host }
-        ensures done { IfOk result (λ after. IsDone self.old.host (server_begun listen base self.old.services (opening_desk self.old.host (length book.old.book.notices) program)) book.old after self.new.services book.new) }
+        ensures done { IfOk result (λ after. Begins (server_begun listen base) self.old program book.old after self.new book.new) }
         ensures kept { OnErr result (book.new ≡ book.old) }
     {
         let mut desk = ServiceDesk::new(alloc, self.host, book.notices().len(), program);
@@ -283,7 +283,7 @@ impl ServiceSeat {
         own: u32,
     ) -> Result<Ncp, AllocError>
         ensures host { self.new.host ≡ self.old.host }
-        ensures done { IfOk result (λ after. IsDone self.old.host (user_begun peer listen own self.old.services (opening_desk self.old.host (length book.old.book.notices) program)) book.old after self.new.services book.new) }
+        ensures done { IfOk result (λ after. Begins (user_begun peer listen own) self.old program book.old after self.new book.new) }
         ensures kept { OnErr result (book.new ≡ book.old) }
     {
         let mut desk = ServiceDesk::new(alloc, self.host, book.notices().len(), program);

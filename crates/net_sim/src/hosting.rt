@@ -6,7 +6,7 @@ ghost use Rattle.std.specs.List.{position};
 ghost use Rattle.interface.specs.Host.{same_host};
 ghost use Rattle.net_sim.specs.Book.{all_asked, all_told, all_crossed, all_reported};
 ghost use Rattle.net_sim.specs.Inside.Lives.{told_at};
-ghost use Rattle.net_sim.specs.Inside.Parts.{IsDone, IsOnce, IsSettled, hosts_of};
+ghost use Rattle.net_sim.specs.Inside.Parts.{Attends, IsOnce, OfProgram, SettlesNews, hosts_of};
 ghost use Rattle.net_sim.specs.World as world;
 ghost use Rattle.net_sim.specs.World.{Seat};
 ghost use Rattle.sockets.specs.Accepting.{accepted};
@@ -153,7 +153,7 @@ impl ServiceSeat {
         notices: Vec<Notice>,
     ) -> Result<Ncp, AllocError>
         ensures host { self.new.host ≡ self.old.host }
-        ensures done { IfOk result (λ after. IsDone self.old.host (world.turn_of self.old.host (length book.old.book.notices) self.old.services (program, notices.items)) (all_told self.old.host notices.items (all_crossed (reverse news.now) book.old)) after self.new.services book.new) }
+        ensures done { IfOk result (λ after. Attends self.old (program, notices.items) book.old (all_crossed (reverse news.now) book.old) after self.new book.new) }
         ensures kept { OnErr result (book.new ≡ book.old) }
     {
         let before = book.notices().len();
@@ -180,7 +180,7 @@ impl ServiceSeat {
         news: &[Crossing],
         notices: Vec<Notice>,
     ) -> Result<(), AllocError>
-        ensures done { OnOk result ((s : NcpState) → seat.old.program ≡ Some s → IsSettled self.old.host seat.old.host (world.turn_of self.old.host (length book.old.book.notices) self.old.services (s, notices.items)) (all_told self.old.host notices.items (all_crossed (reverse news.now) book.old)) seat.new self.new book.new) }
+        ensures done { OnOk result (OfProgram seat.old (λ s. SettlesNews news.now self.old seat.old (s, notices.items) book.old seat.new self.new book.new)) }
         ensures kept { OnErr result (book.new ≡ book.old) }
     {
         if notices.is_empty() {
@@ -207,7 +207,7 @@ impl ServiceSeat {
         inbound: Inbound,
     ) -> Result<(), AllocError>
         requires live { IfSome seat.old.program (λ p. p.spent ≡ false) }
-        ensures done { OnOk result ((s : NcpState) → seat.old.program ≡ Some s → IsSettled self.old.host seat.old.host (world.turn_of self.old.host (length book.old.book.notices) self.old.services (accepted s inbound (length book.old.book.crossings))) (all_told self.old.host (accepted s inbound (length book.old.book.crossings)).1 (all_crossed (reverse news.now) book.old)) seat.new self.new book.new) }
+        ensures done { OnOk result (OfProgram seat.old (λ s. SettlesNews news.now self.old seat.old (accepted s inbound (length book.old.book.crossings)) book.old seat.new self.new book.new)) }
         ensures kept { OnErr result (book.new ≡ book.old) }
     {
         let Some(program) = &mut seat.program else {
@@ -228,7 +228,7 @@ impl ServiceSeat {
         news: &[Crossing],
     ) -> Result<(), AllocError>
         requires live { IfSome seat.old.program (λ p. p.spent ≡ false) }
-        ensures done { OnOk result ((s : NcpState) → seat.old.program ≡ Some s → IsSettled self.old.host seat.old.host (world.turn_of self.old.host (length book.old.book.notices) self.old.services (offered s (length book.old.book.crossings))) (all_told self.old.host (offered s (length book.old.book.crossings)).1 (all_crossed (reverse news.now) book.old)) seat.new self.new book.new) }
+        ensures done { OnOk result (OfProgram seat.old (λ s. SettlesNews news.now self.old seat.old (offered s (length book.old.book.crossings)) book.old seat.new self.new book.new)) }
         ensures kept { OnErr result (book.new ≡ book.old) }
     {
         let Some(program) = &mut seat.program else {

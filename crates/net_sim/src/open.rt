@@ -1,7 +1,7 @@
 //! Where the lives that haven't ended are: by host, and by host and socket.
 
 ghost use Rattle.std.specs.Prelude.{◌≡◌, ◌<◌, ◌++◌, ℕ, false, List, [], ◌∷◌, filter, length, slice_index_or, OnErr, OnOk};
-ghost use Rattle.net_sim.specs.Inside.Open.{AreKnown, Covers, Extends, host_key, places_at, places_of, socket_key};
+ghost use Rattle.net_sim.specs.Inside.Open.{AreKnown, Covers, Enters, Extends, host_key, places_at, places_of, socket_key};
 ghost use Rattle.net_sim.specs.Inside.Places.{is_open_at};
 ghost use Rattle.promise.specs.declared.life.Life.{Life};
 
@@ -165,7 +165,7 @@ impl Open {
 
     /// Adds a life of a host's socket, after these.
     fn add(&mut self, host: HostAddr, socket: u32, lives: &[Life]) -> Result<(), AllocError>
-        ensures done { OnOk result ((x : Life) → x.host ≡ host → x.socket ≡ socket → Covers self.old.hosts self.old.sockets lives.now → Covers self.new.hosts self.new.sockets (lives.now ++ x ∷ [])) }
+        ensures done { OnOk result (Enters host socket lives.now (Covers self.old.hosts self.old.sockets) (Covers self.new.hosts self.new.sockets)) }
         ensures known { self.new.known ≡ self.old.known }
     {
         self.hosts.add(host_number(host), lives)?;
@@ -180,7 +180,7 @@ impl Open {
         socket: u32,
         lives: &[Life],
     ) -> Result<(), AllocError>
-        ensures done { OnOk result ((x : Life) → x.host ≡ host → x.socket ≡ socket → AreKnown self.old.known self.old.hosts self.old.sockets lives.now → AreKnown self.new.known self.new.hosts self.new.sockets (lives.now ++ x ∷ [])) }
+        ensures done { OnOk result (Enters host socket lives.now (AreKnown self.old.known self.old.hosts self.old.sockets) (AreKnown self.new.known self.new.hosts self.new.sockets)) }
         ensures lost { OnErr result (self.new.known ≡ false) }
     {
         if !self.known {

@@ -76,3 +76,7 @@ places_of (ending.On h) hosts sockets = slice_index_or hosts (host_key h) []
 -- where the places are known, they are those of all open lives
 abbrev pub AreKnown : Bool → List (List ℕ) → List (List ℕ) → List Life → Type 0
 AreKnown known hosts sockets lives = known ≡ true → Covers hosts sockets lives
+
+-- with a life of a host's socket after these, what was known of these lives is known of all
+abbrev pub Enters : Host → ℕ → List Life → (List Life → Type 0) → (List Life → Type 0) → Type 0
+Enters host socket lives Old New = (x : Life) → x.host ≡ host → x.socket ≡ socket → Old lives → New (lives ++ x ∷ [])

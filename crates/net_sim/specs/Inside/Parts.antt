@@ -3,7 +3,7 @@ use Rattle.std.specs.Prelude.{◌≡◌, ◌<◌, ℕ, Bool, true, false, List, 
 use Rattle.interface.specs.Host.{Host, same_host, is_host}
 use Rattle.interface.specs.declared.message.HostMessage.{HostMessage}
 use Rattle.interface.specs.declared.carrier.CarrierFault.TheVariants as fault
-use Rattle.host_services.specs.Services.{ServicesState, ServiceDeskState}
+use Rattle.host_services.specs.Services.{ServicesState, ServiceDeskState, opening_desk}
 use Rattle.net_sim.specs.Book.{Kept, all_crossed, all_told, asked}
 use Rattle.net_sim.specs.World.{WorldState, WorldFault, Carrier, Program, Seat, ServiceSeat, seat_of, seated, services_of, serviced, done_by, turn_of, wants_memory}
 use Rattle.host_services.specs.TypedLines.{line_bits}
@@ -116,9 +116,13 @@ AreBegun h t old new = AreDone h t old.seats.items old.services.items old.book n
 abbrev pub AreRefused : NcpFault → Result (Unit {0}) WorldFault → Hosts → Hosts → Type 0
 AreRefused f r old new = (r ≡ Err (Program f)) × ((new.seats.items ≡ old.seats.items) × ((new.services.items ≡ old.services.items) × (new.book ≡ old.book)))
 
+-- memory ran out
+abbrev pub IsNoMemory : WorldFault → Type 0
+IsNoMemory f = f ≡ Program problem.OutOfMemory
+
 -- memory ran out, and nothing was written down
 abbrev pub LacksMemory : Hosts → Hosts → WorldFault → Type 0
-LacksMemory old new f = (f ≡ Program problem.OutOfMemory) × (new.book ≡ old.book)
+LacksMemory old new f = IsNoMemory f × (new.book ≡ old.book)
 
 -- a request that isn't refused is served, or memory runs out
 abbrev pub AreAnswered : Host → NcpState → ServicesState → Request → Result (Unit {0}) WorldFault → Hosts → Hosts → Type 0
@@ -131,3 +135,38 @@ line_sent socket line = requests.Send socket (line_bits line)
 -- this crossed, oldest first
 abbrev pub crossed_by : List Crossing → Hosts → Kept
 crossed_by news h = all_crossed (reverse news) h.book
+
+-- ---- a host's seat and its services before a call at them, and after it
+
+-- of the program in a seat, this is so
+abbrev pub OfProgram : Seat → (NcpState → Type 0) → Type 0
+OfProgram seat P = (s : NcpState) → seat.program ≡ Some s → P s
+
+-- a host's program made this of a call, with what was kept by then, and its services had their turns
+abbrev pub Attends : ServiceSeat → NcpState × List Notice → Kept → Kept → NcpState → ServiceSeat → Kept → Type 0
+Attends own turn before k program after kept = IsDone own.host (turn_of own.host (length before.book.notices) own.services turn) (all_told own.host turn.1 k) program after.services kept
+
+-- the same, of the program in its seat
+abbrev pub Settles : ServiceSeat → Seat → NcpState × List Notice → Kept → Kept → Seat → ServiceSeat → Kept → Type 0
+Settles own seat turn before k seat_after after kept = IsSettled own.host seat.host (turn_of own.host (length before.book.notices) own.services turn) (all_told own.host turn.1 k) seat_after after kept
+
+-- the call was about something that had crossed
+abbrev pub SettlesNews : List Crossing → ServiceSeat → Seat → NcpState × List Notice → Kept → Seat → ServiceSeat → Kept → Type 0
+SettlesNews news own seat turn k seat_after after kept = Settles own seat turn k (all_crossed (reverse news) k) seat_after after kept
+
+-- a request was served by the program in its seat, which gave these notices
+abbrev pub ServedIn : Seat → NcpState → Request → Seat → List Notice → Type 0
+ServedIn seat s request after notices = (after ≡ record { host = seat.host; program = Some (served s request) }) × (notices ≡ served_notices s request)
+
+-- and then the services had their turns, or memory ran out, and nothing was written down
+abbrev pub SettlesAsked : ServiceSeat → Seat → NcpState → Request → Kept → Result (Unit {0}) WorldFault → Seat → ServiceSeat → Kept → Type 0
+SettlesAsked own seat s request k r seat_after after kept =
+    MatchResult r (λ _. Settles own seat (served s request, served_notices s request) k (asked own.host request k) seat_after after kept) (λ f. IsNoMemory f × (kept ≡ k))
+
+-- the request was refused like this, and nothing changed
+abbrev pub RefusedIn : NcpFault → Result (Unit {0}) WorldFault → ServiceSeat → Seat → Kept → Seat → ServiceSeat → Kept → Type 0
+RefusedIn f r own seat k seat_after after kept = (r ≡ Err (Program f)) × ((seat_after ≡ seat) × ((after ≡ own) × (kept ≡ k)))
+
+-- a server or a user has begun
+abbrev pub Begins : (ServicesState → ServiceDeskState → ServicesState × ServiceDeskState) → ServiceSeat → NcpState → Kept → NcpState → ServiceSeat → Kept → Type 0
+Begins begun own s k program after kept = IsDone own.host (begun own.services (opening_desk own.host (length k.book.notices) s)) k program after.services kept
