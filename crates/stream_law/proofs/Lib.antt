@@ -5,4 +5,5 @@ pub mod Receives
 pub mod Sends
 pub mod Runs
 pub mod Exact
+pub mod Came
 pub mod lemmas

@@ -1,12 +1,13 @@
 //! What becomes of a stream. The functions here do nothing: each clause is the law.
 
-ghost use Rattle.std.specs.Prelude.{◌≡◌, ℕ, Bool, true, false, List, [], ◌∷◌, ◌++◌, Some, None};
+ghost use Rattle.std.specs.Prelude.{◌≡◌, ℕ, Bool, true, false, List, [], ◌∷◌, ◌++◌, length, Some, None};
 ghost use Rattle.ncp_control.specs.Allocation as counters;
 ghost use Rattle.stream_law.specs.Words.{Rts, Str, All, Gvb, Ret, Cls};
 ghost use Rattle.stream_law.specs.Receivers as receivers;
 ghost use Rattle.stream_law.specs.Senders as senders;
 ghost use Rattle.stream_law.specs.Streams.{Event, Receives, Sends, Empty, Waiting, Taken, stream, IsRun};
 ghost use Rattle.stream_law.specs.Within.{IsPrefix, message_bits, waiting_in, AreGranted, IsSafe, NoneReturned, NothingLeft};
+ghost use Rattle.stream_law.specs.Came.{came};
 ghost use Rattle.stream_law.specs.Agreed.{ArePrompt, IsAtRest, AreAgreed};
 ghost use Rattle.stream_law.specs.Example.{two, three, opened_events, granted_events, sent_events, taken_events, returned_events, closed_events, ended_events, quit_events, rested_events, late_events, next, hasty, early};
 
@@ -25,6 +26,9 @@ pub fn streams()
 
     // an end that doesn't close has taken all that was sent, except for what waits
     ensures caught_up { (events : List Event) (c : ℕ) → IsRun events → (stream events).receiver.end ≡ Some c → (stream events).receiver.closed ≡ false → (stream events).receiver.over c ≡ false → (stream events).sender.sent c ≡ (stream events).receiver.taken c ++ waiting_in (stream events).box }
+
+    // once a receiver has heard the sender's CLS, all messages that were sent in the connection have come, whether it took them or dropped them
+    ensures came { (events : List Event) (c : ℕ) → IsRun events → (stream events).receiver.over c ≡ true → length ((stream events).sender.sent c) ≡ came c events }
 
     // where nothing is in transit the two open ends of a connection agree, if no ALL was heard before the sender's end opened
     ensures agreed { (events : List Event) (c : ℕ) → IsRun events → ArePrompt events → IsAtRest (stream events) c → AreAgreed (stream events) c }
@@ -60,6 +64,7 @@ pub fn worked_stream()
     // the sender's CLS came first, so all that was sent was taken. A receiver that closes before has lost what waited
     ensures settled { ((stream ended_events).receiver.first 1 ≡ false) × ((stream ended_events).receiver.over 1 ≡ true) × ((stream ended_events).receiver.taken 1 ≡ (stream ended_events).sender.sent 1) }
     ensures quit { ((stream quit_events).receiver.first 1 ≡ true) × ((stream quit_events).receiver.over 1 ≡ true) }
+    ensures quit_came { (came 1 quit_events ≡ 1) × (came 1 ended_events ≡ 1) × (came 1 sent_events ≡ 0) × (came 2 quit_events ≡ 0) }
     ensures quit_drops { (stream quit_events).receiver.taken 1 ≡ (stream quit_events).sender.sent 1 → ⊥ }
 
     // the late grant is nobody's, and the next end doesn't open, since it was closed before its request was heard

@@ -1,3 +1,4 @@
+use Rattle.stream_law.proofs.Came.{came_in}
 use Rattle.stream_law.specs.Streams.{stream}
 use Rattle.stream_law.proofs.Exact.{agreed_run}
 use Rattle.stream_law.proofs.Runs.{inv_run, safe_run, fresh_run, accepted_run}
@@ -17,3 +18,6 @@ returns-clause-caught_up c events k run end closed over = (inv_run events run).w
 
 pub returns-clause-agreed : goal.returns-clause-agreed
 returns-clause-agreed c = agreed_run
+
+pub returns-clause-came : goal.returns-clause-came
+returns-clause-came c events k run over = came_in events k run over
