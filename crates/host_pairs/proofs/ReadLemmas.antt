@@ -99,11 +99,6 @@ signal_again command.Rst e = refl
 signal_again command.Rrp e = refl
 signal_again c e = absurd (cc)
 
-pub signal_read : (r : Result (List Bool) AllocError) (c : Command) (octets : List ℕ) → octets ≡ spelling c → is_alone c ≡ true → IfOk r (λ text. text ≡ control_text octets)
-    → IfOk r (λ text. orders_of text ≡ Legal c ∷ [])
-signal_read (Ok text) c octets spelled alone is = ap orders_of is ∙ ap (λ (os : List ℕ). orders_of (control_text os)) spelled ∙ signal_again c alone
-signal_read (Err e) c octets spelled alone is = tt
-
 -- as many commands as have room
 pub commands_read : (q : PairState) (out : Outgoing) (count : ℕ) (r : Result (List Bool) AllocError) → out ≡ outgoing.Commands count → HasRoom q.entries q.queue out → are_joint q.queue ≡ true
     → IfOk r (λ text. orders_of text ≡ map Legal (take (packed_count q.queue) q.queue)) → IfOk r (λ text. IsReadAs q (parcel_of q.entries out) text)

@@ -60,18 +60,28 @@ fn control_text(alloc: Global, octets: &[u8]) -> Result<Bits, AllocError>
     Ok(text)
 }
 
+/// Returns the octets of the message of an RST or an RRP: those of the header, and the command's.
+fn signal_octets(command: Command) -> [u8; 6]
+    requires alone { is_alone command ≡ true }
+    ensures { bits_of result ≡ control.control_text (spelling command) }
+{
+    match command {
+        Command::Rst => [0, 8, 0, 1, 0, 12],
+        _ => [0, 8, 0, 1, 0, 13],
+    }
+}
+
 /// Returns the text of the message of an RST or an RRP, which goes by itself.
-#[tactic(auto, using(crate::proofs::SendingLemmas::alone_room, crate::proofs::ReadLemmas::signal_again))]
+#[tactic(auto, using(crate::proofs::SendingLemmas::alone_room, crate::proofs::SendingLemmas::control_short, crate::proofs::ReadLemmas::signal_again))]
 fn signal_text(alloc: Global, command: Command) -> Result<Bits, AllocError>
     requires alone { is_alone command ≡ true }
     ensures short { IfOk result (λ text. length text ≤ 8063) }
     ensures again { IfOk result (λ text. orders_of text ≡ Legal command ∷ []) }
     ensures text { IfOk result (λ text. text ≡ control.control_text (spelling command)) }
 {
-    let Ok(octets) = command.write(alloc) else {
-        return Err(AllocError);
-    };
-    control_text(alloc, &octets)
+    let octets = signal_octets(command);
+    let text = whole(alloc, &octets)?;
+    Ok(text)
 }
 
 /// Returns the text of a message with as many of the commands that wait as have room.
