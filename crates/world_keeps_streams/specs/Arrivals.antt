@@ -39,4 +39,6 @@ Arrives m moments receiver = notices_by (Crossed (crossing.In m)) moments ≡ no
 
 -- each message that was taken where it came for such a life arrived there
 abbrev pub AllArrive : List Moment → Type 0
-AllArrive moments = (m : HostMessage) (later earlier : List Moment) → moments ≡ later ++ Crossed (crossing.In m) ∷ earlier → (receiver : Life) → ComesFor m earlier receiver → Arrives m earlier receiver
+AllArrive moments =
+    (m : HostMessage) (later earlier : List Moment) → moments ≡ later ++ Crossed (crossing.In m) ∷ earlier → (receiver : Life) → ComesFor m earlier receiver
+    → Arrives m earlier receiver

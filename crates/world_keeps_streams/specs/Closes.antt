@@ -37,7 +37,9 @@ TookAll log lives receiver = (sender : Life) → Contains lives sender → Match
 
 -- so it is at every moment
 abbrev pub AllClose : List Moment → Type 0
-AllClose moments = (later earlier : List Moment) → moments ≡ later ++ earlier → (receiver : Life) → WasClosedByPartner earlier receiver → TookAll (crossings_of earlier) (kept_in earlier).book.lives receiver
+AllClose moments =
+    (later earlier : List Moment) → moments ≡ later ++ earlier → (receiver : Life) → WasClosedByPartner earlier receiver
+    → TookAll (crossings_of earlier) (kept_in earlier).book.lives receiver
 
 -- ---- what was handed over
 

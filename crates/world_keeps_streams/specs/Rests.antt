@@ -31,4 +31,6 @@ pub record AreAtRest (moments : List Moment) (receiver sender : Life) : Type 0 w
 
 -- then all that was sent was taken, at every moment
 abbrev pub AllRest : List Moment → Type 0
-AllRest moments = (later earlier : List Moment) → moments ≡ later ++ earlier → (receiver sender : Life) → AreAtRest earlier receiver sender → (receiver.bits ≡ sender.bits) × (receiver.messages ≡ sender.messages)
+AllRest moments =
+    (later earlier : List Moment) → moments ≡ later ++ earlier → (receiver sender : Life) → AreAtRest earlier receiver sender
+    → (receiver.bits ≡ sender.bits) × (receiver.messages ≡ sender.messages)
