@@ -16,7 +16,9 @@ mod said;
 mod stamps;
 mod streams;
 
-pub use findings::{Finding, locate};
+pub use findings::{
+    Finding, broken_grants, broken_messages, broken_partners, broken_streams, locate, malformed,
+};
 use interface::Crossing;
 use promise::{BitLog, Life};
 pub use said::{Audit, Part};

@@ -32,7 +32,10 @@ pub mod worked_reports;
 pub mod worked_resets;
 mod world;
 
-pub use auditing::{Audit, Finding, Part, audit, locate};
+pub use auditing::{
+    Audit, Finding, Part, audit, broken_grants, broken_messages, broken_partners, broken_streams,
+    locate, malformed,
+};
 pub use book::Book;
 pub use event::{Event, WorldFault};
 pub use host_services::{Report, Reported, TypedLine};

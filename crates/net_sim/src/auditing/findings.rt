@@ -58,8 +58,9 @@ pub fn locate(said: Audit, log: &[Crossing], lives: &[Life], handed: &[BitLog]) 
     }
 }
 
-/// Returns where it shows that a book is malformed.
-fn malformed(log: &[Crossing], lives: &[Life], handed: &[BitLog]) -> Option<Finding>
+/// Returns where it shows that a book is malformed: the first life that has no list, or the first list that has no life; else
+/// the first life with a stamp that names no request. `None` where it is well-formed.
+pub fn malformed(log: &[Crossing], lives: &[Life], handed: &[BitLog]) -> Option<Finding>
     ensures { MatchOption result (IsWellFormed (reverse log.now) lives.now handed.now) (λ found. ShowsMalformed found (reverse log.now) lives.now handed.now) }
 {
     if handed.len() < lives.len() {
@@ -72,16 +73,17 @@ fn malformed(log: &[Crossing], lives: &[Life], handed: &[BitLog]) -> Option<Find
     Some(Finding::Life(place))
 }
 
-/// Returns where it shows that messages are broken.
-fn broken_messages(log: &[Crossing]) -> Option<Finding>
+/// Returns the first crossing with which messages are broken, an RFNM or a taking. `None` where they are kept.
+pub fn broken_messages(log: &[Crossing]) -> Option<Finding>
     ensures { MatchOption result (SafeMessages (reverse log.now)) (λ found. ShowsCrossing found (reverse log.now)) }
 {
     let place = break_at(log)?;
     Some(Finding::Crossing(place))
 }
 
-/// Returns where it shows that partners are broken.
-fn broken_partners(log: &[Crossing], lives: &[Life]) -> Option<Finding>
+/// Returns two lives that can't both be in one book, the second of which is the first that is at odds with an earlier one;
+/// `None` where partners are kept. The stamps of each life name requests.
+pub fn broken_partners(log: &[Crossing], lives: &[Life]) -> Option<Finding>
     requires { AreStamped (reverse log.now) lives.now }
     ensures { MatchOption result (SafePartners (reverse log.now) lives.now) (λ found. ShowsTwo found (reverse log.now) lives.now) }
 {
@@ -89,8 +91,10 @@ fn broken_partners(log: &[Crossing], lives: &[Life]) -> Option<Finding>
     Some(Finding::Lives(first, second))
 }
 
-/// Returns where it shows that streams are broken.
-fn broken_streams(log: &[Crossing], lives: &[Life], handed: &[BitLog]) -> Option<Finding>
+/// Returns the first life that took something else than a life that it matches sent, or sent something else than was handed
+/// over; of a receiving one with the life that it matches, where there is one. `None` where there is no such life. There is one
+/// list for each life.
+pub fn broken_streams(log: &[Crossing], lives: &[Life], handed: &[BitLog]) -> Option<Finding>
     requires { length lives.now ≡ length handed.now }
     ensures { MatchOption result (AreFed (reverse log.now) lives.now lives.now handed.now) (λ found. ShowsLife (first_fed (reverse log.now) lives.now handed.now) found (reverse log.now) lives.now) }
 {
@@ -98,8 +102,9 @@ fn broken_streams(log: &[Crossing], lives: &[Life], handed: &[BitLog]) -> Option
     Some(with_match(log, lives, place))
 }
 
-/// Returns where it shows that grants are broken.
-fn broken_grants(log: &[Crossing], lives: &[Life]) -> Option<Finding>
+/// Returns the first receiving life that granted less than it took, or than was sent to it; with the life that it matches,
+/// where there is one. `None` where grants are kept.
+pub fn broken_grants(log: &[Crossing], lives: &[Life]) -> Option<Finding>
     ensures { MatchOption result (HaveGranted (reverse log.now) lives.now lives.now) (λ found. ShowsLife (first_granted (reverse log.now) lives.now) found (reverse log.now) lives.now) }
 {
     let place = excess_at(log, lives)?;
