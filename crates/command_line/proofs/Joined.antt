@@ -1,5 +1,5 @@
 -- What `--log` writes, `--audit` reads and calls kept.
-use Rattle.std.proofs.Common.{◌≡◌, ℕ, ◌+◌, Bool, List, [], reverse, Option, Some, None, IfSome, Result, Ok, Err, MatchOption, MatchResult, refl, ap, sym, subst, ◌∙◌}
+use Rattle.std.proofs.Common.{◌≡◌, ℕ, Bool, List, [], reverse, Option, Some, None, IfSome, Result, Ok, Err, MatchResult, refl, sym, subst}
 use Rattle.std.proofs.lemmas.List.{reverse-reverse}
 use Rattle.book_log.specs.Log.{Book}
 use Rattle.book_log.proofs.lemmas.{book_once}
@@ -11,15 +11,13 @@ use Rattle.interface.specs.declared.crossing.Crossing.{Crossing}
 use Rattle.net_sim.specs.Audit.{Says}
 use Rattle.net_sim.specs.declared.auditing.said.Audit.{Audit}
 use Rattle.net_sim.specs.declared.auditing.said.Audit.TheVariants as audit
-use Rattle.net_sim.specs.declared.auditing.said.Part.TheVariants as part
 use Rattle.promise.specs.declared.life.Life.{Life}
 use Rattle.interface.specs.Calls.{Calls}
 use Rattle.topology.specs.Topology.{TopologyFields}
 use Rattle.topology.specs.declared.network.CarrierKind.{CarrierKind}
 use Rattle.topology.specs.declared.network.CarrierKind.TheVariants as kind
-use Rattle.book_judge.specs.Runs.{IsSomeRun, StraysAt}
-use Rattle.book_judge.specs.Lives.{AreMade, UnmadeAt}
-use Rattle.book_judge.proofs.lemmas.{made_front, made_twice, run_front}
+use Rattle.book_judge.specs.Runs.{IsSomeRun}
+use Rattle.book_judge.proofs.lemmas.{made_twice}
 use Rattle.command_line.specs.Audits.{AuditsLog, IsAuditFault, IsKeptLog, IsSomeLog, SaysKept, SaysOf, kept}
 use Rattle.command_line.specs.declared.verdict.Verdict.{Verdict}
 use Rattle.leader1822.specs.Boxes.{plain_calls}
@@ -29,6 +27,7 @@ use Rattle.command_line.specs.Events.{Asked, Raw, World}
 use Rattle.command_line.specs.Logs.{Logged, LogsFrom, LogsOver, raw_book, world_book}
 use Rattle.command_line.specs.declared.auditing.AuditFault.{AuditFault}
 use Rattle.command_line.specs.declared.auditing.AuditFault.TheVariants as fault
+use Rattle.command_line.proofs.Named.{kept_from_safe, only_kept}
 use Rattle.command_line.proofs.Printed.{none_there, safe_alone}
 
 -- ---- the log is kept
@@ -47,20 +46,17 @@ kept_from : {C : Type 0} (calls : Calls C) (opening : C) (events : Asked) (octet
 kept_from calls opening (Raw events) octets h = record {
   book = raw_book (calls.seen h.last).log;
   log = record { spelled = h.written; valid = h.valid };
-  says = record {
-    run = run_twice (calls.seen h.last).hosts (calls.seen h.last).log h.run;
-    lives = λ x there. absurd (none_there x there);
-    book = turned audit.Kept (calls.seen h.last).log [] [] (kept_alone (calls.seen h.last).log h.messages);
-  };
+  says =
+      kept_from_safe (reverse (calls.seen h.last).log) [] [] (run_twice (calls.seen h.last).hosts (calls.seen h.last).log h.run) (λ x there. absurd (none_there x there))
+      (turned audit.Kept (calls.seen h.last).log [] [] (kept_alone (calls.seen h.last).log h.messages));
 }
 kept_from calls opening (World events) octets h = record {
   book = world_book h.last.kept;
   log = record { spelled = h.written; valid = h.valid };
-  says = record {
-    run = run_twice (calls.seen h.last.carrier).hosts h.last.kept.book.crossings (world_run calls.seen h.last h.promise.lawful);
-    lives = made_twice h.last.kept.book.crossings h.last.kept.book.lives h.promise.firsts;
-    book = turned audit.Kept h.last.kept.book.crossings h.last.kept.book.lives h.last.kept.handed (kept_promise (calls.seen h.last.carrier).hosts h.last.kept.book h.last.kept.handed (parted calls.seen h.last h.promise).0);
-  };
+  says =
+      kept_from_safe (reverse h.last.kept.book.crossings) h.last.kept.book.lives h.last.kept.handed
+      (run_twice (calls.seen h.last.carrier).hosts h.last.kept.book.crossings (world_run calls.seen h.last h.promise.lawful)) (made_twice h.last.kept.book.crossings h.last.kept.book.lives h.promise.firsts)
+      (turned audit.Kept h.last.kept.book.crossings h.last.kept.book.lives h.last.kept.handed (kept_promise (calls.seen h.last.carrier).hosts h.last.kept.book h.last.kept.handed (parted calls.seen h.last h.promise).0));
 }
 
 kept_over : (carrier : CarrierKind) (t : TopologyFields) (events : Asked) (octets : List ℕ) → LogsOver carrier t events (Some []) (Some octets) → IsKeptLog octets
@@ -72,35 +68,10 @@ logged_kept octets h = kept_over h.network.carrier h.network h.events octets h.l
 
 -- ---- and so its audit says
 
--- where a book is kept, nothing else can be said of it
-only_kept : (said : Audit) (log : List Crossing) (lives : List Life) (handed : List (List Bool)) → Says audit.Kept log lives handed → Says said log lives handed → said ≡ audit.Kept
-only_kept audit.Kept log lives handed k w = refl
-only_kept audit.Malformed log lives handed k w = absurd (w k.0)
-only_kept (audit.Broken part.Messages) log lives handed k w = absurd (w.2 k.1.messages)
-only_kept (audit.Broken part.Partners) log lives handed k w = absurd (w.2 k.1.partners)
-only_kept (audit.Broken part.Streams) log lives handed k w = absurd (w.2 k.1.streams)
-only_kept (audit.Broken part.Grants) log lives handed k w = absurd (w.2 k.1.grants)
-
--- and a run strays nowhere
-never_stray : (crossings : List Crossing) (stray : Option ℕ) → IsSomeRun (reverse crossings) → MatchOption stray (IsSomeRun (reverse crossings)) (λ place. StraysAt crossings place) → stray ≡ None
-never_stray crossings None run strays = refl
-never_stray crossings (Some place) run strays = absurd (strays.1 (run_front crossings (place + 1) run))
-
--- and no life is another than the crossings make
-never_unmade : (log : List Crossing) (lives : List Life) (unmade : Option ℕ) → AreMade log lives
-    → MatchOption unmade (AreMade log lives) (λ place. UnmadeAt log lives place) → unmade ≡ None
-never_unmade log lives None made found = refl
-never_unmade log lives (Some place) made found = absurd (found.1 (made_front log lives (place + 1) made))
-
 said_kept : (octets : List ℕ) (v : Verdict) (before after : Option (List ℕ)) → AuditsLog octets v before after → IsKeptLog octets → v ≡ kept
 said_kept octets v before after a k =
     let same : a.book ≡ k.book = book_once octets a.book k.book a.log k.log in
-    let says : SaysOf v k.book = subst (λ (b : Book). SaysOf v b) same a.says in
-    let run : v.stray ≡ None = never_stray k.book.crossings v.stray k.says.run says.run in
-    let book : v.said ≡ audit.Kept = only_kept v.said (reverse k.book.crossings) k.book.lives k.book.handed k.says.book says.book in
-    let lives : v.unmade ≡ None =
-    never_unmade (reverse k.book.crossings) k.book.lives v.unmade k.says.lives says.lives in
-    (λ i. record { stray = run i; unmade = lives i; said = book i })
+    only_kept v k.book.crossings k.book.lives k.book.handed k.says (subst (λ (b : Book). SaysOf v b) same a.says)
 
 -- where octets are a log, its lines are not bad
 never_bad : (octets : List ℕ) (f : AuditFault) → IsAuditFault octets f → IsKeptLog octets → SaysKept octets (Err f)

@@ -7,6 +7,7 @@ mod Joins
 mod Judged
 mod Lived
 mod Logs
+mod Named
 mod Once
 mod OneInput
 mod OneTrace

@@ -1,32 +1,56 @@
 -- What is written of a log as its audit.
-use Rattle.std.specs.Prelude.{◌≡◌, ℕ, ◌+◌, List, [], ◌++◌, length, reverse, MatchOption, Option, Some, None, Result, Ok, Err, codes}
+use Rattle.std.specs.Prelude.{◌≡◌, ℕ, ◌+◌, ◌&&◌, Bool, List, [], ◌++◌, length, reverse, if◌then◌else◌, is_none, MatchOption, Option, Some, None, Result, Ok, Err, codes}
 use Rattle.std.specs.Fmt.{decimal}
 use Rattle.std.specs.Io.KnownBytes.{Appends}
 use Rattle.book_log.specs.Log.{Book, IsBadLine, IsLog}
 use Rattle.book_judge.specs.Lives.{AreMade, UnmadeAt}
 use Rattle.book_judge.specs.Runs.{IsSomeRun, StraysAt}
-use Rattle.net_sim.specs.Audit.{Says, part_text}
-use Rattle.net_sim.specs.Findings.{Shows}
+use Rattle.interface.specs.Messages.{SafeMessages}
+use Rattle.interface.specs.declared.crossing.Crossing.{Crossing}
+use Rattle.net_sim.specs.Audit.{IsWellFormed, part_text}
+use Rattle.net_sim.specs.Findings.{AreFed, ShowsCrossing, ShowsLife, ShowsMalformed, ShowsTwo, first_fed, first_granted}
+use Rattle.promise.specs.Safe.{SafeGrants, SafePartners}
+use Rattle.promise.specs.declared.life.Life.{Life}
 use Rattle.net_sim.specs.declared.auditing.findings.Finding.{Finding}
 use Rattle.net_sim.specs.declared.auditing.findings.Finding.TheVariants as finding
-use Rattle.net_sim.specs.declared.auditing.said.Audit.{Audit}
-use Rattle.net_sim.specs.declared.auditing.said.Audit.TheVariants as audit
+use Rattle.net_sim.specs.declared.auditing.said.Part.{Part}
+use Rattle.net_sim.specs.declared.auditing.said.Part.TheVariants as part
 use Rattle.command_line.specs.declared.auditing.AuditFault.{AuditFault}
 use Rattle.command_line.specs.declared.verdict.Verdict.{Verdict}
 use Rattle.command_line.specs.declared.verdict.Lines.{Lines}
 use Rattle.command_line.specs.declared.verdict.Lines.TheVariants as lines
 use Rattle.command_line.specs.declared.auditing.AuditFault.TheVariants as fault
 
--- what is said of a book: whether what crossed is a run of the mailboxes, or where it stops being one; whether its lives are made of what crossed, or which is
--- the first that isn't; and what the audit says
-pub record SaysOf (v : Verdict) (b : Book) : Type 0 where
-  pub run : MatchOption v.stray (IsSomeRun (reverse b.crossings)) (λ place. StraysAt b.crossings place)
-  pub lives : MatchOption v.unmade (AreMade (reverse b.crossings) b.lives) (λ place. UnmadeAt (reverse b.crossings) b.lives place)
-  pub book : Says v.said (reverse b.crossings) b.lives b.handed
+-- ---- what is said
+
+-- partners, streams and grants are about the requests that stamps name: of a malformed book nothing is said of them
+abbrev pub IfFormed : Option Finding → Option Finding → Type 0 → (Finding → Type 0) → Type 0
+IfFormed None found Holds ShowsAt = MatchOption found Holds ShowsAt
+IfFormed (Some malformed) found Holds ShowsAt = found ≡ None
+
+-- what is said of a log, the oldest crossing first: a part that isn't named holds, and of one that is it is said where it shows
+pub record Judged (v : Verdict) (crossings : List Crossing) (lives : List Life) (handed : List (List Bool)) : Type 0 where
+  -- what crossed is a run of the mailboxes
+  pub run : MatchOption v.stray (IsSomeRun (reverse crossings)) (λ place. StraysAt crossings place)
+  -- the lives are made of what crossed
+  pub made : MatchOption v.unmade (AreMade (reverse crossings) lives) (λ place. UnmadeAt (reverse crossings) lives place)
+  -- there is a list for each life, and their stamps name requests
+  pub formed : MatchOption v.malformed (IsWellFormed (reverse crossings) lives handed) (λ found. ShowsMalformed found (reverse crossings) lives handed)
+  -- the parts of a safe book. That a receiving life matches one sender at most is of partners
+  pub messages : MatchOption v.messages (SafeMessages (reverse crossings)) (λ found. ShowsCrossing found (reverse crossings))
+  pub partners : IfFormed v.malformed v.partners (SafePartners (reverse crossings) lives) (λ found. ShowsTwo found (reverse crossings) lives)
+  pub streams : IfFormed v.malformed v.streams (AreFed (reverse crossings) lives lives handed) (λ found. ShowsLife (first_fed (reverse crossings) lives handed) found (reverse crossings) lives)
+  pub grants : IfFormed v.malformed v.grants (SafeGrants (reverse crossings) lives) (λ found. ShowsLife (first_granted (reverse crossings) lives) found (reverse crossings) lives)
+
+abbrev pub SaysOf : Verdict → Book → Type 0
+SaysOf v b = Judged v b.crossings b.lives b.handed
 
 -- nothing is wrong with it
 abbrev pub kept : Verdict
-kept = record { stray = None; unmade = None; said = audit.Kept }
+kept = record { stray = None; unmade = None; malformed = None; messages = None; partners = None; streams = None; grants = None }
+
+abbrev pub is_kept : Verdict → Bool
+is_kept v = is_none v.stray && is_none v.unmade && is_none v.malformed && is_none v.messages && is_none v.partners && is_none v.streams && is_none v.grants
 
 -- ---- what is written
 
@@ -41,11 +65,6 @@ abbrev pub lines_text : Lines → List ℕ
 lines_text (lines.One line) = codes "line " ++ decimal line
 lines_text (lines.Two line other) = codes "lines " ++ (decimal line ++ (codes " " ++ decimal other))
 
--- it shows there, and this is written
-abbrev pub TellsWhere : Book → Audit → List ℕ → Option (List ℕ) → Option (List ℕ) → Type 0
-TellsWhere b said front before after =
-    (found : Finding) × Shows said found (reverse b.crossings) b.lives b.handed × Appends before after (front ++ (lines_text (lines_of b found) ++ codes "\n"))
-
 -- of crossings that are no run of the mailboxes, the line of the first that finds no box as it needs it
 abbrev pub run_text : Option ℕ → List ℕ
 run_text None = []
@@ -56,29 +75,34 @@ abbrev pub lives_text : Book → Option ℕ → List ℕ
 lives_text b None = []
 lives_text b (Some place) = codes "broken lives line " ++ (decimal (length b.crossings + place + 1) ++ codes "\n")
 
--- that a book is kept, unless something was said already
-abbrev pub kept_text : Option ℕ → Option ℕ → List ℕ
-kept_text None None = codes "kept\n"
-kept_text None (Some place) = []
-kept_text (Some place) unmade = []
+-- of a malformed book, the line where it shows
+abbrev pub malformed_text : Book → Option Finding → List ℕ
+malformed_text b None = []
+malformed_text b (Some found) = codes "malformed " ++ (lines_text (lines_of b found) ++ codes "\n")
 
--- one line for each answer of the audit: of a book that is not kept it names the lines where it shows
-abbrev pub WritesSaid : Book → Option ℕ → Option ℕ → Audit → Option (List ℕ) → Option (List ℕ) → Type 0
-WritesSaid b stray unmade audit.Kept before after = Appends before after (kept_text stray unmade)
-WritesSaid b stray unmade audit.Malformed before after = TellsWhere b audit.Malformed (codes "malformed ") before after
-WritesSaid b stray unmade (audit.Broken p) before after = TellsWhere b (audit.Broken p) (codes "broken " ++ (part_text p ++ codes " ")) before after
+-- of a part of a safe book that is broken, the line or the two lines where it shows
+abbrev pub broken_text : Book → Part → Option Finding → List ℕ
+broken_text b p None = []
+broken_text b p (Some found) = codes "broken " ++ (part_text p ++ (codes " " ++ (lines_text (lines_of b found) ++ codes "\n")))
 
--- what is wrong with the run, then what is with the lives, then what is with the book
-abbrev pub WritesVerdict : Book → Verdict → Option (List ℕ) → Option (List ℕ) → Type 0
-WritesVerdict b v before after =
-    (mid next : Option (List ℕ)) × Appends before mid (run_text v.stray) × Appends mid next (lives_text b v.unmade) × WritesSaid b v.stray v.unmade v.said next after
+abbrev pub parts_text : Book → Verdict → List ℕ
+parts_text b v =
+    broken_text b part.Messages v.messages ++ (broken_text b part.Partners v.partners ++ (broken_text b part.Streams v.streams ++ broken_text b part.Grants v.grants))
+
+-- that a book is kept, where nothing is wrong
+abbrev pub kept_text : Verdict → List ℕ
+kept_text v = if is_kept v then codes "kept\n" else []
+
+-- a line for each thing that is wrong, in this order
+abbrev pub verdict_text : Book → Verdict → List ℕ
+verdict_text b v = run_text v.stray ++ (lives_text b v.unmade ++ (malformed_text b v.malformed ++ (parts_text b v ++ kept_text v)))
 
 -- octets are a log, and what is said of its book is written
 pub record AuditsLog (octets : List ℕ) (said : Verdict) (before after : Option (List ℕ)) : Type 0 where
   pub book : Book
   pub log : IsLog octets book
   pub says : SaysOf said book
-  pub written : WritesVerdict book said before after
+  pub written : Appends before after (verdict_text book said)
 
 -- the same of some octets, for any reader
 pub record Audited (said : Verdict) (before after : Option (List ℕ)) : Type 0 where
@@ -131,15 +155,8 @@ audit_text fault.OutOfMemory = codes "arpasim: stopped"
 audit_text fault.CannotWrite = codes "arpasim: stopped"
 
 -- the exit status after an audit
-abbrev pub status_by : Option ℕ → Option ℕ → Audit → ℕ
-status_by None None audit.Kept = 0
-status_by None (Some place) audit.Kept = 4
-status_by (Some place) unmade audit.Kept = 4
-status_by stray unmade audit.Malformed = 4
-status_by stray unmade (audit.Broken p) = 4
-
 abbrev pub status_said : Verdict → ℕ
-status_said v = status_by v.stray v.unmade v.said
+status_said v = if is_kept v then 0 else 4
 
 -- ---- what the contracts of private functions say
 

@@ -5,11 +5,10 @@ ghost use Rattle.book_log.specs.Log.{IsLog};
 ghost use Rattle.command_line.specs.Audits.{Audited, AuditsLog, IsAuditFault, IsBookFault, IsLogReadFault, IsSomeLog, SaysKept, status_at, status_said};
 ghost use Rattle.command_line.specs.Logs.{Logged};
 
+use crate::judging::judge;
 use crate::source::{ReadFailed, Source};
 use crate::verdict::{Verdict, write_found};
-use book_judge::{stray_at, unmade_at};
 use book_log::{LogFault, LoggedBook, read_log};
-use net_sim::{Audit, audit};
 use replay::{Output, WriteFailed};
 use std::alloc::{AllocError, AllocFailed, Global};
 use std::fmt;
@@ -102,21 +101,17 @@ impl From<WriteFailed> for AuditFault {
 pub fn audit_status(found: Verdict) -> u8
     ensures { result ≡ status_said found }
 {
-    match (found.stray, found.unmade, found.said) {
-        (None, None, Audit::Kept) => 0,
-        (Some(_), _, Audit::Kept)
-        | (None, Some(_), Audit::Kept)
-        | (_, _, Audit::Malformed | Audit::Broken(_)) => 4,
-    }
+    if found.is_kept() { 0 } else { 4 }
 }
 
 /// Reads a log, and writes `kept` where its book is safe, what crossed is a run of the mailboxes, and its lives are made of the messages that
-/// crossed. Else it writes what isn't so, a line each:
+/// crossed. Else it writes all that isn't so, a line each, in this order:
 ///
 /// - `broken run line N`, the line of the first crossing that finds no box as it needs it;
 /// - `broken lives line N`, the line of the first life whose messages aren't the first on its link;
-/// - `malformed line N` where line `N` shows that it is no book, or `broken PART line N` or `broken PART lines M N` with the first part of
-///   a safe book that fails, and the lines of the crossing or of the one or two lives that show it.
+/// - `malformed line N` where line `N` shows that it is no book;
+/// - `broken PART line N` or `broken PART lines M N` for each part of a safe book that fails, with the lines of the crossing or of the one or
+///   two lives that show it: messages, and of a book that isn't malformed partners, streams and grants.
 ///
 /// It answers what it found.
 ///
@@ -135,7 +130,7 @@ pub fn run_audit<R: Source, W: Output>(
     requires reads { R.failed reader.old ≡ false }
     requires writes { W.failed writer.old ≡ false }
 
-    // what is written is what the audit of some book says, whatever the reader
+    // what is written is all that is wrong with some book, whatever the reader
     ensures audited { IfOk result (λ said. Audited said (W.contents writer.old) (W.contents writer.new)) }
 
     // and of a reader whose octets are known they are the log of this book
@@ -159,14 +154,7 @@ pub fn run_audit<R: Source, W: Output>(
 {
     let octets = read_octets(alloc, reader)?;
     let book = read_book(alloc, &octets)?;
-    let stray = stray_at(alloc, book.crossings())?;
-    let unmade = unmade_at(alloc, book.crossings(), book.lives())?;
-    let said = audit(book.crossings(), book.lives(), book.handed());
-    let found = Verdict {
-        stray,
-        unmade,
-        said,
-    };
+    let found = judge(alloc, book.crossings(), book.lives(), book.handed())?;
     write_found(&book, found, writer)?;
     Ok(found)
 }

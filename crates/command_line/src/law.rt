@@ -1,18 +1,25 @@
 //! What the simulator promises, as laws over its definitions. The functions here do nothing: their clauses
 //! are the laws.
 
-ghost use Rattle.std.specs.Prelude.{◌≡◌, ◌==◌, ◌++◌, ℕ, Bool, true, false, List, [], ◌∷◌, Ok, Option, Some, reverse};
+ghost use Rattle.std.specs.Prelude.{◌≡◌, ◌==◌, ◌↔◌, ◌++◌, ℕ, Bool, true, false, List, [], ◌∷◌, Ok, Option, Some, None, reverse};
+ghost use Rattle.book_judge.specs.Lives.{AreMade};
+ghost use Rattle.book_judge.specs.Runs.{IsSomeRun};
+ghost use Rattle.book_log.specs.Log as log;
 ghost use Rattle.host_services.specs.declared.report.Reported.{Reported};
 ghost use Rattle.leader1822.specs.Boxes.{Boxes, plain_calls};
 ghost use Rattle.interface.specs.Host.{Host};
 ghost use Rattle.interface.specs.Mailboxes.{IsRun};
+ghost use Rattle.interface.specs.Messages.{SafeMessages};
 ghost use Rattle.interface.specs.declared.crossing.Crossing.TheVariants as crossing;
 ghost use Rattle.interface.specs.declared.message.HostMessage.{HostMessage};
 ghost use Rattle.host_pairs.specs.declared.notice.Notice.TheVariants as notice;
+ghost use Rattle.net_sim.specs.Audit.{IsWellFormed, Says};
+ghost use Rattle.net_sim.specs.Findings.{AreFed};
+ghost use Rattle.net_sim.specs.declared.auditing.said.Audit.TheVariants as audit;
 ghost use Rattle.promise.specs.Book.{Book};
 ghost use Rattle.promise.specs.Formed.{FormedBook};
 ghost use Rattle.promise.specs.Notices.{FormedNotices};
-ghost use Rattle.promise.specs.Safe.{SafeBook};
+ghost use Rattle.promise.specs.Safe.{SafeBook, SafeGrants, SafePartners};
 ghost use Rattle.promise.specs.declared.life.Amount.{Amount};
 ghost use Rattle.promise.specs.declared.life.Life.{Life};
 ghost use Rattle.replay.specs.declared.print.Detail.{Detail};
@@ -21,7 +28,7 @@ ghost use Rattle.promise.specs.Connections.{JoinedBook};
 ghost use Rattle.world_replay.specs.Output as lines;
 ghost use Rattle.world_replay.specs.Output.{Shown, crossings_of, notices_of, reports_of};
 ghost use Rattle.world_script.specs.declared.event.WorldEvent.{WorldEvent};
-ghost use Rattle.command_line.specs.Audits.{IsKeptLog, SaysKept, kept};
+ghost use Rattle.command_line.specs.Audits.{IsKeptLog, SaysKept, SaysOf, kept};
 ghost use Rattle.command_line.specs.Joins.{PrintTheSame, TellTheSame};
 ghost use Rattle.command_line.specs.Lived.{AreLived};
 ghost use Rattle.command_line.specs.Logs.{Logged, LogsInput};
@@ -125,6 +132,22 @@ pub fn worked_made()
 /// comes to this book, and to this verdict.
 pub fn logs_are_kept()
     ensures { (octets : List ℕ) → Logged (Some []) (Some octets) → IsKeptLog octets }
+{}
+
+/// What an audit names is broken, and what it doesn't name holds. A malformed book has requests that nothing names, so its partners, streams and grants
+/// aren't looked at.
+pub fn named_parts()
+    ensures run { (b : log.Book) (v : Verdict) → SaysOf v b → (v.stray ≡ None) ↔ IsSomeRun (reverse b.crossings) }
+    ensures lives { (b : log.Book) (v : Verdict) → SaysOf v b → (v.unmade ≡ None) ↔ AreMade (reverse b.crossings) b.lives }
+    ensures formed { (b : log.Book) (v : Verdict) → SaysOf v b → (v.malformed ≡ None) ↔ IsWellFormed (reverse b.crossings) b.lives b.handed }
+    ensures messages { (b : log.Book) (v : Verdict) → SaysOf v b → (v.messages ≡ None) ↔ SafeMessages (reverse b.crossings) }
+    ensures partners { (b : log.Book) (v : Verdict) → SaysOf v b → v.malformed ≡ None → (v.partners ≡ None) ↔ SafePartners (reverse b.crossings) b.lives }
+    ensures streams { (b : log.Book) (v : Verdict) → SaysOf v b → v.malformed ≡ None → (v.streams ≡ None) ↔ AreFed (reverse b.crossings) b.lives b.lives b.handed }
+    ensures grants { (b : log.Book) (v : Verdict) → SaysOf v b → v.malformed ≡ None → (v.grants ≡ None) ↔ SafeGrants (reverse b.crossings) b.lives }
+
+    // where nothing is named the book is safe, and nothing is named of a safe book
+    ensures safe { (b : log.Book) → SaysOf kept b → Says audit.Kept (reverse b.crossings) b.lives b.handed }
+    ensures kept { (b : log.Book) (v : Verdict) → SaysOf kept b → SaysOf v b → v ≡ kept }
 {}
 
 /// Of a log that is kept nothing else is said.

@@ -3,22 +3,45 @@
 ghost use Rattle.std.specs.Prelude.{◌≡◌, OnOk, false, true};
 ghost use Rattle.replay.specs.Failing.{TellsFailure};
 ghost use Rattle.std.specs.Io.KnownBytes.{Appends};
-ghost use Rattle.command_line.specs.Audits.{SaysOf, WritesSaid, WritesVerdict, kept_text, lines_of, lives_text, run_text};
+ghost use Rattle.command_line.specs.Audits.{broken_text, is_kept, kept_text, lines_of, lives_text, malformed_text, parts_text, run_text, verdict_text};
 
 use book_log::LoggedBook;
-use net_sim::{Audit, Finding, locate};
+use net_sim::{Finding, Part};
 use replay::{Output, WriteFailed};
 use std::fmt;
 
-/// What is said of a log.
+/// What is said of a log: what is wrong, and where it shows. What isn't named holds.
 #[derive(Clone, Copy, Debug, PartialEq, Eq)]
 pub struct Verdict {
     /// The place of the first crossing with which what crossed is no run of the mailboxes, counted from 0; `None` where it is one.
     pub stray: Option<usize>,
     /// The place of the first life that isn't made of the messages that crossed, counted from 0; `None` where all are.
     pub unmade: Option<usize>,
-    /// What the audit says of its book.
-    pub said: Audit,
+    /// Where it shows that the book is malformed; `None` where it isn't.
+    pub malformed: Option<Finding>,
+    /// Where it shows that messages are broken; `None` where they are kept.
+    pub messages: Option<Finding>,
+    /// Where it shows that partners are broken; `None` where they are kept, or the book is malformed.
+    pub partners: Option<Finding>,
+    /// Where it shows that streams are broken; `None` where they are kept, or the book is malformed.
+    pub streams: Option<Finding>,
+    /// Where it shows that grants are broken; `None` where they are kept, or the book is malformed.
+    pub grants: Option<Finding>,
+}
+
+impl Verdict {
+    /// Returns whether nothing is wrong.
+    pub fn is_kept(&self) -> bool
+        ensures { result ≡ is_kept self.now }
+    {
+        self.stray.is_none()
+            && self.unmade.is_none()
+            && self.malformed.is_none()
+            && self.messages.is_none()
+            && self.partners.is_none()
+            && self.streams.is_none()
+            && self.grants.is_none()
+    }
 }
 
 /// One or two lines of a log, counted from 1.
@@ -70,15 +93,16 @@ pub(crate) fn write_found<W: Output>(
     found: Verdict,
     writer: &mut W,
 ) -> Result<(), WriteFailed>
-    requires says { SaysOf found book.now }
     requires whole { W.failed writer.old ≡ false }
-    ensures written { OnOk result (WritesVerdict book.now found (W.contents writer.old) (W.contents writer.new)) }
+    ensures written { OnOk result (Appends (W.contents writer.old) (W.contents writer.new) (verdict_text book.now found)) }
     ensures failed { TellsFailure result (W.failed writer.new) }
     ensures flushed { OnOk result (W.flushed writer.new ≡ true) }
 {
     write_run(found.stray, writer)?;
     write_lives(book, found.unmade, writer)?;
-    write_said(book, found, writer)?;
+    write_malformed(book, found.malformed, writer)?;
+    write_parts(book, found, writer)?;
+    write_kept(found, writer)?;
     writer.flush()
 }
 
@@ -120,45 +144,77 @@ fn write_lives<W: Output>(
     }
 }
 
-/// Writes that a book is kept, unless something was said already.
+/// Writes the line where it shows that a book is malformed, if it is.
 ///
 /// Errors: `WriteFailed`.
-fn write_kept<W: Output>(
-    stray: Option<usize>,
-    unmade: Option<usize>,
+fn write_malformed<W: Output>(
+    book: &LoggedBook,
+    malformed: Option<Finding>,
     writer: &mut W,
 ) -> Result<(), WriteFailed>
     requires whole { W.failed writer.old ≡ false }
-    ensures written { OnOk result (Appends (W.contents writer.old) (W.contents writer.new) (kept_text stray unmade)) }
+    ensures written { OnOk result (Appends (W.contents writer.old) (W.contents writer.new) (malformed_text book.now malformed)) }
     ensures failed { TellsFailure result (W.failed writer.new) }
 {
-    match (stray, unmade) {
-        (None, None) => writer.write_all(b"kept\n"),
-        (Some(_), _) | (None, Some(_)) => Ok(()),
+    match malformed {
+        Some(found) => {
+            let lines = lines_of(book, found);
+            writeln!(writer, "malformed {lines}")
+        }
+        None => Ok(()),
     }
 }
 
-/// Writes the line of what the audit says of a book.
+/// Writes the lines where it shows that a part of a safe book is broken, if it is.
 ///
 /// Errors: `WriteFailed`.
-fn write_said<W: Output>(
+fn write_broken<W: Output>(
+    book: &LoggedBook,
+    part: Part,
+    broken: Option<Finding>,
+    writer: &mut W,
+) -> Result<(), WriteFailed>
+    requires whole { W.failed writer.old ≡ false }
+    ensures written { OnOk result (Appends (W.contents writer.old) (W.contents writer.new) (broken_text book.now part broken)) }
+    ensures failed { TellsFailure result (W.failed writer.new) }
+{
+    match broken {
+        Some(found) => {
+            let lines = lines_of(book, found);
+            writeln!(writer, "broken {part} {lines}")
+        }
+        None => Ok(()),
+    }
+}
+
+/// Writes a line for each part of a safe book that is broken.
+///
+/// Errors: `WriteFailed`.
+fn write_parts<W: Output>(
     book: &LoggedBook,
     found: Verdict,
     writer: &mut W,
 ) -> Result<(), WriteFailed>
-    requires says { SaysOf found book.now }
     requires whole { W.failed writer.old ≡ false }
-    ensures written { OnOk result (WritesSaid book.now found.stray found.unmade found.said (W.contents writer.old) (W.contents writer.new)) }
+    ensures written { OnOk result (Appends (W.contents writer.old) (W.contents writer.new) (parts_text book.now found)) }
     ensures failed { TellsFailure result (W.failed writer.new) }
 {
-    let said = found.said;
-    let Some(shown) = locate(said, book.crossings(), book.lives(), book.handed()) else {
-        return write_kept(found.stray, found.unmade, writer);
-    };
-    let lines = lines_of(book, shown);
-    match said {
-        Audit::Kept => write_kept(found.stray, found.unmade, writer),
-        Audit::Malformed => writeln!(writer, "malformed {lines}"),
-        Audit::Broken(part) => writeln!(writer, "broken {part} {lines}"),
+    write_broken(book, Part::Messages, found.messages, writer)?;
+    write_broken(book, Part::Partners, found.partners, writer)?;
+    write_broken(book, Part::Streams, found.streams, writer)?;
+    write_broken(book, Part::Grants, found.grants, writer)
+}
+
+/// Writes that a book is kept, where nothing is wrong.
+///
+/// Errors: `WriteFailed`.
+fn write_kept<W: Output>(found: Verdict, writer: &mut W) -> Result<(), WriteFailed>
+    requires whole { W.failed writer.old ≡ false }
+    ensures written { OnOk result (Appends (W.contents writer.old) (W.contents writer.new) (kept_text found)) }
+    ensures failed { TellsFailure result (W.failed writer.new) }
+{
+    if !found.is_kept() {
+        return Ok(());
     }
+    writer.write_all(b"kept\n")
 }

@@ -97,7 +97,7 @@ VERDICTS = [
     ("33 0/1 16 3 1", "33 0/1 16 3 7", "broken lives line 11\nmalformed line 11"),
     ("33 0/1 16 3 1", "33 0/1 16 18446744073709551615 1", "broken lives line 11\nmalformed line 11"),
     ("life 0/2 33 0/1", "life 0/3 33 0/1", "broken lives line 11\nmalformed line 11"),
-    ("0/2 0/1 0", "0/2 0/1 1", "broken run line 5\nbroken lives line 11\nmalformed line 10"),
+    ("0/2 0/1 0", "0/2 0/1 1", "broken run line 5\nbroken lives line 11\nmalformed line 10\nbroken messages line 5"),
     # numbers of lives and lists
     ("handed 24 484950\n", "", "malformed line 11"),
     (LISTS, "", "malformed line 10"),
@@ -105,7 +105,7 @@ VERDICTS = [
     (SENDER + "\n", "", "malformed line 12"),
     (RECEIVER + "\n" + SENDER + "\n", "", "malformed line 10"),
     # partners
-    (f"{SENDER}\n{LIST}", f"{SENDER}\n{RECEIVER}\n{LIST}{LIST}", "broken partners lines 10 12"),
+    (f"{SENDER}\n{LIST}", f"{SENDER}\n{RECEIVER}\n{LIST}{LIST}", "broken partners lines 10 12\nbroken streams line 11"),
     (f"{SENDER}\n{LISTS}", f"{SENDER}\n{SENDER}\n{LISTS}handed 24 484950\n", "broken partners lines 11 12"),
     ("33 0/1 16 3 1", "33 0/1 18 3 1", "broken lives line 11\nbroken streams line 10"),
     # streams
@@ -129,8 +129,13 @@ VERDICTS = [
     (BOTH, f"{SENDER.replace('send 1', 'send 2')}\n{RECEIVER}\n{LISTS_TURNED}", "broken lives line 10\nbroken grants lines 11 10"),
     (BOTH, f"{SENDER}\n{RECEIVER}\n{LISTS_TURNED}", "kept"),
     (BOTH, f"{SENDER}\n{RECEIVER}\n{LISTS}", "broken streams line 10"),
-    # the first part that fails is reported
-    ("receive 1 16 1 100 0 0 open 4849", "receive 1 16 0 0 0 0 open 4848", "broken lives line 10\nbroken streams lines 10 11"),
+    # each part that fails is named
+    ("receive 1 16 1 100 0 0 open 4849", "receive 1 16 0 0 0 0 open 4848", "broken lives line 10\nbroken streams lines 10 11\nbroken grants lines 10 11"),
+    (BOTH, f"{RECEIVER}\n{RECEIVER}\n{SENDER.replace('4849', '4848')}\n{LIST}{LISTS}", "broken lives line 12\nbroken partners lines 10 11\nbroken streams lines 10 12"),
+    (BOTH, f"{RECEIVER.replace('1 100', '1 15')}\n{SENDER}\n{SENDER}\n{LISTS}handed 8 48\n", "broken partners lines 11 12\nbroken streams line 12\nbroken grants lines 10 11"),
+    ("0/2 0/1 5\nlife 0/1", "0/2 0/1 6\nlife 0/1", "broken run line 9\nbroken messages line 9"),
+    # two senders of one life are odd partners, and its stream is that of either
+    (BOTH, f"{RECEIVER}\n{SENDER.replace('4849', '4848')}\n{SENDER}\n{LISTS}handed 24 484950\n", "broken lives line 11\nbroken partners lines 11 12\nbroken streams line 11"),
 ]
 
 # ---- logs of one line and `end`, and the verdict; those that are bad

@@ -5,7 +5,7 @@ from __future__ import annotations
 from collections.abc import Callable, Iterable, Iterator, Sequence
 from typing import TypeVar
 
-from dorydate.model.audit import Lives, Log, partners_are_kept
+from dorydate.model.audit import Lives, Log, match, partners_are_kept
 from dorydate.model.bits import Bits, octets
 from dorydate.model.book import Life
 from dorydate.model.commands import HEADER, LENGTHS, RTS, STR
@@ -212,6 +212,28 @@ class RunAlone(Judge):
         return super().verdict(book).splitlines()[0]
 
 
+class FirstPartOnly(Judge):
+    """Of the parts of a safe book only the first that is broken is named."""
+
+    def of_book(self, book: Book) -> list[str | None]:
+        found: list[str | None] = [*filter(None, super().of_book(book))]
+        return found[:1]
+
+
+class FormAlone(Judge):
+    """The messages of a malformed book are not looked at."""
+
+    def of_book(self, book: Book) -> list[str | None]:
+        return [form] if (form := self.of_form(book)) else super().of_book(book)
+
+
+class TwoSenders(Judge):
+    """A receiving life that matches two senders breaks streams, too."""
+
+    def stream_fails(self, log: Log, lives: Lives, life: Life) -> bool:
+        return super().stream_fails(log, lives, life) or sum(match(log, life, it) for it in lives) > 1
+
+
 class RunBefore(Judge):
     """A break of the run is put at the line before it."""
 
@@ -382,7 +404,7 @@ READERS: list[type[LogReader]] = [
 ]  # fmt: skip
 JUDGES: list[type[Judge]] = [
     FewerLists, MoreLists, ToldOfItsList, LineOfItsNumber, BreakBefore, LastMalformed, FirstAtOdds, WrongWayRound, FirstOfAll, NoMatch, MatchFirst,
-    SenderOfStream, SenderOfGrant, NoRun, RunAlone, RunBefore, BoxesStay, BoxesToItGo, BoxesGoAtOnce, NobodyIsDown, AnyAnswer,
+    SenderOfStream, SenderOfGrant, NoRun, RunAlone, FirstPartOnly, FormAlone, TwoSenders, RunBefore, BoxesStay, BoxesToItGo, BoxesGoAtOnce, NobodyIsDown, AnyAnswer,
     NoLives, CountsAreTrusted, LinkOfTheLastRequest, FirstRequestOnly, NoSize, AllOnTheLink, LastMessages, RequestsAnywhere,
 ]  # fmt: skip
 

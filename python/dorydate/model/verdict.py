@@ -9,7 +9,7 @@ from collections.abc import Callable, Iterable, Sequence
 from dataclasses import replace
 from typing import TypeVar
 
-from dorydate.model.audit import Lives, Log, audit, is_granted, is_well_formed, match, messages_are_kept, partners_are_kept
+from dorydate.model.audit import PARTS, Lives, Log, is_granted, is_well_formed, match, messages_are_kept, partners_are_kept
 from dorydate.model.book import Life
 from dorydate.model.crossings import Crossing
 from dorydate.model.firsts import Firsts
@@ -42,8 +42,8 @@ class Judge:
             return f"bad log line {line}"
 
     def verdict(self, book: Book) -> str:
-        """What is to be said of a book, with the lines that show it: of the run of the mailboxes, of lives and of the promise."""
-        return "\n".join(filter(None, [self.of_run(book.log), self.of_lives(book), self.of_book(book)])) or "kept"
+        """What is to be said of a book, with the lines that show it: all that is wrong with the run of the mailboxes, with lives and with the promise."""
+        return "\n".join(filter(None, [self.of_run(book.log), self.of_lives(book), *self.of_book(book)])) or "kept"
 
     def of_run(self, log: Log) -> str | None:
         """What is wrong with what crossed, None where it is a run of the mailboxes between the hosts that it names."""
@@ -57,20 +57,28 @@ class Judge:
         place = next(found, None)
         return None if place is None else f"broken lives line {self.line(book.log, place)}"
 
-    def of_book(self, book: Book) -> str | None:
-        """What is wrong with a book, None where it keeps the promise."""
-        log, lives, handed = book
-        if place := self.unmatched(lives, handed):
-            return f"malformed line {len(log) + place}"
-        lives = [replace(life, handed=bits) for life, bits in zip(lives, handed)]
-        part = audit(log, lives)
-        if part is None:
-            return None
-        if part == "malformed":
-            return f"malformed line {len(log) + self.first(lives, lambda life: not is_well_formed(log, [life]))}"
-        if part == "messages":
-            return f"broken messages line {self.first_break(log, messages_are_kept)}"
-        return f"broken {part} {in_words(self.line(log, place) for place in self.shown(part, log, lives))}"
+    def of_book(self, book: Book) -> list[str | None]:
+        """What is wrong with a book. Partners, streams and grants are about requests, so they are judged where each stamp names one."""
+        log = book.log
+        lives = [replace(life, handed=bits) for life, bits in zip(book.lives, book.handed)]
+        found = [self.of_form(book), self.of_messages(log)]
+        return found if found[0] else [*found, *(self.of_part(part, log, lives) for part in PARTS[1:])]
+
+    def of_form(self, book: Book) -> str | None:
+        """Where a book is malformed: the first life or list without the other, or else the first life whose stamps name no requests."""
+        place = self.unmatched(book.lives, book.handed)
+        if place is None and not is_well_formed(book.log, book.lives):
+            place = self.first(book.lives, lambda life: not is_well_formed(book.log, [life]))
+        return f"malformed line {len(book.log) + place}" if place else None
+
+    def of_messages(self, log: Log) -> str | None:
+        """The first crossing with which messages are broken."""
+        return None if messages_are_kept(log) else f"broken messages line {self.first_break(log, messages_are_kept)}"
+
+    def of_part(self, part: str, log: Log, lives: Lives) -> str | None:
+        """The one or two lives that break a part."""
+        places = self.shown(part, log, lives)
+        return f"broken {part} {in_words(self.line(log, place) for place in places)}" if places else None
 
     def line(self, log: Sequence[Crossing], place: int) -> int:
         """The line of the life at a place."""
@@ -103,9 +111,11 @@ class Judge:
         return next(count for count in range(1, len(entries) + 1) if not are_kept(entries[:count]))
 
     def shown(self, part: str, log: Log, lives: Lives) -> list[int]:
-        """The places, counted from 1, of the one or two lives that break a part."""
+        """The places, counted from 1, of the one or two lives that break a part; none where it is kept."""
         if part == "partners":
-            return self.at_odds(log, lives)
+            return [] if partners_are_kept(log, lives) else self.at_odds(log, lives)
+        if not any(self.fails(part, log, lives, life) for life in lives):
+            return []
         place = self.first(lives, lambda life: self.fails(part, log, lives, life))
         return self.with_match(place, [other for other, life in enumerate(lives, 1) if match(log, lives[place - 1], life)])
 
@@ -125,11 +135,10 @@ class Judge:
         return self.stream_fails(log, lives, life) if part == "streams" else self.grant_fails(log, lives, life)
 
     def stream_fails(self, log: Log, lives: Lives, life: Life) -> bool:
-        """A sending life sent something else than was handed over; a receiving one has two senders, or took something that its sender did not send."""
+        """A sending life sent something else than was handed over; a receiving one took something that no life sent that it matches. That it matches one at most is of partners."""
         if not life.receives():
             return not life.handed.startswith(life.bits)
-        senders = [it for it in lives if match(log, life, it)]
-        return len(senders) > 1 or life.bits != "" and not any(it.bits.startswith(life.bits) for it in senders)
+        return life.bits != "" and not any(match(log, life, it) and it.bits.startswith(life.bits) for it in lives)
 
     def grant_fails(self, log: Log, lives: Lives, life: Life) -> bool:
         """A receiving life took more than it granted, or its sender sent more."""

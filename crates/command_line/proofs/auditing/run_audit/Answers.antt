@@ -7,39 +7,21 @@ use Rattle.command_line.proofs.Judged.{audited, audits, known_audited, says_of, 
 use Rattle.command_line.specs.declared.auditing.AuditFault.TheVariants as fault
 use Rattle.command_line.proofs.auditing.run_audit.Goals as goal
 
--- what is said
-pub write_found-requires-clause-says : goal.write_found-requires-clause-says
-write_found-requires-clause-says g c =
-    let v : Verdict =
-    record { stray = c.in_ok-stray.stray; unmade = c.in_ok-unmade.unmade; said = c.audit-said.result } in
-    says_of c.in_ok-book.book v c.crossings.result.now c.crossings-2.result.now c.crossings-3.result.now
-    c.lives.result.now c.lives-2.result.now c.handed.result.now c.crossings.ensures c.crossings-2.ensures
-    c.lives.ensures c.crossings-3.ensures c.lives-2.ensures c.handed.ensures c.in_ok-stray.ensures
-    c.in_ok-unmade.ensures c.audit-said.ensures
-
 -- what is written
 pub returns-clause-audited : goal.returns-clause-audited
 returns-clause-audited g c =
-    let v : Verdict =
-    record { stray = c.in_ok-stray.stray; unmade = c.in_ok-unmade.unmade; said = c.audit-said.result } in
+    let v : Verdict = c.in_ok-found.found in
     let says : SaysOf v c.in_ok-book.book =
-    says_of c.in_ok-book.book v c.crossings.result.now c.crossings-2.result.now c.crossings-3.result.now
-    c.lives.result.now c.lives-2.result.now c.handed.result.now c.crossings.ensures c.crossings-2.ensures
-    c.lives.ensures c.crossings-3.ensures c.lives-2.ensures c.handed.ensures c.in_ok-stray.ensures
-    c.in_ok-unmade.ensures c.audit-said.ensures in
+    says_of c.in_ok-book.book v c.crossings.result.now c.lives.result.now c.handed.result.now c.crossings.ensures c.lives.ensures c.handed.ensures c.in_ok-found.ensures in
     let log : IsLog c.in_ok-octets.octets.items c.in_ok-book.book = subst (λ (o : List ℕ). IsLog o c.in_ok-book.book) c.deref.ensures.value c.in_ok-book.ensures in
     audited c.in_ok-octets.octets.items v (g.W.Output.contents c.args.writer.now) (g.W.Output.contents c.write_found.new.writer)
     (audits c.in_ok-octets.octets.items c.in_ok-book.book v (g.W.Output.contents c.args.writer.now) (g.W.Output.contents c.write_found.new.writer) log says c.in_ok-write_found.ensures.written)
 
 pub returns-clause-says : goal.returns-clause-says
 returns-clause-says g c =
-    let v : Verdict =
-    record { stray = c.in_ok-stray.stray; unmade = c.in_ok-unmade.unmade; said = c.audit-said.result } in
+    let v : Verdict = c.in_ok-found.found in
     let says : SaysOf v c.in_ok-book.book =
-    says_of c.in_ok-book.book v c.crossings.result.now c.crossings-2.result.now c.crossings-3.result.now
-    c.lives.result.now c.lives-2.result.now c.handed.result.now c.crossings.ensures c.crossings-2.ensures
-    c.lives.ensures c.crossings-3.ensures c.lives-2.ensures c.handed.ensures c.in_ok-stray.ensures
-    c.in_ok-unmade.ensures c.audit-said.ensures in
+    says_of c.in_ok-book.book v c.crossings.result.now c.lives.result.now c.handed.result.now c.crossings.ensures c.lives.ensures c.handed.ensures c.in_ok-found.ensures in
     let log : IsLog c.in_ok-octets.octets.items c.in_ok-book.book = subst (λ (o : List ℕ). IsLog o c.in_ok-book.book) c.deref.ensures.value c.in_ok-book.ensures in
     known_audited (g.R.Source.remaining c.args.reader.now) c.in_ok-octets.octets.items v (g.W.Output.contents c.args.writer.now) (g.W.Output.contents c.write_found.new.writer) c.in_ok-octets.ensures.whole
     (audits c.in_ok-octets.octets.items c.in_ok-book.book v (g.W.Output.contents c.args.writer.now) (g.W.Output.contents c.write_found.new.writer) log says c.in_ok-write_found.ensures.written)
@@ -64,8 +46,7 @@ returns-in_err-write_found-clause-read g c = λ whole.
 
 pub returns-clause-kept : goal.returns-clause-kept
 returns-clause-kept g c = λ whole.
-    let v : Verdict =
-    record { stray = c.in_ok-stray.stray; unmade = c.in_ok-unmade.unmade; said = c.audit-said.result } in
+    let v : Verdict = c.in_ok-found.found in
     ends_kept (g.R.Source.remaining c.args.reader.now) v (g.W.Output.contents c.args.writer.now) (g.W.Output.contents c.write_found.new.writer) (returns-clause-says g c)
 
 pub returns-in_err-octets-clause-kept : goal.returns-in_err-octets-clause-kept
@@ -78,27 +59,15 @@ returns-in_err-book-clause-kept g c = λ whole.
     let same : c.from_residual-in_err-book.result ≡ Err c.in_err-book.field-0.0 = search rules in
     ends_faulty (g.R.Source.remaining c.args.reader.now) c.from_residual-in_err-book.result c.in_err-book.field-0.0 same (returns-in_err-book-clause-read g c whole)
 
-pub returns-in_err-stray-clause-read : goal.returns-in_err-stray-clause-read
-returns-in_err-stray-clause-read g c = λ whole.
-    let same : c.from_residual-in_err-stray.result ≡ Err fault.OutOfMemory = search rules in
-    unlogged (g.R.Source.remaining c.args.reader.now) c.in_ok-octets.octets.items c.from_residual-in_err-stray.result fault.OutOfMemory c.in_ok-octets.ensures.whole same tt
+pub returns-in_err-found-clause-read : goal.returns-in_err-found-clause-read
+returns-in_err-found-clause-read g c = λ whole.
+    let same : c.from_residual-in_err-found.result ≡ Err fault.OutOfMemory = search rules in
+    unlogged (g.R.Source.remaining c.args.reader.now) c.in_ok-octets.octets.items c.from_residual-in_err-found.result fault.OutOfMemory c.in_ok-octets.ensures.whole same tt
 
-pub returns-in_err-stray-clause-kept : goal.returns-in_err-stray-clause-kept
-returns-in_err-stray-clause-kept g c = λ whole.
-    let same : c.from_residual-in_err-stray.result ≡ Err fault.OutOfMemory = search rules in
-    ends_faulty (g.R.Source.remaining c.args.reader.now) c.from_residual-in_err-stray.result fault.OutOfMemory same (returns-in_err-stray-clause-read g c whole)
-
-pub returns-in_err-unmade-clause-read : goal.returns-in_err-unmade-clause-read
-returns-in_err-unmade-clause-read g c = λ whole.
-    let same : c.from_residual-in_err-unmade.result ≡ Err fault.OutOfMemory = search rules in
-    unlogged (g.R.Source.remaining c.args.reader.now) c.in_ok-octets.octets.items c.from_residual-in_err-unmade.result
-    fault.OutOfMemory c.in_ok-octets.ensures.whole same tt
-
-pub returns-in_err-unmade-clause-kept : goal.returns-in_err-unmade-clause-kept
-returns-in_err-unmade-clause-kept g c = λ whole.
-    let same : c.from_residual-in_err-unmade.result ≡ Err fault.OutOfMemory = search rules in
-    ends_faulty (g.R.Source.remaining c.args.reader.now) c.from_residual-in_err-unmade.result fault.OutOfMemory same
-    (returns-in_err-unmade-clause-read g c whole)
+pub returns-in_err-found-clause-kept : goal.returns-in_err-found-clause-kept
+returns-in_err-found-clause-kept g c = λ whole.
+    let same : c.from_residual-in_err-found.result ≡ Err fault.OutOfMemory = search rules in
+    ends_faulty (g.R.Source.remaining c.args.reader.now) c.from_residual-in_err-found.result fault.OutOfMemory same (returns-in_err-found-clause-read g c whole)
 
 pub returns-in_err-write_found-clause-kept : goal.returns-in_err-write_found-clause-kept
 returns-in_err-write_found-clause-kept g c = λ whole.

@@ -1,11 +1,26 @@
-use Rattle.command_line.proofs.Judged.{verdict_stays, whether_ok}
+use Rattle.std.proofs.Common.{◌++◌}
+use Rattle.command_line.specs.Audits.{kept_text, lives_text, malformed_text, parts_text, run_text, verdict_text}
+use Rattle.command_line.proofs.Judged.{joins, stays, whether_ok}
 use Rattle.command_line.proofs.verdict.write_found.Goals as goal
 
 pub returns-clause-written : goal.returns-clause-written
 returns-clause-written g c =
+    let b = c.args.book.now in
+    let v = c.args.found in
+    let last = kept_text v in
+    let parts = parts_text b v ++ last in
+    let malformed = malformed_text b v.malformed ++ parts in
+    let lives = lives_text b v.unmade ++ malformed in
+    let begun = g.W.Output.contents c.args.writer.now in
+    let after_run = g.W.Output.contents c.write_run.new.writer in
+    let after_lives = g.W.Output.contents c.write_lives.new.writer in
+    let after_malformed = g.W.Output.contents c.write_malformed.new.writer in
+    let after_parts = g.W.Output.contents c.write_parts.new.writer in
+    let after_kept = g.W.Output.contents c.write_kept.new.writer in
     whether_ok c.flush.result
-    (verdict_stays c.args.book.now c.args.found (g.W.Output.contents c.args.writer.now)
-    (g.W.Output.contents c.write_run.new.writer) (g.W.Output.contents c.write_lives.new.writer)
-    (g.W.Output.contents c.write_said.new.writer)
-    (g.W.Output.contents c.flush.new.self) c.in_ok-write_run.ensures.written c.in_ok-write_lives.ensures.written
-    c.in_ok-write_said.ensures.written c.flush.ensures.kept)
+    (stays begun after_kept (g.W.Output.contents c.flush.new.self) (verdict_text b v)
+    (joins begun after_run after_kept (run_text v.stray) lives c.in_ok-write_run.ensures.written
+    (joins after_run after_lives after_kept (lives_text b v.unmade) malformed c.in_ok-write_lives.ensures.written
+    (joins after_lives after_malformed after_kept (malformed_text b v.malformed) parts c.in_ok-write_malformed.ensures.written
+    (joins after_malformed after_parts after_kept (parts_text b v) last c.in_ok-write_parts.ensures.written c.in_ok-write_kept.ensures.written))))
+    c.flush.ensures.kept)

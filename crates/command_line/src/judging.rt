@@ -1,0 +1,66 @@
+//! What is said of a book: which of all that is promised of it doesn't hold.
+
+ghost use Rattle.std.specs.Prelude.{IfOk, MatchOption, reverse};
+ghost use Rattle.book_judge.specs.Runs.{IsSomeRun, StraysAt};
+ghost use Rattle.command_line.specs.Audits.{Judged};
+ghost use Rattle.interface.specs.Messages.{SafeMessages};
+ghost use Rattle.net_sim.specs.Findings.{ShowsCrossing};
+
+use crate::verdict::Verdict;
+use book_judge::{stray_at, unmade_at};
+use interface::Crossing;
+use net_sim::{
+    BitLog, Finding, Life, broken_grants, broken_messages, broken_partners, broken_streams,
+    malformed,
+};
+use std::alloc::{AllocError, Global};
+
+/// Returns the first crossing with which messages are broken; `None` where they are kept. A run of the mailboxes keeps them, so
+/// they are looked at where what crossed strays from one.
+fn unkept(log: &[Crossing], stray: Option<usize>) -> Option<Finding>
+    requires { MatchOption stray (IsSomeRun (reverse log.now)) (λ place. StraysAt log.now place) }
+    ensures { MatchOption result (SafeMessages (reverse log.now)) (λ found. ShowsCrossing found (reverse log.now)) }
+{
+    match stray {
+        Some(_) => broken_messages(log),
+        None => None,
+    }
+}
+
+/// Returns what is wrong with a log, its lives and what was handed over in them. The log is the oldest first.
+///
+/// Partners, streams and grants are about the requests that stamps name, so nothing is said of them in a malformed book.
+///
+/// Errors: `AllocError`.
+pub(crate) fn judge(
+    alloc: Global,
+    log: &[Crossing],
+    lives: &[Life],
+    handed: &[BitLog],
+) -> Result<Verdict, AllocError>
+    ensures { IfOk result (λ v. Judged v log.now lives.now handed.now) }
+{
+    let stray = stray_at(alloc, log)?;
+    let unmade = unmade_at(alloc, log, lives)?;
+    let messages = unkept(log, stray);
+    if let Some(found) = malformed(log, lives, handed) {
+        return Ok(Verdict {
+            stray,
+            unmade,
+            malformed: Some(found),
+            messages,
+            partners: None,
+            streams: None,
+            grants: None,
+        });
+    }
+    Ok(Verdict {
+        stray,
+        unmade,
+        malformed: None,
+        messages,
+        partners: broken_partners(log, lives),
+        streams: broken_streams(log, lives, handed),
+        grants: broken_grants(log, lives),
+    })
+}
