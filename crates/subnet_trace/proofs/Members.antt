@@ -2,7 +2,7 @@
 use Rattle.std.proofs.Common.{◌≡◌, ℕ, List, [], ◌∷◌, ◌++◌, codes, Option, subst}
 use Rattle.std.proofs.lemmas.List.{append_assoc}
 use Rattle.std.specs.Io.KnownBytes.{Appends}
-use Rattle.replay.proofs.lemmas.{appends_more}
+use Rattle.std.proofs.KnownBytes.{Appends-trans}
 use Rattle.trace.specs.Texts.{member, object, quoted}
 use Rattle.trace.proofs.lemmas.{five, three}
 
@@ -28,7 +28,7 @@ packet_printed kind source destination link number place last count octets a b c
     let whole : packet_one kind source ++ (packet_two destination link ++ (packet_three number place ++ (packet_four last count ++ (octets ++ codes "}"))))
     ≡ object (member (codes "kind") (quoted kind) ∷ member (codes "from") (quoted source) ∷ member (codes "to") (quoted destination) ∷ member (codes "link") link
     ∷ member (codes "number") number ∷ member (codes "place") place ∷ member (codes "last") last ∷ member (codes "bits") count ∷ member (codes "octets") octets ∷ []) = simp append_assoc in
-    subst (Appends a g) whole (appends_more a b g (packet_one kind source) (packet_two destination link ++ (packet_three number place ++ (packet_four last count ++ (octets ++ codes "}")))) p1
+    subst (Appends a g) whole (Appends-trans a b g (packet_one kind source) (packet_two destination link ++ (packet_three number place ++ (packet_four last count ++ (octets ++ codes "}")))) p1
     (five (packet_two destination link) (packet_three number place) (packet_four last count) octets (codes "}") b c d e f g p2 p3 p4 p5 p6))
 
 abbrev pub message_front : List ℕ → List ℕ → List ℕ → List ℕ → List ℕ → List ℕ
@@ -75,4 +75,4 @@ imp_printed hosts ports routes store slots sources kept distances next a b c d e
     let w : List ℕ = codes ",\"distances\":" ++ (distances ++ (codes ",\"next\":" ++ (next ++ codes "}"))) in
     let whole : x ++ (y ++ (z ++ w)) ≡ object (member (codes "hosts") hosts ∷ member (codes "ports") ports ∷ member (codes "routes") routes ∷ member (codes "store") store ∷ member (codes "slots") slots ∷ member (codes "sources") sources ∷ member (codes "kept") kept
     ∷ member (codes "distances") distances ∷ member (codes "next") next ∷ []) = simp append_assoc in
-    subst (Appends a e) whole (appends_more a b e x (y ++ (z ++ w)) ends (three y z w b c d e held known concluded))
+    subst (Appends a e) whole (Appends-trans a b e x (y ++ (z ++ w)) ends (three y z w b c d e held known concluded))

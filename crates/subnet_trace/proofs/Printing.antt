@@ -5,13 +5,13 @@ use Rattle.std.specs.Io.KnownBytes.{Appends}
 use Rattle.std.specs.Prelude.{slice_index_or}
 use Rattle.std.specs.Fmt.{decimal}
 use Rattle.std.specs.List.{range_with_len}
+use Rattle.std.proofs.KnownBytes.{Appends-trans}
 use Rattle.interface.specs.Host.{most_imps}
 use Rattle.interface.specs.Printed.{host_text}
 use Rattle.interface.specs.declared.address.Flow.{Flow}
 use Rattle.imp_channel.specs.Carriage.{Carriage}
 use Rattle.imp_channel.specs.declared.frame.Content.{Content}
 use Rattle.imp_channel.specs.declared.frame.Content.TheVariants as contents
-use Rattle.replay.proofs.lemmas.{appends_more}
 use Rattle.routing.specs.RouteTable.{Table, next_of}
 use Rattle.routing.specs.Vector.{infinite}
 use Rattle.subnet_trace.specs.Printing.{distance_behind, known_text, next_behind, place_after, place_behind}
@@ -81,7 +81,7 @@ carried_printed content carried a b c d is front packet end =
 
 pub routes_printed : (content : Content) (ds : List ℕ) (a b c d : Option (List ℕ)) → content ≡ contents.Routes ds → Appends a b (codes "\",\"routes\":") → Appends b c (distances_text ds) → Appends c d (codes "}") → Appends a d (behind_acks content)
 routes_printed content ds a b c d is front routes end =
-    subst (Appends a d) (ap behind_acks (sym is)) (appends_more a b d (codes "\",\"routes\":") (distances_text ds ++ codes "}") front (appends_more b c d (distances_text ds) (codes "}") routes end))
+    subst (Appends a d) (ap behind_acks (sym is)) (Appends-trans a b d (codes "\",\"routes\":") (distances_text ds ++ codes "}") front (Appends-trans b c d (distances_text ds) (codes "}") routes end))
 
 -- ---- flows
 
@@ -97,13 +97,13 @@ known_printed name word source destination link number a b c front back =
     let x : List ℕ = codes "{\"" ++ (name ++ (codes "\":\"" ++ (word ++ (codes "\",\"from\":\"" ++ (source ++ codes "\","))))) in
     let y : List ℕ = codes "\"to\":\"" ++ (destination ++ (codes "\",\"link\":" ++ (link ++ (codes ",\"number\":" ++ (number ++ codes "}"))))) in
     let whole : x ++ y ≡ object (member name (quoted word) ∷ member (codes "from") (quoted source) ∷ member (codes "to") (quoted destination) ∷ member (codes "link") link ∷ member (codes "number") number ∷ []) = simp append_assoc in
-    subst (Appends a c) whole (appends_more a b c x y front back)
+    subst (Appends a c) whole (Appends-trans a b c x y front back)
 
 pub flow_printed : {V : Type 0} (name : List ℕ) (word : Flow → V → List ℕ) (number : V → ℕ) (place : ℕ) (e : Flow × V) (es : List (Flow × V)) (whole : List ℕ) (a b c d : Option (List ℕ)) → Remains a b (flows_left name word number place (e ∷ es)) whole
     → Appends b c (mark (codes "[") (codes ",") place) → Appends c d (known_text name word number e) → Remains a d (flows_left name word number 1 es) whole
 flow_printed name word number place e es whole a b c d remains first item =
     maybe_printed (codes "[") (codes "]") true (known_text name word number e) (map (known_text name word number) es) place whole a b d remains
-    (appends_more b c d (mark (codes "[") (codes ",") place) (known_text name word number e) first item)
+    (Appends-trans b c d (mark (codes "[") (codes ",") place) (known_text name word number e) first item)
 
 pub flows_printed : {V : Type 0} (name : List ℕ) (word : Flow → V → List ℕ) (number : V → ℕ) (place : ℕ) (es : List (Flow × V)) (a b c : Option (List ℕ)) → Remains a b (flows_left name word number place []) (flows_left name word number 0 es)
     → Appends b c (mark (codes "[]") (codes "]") place) → Appends a c (array (map (known_text name word number) es))

@@ -1,7 +1,8 @@
 use Rattle.std.proofs.Common.{◌≡◌, ◌++◌, ap, codes, map, subst, ◌∙◌}
 use Rattle.std.specs.FinMap as fin
 use Rattle.std.specs.Io.KnownBytes.{Appends}
-use Rattle.replay.proofs.lemmas.{appends_more, on_ok}
+use Rattle.std.proofs.KnownBytes.{Appends-trans}
+use Rattle.replay.proofs.lemmas.{on_ok}
 use Rattle.subnet_trace.specs.Texts.{kept_text, source_text}
 use Rattle.subnet_trace.proofs.imp.print_known.Goals as goal
 use Rattle.trace.proofs.lemmas.{three}
@@ -13,7 +14,7 @@ returns-clause-written g c =
     let sources : c.iter.result ≡ fin.entries s.sources = c.iter.ensures ∙ ap fin.entries c.sources.ensures in
     let kept : c.iter-2.result ≡ fin.entries s.kept = c.iter-2.ensures ∙ ap fin.entries c.kept_flows.ensures in
     on_ok c.print_flows-2.result
-    (λ end. appends_more (g.W.Output.contents c.args.writer.now) (g.W.Output.contents c.write_all.new.self) (g.W.Output.contents c.print_flows-2.new.writer) (codes ",\"sources\":") (array (map (source_text s) (fin.entries s.sources)) ++ (codes ",\"kept\":" ++ array (map kept_text (fin.entries s.kept))))
+    (λ end. Appends-trans (g.W.Output.contents c.args.writer.now) (g.W.Output.contents c.write_all.new.self) (g.W.Output.contents c.print_flows-2.new.writer) (codes ",\"sources\":") (array (map (source_text s) (fin.entries s.sources)) ++ (codes ",\"kept\":" ++ array (map kept_text (fin.entries s.kept))))
     c.in_ok-write_all.ensures.written
     (three (array (map (source_text s) (fin.entries s.sources))) (codes ",\"kept\":") (array (map kept_text (fin.entries s.kept))) (g.W.Output.contents c.write_all.new.self) (g.W.Output.contents c.print_flows.new.writer) (g.W.Output.contents c.write_all-2.new.self) (g.W.Output.contents c.print_flows-2.new.writer)
     (subst (λ es. Appends (g.W.Output.contents c.write_all.new.self) (g.W.Output.contents c.print_flows.new.writer) (array (map (source_text s) es))) sources c.in_ok-print_flows.ensures.written) c.in_ok-write_all-2.ensures.written

@@ -1,7 +1,8 @@
 use Rattle.std.proofs.Common.{◌≡◌, ◌++◌, ◌<◌, ◌≤◌, ℕ, ap, arith, codes, length, rules, subst, true, ◌∙◌}
 use Rattle.std.proofs.lemmas.List.{get_or_read}
 use Rattle.std.specs.Io.KnownBytes.{Appends}
-use Rattle.replay.proofs.lemmas.{appends_more, on_ok}
+use Rattle.std.proofs.KnownBytes.{Appends-trans}
+use Rattle.replay.proofs.lemmas.{on_ok}
 use Rattle.subnet.specs.Events.{is_imp}
 use Rattle.subnet.specs.Net.{Net, no_wire, wire_at}
 use Rattle.subnet_trace.specs.Parts.{Imp}
@@ -17,7 +18,7 @@ loop-number-init g c =
       ap length c.lines-lines.ensures,
       c.in_ok-print_named_imp.ensures.failed,
       begun (codes "{" ++ named n (Imp i)) (lines_left n i 0) (g.W.Output.contents c.args.writer.now) (g.W.Output.contents c.print_named_imp.new.writer)
-          (appends_more (g.W.Output.contents c.args.writer.now) (g.W.Output.contents c.write_all-2.new.self) (g.W.Output.contents c.print_named_imp.new.writer) (codes "{") (named n (Imp i)) c.in_ok-write_all.ensures.written c.in_ok-print_named_imp.ensures.written),
+          (Appends-trans (g.W.Output.contents c.args.writer.now) (g.W.Output.contents c.write_all-2.new.self) (g.W.Output.contents c.print_named_imp.new.writer) (codes "{") (named n (Imp i)) c.in_ok-write_all.ensures.written c.in_ok-print_named_imp.ensures.written),
     )
 
 pub loop-number-preserved : goal.loop-number-preserved

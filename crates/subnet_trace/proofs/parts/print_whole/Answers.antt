@@ -1,7 +1,8 @@
 use Rattle.std.proofs.Common.{◌≡◌, ◌<◌, ◌≤◌, ◌+◌, ◌++◌, ℕ, ap, arith, codes, length, refl, subst, sym, ◌∙◌}
 use Rattle.std.proofs.lemmas.List.{get_or_read}
 use Rattle.std.specs.Io.KnownBytes.{Appends}
-use Rattle.replay.proofs.lemmas.{appends_more, on_ok}
+use Rattle.std.proofs.KnownBytes.{Appends-trans}
+use Rattle.replay.proofs.lemmas.{on_ok}
 use Rattle.subnet.specs.Net.{Net, no_wire, wire_at}
 use Rattle.subnet_trace.specs.Parts.{Line, all_parts, part_name, parts_text}
 use Rattle.subnet_trace.specs.Printing.{named}
@@ -42,7 +43,7 @@ loop-number-preserved g c =
       c.loop-number.invariant.0,
       c.in_ok-print_named_line.ensures.failed,
       rest_printed n l c.loop-number.place (parts_text n (all_parts n)) (g.W.Output.contents c.args.writer.now) (g.W.Output.contents c.loop-number.writer) (g.W.Output.contents c.print_named_line.new.writer) within c.loop-number.invariant.2
-          (appends_more (g.W.Output.contents c.loop-number.writer) (g.W.Output.contents c.write_all.new.self) (g.W.Output.contents c.print_named_line.new.writer) (mark (codes "{") (codes ",") c.loop-number.place) (named n (Line l))
+          (Appends-trans (g.W.Output.contents c.loop-number.writer) (g.W.Output.contents c.write_all.new.self) (g.W.Output.contents c.print_named_line.new.writer) (mark (codes "{") (codes ",") c.loop-number.place) (named n (Line l))
           (subst (Appends (g.W.Output.contents c.loop-number.writer) (g.W.Output.contents c.write_all.new.self)) (c.as_bytes.ensures.value ∙ c.mark.ensures) c.in_ok-write_all.ensures.written)
           (subst (λ w. Appends (g.W.Output.contents c.write_all.new.self) (g.W.Output.contents c.print_named_line.new.writer) (member (part_name (Line l)) (line_text w))) wire c.in_ok-print_named_line.ensures.written)),
     )
