@@ -8,7 +8,7 @@ ghost use Rattle.promise.specs.declared.life.Life.{Life};
 ghost use Rattle.net_sim.specs.Clean.{HaveAddresses, IsLawful};
 ghost use Rattle.promise.specs.Formed.{FormedBook, IsFormed};
 ghost use Rattle.promise.specs.Notices.{FormedNotices, data_told};
-ghost use Rattle.promise.specs.Safe.{AreHanded, IsGranted, receives};
+ghost use Rattle.promise.specs.Safe.{AreHanded, IsGranted, receives, sends};
 ghost use Rattle.interface.specs.declared.crossing.Crossing.TheVariants as crossing;
 ghost use Rattle.net_sim.specs.Story.{Crossed, Moment, program};
 ghost use Rattle.net_sim.specs.Timeline.{IsTimeline, crossings_of};
@@ -208,4 +208,16 @@ pub fn worked_drained()
     ensures less { AllSent (Crossed (crossing.Down second) ∷ closed_moments) (life_ended gave ∷ []) ([] ∷ []) → ⊥ }
     ensures unanswered { ClosesFirst closing_moments gave → ⊥ }
     ensures taken { ClosesFirst taken_moments gave → ⊥ }
+{}
+
+/// Lives of which at no moment so far their user had closed the end first.
+pub fn worked_not_first()
+    // its user has closed it, but its CLS waits for an answer
+    ensures unanswered { ClosedFirst closing_moments gave → ⊥ }
+
+    // the partner's CLS was taken before its own was queued
+    ensures taken { ClosedFirst taken_moments gave → ⊥ }
+
+    // a life that receives
+    ensures sending { (moments : List Moment) (life : Life) → ClosedFirst moments life → sends life ≡ true }
 {}
