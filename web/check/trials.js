@@ -236,6 +236,9 @@ export async function keys({ $, one, all, focused, load, key, want }) {
     want(!$("menu").hidden, "Enter opens the menu");
     key("Escape", focused());
     want($("menu").hidden && focused() === part, "Escape gives the focus back");
+    key("Enter", part);
+    $("next").focus();
+    want($("menu").hidden, "the menu stays where the focus leaves it");
     $("tab-waits").focus();
     key("ArrowRight", $("tab-waits"));
     want(

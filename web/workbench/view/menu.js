@@ -17,9 +17,18 @@ export class Menu {
         /** @type {Element | null} */
         this.from = null;
         element.addEventListener("keydown", (event) => this.key(event));
-        document.addEventListener("pointerdown", (event) => {
-            if (!element.hidden && !element.contains(/** @type {Node} */ (event.target))) this.close(false);
-        });
+        document.addEventListener("pointerdown", (event) => this.leave(event.target));
+        element.addEventListener("focusout", (event) => this.leave(event.relatedTarget));
+    }
+
+    /**
+     * Closes the menu where something else is pressed or gets the focus, since its choices are for the step at which it
+     * was opened.
+     *
+     * @param {EventTarget | null} to
+     */
+    leave(to) {
+        if (to instanceof Node && !this.element.contains(to)) this.close(false);
     }
 
     /**
