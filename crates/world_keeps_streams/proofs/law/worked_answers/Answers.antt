@@ -13,7 +13,7 @@ use Rattle.sockets.specs.Accepting.{accepted}
 use Rattle.sockets.specs.Requests.{refusal, served, served_notices}
 use Rattle.sockets.specs.Sending.{next_out, offered}
 use Rattle.sockets.specs.Worked.{first, on_link, second}
-use Rattle.net_sim.specs.Story.{Asked, Crossed, Moment}
+use Rattle.net_sim.specs.Story.{Crossed}
 use Rattle.net_sim.specs.Timeline.{crossings_of}
 use Rattle.net_sim.specs.Told.{kept_in}
 use Rattle.net_sim.specs.WorkedMoments.{bits_sent, eight_sent, sent_moments}
@@ -21,6 +21,7 @@ use Rattle.promise.specs.declared.life.Life.{Life}
 use Rattle.promise.specs.Safe.{receives}
 use Rattle.world_keeps_streams.specs.Arrivals.{Arrives, ComesFor}
 use Rattle.world_keeps_streams.specs.Worked.{took}
+use Rattle.world_keeps_streams.proofs.Books.Ended.{all_crossings}
 use Rattle.world_keeps_streams.proofs.Lives.Lists.{IsOf, is_of}
 use Rattle.world_keeps_streams.proofs.law.worked_answers.Goals as goal
 
@@ -56,11 +57,6 @@ returns-clause-taken c = record {
 }
 
 -- ---- what is newest
-
-all_crossings : (xs ys : List Moment) → crossings_of (xs ++ ys) ≡ crossings_of xs ++ crossings_of ys
-all_crossings [] ys = refl
-all_crossings (Crossed c ∷ xs) ys = ap (λ (log : List Crossing). c ∷ log) (all_crossings xs ys)
-all_crossings (Asked h r ∷ xs) ys = all_crossings xs ys
 
 abbrev goes_out : List Crossing → Bool
 goes_out [] = false
