@@ -5,3 +5,4 @@ pub mod Names
 pub mod Moves
 pub mod Formed
 pub mod Histories
+pub mod Laws

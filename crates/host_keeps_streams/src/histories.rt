@@ -1,30 +1,27 @@
 //! What all that a host's program does with one peer in a stay is on each link: a run of the law's receiver, and one of its sender. The functions here do
 //! nothing: each clause is a law.
 
-ghost use Rattle.std.specs.Prelude.{◌≡◌, ℕ, Bool, true, false, List, [], ◌∷◌, Some, None};
+ghost use Rattle.std.specs.Prelude.{◌≡◌, ℕ, true, false, List, [], ◌∷◌, Some, None};
 ghost use Rattle.interface.specs.Host.{Host};
 ghost use Rattle.ncp_control.specs.declared.command.Command.TheVariants as command;
 ghost use Rattle.stream_law.specs.Senders as senders;
 ghost use Rattle.host_pairs.specs.Entries.{sending_end};
-ghost use Rattle.host_keeps_streams.specs.Ends.{HasReceiver};
-ghost use Rattle.host_keeps_streams.specs.Formed.{AreSound};
-ghost use Rattle.host_keeps_streams.specs.Histories.{Closes, HasClosed, IsHistory, IsTelling, KeepBox, KeepBoxAll, AreAllowed, MayReceiveAll, MaySendAll, Moment, OpensReceiver, OpensSender, Says, closing_moments, ended_moments, ends_now, gone_now, moment, name_now, numbered, numbered_by_gone, numbered_by_own, opening_moments, receiver_now, sender_now, waiting};
-ghost use Rattle.host_keeps_streams.specs.Names.{IsSending};
+ghost use Rattle.host_keeps_streams.specs.Histories.{Closes, HasClosed, IsHistory, IsTelling, KeepBox, AreAllowed, MayReceiveAll, MaySendAll, Moment, OpensReceiver, OpensSender, Says};
+ghost use Rattle.host_keeps_streams.specs.Histories.{closing_moments, ended_moments, gone_now, moment, name_now, numbered, numbered_by_gone, numbered_by_own, opening_moments, receiver_now};
+ghost use Rattle.host_keeps_streams.specs.Histories.{sender_now, waiting};
+ghost use Rattle.host_keeps_streams.specs.Laws.Histories.{HistoriesOneMessage, HistoriesReceived, HistoriesReceiver, HistoriesSender, HistoriesSent, HistoriesSound};
 
 /// Whatever happens to the ends of a host with one peer while the two stay together, call after call, from where there were none. What is
 /// assumed of the calls is in `AreAllowed`.
 pub fn histories()
-    // all that the law's receiver of a link does by it the law lets it do, and so with the sender
-    ensures received { (number : ℕ → ℕ → ℕ → ℕ) (peer : Host) (link : ℕ) (moments : List Moment) → IsTelling number → IsHistory peer moments → AreAllowed number peer link moments → MayReceiveAll number peer link moments }
-    ensures sent { (number : ℕ → ℕ → ℕ → ℕ) (peer : Host) (link : ℕ) (moments : List Moment) → IsTelling number → IsHistory peer moments → AreAllowed number peer link moments → MaySendAll number peer link moments }
+    ensures received { HistoriesReceived }
+    ensures sent { HistoriesSent }
 
-    // one message at a time goes out on the link, and none is outstanding where an end that has opened closes
-    ensures one_message { (number : ℕ → ℕ → ℕ → ℕ) (peer : Host) (link : ℕ) (moments : List Moment) → IsTelling number → IsHistory peer moments → AreAllowed number peer link moments → KeepBoxAll number peer link moments }
+    ensures one_message { HistoriesOneMessage }
 
-    // and the program's ends are the law's after it
-    ensures receiver { (number : ℕ → ℕ → ℕ → ℕ) (peer : Host) (link : ℕ) (moments : List Moment) → IsTelling number → IsHistory peer moments → AreAllowed number peer link moments → HasReceiver (name_now number peer moments) link (ends_now peer moments) (receiver_now number peer link moments) }
-    ensures sender { (number : ℕ → ℕ → ℕ → ℕ) (peer : Host) (link : ℕ) (moments : List Moment) → IsTelling number → IsHistory peer moments → AreAllowed number peer link moments → IsSending (name_now number peer moments) link (ends_now peer moments) (sender_now number peer link moments) }
-    ensures sound { (number : ℕ → ℕ → ℕ → ℕ) (peer : Host) (link : ℕ) (moments : List Moment) → IsTelling number → IsHistory peer moments → AreAllowed number peer link moments → AreSound (name_now number peer moments) (ends_now peer moments) }
+    ensures receiver { HistoriesReceiver }
+    ensures sender { HistoriesSender }
+    ensures sound { HistoriesSound }
 
     // the law's receiver says the CLS of a connection before it hears the sender's only where a user closed its end
     ensures closed { (number : ℕ → ℕ → ℕ → ℕ) (peer : Host) (link c : ℕ) (moments : List Moment) → (receiver_now number peer link moments).first c ≡ true → HasClosed number peer link c moments }

@@ -17,3 +17,4 @@ pub mod Told
 pub mod WorkedMoments
 pub mod SmallLogs
 pub mod WorkedReports
+pub mod Laws

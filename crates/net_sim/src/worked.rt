@@ -1,24 +1,23 @@
 //! Worked examples of books and worlds. The functions here do nothing: each clause is a row, computed over the definitions.
 
-ghost use Rattle.std.specs.Prelude.{◌≡◌, ℕ, List, [], ◌∷◌, ◌++◌, Some, None, Ok, Err, Result, map, false, true};
+ghost use Rattle.std.specs.Prelude.{◌≡◌, [], ◌∷◌, ◌++◌, Some, None, Ok, Result, map};
 ghost use Rattle.interface.specs.Calls.{Seen};
-ghost use Rattle.interface.specs.Messages.{SafeMessages};
-ghost use Rattle.interface.specs.declared.carrier.CarrierFault.TheVariants as fault;
-ghost use Rattle.interface.specs.declared.crossing.Answer.TheVariants as answer;
 ghost use Rattle.interface.specs.declared.crossing.Crossing.TheVariants as crossing;
-ghost use Rattle.interface.specs.declared.event.NetEvent.TheVariants as event;
-ghost use Rattle.net_sim.specs.Book.{opening_kept, book_told, asked, crossed, all_crossed};
+ghost use Rattle.net_sim.specs.Book.{book_told, asked, crossed};
 ghost use Rattle.net_sim.specs.Handed.{AreUnhanded};
-ghost use Rattle.promise.specs.Safe.{SafeBook, SafePartners, SafeStreams, SafeGrants, Match, own_request, partner_request, last_out, before, control_flow};
-ghost use Rattle.net_sim.specs.Worked.{eight, eight_zeros, four, crossings, message, opened_kept, used, receiver, sender, taker, giver, elsewhere, asker, stranger, over, any_carrier, fresh, down, busy, halted, lacking, stamp_of};
+ghost use Rattle.promise.specs.Safe.{SafeBook, own_request, partner_request, last_out, before, control_flow};
+ghost use Rattle.net_sim.specs.Worked.{eight, eight_zeros, four, crossings, message, opened_kept, used, receiver, sender, taker, giver, elsewhere, asker, stranger, over, any_carrier, fresh, down};
+ghost use Rattle.net_sim.specs.Worked.{busy, lacking, stamp_of};
 ghost use Rattle.net_sim.specs.Carriers.{IsBooked};
-ghost use Rattle.net_sim.specs.World.{WorldState, WorldFault, Carrier, Program, Net, Quiet, Offer, Take, Ask, StepGives, RunGives, all_turned, seat_of, up_in, served_at, changed};
+ghost use Rattle.net_sim.specs.World.{WorldState, WorldFault, Offer, StepGives, seat_of, up_in, changed};
 ghost use Rattle.sockets.specs.Pairs.{opening_state};
 ghost use Rattle.sockets.specs.Requests.{served};
-ghost use Rattle.sockets.specs.Worked.{first, second, third, on_link};
-ghost use Rattle.sockets.specs.declared.fault.NcpFault.TheVariants as problem;
+ghost use Rattle.sockets.specs.Worked.{first, second, third};
 ghost use Rattle.host_pairs.specs.declared.notice.Notice.TheVariants as notice;
 ghost use Rattle.sockets.specs.declared.request.Request.TheVariants as request;
+ghost use Rattle.net_sim.specs.Laws.WorkedLives.{WorkedLivesAgain, WorkedLivesMore};
+ghost use Rattle.net_sim.specs.Laws.WorkedRequests.{WorkedRequestsBefore};
+ghost use Rattle.net_sim.specs.Laws.WorkedWorlds.{WorkedWorldsIsDown, WorkedWorldsNobody, WorkedWorldsRefused, WorkedWorldsServed, WorkedWorldsStopped};
 
 /// What becomes of a life.
 pub fn worked_lives()
@@ -27,7 +26,7 @@ pub fn worked_lives()
 
     // it has what was sent or taken, what was granted and what was returned
     ensures used { used.book.lives ≡ giver ∷ taker ∷ [] }
-    ensures more { (book_told first (notice.Arrived 16 four) (asked first (request.Grant 16 1 10) used)).book.lives ≡ giver ∷ record taker { bits = eight ++ four; messages = 2; granted = record { messages = 3; bits = 110 } } ∷ [] }
+    ensures more { WorkedLivesMore }
     ensures returned_again { (book_told first (notice.Returned 16 1 6) used).book.lives ≡ giver ∷ record taker { returned = record { messages = 2; bits = 10 } } ∷ [] }
 
     // a notice to one host is about its own sockets
@@ -49,8 +48,7 @@ pub fn worked_lives()
     ensures down { (crossed (crossing.Down first) used).book.lives ≡ giver ∷ over taker ∷ [] }
     ensures up { (crossed (crossing.Up first) used).book.lives ≡ giver ∷ taker ∷ [] }
 
-    // what comes later belongs to a new life of the socket, and not to the one that has ended
-    ensures again { (book_told first (notice.Arrived 16 four) (book_told first (notice.Opened 16 second 33 7 8) (book_told first (notice.Ended 16 second 33) opened_kept))).book.lives ≡ sender ∷ over receiver ∷ record receiver { own_stamp = 7; partner_stamp = 8; bits = four; messages = 1 } ∷ [] }
+    ensures again { WorkedLivesAgain }
     ensures granted_again { (asked first (request.Grant 16 2 100) (book_told first (notice.PairReset second) opened_kept)).book.lives ≡ sender ∷ over receiver ∷ [] }
 {}
 
@@ -93,8 +91,7 @@ pub fn worked_requests()
     ensures another_way { last_out (control_flow second first) crossings ≡ Some 2 }
     ensures later { partner_request (crossing.Out (message second first 0) ∷ crossings) taker ≡ Some (own_request giver) }
 
-    // the In itself isn't before its place
-    ensures before { before 4 crossings ≡ crossing.Answer answer.Rfnm (on_link first second 0) ∷ crossing.Out (message second first 0) ∷ crossing.In (message first second 0) ∷ crossing.Out (message first second 0) ∷ [] }
+    ensures before { WorkedRequestsBefore }
 
     // where the peer has said nothing there is none
     ensures none { partner_request [] taker ≡ None }
@@ -161,13 +158,11 @@ pub fn unsafe_ended_books()
 
 /// Why an event is refused, and what it does.
 pub fn worked_worlds()
-    // a host that isn't there and one that is down come before what the program says
-    ensures nobody { (r : Result (Unit {0}) WorldFault) (new : WorldState Seen) → StepGives any_carrier fresh (Ask third (request.Echo second 65)) r new → (r ≡ Err (Carrier fault.NoSuch)) × (new ≡ fresh) }
-    ensures is_down { (r : Result (Unit {0}) WorldFault) (new : WorldState Seen) → StepGives any_carrier down (Ask second (request.Echo first 65)) r new → (r ≡ Err (Carrier fault.IsDown)) × (new ≡ down) }
-    ensures refused { (r : Result (Unit {0}) WorldFault) (new : WorldState Seen) → StepGives any_carrier fresh (Ask second (request.Echo first 65)) r new → (r ≡ Err (Program problem.NotContacted)) × (new ≡ fresh) }
+    ensures nobody { WorkedWorldsNobody }
+    ensures is_down { WorkedWorldsIsDown }
+    ensures refused { WorkedWorldsRefused }
 
-    // after memory has run out nothing comes before Stopped
-    ensures stopped { (r : Result (Unit {0}) WorldFault) (new : WorldState Seen) → StepGives any_carrier halted (Ask third (request.Echo second 65)) r new → (r ≡ Err (Carrier fault.Stopped)) × (new ≡ halted) }
+    ensures stopped { WorkedWorldsStopped }
 
     // the book then lacks what crossed in one event, and no more
     ensures lacks_one { IsBooked any_carrier.seen (lacking (crossing.Out (message first second 0) ∷ [])) }
@@ -185,5 +180,5 @@ pub fn worked_worlds()
 
     // what a user asks for is in the book before what it is notified of it, and changes its own host only
     ensures asked { busy.kept.book.contacts ≡ record { host = first; place = 0; peer = second } ∷ [] }
-    ensures served { (seat_of first busy.seats ≡ Some (record { host = first; program = Some (served (opening_state first) (request.Contact second)) })) × (seat_of second busy.seats ≡ seat_of second fresh.seats) }
+    ensures served { WorkedWorldsServed }
 {}

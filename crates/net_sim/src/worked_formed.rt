@@ -10,6 +10,7 @@ ghost use Rattle.net_sim.specs.SmallLogs.{given_log, given_told, moved, one_give
 ghost use Rattle.net_sim.specs.Worked.{eight, eight_zeros, message};
 ghost use Rattle.net_sim.specs.WorkedMoments.{eight_sent, rts, str};
 ghost use Rattle.sockets.specs.Worked.{first, second, third};
+ghost use Rattle.net_sim.specs.Laws.UnformedNotices.{UnformedNoticesKind};
 
 /// The two lives of a message of data, and its two notices, are made of what crossed: so lives and notices can be.
 pub fn formed_rows()
@@ -62,8 +63,7 @@ pub fn unformed_data()
 
 /// A notice of data reports to its host, with the message's data, a socket whose connection has the message's link.
 pub fn unformed_notices()
-    // nothing arrives on a socket that sends, though a connection of it has this link
-    ensures kind { FormedNotices (crossing.In eight_sent ∷ crossing.In (moved second first 0 rts) ∷ crossing.Out (moved first second 0 str) ∷ []) (record taken_told { notice = notice.Arrived 33 eight } ∷ []) → ⊥ }
+    ensures kind { UnformedNoticesKind }
 
     // both requests have crossed
     ensures partner_unheard { FormedNotices (crossing.In eight_sent ∷ crossing.Out rts ∷ []) (record taken_told { place = 2 } ∷ []) → ⊥ }

@@ -1,18 +1,18 @@
 //! Worked examples of resets in a book. The functions here do nothing: each clause is a row, computed over the definitions.
 
-ghost use Rattle.std.specs.Prelude.{◌≡◌, List, [], ◌∷◌, Some, None, true};
+ghost use Rattle.std.specs.Prelude.{◌≡◌, [], ◌∷◌, Some, None, true};
 ghost use Rattle.interface.specs.declared.crossing.Crossing.TheVariants as crossing;
 ghost use Rattle.net_sim.specs.Clean.{IsFresh, IsText, clean_point, is_through};
 ghost use Rattle.net_sim.specs.Timeline.{events_in};
 ghost use Rattle.net_sim.specs.Worked.{eight, message};
 ghost use Rattle.net_sim.specs.WorkedResets.{call, contacts, reset_on, rst, text};
-ghost use Rattle.reset_law.specs.Events.{Contact, Out, In, Other};
-ghost use Rattle.sockets.specs.Worked.{first, second, third};
+ghost use Rattle.reset_law.specs.Events.{Contact, Out, Other};
+ghost use Rattle.sockets.specs.Worked.{first, second};
+ghost use Rattle.net_sim.specs.Laws.WorkedEvents.{WorkedEventsPlaced};
 
 /// Crossings and contacts in one list.
 pub fn worked_events()
-    // each contact is above the crossings that were before it, and of two at one place the later one is above
-    ensures placed { events_in (call first 0 second ∷ call second 1 first ∷ call first 1 third ∷ []) (crossing.In (message first second 2) ∷ crossing.Out (message first second 2) ∷ []) ≡ In first second 2 (Other eight) ∷ Contact first third ∷ Contact second first ∷ Out first second 2 (Other eight) ∷ Contact first second ∷ [] }
+    ensures placed { WorkedEventsPlaced }
 
     // one after the last crossing is above it
     ensures last { events_in (call first 1 second ∷ []) (crossing.Out (message first second 2) ∷ []) ≡ Contact first second ∷ Out first second 2 (Other eight) ∷ [] }

@@ -5,3 +5,4 @@ pub mod Replay
 pub mod Settled
 pub mod Steps
 pub mod Worked
+pub mod Laws

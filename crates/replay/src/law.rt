@@ -1,24 +1,22 @@
 //! What replays promise, as laws over their definitions. The functions here do nothing: their clauses are the
 //! laws.
 
-ghost use Rattle.std.specs.Prelude.{◌≡◌, ◌++◌, List};
+ghost use Rattle.std.specs.Prelude.{◌≡◌};
 ghost use Rattle.interface.specs.declared.crossing.Crossing.TheVariants as crossing;
 ghost use Rattle.interface.specs.declared.message.HostMessage.{HostMessage};
-ghost use Rattle.replay.specs.Output.{Shown, crossing_line};
-ghost use Rattle.replay.specs.Replay.{EndsIn, Replays, StopsIn};
-ghost use Rattle.replay.specs.Settled.{AreSettled};
+ghost use Rattle.replay.specs.Output.{crossing_line};
 ghost use Rattle.replay.specs.declared.print.Detail.TheVariants.{Texts};
 ghost use Rattle.script.specs.Spelling.{spelling};
-ghost use Rattle.script.specs.declared.event.RawEvent.{RawEvent};
 ghost use Rattle.script.specs.declared.event.RawEvent.TheVariants as script_event;
+ghost use Rattle.replay.specs.Laws.OneReplay.{OneReplayFirstPart, OneReplaySame};
 
 use interface::Carrier;
 
 /// A carrier whose calls leave no choice leaves none to a replay: events have one outcome and show one list of
 /// lines. What is shown where memory runs out is a prefix of that list.
 pub fn one_replay<C: Carrier>()
-    ensures same { AreSettled C.calls → (old new other : C) (events : List RawEvent) (shown more : List Shown) → Replays C.calls old events new shown → Replays C.calls old events other more → (new ≡ other) × (shown ≡ more) }
-    ensures first_part { AreSettled C.calls → (old new other : C) (events : List RawEvent) (part whole : List Shown) → EndsIn C.calls StopsIn old events new part → Replays C.calls old events other whole → (rest : List Shown) × (whole ≡ part ++ rest) }
+    ensures same { OneReplaySame C.calls }
+    ensures first_part { OneReplayFirstPart C.calls }
 {}
 
 /// What is printed of a message that goes out, with its text, is the line of a script that asks for this message.

@@ -6,3 +6,4 @@ pub mod Within
 pub mod Came
 pub mod Agreed
 pub mod Example
+pub mod Laws

@@ -1,15 +1,19 @@
 //! What becomes of a stream. The functions here do nothing: each clause is the law.
 
-ghost use Rattle.std.specs.Prelude.{◌≡◌, ℕ, Bool, true, false, List, [], ◌∷◌, ◌++◌, length, Some, None};
+ghost use Rattle.std.specs.Prelude.{◌≡◌, ℕ, true, false, List, [], ◌∷◌, ◌++◌, length, Some, None};
 ghost use Rattle.ncp_control.specs.Allocation as counters;
 ghost use Rattle.stream_law.specs.Words.{Rts, Str, All, Gvb, Ret, Cls};
 ghost use Rattle.stream_law.specs.Receivers as receivers;
 ghost use Rattle.stream_law.specs.Senders as senders;
-ghost use Rattle.stream_law.specs.Streams.{Event, Receives, Sends, Empty, Waiting, Taken, stream, IsRun};
-ghost use Rattle.stream_law.specs.Within.{IsPrefix, message_bits, waiting_in, AreGranted, IsSafe, NoneReturned, NothingLeft};
+ghost use Rattle.stream_law.specs.Streams.{Event, Receives, Sends, stream, IsRun};
+ghost use Rattle.stream_law.specs.Within.{IsPrefix, message_bits, AreGranted, IsSafe, NoneReturned, NothingLeft};
 ghost use Rattle.stream_law.specs.Came.{came};
 ghost use Rattle.stream_law.specs.Agreed.{ArePrompt, IsAtRest, AreAgreed};
-ghost use Rattle.stream_law.specs.Example.{two, three, opened_events, granted_events, sent_events, taken_events, returned_events, closed_events, ended_events, quit_events, rested_events, late_events, next, hasty, early};
+ghost use Rattle.stream_law.specs.Example.{two, three, opened_events, granted_events, sent_events, taken_events, returned_events, closed_events, ended_events, quit_events, rested_events, late_events};
+ghost use Rattle.stream_law.specs.Example.{next, hasty, early};
+ghost use Rattle.stream_law.specs.Laws.Streams.{StreamsAccepted, StreamsCaughtUp};
+ghost use Rattle.stream_law.specs.Laws.Owners.{OwnersData};
+ghost use Rattle.stream_law.specs.Laws.WorkedStream.{WorkedStreamOpened, WorkedStreamReturned, WorkedStreamSent, WorkedStreamSettled, WorkedStreamTaken};
 
 /// Whatever the two hosts of a link do while they stay together, connection after connection. What is assumed of them is in
 /// `IsRun`: their own rules, and that what one said is heard in order.
@@ -21,11 +25,9 @@ pub fn streams()
     // where the link is asked for, nothing of a connection before is left over
     ensures fresh { (events : List Event) (c : ℕ) → IsRun (Receives (receivers.Ask c) ∷ events) → NothingLeft (stream events) }
 
-    // what waits for an end that doesn't close is taken by it: it is open, the byte size is the one that it learnt, and it granted as much
-    ensures accepted { (events : List Event) (c size : ℕ) (bits : List Bool) → IsRun (Receives (receivers.Take size bits) ∷ events) → (stream events).receiver.end ≡ Some c → (stream events).receiver.closed ≡ false → (stream events).receiver.over c ≡ false → (stream (Receives (receivers.Take size bits) ∷ events)).receiver.taken c ≡ (stream events).receiver.taken c ++ bits ∷ [] }
+    ensures accepted { StreamsAccepted }
 
-    // an end that doesn't close has taken all that was sent, except for what waits
-    ensures caught_up { (events : List Event) (c : ℕ) → IsRun events → (stream events).receiver.end ≡ Some c → (stream events).receiver.closed ≡ false → (stream events).receiver.over c ≡ false → (stream events).sender.sent c ≡ (stream events).receiver.taken c ++ waiting_in (stream events).box }
+    ensures caught_up { StreamsCaughtUp }
 
     // once a receiver has heard the sender's CLS, all messages that were sent in the connection have come, whether it took them or dropped them
     ensures came { (events : List Event) (c : ℕ) → IsRun events → (stream events).receiver.over c ≡ true → length ((stream events).sender.sent c) ≡ came c events }
@@ -36,7 +38,7 @@ pub fn streams()
 
 /// Data, ALL, GVB and RET name the link only. Whoever takes one has on that link the end of the connection in which it was said.
 pub fn owners()
-    ensures data { (events : List Event) (c size size_told : ℕ) (bits told : List Bool) → IsRun (Receives (receivers.Take size_told told) ∷ events) → (stream events).box ≡ Waiting c size bits → (stream events).receiver.end ≡ Some c }
+    ensures data { OwnersData }
     ensures returned { (events : List Event) (c messages bits : ℕ) → IsRun (Receives (receivers.Hear (Ret c messages bits)) ∷ events) → (stream events).receiver.end ≡ Some c }
     ensures granted { (events : List Event) (c messages bits : ℕ) → IsRun (Sends (senders.Hear (All c messages bits)) ∷ events) → (stream events).sender.end ≡ Some c }
     ensures asked_back { (events : List Event) (c messages bits : ℕ) → IsRun (Sends (senders.Hear (Gvb c messages bits)) ∷ events) → (stream events).sender.end ≡ Some c }
@@ -47,22 +49,18 @@ pub fn owners()
 
 /// A stream from its request to its end, and the next one on its link.
 pub fn worked_stream()
-    // both ends are of connection 1, and open
-    ensures opened { ((stream opened_events).receiver.end ≡ Some 1) × ((stream opened_events).sender.end ≡ Some 1) × (receivers.is_open 1 (stream opened_events).receiver ≡ true) × (senders.is_open 1 (stream opened_events).sender ≡ true) }
+    ensures opened { WorkedStreamOpened }
 
-    // a message of two bits waits; it costs the sender one of two messages and two of ten bits, and the receiver as much when it is taken
-    ensures sent { ((stream sent_events).box ≡ Waiting 1 1 two) × ((stream sent_events).sender.allocation ≡ record { messages = 1; bits = 8 }) × ((stream sent_events).receiver.allocation ≡ record { messages = 2; bits = 10 }) }
-    ensures taken { ((stream taken_events).receiver.taken 1 ≡ two ∷ []) × ((stream taken_events).sender.sent 1 ≡ two ∷ []) × ((stream taken_events).receiver.allocation ≡ record { messages = 1; bits = 8 }) × ((stream taken_events).box ≡ Taken) }
+    ensures sent { WorkedStreamSent }
+    ensures taken { WorkedStreamTaken }
 
-    // half of one message is none, half of eight bits is four; what was granted meanwhile is in transit
-    ensures returned { ((stream returned_events).receiver.returned 1 ≡ record { messages = 0; bits = 4 }) × ((stream returned_events).receiver.granted 1 ≡ record { messages = 3; bits = 13 }) × ((stream returned_events).receiver.allocation ≡ record { messages = 2; bits = 7 }) }
+    ensures returned { WorkedStreamReturned }
     ensures left { ((stream returned_events).sender.allocation ≡ record { messages = 1; bits = 4 }) × ((stream returned_events).to_sender ≡ All 1 1 3 ∷ []) }
 
     // the link is free at the receiver, and the sender hasn't heard of it yet
     ensures closed { ((stream closed_events).receiver.end ≡ None) × ((stream closed_events).sender.end ≡ Some 1) × ((stream closed_events).to_sender ≡ All 1 1 3 ∷ Cls 1 ∷ []) }
 
-    // the sender's CLS came first, so all that was sent was taken. A receiver that closes before has lost what waited
-    ensures settled { ((stream ended_events).receiver.first 1 ≡ false) × ((stream ended_events).receiver.over 1 ≡ true) × ((stream ended_events).receiver.taken 1 ≡ (stream ended_events).sender.sent 1) }
+    ensures settled { WorkedStreamSettled }
     ensures quit { ((stream quit_events).receiver.first 1 ≡ true) × ((stream quit_events).receiver.over 1 ≡ true) }
     ensures quit_came { (came 1 quit_events ≡ 1) × (came 1 ended_events ≡ 1) × (came 1 sent_events ≡ 0) × (came 2 quit_events ≡ 0) }
     ensures quit_drops { (stream quit_events).receiver.taken 1 ≡ (stream quit_events).sender.sent 1 → ⊥ }

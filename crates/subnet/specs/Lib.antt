@@ -13,3 +13,4 @@ pub mod Seen
 pub mod Calls
 pub mod Inside
 pub mod Working
+pub mod Laws

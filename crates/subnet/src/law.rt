@@ -4,7 +4,7 @@
 //! The functions `worked_..` state the rules by examples: each row is one that another reading of its rule
 //! would fail.
 
-ghost use Rattle.std.specs.Prelude.{◌≡◌, ◌≤◌, ◌+◌, ◌-◌, ℕ, true, false, List, [], ◌∷◌, ◌++◌, length, replicate, Option, Some, None, Result};
+ghost use Rattle.std.specs.Prelude.{◌≡◌, ◌≤◌, ◌+◌, ℕ, true, false, List, [], ◌∷◌, ◌++◌, length, Option, Some, None, Result};
 ghost use Rattle.interface.specs.Calls.{IsFor, step_crossings, ShowsOffer, ShowsTake, ShowsStep, ShowsRound};
 ghost use Rattle.interface.specs.Host.{Host, InOrder, most_imps};
 ghost use Rattle.interface.specs.Mailboxes.{IsRun, is_up};
@@ -18,15 +18,16 @@ ghost use Rattle.interface.specs.declared.event.Direction.TheVariants as way;
 ghost use Rattle.interface.specs.declared.event.NetEvent.{NetEvent};
 ghost use Rattle.interface.specs.declared.event.NetEvent.TheVariants as event;
 ghost use Rattle.interface.specs.declared.message.HostMessage.{HostMessage};
-ghost use Rattle.imp_channel.specs.declared.frame.Content.TheVariants as content;
-ghost use Rattle.routing.specs.Vector.{infinite};
-ghost use Rattle.imp_node.specs.Examples.{host, flow, only_packet, packets_to, packet_frame, no_acks, ack_frame};
+ghost use Rattle.imp_node.specs.Examples.{host, flow, only_packet, packets_to, packet_frame, ack_frame};
 ghost use Rattle.imp_node.specs.Lines.{on_port};
 ghost use Rattle.imp_node.specs.State.{State, opening_node, no_host, port_at};
 ghost use Rattle.subnet.specs.Calls.{Kept, running, step_grows, round_grows};
 ghost use Rattle.subnet.specs.Alive.{packets, messages, is_alive};
-ghost use Rattle.subnet.specs.Events.{offer_refusal, offer_out, take_refusal, taken_by_host, gives, crossings_of, take_in, deliver, drop_frame, giving_up_refusal, forgetting_refusal, starting_refusal, imp_stopped, imp_started, refreshed, quiet_round, step_refusal, stepped};
-ghost use Rattle.subnet.specs.Examples.{ours, our_message, our_queued, data_frame, rfnm_frame, ask_frame, never_frame, passing_frame, imp_1, imp_2, wire, pair, opened_pair, begun_up_to, outstanding_up_to, answered_up_to, expecting, expecting_cut_off, expecting_full, one_host_down, hosts_down, cut_off, serving_ours, keeping_up_to, keeping_ours, keeping_own, sending_ours, past_one, first_in_row, middle_in_row, last_in_row, flow_1_3, flow_3_1, row, expecting_at_3, keeping_at_3, full_of, triangle};
+ghost use Rattle.subnet.specs.Events.{offer_refusal, offer_out, take_refusal, taken_by_host, gives, crossings_of, take_in, deliver, drop_frame, giving_up_refusal, starting_refusal, imp_stopped};
+ghost use Rattle.subnet.specs.Events.{imp_started, quiet_round, step_refusal, stepped};
+ghost use Rattle.subnet.specs.Examples.{ours, our_message, our_queued, data_frame, rfnm_frame, ask_frame, never_frame, passing_frame, imp_1, imp_2, wire, pair, opened_pair, begun_up_to};
+ghost use Rattle.subnet.specs.Examples.{outstanding_up_to, answered_up_to, expecting, expecting_cut_off, expecting_full, one_host_down, hosts_down, cut_off, serving_ours, keeping_up_to, keeping_ours};
+ghost use Rattle.subnet.specs.Examples.{keeping_own, sending_ours, past_one, first_in_row, middle_in_row, flow_1_3, row, expecting_at_3, keeping_at_3, full_of, triangle};
 ghost use Rattle.subnet.specs.Flows.{host_is_up};
 ghost use Rattle.subnet.specs.Making.{NothingNew, OnlyNew, offer_makes, take_makes, deliver_makes, asking_makes, stop_makes};
 ghost use Rattle.subnet.specs.Net.{Net, imp_at, wire_at, port_of, line_from, put_one, frames_on};
@@ -38,6 +39,12 @@ ghost use Rattle.subnet.specs.Run.{Call, OffersMessages, ran};
 ghost use Rattle.subnet.specs.Seen.{seen, IsListed, SameNetwork};
 ghost use Rattle.subnet.specs.Sound.{IsSound};
 ghost use Rattle.subnet.specs.Working.{IsWorking, SubnetOffer, SubnetTake, SubnetStep, SubnetRound, seen_of};
+ghost use Rattle.subnet.specs.Laws.WorkedFrames.{WorkedFramesIgnored, WorkedFramesKilled, WorkedFramesNoFrame};
+ghost use Rattle.subnet.specs.Laws.WorkedStillAlive.{WorkedStillAliveAlive, WorkedStillAliveGiveUpAsked, WorkedStillAliveOfferAsked, WorkedStillAliveOfferFull, WorkedStillAliveOther};
+ghost use Rattle.subnet.specs.Laws.WorkedStillAlive.{WorkedStillAliveStartAsked};
+ghost use Rattle.subnet.specs.Laws.WorkedRefusals.{WorkedRefusalsForgetDown, WorkedRefusalsForgetItself, WorkedRefusalsGivesNothing, WorkedRefusalsHostsDown, WorkedRefusalsImpDown};
+ghost use Rattle.subnet.specs.Laws.WorkedRefusals.{WorkedRefusalsNotThere, WorkedRefusalsOtherLine, WorkedRefusalsStartUp};
+ghost use Rattle.subnet.specs.Laws.WorkedRounds.{WorkedRoundsToldFirst, WorkedRoundsTooLate};
 
 /// The law of the subnet: for every topology of at most 63 IMPs, with any lines, and for every list of offers,
 /// takings, events and quiet rounds from its opening on, of which some are refused, the log that the hosts see is
@@ -243,28 +250,24 @@ pub fn worked_frames()
 
     // a frame that is dropped is gone, and no other
     ensures dropped { (drop_frame (pair (Some imp_1) (Some imp_2) (data_frame 0 ∷ data_frame 1 ∷ data_frame 2 ∷ []) []) 0 way.Forward 1).lines ≡ wire (data_frame 0 ∷ data_frame 2 ∷ []) [] ∷ [] }
-    ensures killed { (is_alive (pair (Some imp_1) (Some imp_2) (data_frame 1 ∷ []) []) ours 1 ≡ true) × (is_alive (drop_frame (pair (Some imp_1) (Some imp_2) (data_frame 1 ∷ []) []) 0 way.Forward 0) ours 1 ≡ false) }
+    ensures killed { WorkedFramesKilled }
 
-    // at an IMP that is down it is not refused, and ignored
-    ensures ignored { (step_refusal (pair (Some imp_1) None (data_frame 0 ∷ []) []) (event.Deliver 0 way.Forward 0) ≡ None) × (deliver (pair (Some imp_1) None (data_frame 0 ∷ []) []) 0 way.Forward 0 ≡ pair (Some imp_1) None (data_frame 0 ∷ []) []) }
+    ensures ignored { WorkedFramesIgnored }
 
-    // frames and lines that aren't there, in the way that is named
-    ensures no_frame { (step_refusal (pair (Some imp_1) (Some imp_2) (data_frame 0 ∷ []) []) (event.Deliver 0 way.Forward 1) ≡ Some fault.NoSuch) × (step_refusal (pair (Some imp_1) (Some imp_2) (data_frame 0 ∷ []) []) (event.Drop 0 way.Back 0) ≡ Some fault.NoSuch) × (step_refusal (pair (Some imp_1) (Some imp_2) (data_frame 0 ∷ []) []) (event.Deliver 1 way.Forward 0) ≡ Some fault.NoSuch) }
+    ensures no_frame { WorkedFramesNoFrame }
 {}
 
 /// What is alive, and the four refusals that wait for packets to die.
 pub fn worked_still_alive()
-    // data, an answer that travels, a question and a message in a queue are alive; an answer that waits for its host is not
-    ensures alive { (is_alive (pair (Some imp_1) (Some imp_2) (data_frame 0 ∷ []) []) ours 0 ≡ true) × (is_alive (pair (Some imp_1) (Some imp_2) [] (rfnm_frame 0 ∷ [])) ours 0 ≡ true) × (is_alive (pair (Some imp_1) (Some serving_ours) [] []) ours 0 ≡ true) × (is_alive (pair (Some sending_ours) (Some imp_2) [] []) ours 0 ≡ true) }
+    ensures alive { WorkedStillAliveAlive }
     ensures asked { (is_alive (pair (Some imp_1) (Some imp_2) (ask_frame 0 ∷ []) []) ours 0 ≡ true) × (is_alive (pair (Some imp_1) (Some imp_2) [] (never_frame 0 ∷ [])) ours 0 ≡ true) }
-    ensures other { (is_alive (pair (Some imp_1) (Some serving_ours) (data_frame 0 ∷ []) []) ours 1 ≡ false) × (is_alive (pair (Some imp_1) (Some serving_ours) (data_frame 0 ∷ []) []) (flow (host 0 1) (host 0 2) 8) 0 ≡ false) }
+    ensures other { WorkedStillAliveOther }
 
     // an offer: the number 32,767 before the last is alive, and the next one is not in the way
     ensures offer_window { offer_refusal (pair (Some (begun_up_to 32767)) (Some imp_2) (data_frame 0 ∷ []) []) our_message ≡ Some fault.StillAlive }
     ensures offer_within { offer_refusal (pair (Some (begun_up_to 32767)) (Some imp_2) (data_frame 1 ∷ []) []) our_message ≡ None }
 
-    // a question about it counts too, and so does the packet that says that it never came
-    ensures offer_asked { (offer_refusal (pair (Some (begun_up_to 32767)) (Some imp_2) (ask_frame 0 ∷ []) []) our_message ≡ Some fault.StillAlive) × (offer_refusal (pair (Some (begun_up_to 32767)) (Some imp_2) [] (never_frame 0 ∷ [])) our_message ≡ Some fault.StillAlive) }
+    ensures offer_asked { WorkedStillAliveOfferAsked }
 
     // numbers wrap around, also where fewer were begun; an answer counts like data
     ensures offer_round { offer_refusal (pair (Some (begun_up_to 0)) (Some imp_2) [] (rfnm_frame 32769 ∷ [])) our_message ≡ Some fault.StillAlive }
@@ -279,15 +282,14 @@ pub fn worked_still_alive()
     ensures forget_kept { step_refusal (pair (Some (begun_up_to 65535)) (Some keeping_ours) [] []) (event.Forget 2 1) ≡ None }
     ensures offer_forgotten { offer_refusal (stepped (pair (Some (begun_up_to 65535)) (Some keeping_ours) [] []) (event.Forget 2 1)) our_message ≡ None }
 
-    // `NoRoom` comes after it; and what would begin no number, without a route or from a host that is down, does not wait
-    ensures offer_full { (offer_refusal (pair (Some (record (begun_up_to 32767) { store = packets_to 3 32 })) (Some imp_2) (data_frame 0 ∷ []) []) our_message ≡ Some fault.StillAlive) × (offer_refusal (pair (Some (record (begun_up_to 32767) { store = packets_to 3 32 })) (Some imp_2) (data_frame 1 ∷ []) []) our_message ≡ Some fault.NoRoom) }
+    ensures offer_full { WorkedStillAliveOfferFull }
     ensures offer_nowhere { offer_refusal (pair (Some (record (begun_up_to 32767) { routes = record { own = 1; heard = None ∷ [] } })) (Some imp_2) (data_frame 0 ∷ []) []) our_message ≡ None }
     ensures offer_down { offer_refusal (pair (Some (record (begun_up_to 32767) { hosts = no_host ∷ no_host ∷ [] })) (Some imp_2) (data_frame 0 ∷ []) []) our_message ≡ Some fault.IsDown }
 
     // giving up: the outstanding number is alive, as data, as an answer that travels, as a question, or in a queue
     ensures give_up_data { giving_up_refusal (pair (Some expecting) (Some imp_2) (data_frame 0 ∷ []) []) ours ≡ Some fault.StillAlive }
     ensures give_up_rfnm { giving_up_refusal (pair (Some expecting) (Some imp_2) [] (rfnm_frame 0 ∷ [])) ours ≡ Some fault.StillAlive }
-    ensures give_up_asked { (giving_up_refusal (pair (Some expecting) (Some imp_2) (ask_frame 0 ∷ []) []) ours ≡ Some fault.StillAlive) × (giving_up_refusal (pair (Some expecting) (Some imp_2) [] (never_frame 0 ∷ [])) ours ≡ Some fault.StillAlive) }
+    ensures give_up_asked { WorkedStillAliveGiveUpAsked }
     ensures give_up_queued { giving_up_refusal (pair (Some expecting) (Some serving_ours) [] []) ours ≡ Some fault.StillAlive }
     ensures give_up_other { giving_up_refusal (pair (Some expecting) (Some imp_2) (data_frame 1 ∷ []) []) ours ≡ None }
     ensures give_up_none { giving_up_refusal (pair (Some imp_1) (Some imp_2) (data_frame 0 ∷ []) []) ours ≡ Some fault.NotOutstanding }
@@ -307,7 +309,7 @@ pub fn worked_still_alive()
 
     // an IMP comes up: something of a flow from it is alive, also an answer or a question. What only travelled over it for others doesn't count
     ensures start_answer { starting_refusal (pair None (Some imp_2) [] (rfnm_frame 0 ∷ [])) 1 ≡ Some fault.StillAlive }
-    ensures start_asked { (starting_refusal (pair None (Some imp_2) (ask_frame 0 ∷ []) []) 1 ≡ Some fault.StillAlive) × (starting_refusal (pair (Some imp_1) None [] (never_frame 0 ∷ [])) 2 ≡ Some fault.StillAlive) }
+    ensures start_asked { WorkedStillAliveStartAsked }
     ensures start_destination { starting_refusal (pair (Some imp_1) None (data_frame 0 ∷ []) []) 2 ≡ Some fault.StillAlive }
     ensures start_passing { starting_refusal (pair None (Some imp_2) (passing_frame ∷ []) []) 1 ≡ None }
 
@@ -389,30 +391,25 @@ pub fn worked_stops()
 
 /// Which refusal comes first, and when a taking gives something.
 pub fn worked_refusals()
-    // what is still alive comes before an IMP that is down or up
-    ensures forget_down { (step_refusal (pair (Some imp_1) None (data_frame 0 ∷ []) []) (event.Forget 2 1) ≡ Some fault.StillAlive) × (step_refusal (pair (Some imp_1) None [] []) (event.Forget 2 1) ≡ Some fault.IsDown) }
-    ensures start_up { (step_refusal (pair (Some imp_1) (Some imp_2) (data_frame 0 ∷ []) []) (event.ImpUp 1) ≡ Some fault.StillAlive) × (step_refusal (pair (Some imp_1) (Some imp_2) [] []) (event.ImpUp 1) ≡ Some fault.IsUp) }
+    ensures forget_down { WorkedRefusalsForgetDown }
+    ensures start_up { WorkedRefusalsStartUp }
 
-    // an IMP forgets no flows of its own, also where it is down, and none of an IMP that isn't there
-    ensures forget_itself { (step_refusal (pair (Some imp_1) None [] []) (event.Forget 2 2) ≡ Some fault.NoSuch) × (step_refusal (pair (Some imp_1) (Some imp_2) [] []) (event.Forget 2 3) ≡ Some fault.NoSuch) }
+    ensures forget_itself { WorkedRefusalsForgetItself }
 
-    // at an IMP that is down: its timers, its ends of lines and its hosts
-    ensures imp_down { (step_refusal (pair None (Some imp_2) [] []) (event.Resend 1) ≡ Some fault.IsDown) × (step_refusal (pair None (Some imp_2) [] []) (event.Route 1) ≡ Some fault.IsDown) × (step_refusal (pair None (Some imp_2) [] []) (event.ImpDown 1) ≡ Some fault.IsDown) × (step_refusal (pair None (Some imp_2) [] []) (event.EndDown 1 0) ≡ Some fault.IsDown) × (step_refusal (pair None (Some imp_2) [] []) (event.EndUp 1 0) ≡ Some fault.IsDown) }
-    ensures hosts_down { (step_refusal (pair None (Some imp_2) [] []) (event.HostUp (host 0 1)) ≡ Some fault.IsDown) × (step_refusal (pair None (Some imp_2) [] []) (event.HostDown (host 0 1)) ≡ Some fault.IsDown) × (step_refusal (pair None (Some imp_2) [] []) (event.GiveUp ours) ≡ Some fault.IsDown) × (offer_refusal (pair None (Some imp_2) [] []) our_message ≡ Some fault.IsDown) × (take_refusal (pair None (Some imp_2) [] []) (host 0 1) ≡ Some fault.IsDown) }
+    ensures imp_down { WorkedRefusalsImpDown }
+    ensures hosts_down { WorkedRefusalsHostsDown }
 
     // it has no slot
     ensures no_slot { step_refusal (pair (Some imp_1) None [] []) (event.Abandon ours) ≡ Some fault.NoSuch }
 
-    // what isn't there comes first, also at an IMP that is down: a line, a host, an IMP
-    ensures not_there { (step_refusal (pair None (Some imp_2) [] []) (event.EndDown 1 1) ≡ Some fault.NoSuch) × (step_refusal (pair None (Some imp_2) [] []) (event.HostUp (host 2 1)) ≡ Some fault.NoSuch) × (take_refusal (pair None (Some imp_2) [] []) (host 2 1) ≡ Some fault.NoSuch) × (step_refusal (pair None (Some imp_2) [] []) (event.GiveUp (flow (host 2 1) (host 0 2) 7)) ≡ Some fault.NoSuch) × (step_refusal (pair None (Some imp_2) [] []) (event.ImpUp 3) ≡ Some fault.NoSuch) × (step_refusal (pair None (Some imp_2) [] []) (event.Resend 0) ≡ Some fault.NoSuch) }
+    ensures not_there { WorkedRefusalsNotThere }
 
-    // a line that has no end at this IMP
-    ensures other_line { (step_refusal (record (pair (Some imp_1) (Some imp_2) [] []) { lines = triangle }) (event.EndDown 1 2) ≡ Some fault.NoSuch) × (step_refusal (record (pair (Some imp_1) (Some imp_2) [] []) { lines = triangle }) (event.EndUp 2 0) ≡ Some fault.IsUp) }
+    ensures other_line { WorkedRefusalsOtherLine }
 
     // a host gets something where a message waits for it, and nothing where none does, where its IMP is down, or where the network
     // doesn't have it
     ensures gives { gives (pair (Some imp_1) (Some serving_ours) [] []) (host 0 2) ≡ true }
-    ensures gives_nothing { (gives (pair (Some imp_1) (Some serving_ours) [] []) (host 1 2) ≡ false) × (gives (pair (Some imp_1) None [] []) (host 0 2) ≡ false) × (gives (record (pair (Some imp_1) (Some serving_ours) [] []) { hosts = [] }) (host 0 2) ≡ false) }
+    ensures gives_nothing { WorkedRefusalsGivesNothing }
 {}
 
 /// What a quiet round does to IMPs and frames.
@@ -420,8 +417,7 @@ pub fn worked_rounds()
     // after one round from the opening each IMP has heard what the other could announce before the round, and no frame is left
     ensures heard { quiet_round opened_pair ≡ pair (Some imp_1) (Some imp_2) [] [] }
 
-    // an IMP sends its distances before it sends again
-    ensures told_first { (refreshed (pair (Some sending_ours) None [] []) 1).lines ≡ wire (record { acks = no_acks; content = content.Routes (0 ∷ 1 ∷ replicate (most_imps - 2) infinite) } ∷ data_frame 0 ∷ []) [] ∷ [] }
+    ensures told_first { WorkedRoundsToldFirst }
 
     // a packet that came before is sent again and acknowledged, and its acknowledgement is delivered in the same round
     ensures acknowledged { (packets (quiet_round (pair (Some sending_ours) (Some past_one) [] [])) ≡ []) × ((quiet_round (pair (Some sending_ours) (Some past_one) [] [])).lines ≡ wire [] [] ∷ []) }
@@ -430,8 +426,7 @@ pub fn worked_rounds()
     // gone over both lines after one round
     ensures passed_on { frames_on way.Back (wire_at (quiet_round (row (Some first_in_row) (Some middle_in_row) None (packet_frame 0 (only_packet flow_1_3 0) ∷ []) [])).lines 1) ≡ [] }
 
-    // and what comes over the second line is on the first one after it
-    ensures too_late { frames_on way.Back (wire_at (quiet_round (row (Some first_in_row) (Some middle_in_row) (Some last_in_row) [] (packet_frame 0 (only_packet flow_3_1 0) ∷ []))).lines 0) ≡ packet_frame 0 (only_packet flow_3_1 0) ∷ [] }
+    ensures too_late { WorkedRoundsTooLate }
 
     // an IMP that is down announces nothing, and frames to it are dropped
     ensures down { quiet_round (pair (Some imp_1) None (data_frame 0 ∷ []) []) ≡ pair (Some imp_1) None [] [] }

@@ -2,3 +2,5 @@
 pub mod Users
 pub mod Lives
 pub mod WorkedUsers
+pub mod InitialConnections
+pub mod Books

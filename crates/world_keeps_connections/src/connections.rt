@@ -2,7 +2,6 @@
 
 ghost use Rattle.std.specs.Prelude.{◌≡◌, ℕ, true, List, All};
 ghost use Rattle.interface.specs.Host.{Host};
-ghost use Rattle.ncp_control.specs.Numbers.{is_receive_socket};
 ghost use Rattle.promise.specs.Book.{Book};
 ghost use Rattle.net_sim.specs.Clean.{IsLawful};
 ghost use Rattle.promise.specs.declared.life.Life.{Life};
@@ -12,6 +11,7 @@ ghost use Rattle.net_sim.specs.World.{WorldState};
 ghost use Rattle.sockets.specs.Worked.{first, second};
 ghost use Rattle.world_keeps_connections.specs.WorkedConnections as worked;
 ghost use Rattle.promise.specs.Connections.{IsConnected, IsEnd, JoinedBook};
+ghost use Rattle.world_keeps_connections.specs.Laws.InitialConnections.{InitialConnectionsEven, InitialConnectionsToServer, InitialConnectionsToUser};
 
 use interface::Carrier;
 
@@ -22,12 +22,10 @@ use interface::Carrier;
 /// Each report in such a book is so at its place (`AreReported`, which is part of `IsLawful`): a machine that reported Done began with
 /// sockets of the right parity, and its host was notified of the openings that make it done.
 pub fn initial_connections<C: Carrier>()
-    // the server's base is even, and so is the socket with which the user asked: no others can be done
-    ensures even { (hosts : List Host) (w : WorldState C) → IsLawful C.calls.seen hosts w → (server user : Host) (s u : ℕ) (server_receives server_sends user_receives user_sends : Life) → IsConnected w.kept.book server user s u server_receives server_sends user_receives user_sends → (is_receive_socket s ≡ true) × (is_receive_socket u ≡ true) }
+    ensures even { InitialConnectionsEven C.calls }
 
-    // so each receiving end and the sending end with which it opened match
-    ensures to_user { (hosts : List Host) (w : WorldState C) → IsLawful C.calls.seen hosts w → (server user : Host) (s u : ℕ) (server_receives server_sends user_receives user_sends : Life) → IsConnected w.kept.book server user s u server_receives server_sends user_receives user_sends → Match w.kept.book.crossings user_receives server_sends }
-    ensures to_server { (hosts : List Host) (w : WorldState C) → IsLawful C.calls.seen hosts w → (server user : Host) (s u : ℕ) (server_receives server_sends user_receives user_sends : Life) → IsConnected w.kept.book server user s u server_receives server_sends user_receives user_sends → Match w.kept.book.crossings server_receives user_sends }
+    ensures to_user { InitialConnectionsToUser C.calls }
+    ensures to_server { InitialConnectionsToServer C.calls }
 
     // in one word
     ensures joined { (hosts : List Host) (w : WorldState C) → IsLawful C.calls.seen hosts w → JoinedBook w.kept.book }

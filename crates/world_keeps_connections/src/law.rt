@@ -1,14 +1,9 @@
 //! What users know. The functions here do nothing: each clause is a law.
 
-ghost use Rattle.std.specs.Prelude.{◌≡◌, true, false, List, [], ◌∷◌, map};
-ghost use Rattle.interface.specs.Host.{Host};
+ghost use Rattle.std.specs.Prelude.{◌≡◌, false, [], ◌∷◌, map};
 ghost use Rattle.pairing_law.specs.Links.{receiver, sender};
-ghost use Rattle.std.specs.List.{Contains};
 ghost use Rattle.promise.specs.declared.life.Life as book;
 ghost use Rattle.net_sim.specs.Told.{kept_in};
-ghost use Rattle.net_sim.specs.Clean.{IsLawful};
-ghost use Rattle.net_sim.specs.World.{WorldState};
-ghost use Rattle.promise.specs.Safe.{Match, receives, sends};
 ghost use Rattle.interface.specs.declared.crossing.Crossing.TheVariants as crossing;
 ghost use Rattle.sockets.specs.Worked.{first, second};
 ghost use Rattle.sockets.specs.declared.request.Request.TheVariants as request;
@@ -21,6 +16,7 @@ ghost use Rattle.world_keeps_connections.specs.Users.{AreOpposite, known_in};
 ghost use Rattle.world_keeps_connections.specs.Laws.Users.{UsersPartners, UsersReceiver, UsersSender};
 ghost use Rattle.world_keeps_connections.specs.Laws.Lives.{LivesKnown, LivesMatches};
 ghost use Rattle.world_keeps_connections.specs.Laws.WorkedUsers.{WorkedUsersOthers};
+ghost use Rattle.world_keeps_connections.specs.Laws.Books.{BooksMatches};
 
 use interface::Carrier;
 
@@ -41,8 +37,7 @@ pub fn lives()
 
 /// The lives in the book of a world that continue, over any carrier.
 pub fn books<C: Carrier>()
-    // where one that receives and one that sends continue at the two ends of the same sockets, they match
-    ensures matches { (hosts : List Host) (w : WorldState C) → IsLawful C.calls.seen hosts w → (receiver sender : book.Life) → Contains w.kept.book.lives receiver → Contains w.kept.book.lives sender → receiver.ended ≡ false → sender.ended ≡ false → AreOpposite receiver sender → receives receiver ≡ true → sends sender ≡ true → Match w.kept.book.crossings receiver sender }
+    ensures matches { BooksMatches C.calls }
 {}
 
 /// What users know in a small world: the first host's socket 16 is connected with the second's 33, by an RTS that goes out at place 6 and an STR

@@ -3,3 +3,4 @@ pub mod Firsts
 pub mod Lives
 pub mod Worked
 pub mod WorkedFormed
+pub mod Laws

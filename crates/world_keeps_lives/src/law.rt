@@ -1,17 +1,15 @@
 //! What a host's own program promises of its lives. The functions here do nothing: each clause is a law.
 
-ghost use Rattle.std.specs.Prelude.{◌≡◌, ◌⊎◌, ℕ, true, false, List, [], ◌∷◌, length};
+ghost use Rattle.std.specs.Prelude.{◌≡◌, true, false, List, [], ◌∷◌};
 ghost use Rattle.std.specs.List.{Contains};
 ghost use Rattle.interface.specs.Host.{Host};
-ghost use Rattle.interface.specs.Mailboxes as mail;
 ghost use Rattle.promise.specs.declared.life.Life.{Life};
-ghost use Rattle.net_sim.specs.Clean.{HaveAddresses, IsLawful};
+ghost use Rattle.net_sim.specs.Clean.{IsLawful};
 ghost use Rattle.promise.specs.Formed.{FormedBook, IsFormed};
 ghost use Rattle.promise.specs.Notices.{FormedNotices, data_told};
-ghost use Rattle.promise.specs.Safe.{AreHanded, IsGranted, receives, sends};
+ghost use Rattle.promise.specs.Safe.{AreHanded, receives, sends};
 ghost use Rattle.interface.specs.declared.crossing.Crossing.TheVariants as crossing;
-ghost use Rattle.net_sim.specs.Story.{Crossed, Moment, program};
-ghost use Rattle.net_sim.specs.Timeline.{IsTimeline, crossings_of};
+ghost use Rattle.net_sim.specs.Story.{Crossed, Moment};
 ghost use Rattle.net_sim.specs.Told.{kept_in};
 ghost use Rattle.net_sim.specs.World.{WorldState};
 ghost use Rattle.host_pairs.specs.Asked.{with_more_bits};
@@ -27,49 +25,42 @@ ghost use Rattle.world_keeps_lives.specs.Lives.{AreRefusing, EachOn, HasOpenEnd,
 ghost use Rattle.world_keeps_lives.specs.Drained.{AllDrained, AllSent, ClosedFirst, ClosesFirst};
 ghost use Rattle.world_keeps_lives.specs.Firsts.{AreApart, FirstBook, IsFirst};
 ghost use Rattle.world_keeps_lives.specs.Worked.{worked_end, with_one};
-ghost use Rattle.world_keeps_lives.specs.WorkedFormed.{arrived_told, closed_moments, closing_moments, gave, gave_on, sent_log, sent_told, stray_arrived, stray_log, stray_sent, taken_moments, took, took_on, took_second, two_log, untaken_log};
+ghost use Rattle.world_keeps_lives.specs.WorkedFormed.{arrived_told, closed_moments, closing_moments, gave, gave_on, sent_log, sent_told, stray_arrived, stray_log, stray_sent, taken_moments, took};
+ghost use Rattle.world_keeps_lives.specs.WorkedFormed.{took_on, took_second, two_log, untaken_log};
 ghost use Rattle.net_sim.specs.Worked.{crossings, eight, eight_zeros, taker};
 ghost use Rattle.net_sim.specs.WorkedMoments.{sent_moments};
+ghost use Rattle.world_keeps_lives.specs.Laws.Programs.{ProgramsBounded, ProgramsDrained, ProgramsFormed, ProgramsHanded, ProgramsLive, ProgramsSockets, ProgramsSteady, ProgramsTaken, ProgramsTold};
+ghost use Rattle.world_keeps_lives.specs.Laws.Worlds.{WorldsLive, WorldsTaken};
 
 use interface::Carrier;
 
 /// What each host has, over every list of moments in which what crosses is a run of the mailboxes.
 pub fn programs()
-    // each of its sockets is free, or has one end of the host's own, whose lives are all that continue there
-    ensures sockets { (hosts : List Host) (moments : List Moment) → HaveAddresses hosts → mail.IsRun hosts (crossings_of moments) → IsTimeline hosts moments → (h : Host) (socket : ℕ) → IsFreeSocket h socket (program h moments) (kept_in moments) ⊎ IsOwned h socket (program h moments) (kept_in moments) }
+    ensures sockets { ProgramsSockets }
 
-    // ends that aren't its own refuse, and pairs that aren't through a reset have none
-    ensures steady { (hosts : List Host) (moments : List Moment) → HaveAddresses hosts → mail.IsRun hosts (crossings_of moments) → IsTimeline hosts moments → (h : Host) → IsSteady (program h moments) }
+    ensures steady { ProgramsSteady }
 
-    // a life that isn't over is that of the one end on its socket
-    ensures live { (hosts : List Host) (moments : List Moment) → HaveAddresses hosts → mail.IsRun hosts (crossings_of moments) → IsTimeline hosts moments → (x : Life) → Contains (kept_in moments).book.lives x → x.ended ≡ false → HasOpenEnd (program x.host moments) x }
+    ensures live { ProgramsLive }
 
-    // what a receiving life took, with what was returned, is within what it granted
-    ensures taken { (hosts : List Host) (moments : List Moment) → HaveAddresses hosts → mail.IsRun hosts (crossings_of moments) → IsTimeline hosts moments → (receiver : Life) → Contains (kept_in moments).book.lives receiver → receives receiver ≡ true → IsGranted receiver receiver.messages (length receiver.bits) }
+    ensures taken { ProgramsTaken }
 
-    // of what a receiving life granted, all but what a counter can hold was taken or returned
-    ensures bounded { (hosts : List Host) (moments : List Moment) → HaveAddresses hosts → mail.IsRun hosts (crossings_of moments) → IsTimeline hosts moments → (receiver : Life) → Contains (kept_in moments).book.lives receiver → receives receiver ≡ true → IsBounded receiver }
+    ensures bounded { ProgramsBounded }
 
-    // what each sending life sent is a prefix of what was handed over in it
-    ensures handed { (hosts : List Host) (moments : List Moment) → HaveAddresses hosts → mail.IsRun hosts (crossings_of moments) → IsTimeline hosts moments → AreHanded (kept_in moments).book.lives (kept_in moments).handed }
+    ensures handed { ProgramsHanded }
 
-    // a sending life whose CLS was queued, before its partner's was taken, has sent all that was handed over in it, also once it is over
-    ensures drained { (hosts : List Host) (moments : List Moment) → HaveAddresses hosts → mail.IsRun hosts (crossings_of moments) → IsTimeline hosts moments → AllSent moments (kept_in moments).book.lives (kept_in moments).handed }
+    ensures drained { ProgramsDrained }
 
-    // each life is made of messages that crossed: its two requests are in those at its stamps, and its bits are those of its data messages
-    ensures formed { (hosts : List Host) (moments : List Moment) → HaveAddresses hosts → mail.IsRun hosts (crossings_of moments) → IsTimeline hosts moments → FormedBook (crossings_of moments) (kept_in moments).book.lives }
+    ensures formed { ProgramsFormed }
 
-    // each notice of data reports a message of data just after it crossed, on the link of a connection of its socket; each such message that
-    // goes out has its notice
-    ensures told { (hosts : List Host) (moments : List Moment) → HaveAddresses hosts → mail.IsRun hosts (crossings_of moments) → IsTimeline hosts moments → FormedNotices (crossings_of moments) (kept_in moments).book.notices }
+    ensures told { ProgramsTold }
 {}
 
 /// The same of the book of every world, whatever its carrier is made of: the two clauses of the safe book that are about one host
 /// only, the bound of grants, the end of each life that isn't over, in the program that comes of the world's moments, the messages that a
 /// life is made of, and those that notices report.
 pub fn worlds<C: Carrier>()
-    ensures live { (hosts : List Host) (w : WorldState C) → (lawful : IsLawful C.calls.seen hosts w) → (x : Life) → Contains w.kept.book.lives x → x.ended ≡ false → HasOpenEnd (program x.host lawful.whole.moments) x }
-    ensures taken { (hosts : List Host) (w : WorldState C) → IsLawful C.calls.seen hosts w → (receiver : Life) → Contains w.kept.book.lives receiver → receives receiver ≡ true → IsGranted receiver receiver.messages (length receiver.bits) }
+    ensures live { WorldsLive C.calls }
+    ensures taken { WorldsTaken C.calls }
     ensures bounded { (hosts : List Host) (w : WorldState C) → IsLawful C.calls.seen hosts w → (receiver : Life) → Contains w.kept.book.lives receiver → receives receiver ≡ true → IsBounded receiver }
     ensures handed { (hosts : List Host) (w : WorldState C) → IsLawful C.calls.seen hosts w → AreHanded w.kept.book.lives w.kept.handed }
     ensures drained { (hosts : List Host) (w : WorldState C) → (lawful : IsLawful C.calls.seen hosts w) → AllDrained lawful.whole.moments }

@@ -4,3 +4,4 @@ pub mod Programs
 pub mod Lives
 pub mod WorkedLives
 pub mod WorkedSteps
+pub mod Books

@@ -1,7 +1,7 @@
 //! What two hosts say and hear of their connections one way, and the lives of a book. The functions here do nothing: each clause
 //! is a law.
 
-ghost use Rattle.std.specs.Prelude.{◌≡◌, ◌+◌, true, false, List, [], ◌∷◌, Some, IsSome};
+ghost use Rattle.std.specs.Prelude.{◌≡◌, ◌+◌, true, false, List, [], ◌∷◌, IsSome};
 ghost use Rattle.std.specs.List.{Contains};
 ghost use Rattle.interface.specs.Host.{Host};
 ghost use Rattle.reset_law.specs.Events as reset;
@@ -16,7 +16,7 @@ ghost use Rattle.reset_law.specs.Example.{one, two};
 ghost use Rattle.pairing_law.specs.Places.{tagged};
 ghost use Rattle.promise.specs.declared.life.Life.{Life};
 ghost use Rattle.promise.specs.Safe as book;
-ghost use Rattle.promise.specs.Safe.{AreTwo, Match, control_flow, own_request, partner_request, receives};
+ghost use Rattle.promise.specs.Safe.{control_flow, partner_request};
 ghost use Rattle.net_sim.specs.Clean.{IsLawful};
 ghost use Rattle.net_sim.specs.Story.{Moment};
 ghost use Rattle.pairing_law.specs.Links.{Receiver, Sender, heard_words, receiver, sender, stays};
@@ -31,6 +31,7 @@ ghost use Rattle.world_keeps_pairing.specs.Laws.Programs.{ProgramsPartners, Prog
 ghost use Rattle.world_keeps_pairing.specs.Laws.Lives.{LivesMatches, LivesNamed, LivesOne, LivesOpening, LivesOpenings, LivesPaired, LivesPartners};
 ghost use Rattle.world_keeps_pairing.specs.Laws.WorkedLives.{WorkedLivesEarly, WorkedLivesLaw, WorkedLivesOthers, WorkedLivesSender, WorkedLivesTold};
 ghost use Rattle.world_keeps_pairing.specs.Laws.WorkedSteps.{WorkedStepsHeard, WorkedStepsReceiver, WorkedStepsReset, WorkedStepsSaid, WorkedStepsSender};
+ghost use Rattle.world_keeps_pairing.specs.Laws.Books.{BooksMatches, BooksOne};
 
 use interface::Carrier;
 
@@ -79,9 +80,8 @@ pub fn books<C: Carrier>()
     // no request opens two ends of one sort, and partners are partners both ways
     ensures partners { (hosts : List Host) (w : WorldState C) → IsLawful C.calls.seen hosts w → book.SafePartners w.kept.book.crossings w.kept.book.lives }
 
-    // a life that receives matches the life whose own request it took, and no other
-    ensures matches { (hosts : List Host) (w : WorldState C) → IsLawful C.calls.seen hosts w → (receiver sender : Life) → Contains w.kept.book.lives receiver → Contains w.kept.book.lives sender → receives receiver ≡ true → partner_request w.kept.book.crossings receiver ≡ Some (own_request sender) → Match w.kept.book.crossings receiver sender }
-    ensures one { (hosts : List Host) (w : WorldState C) → IsLawful C.calls.seen hosts w → (receiver x y : Life) → AreTwo w.kept.book.lives x y → Match w.kept.book.crossings receiver x → Match w.kept.book.crossings receiver y → ⊥ }
+    ensures matches { BooksMatches C.calls }
+    ensures one { BooksOne C.calls }
 {}
 
 /// Lives of a book, as the law describes them.

@@ -1,0 +1,20 @@
+-- Statements and rows that are too long for a line in src/, each named after its function and clause.
+pub mod Commands
+pub mod Naming
+pub mod Data
+pub mod GoingOut
+pub mod Answering
+pub mod CallsOpening
+pub mod Using
+pub mod ClosingEnds
+pub mod WorkedCommands
+pub mod WorkedMoves
+pub mod Histories
+pub mod Receiving
+pub mod Sending
+pub mod Asking
+pub mod WorkedSaid
+pub mod ReceiverCloses
+pub mod SenderCloses
+pub mod WorkedClosings
+pub mod LawOpening

@@ -1,0 +1,2 @@
+-- Statements and rows that are too long for a line in src/, each named after its function and clause.
+pub mod OneReplay
