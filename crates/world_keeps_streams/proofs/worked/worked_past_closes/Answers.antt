@@ -124,3 +124,14 @@ returns-clause-quit c f = elim (since (Crossed (crossing.In close_sent)) (drop 1
 
 pub returns-clause-sending : goal.returns-clause-sending
 returns-clause-sending c = λ ms x f. ap (λ n. is_receive_socket n.own) f.same ∙ f.then.receiving
+
+pub returns-clause-none : goal.returns-clause-none
+unfolding octets_of orders_of read_of command_of packed_count accepted refusal served served_notices next_out offered first_closed has_closed none_closed never_closed
+returns-clause-none c = λ sender f. not_so_far sent_moments _ refl f.closed
+
+pub returns-clause-another : goal.returns-clause-another
+unfolding octets_of orders_of read_of command_of packed_count accepted refusal served served_notices next_out offered
+returns-clause-another c = λ f. let both : 33 ≡ 35 = f.matches.sockets.0 in absurd (omega (arith, both))
+
+pub returns-clause-receiver : goal.returns-clause-receiver
+returns-clause-receiver c = λ ms sender life f. f.matches.sending
