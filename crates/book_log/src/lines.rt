@@ -4,7 +4,8 @@ ghost use Rattle.std.specs.Prelude.{◌≡◌, ◌↔◌, IfOk, IsTrue};
 ghost use Rattle.script.specs.Spelling.{IsHost, IsMessage, ReadsAs};
 ghost use Rattle.world_replay.specs.Printed.{kind_text, state_text};
 ghost use Rattle.book_log.specs.Log.{IsAmount, IsHanded, IsLife, answer_name};
-ghost use Rattle.book_log.specs.Steps.{AreCounts, AreEnds, IsAnswer, IsKind, IsLine, IsState, ReadsShort, ReadsWords, TakesWords, amount_words, answer_words, counts_words, ends_words, handed_words, host_words, life_of, life_words, line_text, message_words, words_left};
+ghost use Rattle.book_log.specs.Steps.{AreCounts, AreEnds, IsAnswer, IsKind, IsLine, IsState, ReadsShort, ReadsWords, TakesWords, amount_words, answer_words, counts_words, ends_words, handed_words};
+ghost use Rattle.book_log.specs.Steps.{host_words, life_of, life_words, line_text, message_words, words_left};
 
 use crate::words::Words;
 use bit_messages::Bits;

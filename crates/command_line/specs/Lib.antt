@@ -17,3 +17,4 @@ pub mod Replayed
 pub mod Steps
 pub mod Traced
 pub mod Worked
+pub mod Laws

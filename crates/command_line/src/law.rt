@@ -12,11 +12,9 @@ ghost use Rattle.interface.specs.Mailboxes.{IsRun};
 ghost use Rattle.interface.specs.Messages.{SafeMessages};
 ghost use Rattle.interface.specs.declared.crossing.Crossing.TheVariants as crossing;
 ghost use Rattle.interface.specs.declared.message.HostMessage.{HostMessage};
-ghost use Rattle.host_pairs.specs.declared.notice.Notice.TheVariants as notice;
 ghost use Rattle.net_sim.specs.Audit.{IsWellFormed, Says};
 ghost use Rattle.net_sim.specs.Findings.{AreFed};
 ghost use Rattle.net_sim.specs.declared.auditing.said.Audit.TheVariants as audit;
-ghost use Rattle.promise.specs.Book.{Book};
 ghost use Rattle.promise.specs.Formed.{FormedBook};
 ghost use Rattle.promise.specs.Notices.{FormedNotices};
 ghost use Rattle.promise.specs.Safe.{SafeBook, SafeGrants, SafePartners};
@@ -24,12 +22,9 @@ ghost use Rattle.promise.specs.declared.life.Amount.{Amount};
 ghost use Rattle.promise.specs.declared.life.Life.{Life};
 ghost use Rattle.replay.specs.declared.print.Detail.{Detail};
 ghost use Rattle.replay.specs.declared.print.Detail.TheVariants.{Sizes};
-ghost use Rattle.promise.specs.Connections.{JoinedBook};
 ghost use Rattle.world_replay.specs.Output as lines;
-ghost use Rattle.world_replay.specs.Output.{Shown, crossings_of, notices_of, reports_of};
-ghost use Rattle.world_script.specs.declared.event.WorldEvent.{WorldEvent};
+ghost use Rattle.world_replay.specs.Output.{Shown, crossings_of, notices_of};
 ghost use Rattle.command_line.specs.Audits.{IsKeptLog, SaysKept, SaysOf, kept};
-ghost use Rattle.command_line.specs.Joins.{PrintTheSame, TellTheSame};
 ghost use Rattle.command_line.specs.Lived.{AreLived};
 ghost use Rattle.command_line.specs.Logs.{Logged, LogsInput};
 ghost use Rattle.command_line.specs.Printed.{AreOneBook, PrintsBook, PrintsPart};
@@ -38,6 +33,10 @@ ghost use Rattle.command_line.specs.Replayed.{Ran, RanInPart, ReplaysInput, Stop
 ghost use Rattle.command_line.specs.Traced.{TraceStops, TracesInput};
 ghost use Rattle.command_line.specs.Worked.{here, life_one, there, told_one, took_one};
 ghost use Rattle.command_line.specs.declared.verdict.Verdict.{Verdict};
+ghost use Rattle.command_line.specs.Laws.OneReplay.{OneReplayLog, OneReplayOptions};
+ghost use Rattle.command_line.specs.Laws.OneBook.{OneBookJoined};
+ghost use Rattle.command_line.specs.Laws.WorkedLines.{WorkedLinesNoLife, WorkedLinesNotPrinted, WorkedLinesNothingIn};
+ghost use Rattle.command_line.specs.Laws.WorkedLives.{WorkedLivesWithoutTheLast};
 
 /// The input determines the output, with the book and without it, with texts and without them. It asks for one list of events over the carrier of one
 /// topology, and neither plain mailboxes nor a subnet leave their replay a choice, without host programs or with them.
@@ -64,8 +63,8 @@ pub fn one_log()
 /// The outputs of one input are of one replay. Whether the book and texts are asked for only decides how much of it is printed; and the log is that of the
 /// crossings and the lives that are printed. The lines of a plain output are those that its trace has as printed, in turn.
 pub fn one_replay()
-    ensures options { (book other : Bool) (detail more : Detail) (input one two : List ℕ) → ReplaysInput book detail input (Some []) (Some one) → ReplaysInput other more input (Some []) (Some two) → PrintTheSame book other detail more one two }
-    ensures log { (book : Bool) (detail : Detail) (input out log : List ℕ) → ReplaysInput book detail input (Some []) (Some out) → LogsInput input (Some []) (Some log) → TellTheSame book detail out log }
+    ensures options { OneReplayOptions }
+    ensures log { OneReplayLog }
     ensures trace { (book : Bool) (input out trace : List ℕ) → ReplaysInput book Sizes input (Some []) (Some out) → TracesInput input (Some []) (Some trace) → PrintsTrace book out trace }
 {}
 
@@ -82,7 +81,7 @@ pub fn one_book()
     ensures formed { (shown : List Shown) (lives : List Life) → AreOneBook shown lives → FormedBook (reverse (crossings_of shown)) lives }
     ensures told { (shown : List Shown) (lives : List Life) → AreOneBook shown lives → (notices_of shown ≡ [] → ⊥) → FormedNotices (reverse (crossings_of shown)) (notices_of shown) }
     ensures safe { (shown : List Shown) (lives : List Life) → AreOneBook shown lives → (handed : List (List Bool)) × SafeBook (reverse (crossings_of shown)) lives handed }
-    ensures joined { (shown : List Shown) (lives : List Life) (b : Book) → AreOneBook shown lives → b.crossings ≡ reverse (crossings_of shown) → b.reports ≡ reports_of shown → b.lives ≡ lives → JoinedBook b }
+    ensures joined { OneBookJoined }
     ensures run { (shown : List Shown) (lives : List Life) → AreOneBook shown lives → (hosts : List Host) × IsRun hosts (reverse (crossings_of shown)) }
     ensures lived { (shown : List Shown) (lives : List Life) → AreOneBook shown lives → AreLived (reverse (crossings_of shown)) (notices_of shown) lives }
 {}
@@ -92,11 +91,9 @@ pub fn worked_lines()
     // a message that comes in and never went out
     ensures never_out { (m : HostMessage) (lives : List Life) → AreOneBook (lines.Crossed (crossing.In m) ∷ []) lives → ⊥ }
 
-    // a notice that bits have arrived, where nothing crossed
-    ensures nothing_in { (h : Host) (socket : ℕ) (bits : List Bool) (lives : List Life) → AreOneBook (lines.Noticed (record { host = h; place = 0; notice = notice.Arrived socket bits }) ∷ []) lives → ⊥ }
+    ensures nothing_in { WorkedLinesNothingIn }
 
-    // a notice that an end is open, without its life
-    ensures no_life { (h peer : Host) (socket foreign own partner : ℕ) → AreOneBook (lines.Noticed (record { host = h; place = 0; notice = notice.Opened socket peer foreign own partner }) ∷ []) [] → ⊥ }
+    ensures no_life { WorkedLinesNoLife }
 
     // a life without a notice
     ensures no_notice { (life : Life) (lives : List Life) → AreOneBook [] (life ∷ lives) → ⊥ }
@@ -104,8 +101,7 @@ pub fn worked_lines()
     // data that went out without a notice, as without host programs, beside a report of a service
     ensures no_services { (m : HostMessage) (r : Reported) → (m.flow.link.0 == 0) ≡ false → AreOneBook (lines.Crossed (crossing.Out m) ∷ lines.Said r ∷ []) [] → ⊥ }
 
-    // such lines are neither printed by a replay nor the first part of one
-    ensures not_printed { (book : Bool) (detail : Detail) (before after : Option (List ℕ)) (m : HostMessage) (p : PrintsBook book detail before after) → p.shown ≡ lines.Crossed (crossing.In m) ∷ [] → ⊥ }
+    ensures not_printed { WorkedLinesNotPrinted }
     ensures not_in_part { (detail : Detail) (before after : Option (List ℕ)) (m : HostMessage) (p : PrintsPart detail before after) → p.shown ≡ lines.Crossed (crossing.In m) ∷ [] → ⊥ }
 {}
 
@@ -160,6 +156,5 @@ pub fn worked_lives()
     // those of another book: where nothing happened there are none
     ensures another_book { (opening : Boxes) (life : Life) (lives : List Life) (shows : List Shown) → WorldShowsFrom plain_calls opening [] (life ∷ lives) shows → ⊥ }
 
-    // those of the book without the last one
-    ensures without_the_last { (opening : Boxes) (events : List WorldEvent) (lives : List Life) (last : Life) (shows more : List Shown) → WorldShowsFrom plain_calls opening events (lives ++ last ∷ []) shows → WorldShowsFrom plain_calls opening events lives more → ⊥ }
+    ensures without_the_last { WorkedLivesWithoutTheLast }
 {}

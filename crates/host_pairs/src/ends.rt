@@ -6,7 +6,8 @@ ghost use Rattle.host_pairs.specs.declared.entry.Entry.{Entry};
 ghost use Rattle.host_pairs.specs.Commands.{asked_on_link, asked_with_size, granted, given_back, returned};
 ghost use Rattle.host_pairs.specs.Data.{spent};
 ghost use Rattle.host_pairs.specs.Parcels.{asked_at, cls_sent};
-ghost use Rattle.host_pairs.specs.Entries.{is_at, entry_at, sends_on, receives_on, is_mine_on, changed_first, changed_at, closed_by_partner, is_due, must_close, closed_when, cls_of, is_over, ending, free_link};
+ghost use Rattle.host_pairs.specs.Entries.{is_at, entry_at, sends_on, receives_on, is_mine_on, changed_first, changed_at, closed_by_partner, is_due, must_close, closed_when, cls_of, is_over, ending};
+ghost use Rattle.host_pairs.specs.Entries.{free_link};
 
 use crate::Notice;
 use crate::entry::{Closing, Entry};

@@ -7,3 +7,4 @@ pub mod Texts
 pub mod Told
 pub mod Traced
 pub mod Worked
+pub mod Laws

@@ -5,7 +5,8 @@ ghost use Rattle.std.specs.FinMap as fin;
 ghost use Rattle.std.specs.Io.KnownBytes.{Appends};
 ghost use Rattle.replay.specs.Failing.{TellsFailure};
 ghost use Rattle.routing.specs.RouteTable.{vector_of};
-ghost use Rattle.subnet_trace.specs.Texts.{channel_text, distances_text, heard_text, host_object, imp_text, kept_text, next_text, packet_text, port_object, slot_text, source_text, told_text, whole_text};
+ghost use Rattle.subnet_trace.specs.Texts.{channel_text, distances_text, heard_text, host_object, imp_text, kept_text, next_text, packet_text, port_object, slot_text, source_text, told_text};
+ghost use Rattle.subnet_trace.specs.Texts.{whole_text};
 ghost use Rattle.trace.specs.Texts.{array};
 
 use crate::flows::print_flows;

@@ -1,33 +1,34 @@
 //! What traces of subnets promise, as laws over their definitions. The functions here do nothing: each clause is the law.
 
 ghost use Rattle.std.specs.List.{All};
-ghost use Rattle.std.specs.Prelude.{◌≡◌, ℕ, List, Option, true, false};
+ghost use Rattle.std.specs.Prelude.{◌≡◌, ℕ, List, Option};
 ghost use Rattle.interface.specs.Host.{Host};
 ghost use Rattle.replay.specs.Output.{Shown};
-ghost use Rattle.replay.specs.Replay.{Happens, IsOneCall, Replays};
+ghost use Rattle.replay.specs.Replay.{Happens, IsOneCall};
 ghost use Rattle.script.specs.declared.event.RawEvent.{RawEvent};
-ghost use Rattle.subnet.specs.Calls.{Kept, running};
+ghost use Rattle.subnet.specs.Calls.{Kept};
 ghost use Rattle.subnet.specs.Net.{Net};
 ghost use Rattle.subnet.specs.Opening.{hosts_from, opening_subnet};
 ghost use Rattle.subnet.specs.declared.Ends.{Ends};
 ghost use Rattle.subnet_trace.specs.Elements.{beginning, calm_left, calm_of, elements_of};
 ghost use Rattle.subnet.specs.Working.{subnet_calls};
-ghost use Rattle.subnet_trace.specs.Parts.{Part, SamePart, is_named, is_part, parts_of};
 ghost use Rattle.subnet_trace.specs.Told.{IsOneNetwork, IsPlaced, IsReached, IsTold, SameTexts};
 ghost use Rattle.trace.specs.Elements.{events_of};
+ghost use Rattle.subnet_trace.specs.Laws.Elementary.{ElementaryCourse, ElementaryReached};
+ghost use Rattle.subnet_trace.specs.Laws.Rest.{RestParts};
+ghost use Rattle.subnet_trace.specs.Laws.Whole.{WholeReplays};
 
 /// An event of a script is its elementary events one after another: each of them only, as a line of a script, leaves what the
 /// event leaves and prints what it prints. So a calm is a list of calls of the subnet.
 pub fn elementary()
-    // of subnets that have no IMP where their network has none
-    ensures course { (old new : Kept) (e : RawEvent) (shown : List Shown) → IsPlaced old.net → Happens subnet_calls old e new shown → Replays subnet_calls old (events_of (elements_of old.net e)) new shown }
+    ensures course { ElementaryCourse }
 
     // each is one call of the subnet, and none a calm
     ensures one_call { (n : Net) (e : RawEvent) → All IsOneCall (events_of (elements_of n e)) }
 
     // all events keep it so, calms too, and so each subnet that a replay comes to is one
     ensures placed { (old new : Kept) (e : RawEvent) (shown : List Shown) → IsPlaced old.net → Happens subnet_calls old e new shown → IsPlaced new.net }
-    ensures reached { (hosts : List Host) (sites : List (Option ℕ)) (ends : List Ends) (events : List RawEvent) (k : Kept) (shown : List Shown) → Replays subnet_calls (running (opening_subnet hosts sites ends)) events k shown → IsPlaced k.net }
+    ensures reached { ElementaryReached }
 
     // what is left of a calm where it begins is all of it
     ensures beginning { (n : Net) (rounds : ℕ) → calm_left n (beginning rounds) ≡ calm_of n rounds }
@@ -35,7 +36,7 @@ pub fn elementary()
 
 /// What an elementary event's parts do not name is as before.
 pub fn rest()
-    ensures parts { (old new : Kept) (e : RawEvent) (shown : List Shown) (p : Part) → IsPlaced old.net → IsOneCall e → Happens subnet_calls old e new shown → is_part old.net p ≡ true → is_named p (parts_of old.net e) ≡ false → SamePart p old.net new.net }
+    ensures parts { RestParts }
 
     // the hosts of the network, its IMPs and the ends of its lines never change
     ensures network { (old new : Kept) (e : RawEvent) (shown : List Shown) → IsOneCall e → Happens subnet_calls old e new shown → IsOneNetwork old.net new.net }
@@ -54,6 +55,5 @@ pub fn whole()
     ensures reached { (sites : List (Option ℕ)) (ends : List Ends) (k : Kept) → IsReached sites ends k → IsTold k.net }
     ensures network { (sites : List (Option ℕ)) (ends : List Ends) (k : Kept) → IsReached sites ends k → IsOneNetwork (opening_subnet (hosts_from 0 sites) sites ends) k.net }
 
-    // so two replays over one network that end with the same texts end in the same state, but for the log
-    ensures replays { (sites : List (Option ℕ)) (ends : List Ends) (one other : Kept) → IsReached sites ends one → IsReached sites ends other → SameTexts one.net other.net → other.net ≡ record one.net { log = other.net.log } }
+    ensures replays { WholeReplays }
 {}

@@ -3,10 +3,8 @@
 
 ghost use Rattle.std.specs.Prelude.{◌≡◌, ◌*◌, List, [], ◌∷◌, Option, None, Some, codes, true, false, replicate};
 ghost use Rattle.imp_channel.specs.declared.frame.Content.TheVariants as content;
-ghost use Rattle.imp_channel.specs.Line.{opening_end};
 ghost use Rattle.imp_node.specs.Examples.{ack_frame, host};
 ghost use Rattle.imp_node.specs.State.{State, opening_node};
-ghost use Rattle.interface.specs.declared.crossing.Answer.TheVariants as answer;
 ghost use Rattle.interface.specs.declared.event.Direction.TheVariants as way;
 ghost use Rattle.interface.specs.declared.event.NetEvent.TheVariants as net;
 ghost use Rattle.link_table.specs.declared.destination.Fate.TheVariants as fate;
@@ -19,8 +17,14 @@ ghost use Rattle.subnet_trace.specs.Parts.{Part, Imp, Line, SamePart, is_named, 
 ghost use Rattle.subnet_trace.specs.Told.{IsOneNetwork, SameTexts};
 ghost use Rattle.subnet_trace.specs.declared.place.Stage.TheVariants as stage;
 ghost use Rattle.trace.specs.declared.fate.Fate.TheVariants as fates;
-ghost use Rattle.subnet_trace.specs.Texts.{channel_text, frame_text, heard_text, host_object, imp_text, kept_text, line_text, next_text, packet_text, port_object, slot_text, source_text, told_text, whole_text};
-ghost use Rattle.subnet_trace.specs.Worked.{arrives, distances_frame, end_down_at_2, fate_at_1, fate_at_2, flow, frame_on, full_at_1, full_at_2, gone, heard_on_two, hosts_down_at_2, long, looping, no_slot_at_2, nowhere, other_piece, past_at_1, piece, piece_frame, rfnm, sending_at_2, sends, slot, takes, tells, two_lines, unmarked_frame, waiting_at_2, with_dead};
+ghost use Rattle.subnet_trace.specs.Texts.{channel_text, frame_text, heard_text, imp_text, kept_text, line_text, next_text, packet_text, slot_text, source_text, whole_text};
+ghost use Rattle.subnet_trace.specs.Worked.{arrives, distances_frame, end_down_at_2, fate_at_1, fate_at_2, flow, frame_on, full_at_1, full_at_2, gone, heard_on_two, hosts_down_at_2, long, looping};
+ghost use Rattle.subnet_trace.specs.Worked.{no_slot_at_2, nowhere, piece, piece_frame, rfnm, sends, slot, takes, tells, two_lines, unmarked_frame, waiting_at_2, with_dead};
+ghost use Rattle.subnet_trace.specs.Laws.WorkedPackets.{WorkedPacketsBusy, WorkedPacketsPacket, WorkedPacketsSlot};
+ghost use Rattle.subnet_trace.specs.Laws.WorkedParts.{WorkedPartsHost, WorkedPartsImp, WorkedPartsOtherDead, WorkedPartsPort};
+ghost use Rattle.subnet_trace.specs.Laws.WorkedUntold.{WorkedUntoldAnswer};
+ghost use Rattle.subnet_trace.specs.Laws.WorkedCalms.{WorkedCalmsAgain, WorkedCalmsLater, WorkedCalmsTaking};
+ghost use Rattle.subnet_trace.specs.Laws.WorkedPlaces.{WorkedPlacesTelling};
 
 /// Packets, channels, slots and frames.
 pub fn worked_packets()
@@ -29,12 +33,12 @@ pub fn worked_packets()
 
     // a free channel has the bit of its next packet only
     ensures free { channel_text (record { bit = true; packet = None }) ≡ codes "{\"bit\":1}" }
-    ensures busy { channel_text (record { bit = false; packet = Some rfnm }) ≡ codes "{\"bit\":0,\"packet\":{\"kind\":\"rfnm\",\"from\":\"0/1\",\"to\":\"1/2\",\"link\":5,\"number\":7,\"place\":0,\"last\":true,\"bits\":0,\"octets\":\"\"}}" }
-    ensures slot { slot_text slot ≡ codes "[{\"kind\":\"data\",\"from\":\"0/1\",\"to\":\"1/2\",\"link\":5,\"number\":7,\"place\":1,\"last\":false,\"bits\":16,\"octets\":\"8000\"},{\"kind\":\"data\",\"from\":\"0/1\",\"to\":\"1/2\",\"link\":5,\"number\":7,\"place\":3,\"last\":true,\"bits\":16,\"octets\":\"8000\"}]" }
+    ensures busy { WorkedPacketsBusy }
+    ensures slot { WorkedPacketsSlot }
 
     // acknowledgement bits are in the order of their channels
     ensures acks { frame_text (record { acks = true ∷ replicate 7 false; content = content.Nothing }) ≡ codes "{\"acks\":\"10000000\"}" }
-    ensures packet { frame_text (record { acks = replicate 8 false; content = content.Packet (record { channel = 3; bit = true; packet = rfnm }) }) ≡ codes "{\"acks\":\"00000000\",\"channel\":3,\"bit\":1,\"packet\":{\"kind\":\"rfnm\",\"from\":\"0/1\",\"to\":\"1/2\",\"link\":5,\"number\":7,\"place\":0,\"last\":true,\"bits\":0,\"octets\":\"\"}}" }
+    ensures packet { WorkedPacketsPacket }
 
     // the second of these distances is infinite
     ensures routes { frame_text (record { acks = replicate 8 false; content = content.Routes (1 ∷ 63 ∷ 0 ∷ []) }) ≡ codes "{\"acks\":\"00000000\",\"routes\":{\"1\":1,\"3\":0}}" }
@@ -47,14 +51,14 @@ pub fn worked_parts()
 
     // a Dead that was given at once waits: the flow is not idle, though its last number is. A Dead of another flow doesn't matter
     ensures dead { source_text (with_dead flow) (flow, standing.Idle 7) ≡ codes "{\"state\":\"dead\",\"from\":\"0/1\",\"to\":\"1/2\",\"link\":5,\"number\":7}" }
-    ensures other_dead { source_text (with_dead (record flow { link = record { 0 = 6 } })) (flow, standing.Idle 7) ≡ codes "{\"state\":\"idle\",\"from\":\"0/1\",\"to\":\"1/2\",\"link\":5,\"number\":7}" }
+    ensures other_dead { WorkedPartsOtherDead }
     ensures answered { source_text (with_dead flow) (flow, standing.Answered 7) ≡ codes "{\"state\":\"answered\",\"from\":\"0/1\",\"to\":\"1/2\",\"link\":5,\"number\":7}" }
     ensures kept { kept_text (flow, record { number = 7; fate = fate.Waits }) ≡ codes "{\"fate\":\"waits\",\"from\":\"0/1\",\"to\":\"1/2\",\"link\":5,\"number\":7}" }
-    ensures host { host_object (record { up = true; answers = record { kind = answer.NotTaken; flow = flow } ∷ []; queue = record { flow = flow; number = 7; text = true ∷ [] } ∷ [] }) ≡ codes "{\"up\":true,\"messages\":[{\"from\":\"0/1\",\"to\":\"1/2\",\"link\":5,\"number\":7,\"bits\":1,\"octets\":\"80\"}],\"answers\":[{\"kind\":\"nottaken\",\"from\":\"0/1\",\"to\":\"1/2\",\"link\":5}]}" }
-    ensures port { port_object (record { up = false; line = opening_end }) ≡ codes "{\"up\":false,\"sending\":[{\"bit\":0},{\"bit\":0},{\"bit\":0},{\"bit\":0},{\"bit\":0},{\"bit\":0},{\"bit\":0},{\"bit\":0}],\"expected\":\"00000000\"}" }
+    ensures host { WorkedPartsHost }
+    ensures port { WorkedPartsPort }
     ensures heard { heard_text (Some (0 ∷ 62 ∷ [])) ≡ codes "{\"1\":0,\"2\":62}" }
     ensures nothing_heard { heard_text None ≡ codes "null" }
-    ensures imp { imp_text (Some (opening_node 1 0 1)) ≡ codes "{\"hosts\":[],\"ports\":[{\"up\":true,\"sending\":[{\"bit\":0},{\"bit\":0},{\"bit\":0},{\"bit\":0},{\"bit\":0},{\"bit\":0},{\"bit\":0},{\"bit\":0}],\"expected\":\"00000000\"}],\"routes\":[null],\"store\":[],\"slots\":[],\"sources\":[],\"kept\":[],\"distances\":{\"1\":0},\"next\":{}}" }
+    ensures imp { WorkedPartsImp }
     ensures next { next_text heard_on_two ≡ codes "{\"2\":1,\"3\":0}" }
     ensures imp_down { imp_text None ≡ codes "null" }
     ensures line { line_text (record { a = 1; b = 2; forward = []; back = record { acks = replicate 8 false; content = content.Nothing } ∷ [] }) ≡ codes "{\"+\":[],\"-\":[{\"acks\":\"00000000\"}]}" }
@@ -70,7 +74,7 @@ pub fn worked_untold()
     ensures host_number { packet_text (record rfnm { source = record { imp = 1; host = long } }) ≡ packet_text (record rfnm { source = record { imp = 1; host = 2 * long } }) }
     ensures channel { frame_text (frame_on long) ≡ frame_text (frame_on (2 * long)) }
     ensures message { whole_text (record { flow = flow; number = long; text = [] }) ≡ whole_text (record { flow = flow; number = 2 * long; text = [] }) }
-    ensures answer { told_text (record { kind = answer.Dead; flow = record flow { link = record { 0 = long } } }) ≡ told_text (record { kind = answer.Dead; flow = record flow { link = record { 0 = 2 * long } } }) }
+    ensures answer { WorkedUntoldAnswer }
     ensures begun { source_text (opening_node 1 1 0) (flow, standing.Idle long) ≡ source_text (opening_node 1 1 0) (flow, standing.Idle (2 * long)) }
     ensures noted { kept_text (flow, record { number = long; fate = fate.Waits }) ≡ kept_text (flow, record { number = 2 * long; fate = fate.Waits }) }
 
@@ -157,20 +161,15 @@ pub fn worked_calms()
     // that go back
     ensures opened { calm_of opened_pair 1 ≡ tells 1 1 ∷ tells 1 2 ∷ arrives 1 0 way.Forward ∷ gone 1 0 way.Forward ∷ arrives 1 0 way.Back ∷ gone 1 0 way.Back ∷ [] }
 
-    // an IMP that holds a packet sends it again, after it has sent its distances. The acknowledgement comes in the same round, so
-    // that the IMP holds nothing in the next one
-    ensures again { calm_of (pair (Some sending_ours) (Some past_one) [] []) 2 ≡ tells 1 1 ∷ sends 1 1 ∷ tells 1 2 ∷ arrives 1 0 way.Forward ∷ gone 1 0 way.Forward ∷ arrives 1 0 way.Forward ∷ gone 1 0 way.Forward ∷ arrives 1 0 way.Back ∷ gone 1 0 way.Back ∷ arrives 1 0 way.Back ∷ gone 1 0 way.Back ∷ tells 2 1 ∷ tells 2 2 ∷ arrives 2 0 way.Forward ∷ gone 2 0 way.Forward ∷ arrives 2 0 way.Back ∷ gone 2 0 way.Back ∷ [] }
+    ensures again { WorkedCalmsAgain }
 
-    // the other way IMP 1 acknowledges when the turn of the line is over, and so this frame goes in the next round. Its distances
-    // have acknowledged the packet before that
-    ensures later { calm_of (pair (Some past_at_1) (Some sending_at_2) [] []) 2 ≡ tells 1 1 ∷ tells 1 2 ∷ sends 1 2 ∷ arrives 1 0 way.Forward ∷ gone 1 0 way.Forward ∷ arrives 1 0 way.Back ∷ gone 1 0 way.Back ∷ arrives 1 0 way.Back ∷ gone 1 0 way.Back ∷ tells 2 1 ∷ tells 2 2 ∷ arrives 2 0 way.Forward ∷ gone 2 0 way.Forward ∷ arrives 2 0 way.Forward ∷ gone 2 0 way.Forward ∷ arrives 2 0 way.Back ∷ gone 2 0 way.Back ∷ [] }
+    ensures later { WorkedCalmsLater }
 
     // no frame that comes while a line has its turn goes in the same turn. Only a line that leads back to its IMP shows it: here
     // the packet is passed on, and acknowledged
     ensures looping { calm_of looping 1 ≡ tells 1 1 ∷ sends 1 1 ∷ arrives 1 0 way.Forward ∷ gone 1 0 way.Forward ∷ arrives 1 0 way.Forward ∷ gone 1 0 way.Forward ∷ [] }
 
-    // hosts take when all lines have had their turns
-    ensures taking { calm_of (pair (Some imp_1) (Some serving_ours) [] []) 1 ≡ tells 1 1 ∷ tells 1 2 ∷ arrives 1 0 way.Forward ∷ gone 1 0 way.Forward ∷ arrives 1 0 way.Back ∷ gone 1 0 way.Back ∷ takes 1 (host 0 2) ∷ [] }
+    ensures taking { WorkedCalmsTaking }
 
     // a taking that would be refused is none: the store of the IMP has no room for the RFNM
     ensures no_room { calm_of (pair None (Some full_at_2) [] []) 1 ≡ tells 1 2 ∷ sends 1 2 ∷ replicate 9 (gone 1 0 way.Back) }
@@ -185,7 +184,7 @@ pub fn worked_calms()
 pub fn worked_places()
     // an IMP has sent its distances, or has not
     ensures told { calm_left (pair (Some sending_ours) None [] []) (record { round = 1; rounds = 1; stage = stage.Refreshing 1 true }) ≡ sends 1 1 ∷ gone 1 0 way.Forward ∷ [] }
-    ensures telling { calm_left (pair (Some imp_1) (Some imp_2) [] []) (record { round = 1; rounds = 1; stage = stage.Refreshing 2 false }) ≡ tells 1 2 ∷ arrives 1 0 way.Back ∷ gone 1 0 way.Back ∷ [] }
+    ensures telling { WorkedPlacesTelling }
 
     // a frame was delivered, or was not; of two frames that are live, one came when the turn had begun
     ensures delivered { calm_left two_lines (record { round = 1; rounds = 1; stage = stage.Carrying 0 way.Forward 0 true }) ≡ gone 1 0 way.Forward ∷ gone 1 0 way.Back ∷ gone 1 1 way.Back ∷ [] }

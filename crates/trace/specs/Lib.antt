@@ -7,3 +7,4 @@ pub mod Steps
 pub mod Texts
 pub mod Traces
 pub mod Worked
+pub mod Laws

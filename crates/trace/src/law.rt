@@ -1,18 +1,19 @@
 //! What traces promise, as laws over their definitions. The functions here do nothing: each clause is the law.
 
-ghost use Rattle.std.specs.Prelude.{◌≡◌, ℕ, List, false};
+ghost use Rattle.std.specs.Prelude.{◌≡◌, ℕ, List};
 ghost use Rattle.std.specs.List.{All};
 ghost use Rattle.leader1822.specs.Boxes.{Boxes, opening_boxes, plain_calls};
 ghost use Rattle.interface.specs.Host.{Host};
-ghost use Rattle.replay.specs.Output.{Shown, crossings_of};
+ghost use Rattle.replay.specs.Output.{Shown};
 ghost use Rattle.replay.specs.Replay.{Happens, IsOneCall, Replays};
 ghost use Rattle.script.specs.Spelling.{IsEvent};
 ghost use Rattle.script.specs.declared.event.RawEvent.{RawEvent};
 ghost use Rattle.trace.specs.Elements.{elements_of, events_of};
 ghost use Rattle.trace.specs.Kept.{IsTold};
-ghost use Rattle.trace.specs.Parts.{Part, IsPart, SamePart, is_named, parts_of};
 ghost use Rattle.topology.specs.Topology.{IsTopology, TopologyFields};
-ghost use Rattle.trace.specs.Texts.{opening_line, part_text};
+ghost use Rattle.trace.specs.Texts.{opening_line};
+ghost use Rattle.trace.specs.Laws.Rest.{RestParts};
+ghost use Rattle.trace.specs.Laws.Whole.{WholeTexts};
 
 /// An event of a script is its elementary events one after another: each of them only, as a line of a script,
 /// leaves what the event leaves and prints what it prints. So a calm is a list of takings.
@@ -25,13 +26,13 @@ pub fn elementary()
 
 /// What an elementary event's parts do not name is as before.
 pub fn rest()
-    ensures parts { (old new : Boxes) (e : RawEvent) (shown : List Shown) (p : Part) → IsOneCall e → Happens plain_calls old e new shown → IsPart old.hosts p → is_named p (parts_of old.hosts e (crossings_of shown)) ≡ false → SamePart p old new }
+    ensures parts { RestParts }
     ensures hosts { (old new : Boxes) (e : RawEvent) (shown : List Shown) → IsOneCall e → Happens plain_calls old e new shown → new.hosts ≡ old.hosts }
 {}
 
 /// The texts of all parts determine the whole state, but for the log, in every state that a replay comes to.
 pub fn whole()
-    ensures texts { (one other : Boxes) → IsTold one → IsTold other → one.hosts ≡ other.hosts → ((p : Part) → IsPart one.hosts p → part_text one p ≡ part_text other p) → other ≡ record one { log = other.log } }
+    ensures texts { WholeTexts }
 
     // the events are those that a script may ask for
     ensures reached { (hosts : List Host) (events : List RawEvent) (new : Boxes) (shown : List Shown) → All IsEvent events → Replays plain_calls (opening_boxes hosts) events new shown → IsTold new }

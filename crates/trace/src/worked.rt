@@ -1,21 +1,19 @@
 //! Worked examples of traces. The functions here do nothing: each clause is a row, computed over the definitions.
 
-ghost use Rattle.std.specs.Prelude.{◌≡◌, ℕ, List, [], ◌∷◌, None, Some, codes, true, false};
+ghost use Rattle.std.specs.Prelude.{◌≡◌, ℕ, List, [], ◌∷◌, codes, true, false};
 ghost use Rattle.std.specs.FinMap as map;
-ghost use Rattle.interface.specs.declared.carrier.CarrierFault.TheVariants as fault;
 ghost use Rattle.interface.specs.declared.crossing.Answer.TheVariants as answer;
 ghost use Rattle.interface.specs.declared.crossing.Crossing.TheVariants as crossing;
 ghost use Rattle.interface.specs.declared.event.NetEvent.TheVariants as net;
 ghost use Rattle.leader1822.specs.Boxes.{host_stopped, opening_boxes, plain_calls, with_queue};
-ghost use Rattle.replay.specs.Output.{Crossed, Refused};
 ghost use Rattle.script.specs.declared.event.RawEvent.TheVariants as event;
 ghost use Rattle.trace.specs.Elements.{elements_of};
 ghost use Rattle.trace.specs.Parts.{Down, Waiting, SamePart, is_named, parts_of};
-ghost use Rattle.topology.specs.declared.network.CarrierKind.TheVariants as kind;
-ghost use Rattle.trace.specs.Texts.{answer_object, changed_text, crossing_object, opening_line, part_name, part_text, queues_text, trace_line, whole_text};
+ghost use Rattle.trace.specs.Texts.{answer_object, crossing_object, part_name, part_text, queues_text, whole_text};
 ghost use Rattle.trace.specs.Traces.{MayTell, asking_from, numbered_from};
-ghost use Rattle.trace.specs.Worked.{empty, first, flow, hosts, one_waits, second, short, stop, third, with_down};
-ghost use Rattle.trace.specs.declared.fate.Fate.TheVariants as fate;
+ghost use Rattle.trace.specs.Worked.{first, flow, hosts, one_waits, second, short, stop, third, with_down};
+ghost use Rattle.trace.specs.Laws.WorkedTexts.{WorkedTextsQueues};
+ghost use Rattle.trace.specs.Laws.WorkedLines.{WorkedLinesDelivered, WorkedLinesOpening, WorkedLinesRefused, WorkedLinesStart, WorkedLinesTaken};
 
 /// The text of each part.
 pub fn worked_texts()
@@ -23,8 +21,7 @@ pub fn worked_texts()
     ensures down { part_text (with_down (third ∷ first ∷ [])) Down ≡ codes "[\"0/2\",\"0/1\"]" }
     ensures none_down { part_text (with_down []) Down ≡ codes "[]" }
 
-    // what waits, oldest first: messages with their texts, and answers
-    ensures queues { queues_text (short ∷ empty ∷ []) ((answer.Rfnm, flow) ∷ (answer.Dead, flow) ∷ []) ≡ codes "{\"messages\":[{\"from\":\"0/1\",\"to\":\"0/2\",\"link\":5,\"bits\":3,\"octets\":\"A0\"},{\"from\":\"0/1\",\"to\":\"0/2\",\"link\":6,\"bits\":0,\"octets\":\"\"}],\"answers\":[{\"kind\":\"rfnm\",\"from\":\"0/1\",\"to\":\"0/2\",\"link\":5},{\"kind\":\"dead\",\"from\":\"0/1\",\"to\":\"0/2\",\"link\":5}]}" }
+    ensures queues { WorkedTextsQueues }
     ensures no_queues { queues_text [] [] ≡ codes "{\"messages\":[],\"answers\":[]}" }
 
     // two answers that are alike to hosts are distinguished
@@ -76,20 +73,18 @@ pub fn worked_names()
 
 /// Lines of a trace.
 pub fn worked_lines()
-    // the network: the order of its lines says which of them line 0 is, and which way `+` is
-    ensures opening { opening_line (record { carrier = kind.Subnet; raw = true; imps = record { imp = 1; hosts = 2 } ∷ record { imp = 3; hosts = 0 } ∷ []; lines = record { a = 3; b = 1 } ∷ [] }) (codes "{}") ≡ codes "{\"trace\":2,\"carrier\":\"subnet\",\"raw\":true,\"imps\":[[1,2],[3,0]],\"lines\":[[3,1]],\"parts\":{}}" }
+    ensures opening { WorkedLinesOpening }
     ensures all_parts { whole_text (opening_boxes (third ∷ [])) ≡ codes "{\"down\":[],\"host 0/2\":{\"messages\":[],\"answers\":[]}}" }
 
     // lines that ask for nothing are counted, and their numbers passed over
     ensures numbers { asking_from 1 (codes "calm 1" ∷ [] ∷ codes "# then" ∷ codes "take 0/1" ∷ []) ≡ 1 ∷ 4 ∷ [] }
     ensures numbered { numbered_from 1 ((1, event.Calm 1) ∷ (4, event.Take first) ∷ []) ≡ (record { line = 1; number = 1 }, event.Calm 1) ∷ (record { line = 4; number = 2 }, event.Take first) ∷ [] }
 
-    ensures start { trace_line (record { line = 9; number = 7 }) (record { round = 0; event = event.Net (net.HostUp third) }) None (Crossed (crossing.Up third) ∷ []) (changed_text (with_down (first ∷ [])) (event.Net (net.HostUp third)) (crossing.Up third ∷ [])) ≡ codes "{\"line\":9,\"number\":7,\"round\":0,\"event\":\"hostup 0/2\",\"crossed\":[{\"kind\":\"up\",\"host\":\"0/2\"}],\"printed\":[\"up 0/2\"],\"parts\":{\"down\":[\"0/1\"]}}" }
-    ensures refused { trace_line (record { line = 12; number = 12 }) (record { round = 0; event = event.Net (net.Resend 1) }) None (Refused fault.NoSuch ∷ []) (changed_text (with_down []) (event.Net (net.Resend 1)) []) ≡ codes "{\"line\":12,\"number\":12,\"round\":0,\"event\":\"resend 1\",\"crossed\":[],\"printed\":[\"refused NoSuch\"],\"parts\":{}}" }
-    ensures taken { trace_line (record { line = 3; number = 3 }) (record { round = 2; event = event.Take third }) None (Crossed (crossing.In short) ∷ []) (changed_text (opening_boxes hosts) (event.Take third) (crossing.In short ∷ [])) ≡ codes "{\"line\":3,\"number\":3,\"round\":2,\"event\":\"take 0/2\",\"crossed\":[{\"kind\":\"in\",\"from\":\"0/1\",\"to\":\"0/2\",\"link\":5,\"bits\":3,\"octets\":\"A0\"}],\"printed\":[\"in 0/1 0/2 5 3\"],\"parts\":{\"host 0/1\":{\"messages\":[],\"answers\":[]},\"host 0/2\":{\"messages\":[],\"answers\":[]}}}" }
+    ensures start { WorkedLinesStart }
+    ensures refused { WorkedLinesRefused }
+    ensures taken { WorkedLinesTaken }
 
-    // the fate of a frame comes before what crossed
-    ensures delivered { trace_line (record { line = 1; number = 1 }) (record { round = 1; event = event.Calm 0 }) (Some fate.NoRoom) [] (codes "{}") ≡ codes "{\"line\":1,\"number\":1,\"round\":1,\"event\":\"calm 0\",\"fate\":\"noroom\",\"crossed\":[],\"printed\":[],\"parts\":{}}" }
+    ensures delivered { WorkedLinesDelivered }
 {}
 
 /// The elementary events of a calm.

@@ -4,3 +4,4 @@ pub mod Printed
 pub mod Replay
 pub mod Steps
 pub mod Worked
+pub mod Laws

@@ -3,7 +3,6 @@
 
 ghost use Rattle.std.specs.Prelude.{◌≡◌, List, [], ◌∷◌, ◌++◌, codes, replicate};
 ghost use Rattle.interface.specs.declared.carrier.CarrierFault.TheVariants as fault;
-ghost use Rattle.interface.specs.declared.crossing.Crossing.TheVariants as crossing;
 ghost use Rattle.net_sim.specs.Worked.{eight, four, giver, over, taker};
 ghost use Rattle.net_sim.specs.declared.event.Event.TheVariants as event;
 ghost use Rattle.net_sim.specs.declared.event.WorldFault.TheVariants.{Carrier, Program};
@@ -18,6 +17,7 @@ ghost use Rattle.world_replay.specs.Printed.{life_text, notice_text, refusal_tex
 ghost use Rattle.world_replay.specs.Replay.{MayDo};
 ghost use Rattle.world_replay.specs.Worked.{after, came, counting, went, said_at, told_at};
 ghost use Rattle.world_script.specs.declared.event.WorldEvent.TheVariants.{Calm, Happen};
+ghost use Rattle.world_replay.specs.Laws.WorkedNews.{WorkedNewsReported};
 
 /// The words of a line.
 pub fn worked_lines()
@@ -87,8 +87,7 @@ pub fn worked_news()
     // the notices to a user where nothing crossed
     ensures uncrossed { shown_in_turn 5 [] (told_in_turn 9 (told_at 5 ∷ []) []) ≡ Noticed (told_at 5) ∷ [] }
 
-    // reports are after the notice that they are about, in their order, and before the next crossing
-    ensures reported { shown_in_turn 0 (went ∷ came ∷ []) (told_in_turn 3 (told_at 1 ∷ told_at 2 ∷ []) (said_at 4 ∷ said_at 4 ∷ [])) ≡ Crossed went ∷ Noticed (told_at 1) ∷ Said (said_at 4) ∷ Said (said_at 4) ∷ Crossed came ∷ Noticed (told_at 2) ∷ [] }
+    ensures reported { WorkedNewsReported }
     ensures behind { shown_in_turn 0 (went ∷ []) (told_in_turn 3 (told_at 1 ∷ told_at 1 ∷ []) (said_at 5 ∷ [])) ≡ Crossed went ∷ Noticed (told_at 1) ∷ Noticed (told_at 1) ∷ Said (said_at 5) ∷ [] }
 
     // a service that fails as it begins

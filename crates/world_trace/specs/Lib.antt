@@ -2,3 +2,4 @@ pub mod Steps
 pub mod Texts
 pub mod Told
 pub mod Traces
+pub mod Laws

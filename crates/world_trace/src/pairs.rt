@@ -5,7 +5,8 @@ ghost use Rattle.std.specs.Fmt.{WritesOnOk};
 ghost use Rattle.trace.specs.Texts.{bits_members, object, quoted};
 ghost use Rattle.world_replay.specs.Printed.{kind_text};
 ghost use Rattle.world_trace.specs.Steps.{end_data, end_sockets, end_state};
-ghost use Rattle.world_trace.specs.Texts.{allocation_object, closing_word, closings_object, end_object, listener_object, number_text, pair_object, phase_word, program_text, requests_object, seat_member};
+ghost use Rattle.world_trace.specs.Texts.{allocation_object, closing_word, closings_object, end_object, listener_object, number_text, pair_object, phase_word, program_text, requests_object};
+ghost use Rattle.world_trace.specs.Texts.{seat_member};
 
 use crate::values::{Array, Flag, HexString, Json, Name};
 use bit_messages::Bits;

@@ -6,7 +6,8 @@ ghost use Rattle.host_services.specs.Ears.{all_in};
 ghost use Rattle.host_services.specs.declared.service.Service.TheVariants as service;
 ghost use Rattle.trace.specs.Texts.{array, bits_members, object};
 ghost use Rattle.world_trace.specs.Steps.{mark_after, marked, user_rest, user_sockets};
-ghost use Rattle.world_trace.specs.Texts.{asked_object, ends_object, met_object, number_text, partner_text, running_object, server_object, service_object, services_member, sockets_object, user_object};
+ghost use Rattle.world_trace.specs.Texts.{asked_object, ends_object, met_object, number_text, partner_text, running_object, server_object, service_object, services_member, sockets_object};
+ghost use Rattle.world_trace.specs.Texts.{user_object};
 
 use crate::values::{Flag, HexString, Json, Name, show_each};
 use bit_messages::Bits;

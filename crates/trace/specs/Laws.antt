@@ -1,0 +1,5 @@
+-- Statements and rows that are too long for a line in src/, each named after its function and clause.
+pub mod Rest
+pub mod Whole
+pub mod WorkedTexts
+pub mod WorkedLines

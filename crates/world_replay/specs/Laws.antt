@@ -1,0 +1,4 @@
+-- Statements and rows that are too long for a line in src/, each named after its function and clause.
+pub mod OneReplay
+pub mod Calm
+pub mod WorkedNews

@@ -1,0 +1,3 @@
+-- Statements and rows that are too long for a line in src/, each named after its function and clause.
+pub mod WorkedPairs
+pub mod WorkedHosts
