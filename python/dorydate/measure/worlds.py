@@ -210,6 +210,11 @@ def unanswered(other: str, rounds: int, count: int) -> Script:
     return ready(other, rounds) + opens, {"opened": 0}
 
 
+def refused(other: str, rounds: int, count: int) -> Script:
+    asked, _ = unanswered(other, rounds, count)
+    return [*asked, f"calm {rounds * count}"], {"opened": 0, "ended": count}
+
+
 def quiet(_: str, __: int, count: int) -> Script:
     return [f"calm {count}"], {"opened": 0}
 
@@ -228,6 +233,7 @@ MEASURED: list[tuple[str, Make, list[str], list[tuple[int, ...]]]] = [
     ("bits that wait to be sent", waiting_bits, BETWEEN_TWO[:1], [(2_400, 24_000)]),
     ("bits for sockets without a connection", to_nobody, BETWEEN_TWO[:1], [(2_400, 24_000)]),
     ("connections that are asked for", unanswered, BETWEEN_TWO[:1], [(2_400, 24_000)]),
+    ("connections that are refused", refused, BETWEEN_TWO[:1], [(2_400, 24_000)]),
     ("connections open at one host", at_one_host, ["plain mailboxes of 64 hosts"], [(180, 1_800)]),
     ("connections open over pairs of hosts", over_pairs, OF_64, [(200, 2_000)]),
     ("initial connections over pairs of hosts", initial_over_pairs, OF_64, [(60, 600)]),
