@@ -1,5 +1,5 @@
 -- What each moment reports of data: one notice of what goes out on a connection's link, at most one of what comes in on it, and none otherwise.
-use Rattle.std.proofs.Common.{◌≡◌, ◌⊎◌, inl, inr, ℕ, ◌*◌, ◌==◌, Bool, true, false, if◌then◌else◌, List, [], ◌∷◌, ◌++◌, take, find, Option, Some, None, refl, ap, sym, subst, ◌∙◌}
+use Rattle.std.proofs.Common.{◌≡◌, ◌⊎◌, inl, inr, ℕ, ◌*◌, ◌==◌, Bool, true, false, if◌then◌else◌, List, [], ◌∷◌, ◌++◌, take, find, Option, Some, None, refl, ap, sym, subst}
 use Rattle.std.proofs.lemmas.Bool.{eqb-true}
 use Rattle.interface.specs.Host.{Host, same_host}
 use Rattle.interface.specs.Mailboxes as mail
@@ -36,12 +36,10 @@ use Rattle.net_sim.specs.Timeline.{IsTimeline, crossings_of}
 use Rattle.net_sim.specs.Told.{notices_by}
 use Rattle.net_sim.proofs.lemmas.{places_same}
 use Rattle.world_keeps_pairing.proofs.lemmas.{queued_commands}
+use Rattle.world_keeps_lives.proofs.Facts.{no}
 use Rattle.world_keeps_lives.proofs.Requests.{Each, MayTell, each_weaker}
 use Rattle.world_keeps_lives.proofs.RequestCalls.{Ends, answer_keeps, message_keeps, offer_keeps, request_told}
 use Rattle.world_keeps_lives.proofs.Grounds.{Going, Grounded, Tells, flow_is, going_now, going_rules, grounded_hears, grounded_rules, grounds, still_grounded}
-
-no : {A : Type 0} (b : Bool) → b ≡ true → b ≡ false → A
-no b e f = absurd (let both : true ≡ false = sym e ∙ f in cc)
 
 -- ---- data
 

@@ -42,6 +42,7 @@ use Rattle.promise.specs.declared.life.Life.{Life}
 use Rattle.net_sim.proofs.lemmas.{coupled, places_same}
 use Rattle.world_keeps_pairing.proofs.lemmas.{book_lives, book_run}
 use Rattle.world_keeps_lives.specs.Firsts.{AreAfter, AreApart, FirstBook, Linked, data_in, text_of}
+use Rattle.world_keeps_lives.proofs.Facts.{no}
 use Rattle.world_keeps_lives.proofs.Calms.{Calm, calm_moment}
 use Rattle.world_keeps_lives.proofs.DataTold.{TakesIf, answer_told, asking_told, bytes_told, control_told, message_takes, offer_told}
 use Rattle.world_keeps_lives.proofs.FirstEnds.{Apart, AtEnd, Together, Good, Lawful, Tracked, all_due, at_end, ends_in, flow_link, lives_in}
@@ -52,9 +53,6 @@ use Rattle.world_keeps_lives.proofs.Grounds.{Going, Tells, goes_of, going_rules}
 use Rattle.world_keeps_lives.proofs.Laws.{live}
 use Rattle.world_keeps_lives.proofs.Requests.{Each, MayTell, each_in, each_of, found_in}
 use Rattle.world_keeps_lives.proofs.Stamps.{stamped}
-
-no : {A : Type 0} (b : Bool) → b ≡ true → b ≡ false → A
-no b e f = absurd (let both : true ≡ false = sym e ∙ f in cc)
 
 -- ---- what is on no link of a life
 

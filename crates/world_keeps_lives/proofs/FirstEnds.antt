@@ -1,5 +1,5 @@
 -- The ends of lives that aren't over, each on its link. What is asked of two programs together is `Together`.
-use Rattle.std.proofs.Common.{◌≡◌, ◌⊎◌, inr, ℕ, ◌<◌, ◌≤◌, ◌==◌, Bool, true, false, if◌then◌else◌, List, [], ◌∷◌, map, drop, length, Some, None, refl, ap, sym, subst, ◌∙◌, arith, eq-eqb}
+use Rattle.std.proofs.Common.{◌≡◌, ◌⊎◌, inr, ℕ, ◌<◌, ◌≤◌, ◌==◌, Bool, true, false, if◌then◌else◌, List, [], ◌∷◌, map, drop, length, Some, refl, ap, sym, subst, ◌∙◌, arith, eq-eqb}
 use Rattle.std.specs.List.{Contains}
 use Rattle.std.proofs.Math.Nat.{max-le}
 use Rattle.std.proofs.lemmas.Bool.{eqb-true}
@@ -35,6 +35,7 @@ use Rattle.net_sim.specs.Told.{kept_in, notices_by}
 use Rattle.promise.specs.declared.life.Life.{Life}
 use Rattle.world_keeps_lives.specs.Firsts.{IsFirst, IsSentIn, Linked, begun, texts_for}
 use Rattle.world_keeps_lives.specs.Lives.{HasOpenEnd}
+use Rattle.world_keeps_lives.proofs.Facts.{no, no_place, one_place}
 use Rattle.world_keeps_lives.proofs.Desks.{open_mine}
 use Rattle.world_keeps_lives.proofs.FirstLists.{Pairwise, each_all, life_of, mapped}
 use Rattle.world_keeps_lives.proofs.Formed.{alone_on, one_is}
@@ -43,15 +44,6 @@ use Rattle.world_keeps_lives.proofs.Laws.{live}
 use Rattle.world_keeps_lives.proofs.Requests.{Begins, Each, Goes, Hears, MayTell, Rules, each_in, each_of}
 use Rattle.world_keeps_lives.proofs.Stamps.{Due, open_back}
 use Rattle.world_keeps_lives.proofs.Texts.{IsFull}
-
-no : {A : Type 0} (b : Bool) → b ≡ true → b ≡ false → A
-no b e f = absurd (let both : true ≡ false = sym e ∙ f in cc)
-
-no_place : {A : Type 0} (b : ℕ) → None ≡ Some b → A
-no_place b e = absurd (cc)
-
-one_place : (a b : ℕ) → Some a ≡ Some b → a ≡ b
-one_place a b e = cc
 
 abbrev pub Lawful : List Host → List Moment → Type 0
 Lawful hosts ms = HaveAddresses hosts × mail.IsRun hosts (crossings_of ms) × IsTimeline hosts ms

@@ -24,6 +24,7 @@ use Rattle.net_sim.proofs.lemmas.{Coupled, coupled, places_same}
 use Rattle.world_keeps_pairing.proofs.lemmas.{queued_commands, safe_partners, served_in}
 use Rattle.world_keeps_lives.specs.Firsts.{IsFirst, IsSentIn, Linked, all_data, begun, data_in, text_of, texts_for}
 use Rattle.world_keeps_lives.specs.Lives.{HasOpenEnd, mine_on}
+use Rattle.world_keeps_lives.proofs.Facts.{no}
 use Rattle.world_keeps_lives.proofs.Calms.{Born, Calm, kept_as, kept_so}
 use Rattle.world_keeps_lives.proofs.FirstLists.{After, AreDistinct, From, Pairwise, after_all, all_distinct, each_changed, each_two, from_map, life_of, map_life, mapped, pairs_all, pairs_append, pairs_both, pairs_changed, two_in}
 use Rattle.world_keeps_lives.proofs.FirstEnds.{Apart, Together, Good, Held, Lawful, Owner, Tracked, answered_before, asked_before, at_end, begun_before, ends_in, held_begins, held_may, held_rules, is_end, linked_off, lives_in, never_two, owned}
@@ -33,9 +34,6 @@ use Rattle.world_keeps_lives.proofs.Laws.{live}
 use Rattle.world_keeps_lives.proofs.Requests.{Each, each_append, each_in, each_of, each_weaker, first_of, later_of}
 use Rattle.world_keeps_lives.proofs.Stamps.{HasLife, Now}
 use Rattle.world_keeps_lives.proofs.Texts.{IsFull, before_all, before_here, before_still, first_more, first_still, full_more, take_whole, texts_none, texts_same}
-
-no : {A : Type 0} (b : Bool) → b ≡ true → b ≡ false → A
-no b e f = absurd (let both : true ≡ false = sym e ∙ f in cc)
 
 off_not : (b : Bool) → not b ≡ true → b ≡ false
 off_not true e = absurd (let both : false ≡ true = e in cc)

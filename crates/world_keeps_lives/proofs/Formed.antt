@@ -1,5 +1,5 @@
 -- The lives of a book are made of messages that crossed.
-use Rattle.std.proofs.Common.{◌≡◌, ◌⊎◌, inl, inr, ℕ, ◌*◌, ◌<◌, ◌==◌, Bool, true, false, not, ◌&&◌, if◌then◌else◌, List, [], ◌∷◌, ◌++◌, map, filter, take, drop, length, Option, Some, None, refl, ap, sym, subst, ◌∙◌, arith, eq-eqb}
+use Rattle.std.proofs.Common.{◌≡◌, ◌⊎◌, inl, inr, ℕ, ◌*◌, ◌<◌, ◌==◌, Bool, true, false, not, ◌&&◌, if◌then◌else◌, List, [], ◌∷◌, ◌++◌, map, filter, take, drop, length, Option, Some, refl, ap, sym, subst, ◌∙◌, arith, eq-eqb}
 use Rattle.std.specs.List.{Contains}
 use Rattle.std.proofs.lemmas.Bool.{eqb-true}
 use Rattle.std.proofs.Math.Seq.{drop-append_seam}
@@ -46,20 +46,12 @@ use Rattle.net_sim.proofs.lemmas.{coupled, places_same}
 use Rattle.world_keeps_pairing.proofs.lemmas.{book_lives, book_run}
 use Rattle.world_keeps_pairing.proofs.lemmas.{queued_commands}
 use Rattle.world_keeps_lives.specs.Lives.{HasOpenEnd, mine_on}
+use Rattle.world_keeps_lives.proofs.Facts.{no, no_place, one_place}
 use Rattle.world_keeps_lives.proofs.Desks.{open_mine}
 use Rattle.world_keeps_lives.proofs.Laws.{live}
 use Rattle.world_keeps_lives.proofs.DataTold.{TakesIf, answer_told, asking_told, bytes_told, control_told, message_takes, offer_told}
 use Rattle.world_keeps_lives.proofs.Requests.{Begins, Each, Goes, Hears, MayTell, Rules, each_append, each_filter, each_in, each_map, each_of, each_weaker, first_of, found_in, later_of}
 use Rattle.world_keeps_lives.proofs.Grounds.{Going, Grounded, IsAnswered, IsAsked, May, Nothing, Tells, crossed_below, goes_of, going_rules, grounds, step_ends, still_crossed}
-
-no : {A : Type 0} (b : Bool) → b ≡ true → b ≡ false → A
-no b e f = absurd (let both : true ≡ false = sym e ∙ f in cc)
-
-no_place : {A : Type 0} (b : ℕ) → None ≡ Some b → A
-no_place b e = absurd (cc)
-
-one_place : (a b : ℕ) → Some a ≡ Some b → a ≡ b
-one_place a b e = cc
 
 -- ---- the end of a life that continues has the link of its messages
 

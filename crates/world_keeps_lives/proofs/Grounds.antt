@@ -1,5 +1,5 @@
 -- The requests of each end of a host's program, in the messages that crossed.
-use Rattle.std.proofs.Common.{◌≡◌, inl, inr, ℕ, ◌<◌, Bool, true, false, if◌then◌else◌, zero, suc, List, [], ◌∷◌, map, take, drop, length, slice_index_or, Some, None, refl, ap, sym, subst, ◌∙◌, arith}
+use Rattle.std.proofs.Common.{◌≡◌, inl, inr, ℕ, ◌<◌, Bool, true, false, if◌then◌else◌, zero, suc, List, [], ◌∷◌, map, take, drop, length, slice_index_or, Some, refl, ap, sym, subst, ◌∙◌, arith}
 use Rattle.std.specs.List.{Contains}
 use Rattle.std.proofs.lemmas.Bool.{eqb-true}
 use Rattle.std.proofs.lemmas.List.{take-append-drop}
@@ -41,6 +41,7 @@ use Rattle.net_sim.specs.Timeline.{IsTimeline, crossings_of}
 use Rattle.net_sim.proofs.lemmas.{coupled, flow_of, places_same, program_own}
 use Rattle.world_keeps_pairing.proofs.lemmas.{even_odd, programs_ranged, send_odd, served_in}
 use Rattle.world_keeps_pairing.proofs.lemmas.{queued_commands, queued_link}
+use Rattle.world_keeps_lives.proofs.Facts.{no_place, one_place}
 use Rattle.world_keeps_lives.proofs.Requests.{Begins, Each, Goes, Hears, IsOther, MayTell, Quiet, Rules, each_of, each_weaker}
 use Rattle.world_keeps_lives.proofs.RequestCalls.{Done, Ends, MayTake, answer_keeps, message_keeps, offer_keeps, request_keeps}
 
@@ -93,12 +94,6 @@ rts_is own foreign link e = ap (λ (b : Bool). if b then command.Rts own foreign
 
 str_is : (own foreign size : ℕ) → is_send_socket own ≡ true → request own foreign size ≡ command.Str own foreign size
 str_is own foreign size e = ap (λ (b : Bool). if b then command.Rts own foreign size else command.Str own foreign size) (send_odd own e)
-
-one_place : (a b : ℕ) → Some a ≡ Some b → a ≡ b
-one_place a b e = cc
-
-no_place : {A : Type 0} (b : ℕ) → None ≡ Some b → A
-no_place b e = absurd (cc)
 
 false_is : {A : Type 0} → false ≡ true → A
 false_is e = absurd (cc)

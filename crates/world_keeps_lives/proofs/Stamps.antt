@@ -1,5 +1,5 @@
 -- Where a user is notified of an opening, one of its two requests has just crossed, unless a life of its own request is there.
-use Rattle.std.proofs.Common.{◌≡◌, ◌⊎◌, inl, inr, ℕ, Bool, true, false, List, Some, None, is_some, refl, ap, sym, subst, ◌∙◌}
+use Rattle.std.proofs.Common.{◌≡◌, ◌⊎◌, inl, inr, ℕ, Bool, true, false, List, Some, is_some, refl, ap, sym, subst, ◌∙◌}
 use Rattle.std.specs.List.{Contains}
 use Rattle.interface.specs.Host.{Host}
 use Rattle.interface.specs.Mailboxes as mail
@@ -20,18 +20,10 @@ use Rattle.net_sim.specs.Timeline.{IsTimeline, crossings_of}
 use Rattle.net_sim.specs.Told.{notices_by}
 use Rattle.promise.specs.declared.life.Life.{Life}
 use Rattle.world_keeps_pairing.proofs.lemmas.{queued_commands}
+use Rattle.world_keeps_lives.proofs.Facts.{no, no_place, one_place}
 use Rattle.world_keeps_lives.proofs.Desks.{IsAnOpen, open_parts}
 use Rattle.world_keeps_lives.proofs.Requests.{Begins, Each, Goes, Hears, IsOther, MayTell, Quiet, Rules}
 use Rattle.world_keeps_lives.proofs.RequestCalls.{answer_keeps, message_keeps, offer_keeps, request_told}
-
-no : {A : Type 0} (b : Bool) → b ≡ true → b ≡ false → A
-no b e f = absurd (let both : true ≡ false = sym e ∙ f in cc)
-
-no_place : {A : Type 0} (n : ℕ) → None ≡ Some n → A
-no_place n e = absurd (cc)
-
-one_place : (m n : ℕ) → Some m ≡ Some n → m ≡ n
-one_place m n e = cc
 
 -- an end that is open was so before, where nothing but its closing has changed
 pub open_back : (e f : Entry) → Quiet e f → is_open f ≡ true → is_open e ≡ true
