@@ -82,6 +82,9 @@ impl Imp {
     }
 
     /// Hands back a list that a call answered, once its frames are on their lines. A later call uses its memory again.
+    ///
+    /// Measured: without it, messages over a chain of eight IMPs take some 3 % more instructions, and messages on 40
+    /// connections over four IMPs some 2 %.
     pub fn reuse(&mut self, frames: Vec<Outgoing>)
         requires { frames.items ≡ [] }
         ensures { self.new ≡ self.old }
