@@ -146,7 +146,7 @@ export function drawFoot(stops, at, hidden, can) {
 }
 
 /**
- * Marks the chosen tab, and says at the tab of what waits how much does.
+ * Marks the chosen tab and brings it into sight, and says at the tab of what waits how much does.
  *
  * @param {string} chosen
  * @param {number} waits
@@ -154,7 +154,10 @@ export function drawFoot(stops, at, hidden, can) {
  */
 export function drawTabs(chosen, waits, isBad) {
     for (const [name] of TABS) {
-        set(byId(`tab-${name}`), { "aria-selected": String(name === chosen), tabindex: name === chosen ? 0 : -1 });
+        const tab = byId(`tab-${name}`);
+        const isNew = name === chosen && tab.getAttribute("aria-selected") !== "true";
+        set(tab, { "aria-selected": String(name === chosen), tabindex: name === chosen ? 0 : -1 });
+        if (isNew) tab.scrollIntoView({ block: "nearest", inline: "center" });
     }
     const count = byId("tab-waits").querySelector(".count");
     if (!(count instanceof HTMLElement)) return;
