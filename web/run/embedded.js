@@ -36,7 +36,7 @@ const DIGITS = "0123456789ABCDEFGHIJKLMNOPQRSTUVWXYZabcdefghijklmnopqrstuvwxyz!#
  * for those that are left.
  *
  * @param {string} text
- * @returns {Uint8Array<ArrayBuffer>}
+ * @returns {Uint8Array}
  */
 export function octetsOf(text) {
     const values = new Uint8Array(128).fill(DIGITS.length - 1);
