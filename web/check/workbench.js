@@ -15,7 +15,9 @@ import * as trials from "./trials.js";
 /** @typedef {import("./browser.js").Browser} Browser */
 
 const WIDE = /** @type {[number, number]} */ ([1440, 900]);
-const SIZES = /** @type {[number, number][]} */ ([[390, 844], [720, 450], [1024, 768], [1280, 720], WIDE]);
+const SIZES = /** @type {[number, number][]} */ (
+    [[360, 640], [390, 844], [844, 390], [720, 450], [1024, 768], [1280, 720], WIDE]
+);
 const LARGER = /** @type {[number, number][]} */ ([[1024, 768], WIDE]);
 const MOST_OCTETS = 900_000;
 const SHOWN = [
