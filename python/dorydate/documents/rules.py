@@ -2,7 +2,8 @@
 
 Read from the sources: definitions of specs/ with the comment above them, the clauses `ensures` of functions in src/, the tables of rows in
 CLAIMS.md, and the edits of must-fail/ and wrong-bodies/ by the function that they change. `./check docs --rule WORD..` prints the rules that
-have these words, each with its definition and its functions.
+have these words, each with its definition and its functions; of a definition that no contract cites, the functions whose contracts
+cite one that uses it, by the shortest way.
 """
 
 from __future__ import annotations
@@ -11,6 +12,7 @@ import functools
 import glob
 import os
 import re
+from collections.abc import Iterable
 from dataclasses import dataclass
 
 from dorydate.parts import ROOT
@@ -19,10 +21,13 @@ from dorydate.drawings.repository import layers
 PAGE = f"{ROOT}/docs/measured/rules.md"
 HEAD = """# From a rule to its code
 
-`./check docs --write` makes this page from the sources, and `./check docs` compares it. It has each definition that the contract of a function cites, with the comment above it, the function, the rows that fail if the definition is read otherwise, and the bugs that are planted in the function. Each name leads to its line. `./check docs --rule WORD..` prints the rules with these words, with the text of the definition and of its functions.
+`./check docs --write` makes this page from the sources, and `./check docs` compares it. It has each definition that the contract of a function cites, with the comment above it or else its name in words, the function, the rows that fail if the definition is read otherwise, and the bugs that are planted in the function. Each name leads to its line. `./check docs --rule WORD..` prints the rules with these words, with the text of the definition and of its functions; those too that contracts cite only by way of other definitions.
 """
 DEFINED = re.compile(r"^(?:(?:unfoldable|abbrev) )?pub (?:record |data )?([\w'-]+)\b.*$", re.MULTILINE)
 FUNCTION = re.compile(r"^( *)(?:pub(?:\(\w+\))? )?(?:const )?fn (\w+)", re.MULTILINE)
+CLAUSE = re.compile(r"^ *ensures (?:\w+ )?\{(.*)\};?$", re.MULTILINE)
+MEMBER = re.compile(r"^    ghost (\w+) = \{(.*)\};$", re.MULTILINE)
+IMPORT = re.compile(r"use Rattle\.(\w+)\.specs\.[\w.]+\.\{([^}]*)\}")
 SHOWN = 3  # functions and bugs of a rule that are named, the others counted
 
 
@@ -49,7 +54,7 @@ class Text:
 
 @dataclass(frozen=True)
 class Definition(Text):
-    """A definition of specs/, with the comment above it in one line."""
+    """A definition of specs/, with the comment above it in one line, or else its name in words."""
 
     words: str
 
@@ -99,19 +104,24 @@ def is_words(line: str) -> bool:
     return line.startswith("-- ") and not line.startswith("-- ----")
 
 
+def in_words(name: str) -> str:
+    """The name of a definition in words: `give_up_grows` and `RunGives` are "give up grows" and "run gives"."""
+    return re.sub(r"(?<=[a-z])(?=[A-Z])|_", " ", name).lower()
+
+
 def definitions_in(file: str, text: str) -> list[Definition]:
-    """The definitions of a file of specs/ that have a comment directly above them, up to the next empty line or comment."""
+    """The definitions of a file of specs/, each with the comment above it and up to the next empty line, comment or definition."""
     lines, found = text.split("\n"), []
     for at, line in enumerate(lines):
         name = DEFINED.match(line)
-        if not name or not at or not is_words(lines[at - 1]):
+        if not name or name[1] == "use":
             continue
-        top, end = at - 1, at + 1
+        top, end = at, at + 1
         while top > 0 and is_words(lines[top - 1]):
             top -= 1
-        while end < len(lines) and lines[end] and not lines[end].startswith("--"):
+        while end < len(lines) and lines[end] and not lines[end].startswith("--") and not DEFINED.match(lines[end]):
             end += 1
-        words = " ".join(it.removeprefix("-- ") for it in lines[top:at]).replace("|", "/")
+        words = " ".join(it.removeprefix("-- ") for it in lines[top:at]).replace("|", "/") or in_words(name[1])
         found.append(Definition(name[1], Place(file, at + 1), "\n".join(lines[top:end]), words))
     return found
 
@@ -137,19 +147,26 @@ def bugs(crate: str) -> list[Bug]:
     return found
 
 
+def owner_at(text: str, place: int) -> str:
+    """The type of the `impl` above a place of a file, as the beginning of a path; nothing if there is none."""
+    owners = re.findall(r"^impl(?:<[^>]*>)? (?:.* for )?(\w+)", text[:place], re.MULTILINE)
+    return f"{owners[-1]}::" if owners else ""
+
+
 def functions_in(file: str, text: str, planted: list[Bug]) -> list[Function]:
-    """The functions of a file of src/."""
+    """The functions of a file of src/, and then what its types say of themselves as traits ask for it (`ghost calls = { plain_calls };`)."""
     found, starts = [], list(FUNCTION.finditer(text))
     for at, start in enumerate(starts):
         end = starts[at + 1].start() if at + 1 < len(starts) else len(text)
         whole = text[start.start() : end]
-        contract = "\n".join(re.findall(r"^ *ensures (?:\w+ )?\{(.*)\}$", whole, re.MULTILINE))
-        owners = re.findall(r"^impl(?:<[^>]*>)? (?:.* for )?(\w+)", text[: start.start()], re.MULTILINE) if start[1] else []
-        name = f"{owners[-1]}::{start[2]}" if owners else start[2]
+        name = (owner_at(text, start.start()) if start[1] else "") + start[2]
         place = Place(file, text.count("\n", 0, start.start()) + 1)
-        own = re.match(rf".*[;}}]$|[\s\S]*?^{start[1]}(?:}}|{{}})$", whole, re.MULTILINE)
-        cited = frozenset(re.findall(r"[\w'-]+", contract))
+        own = re.match(rf".*[;}}]$|[\s\S]*?^{start[1]}(?:}}|{{}})$|[\s\S]*?\}};$", whole, re.MULTILINE)
+        cited = frozenset(re.findall(r"[\w'-]+", "\n".join(CLAUSE.findall(whole))))
         found.append(Function(name, place, own[0] if own else whole, cited, tuple(it for it in planted if it.file == file and it.old in whole)))
+    for it in MEMBER.finditer(text):
+        place = Place(file, text.count("\n", 0, it.start()) + 1)
+        found.append(Function(owner_at(text, it.start()) + it[1], place, it[0], frozenset(re.findall(r"[\w'-]+", it[2])), ()))
     return found
 
 
@@ -237,21 +254,66 @@ def faults() -> list[str]:
     return [] if stored == made else differing(stored, made)
 
 
-def has_words(crate: str, rule: Rule, words: list[str]) -> bool:
+def named(crate: str, file: str, words: Iterable[str]) -> set[tuple[str, str]]:
+    """The definitions that these words of a file name, each with its crate: those that the file imports, else of its own crate."""
+    imported = {name: owner for owner, names in IMPORT.findall(read(f"{ROOT}/{file}")) for name in re.split(r",\s*", names)}
+    return {(imported.get(it, crate), it) for it in words}
+
+
+class Ways:
+    """The ways from each definition to the functions whose contracts cite it, or cite one that uses it."""
+
+    def __init__(self) -> None:
+        self.found: dict[tuple[str, str], Definition] = {}
+        self.users: dict[tuple[str, str], list[tuple[str, str]]] = {}
+        self.calls: dict[tuple[str, str], list[Function]] = {}
+        for crate in crates():
+            for call in functions(crate):
+                for it in named(crate, call.place.file, call.cites):
+                    self.calls.setdefault(it, []).append(call)
+            for name, definition in definitions(crate).items():
+                self.found[crate, name] = definition
+                for it in named(crate, definition.place.file, re.findall(r"[\w'-]+", re.sub(r"--.*", "", definition.text))) - {(crate, name)}:
+                    self.users.setdefault(it, []).append((crate, name))
+
+    def shortest(self, start: tuple[str, str]) -> tuple[list[str], list[Function]]:
+        """The names on the shortest way from a definition to one that contracts cite, and the functions there."""
+        ways: dict[tuple[str, str], list[str]] = {start: []}
+        for at in (ahead := [start]):
+            if at in self.calls:
+                return ways[at], self.calls[at]
+            for it in self.users.get(at, []):
+                if it not in ways:
+                    ways[it] = [*ways[at], it[1]]
+                    ahead.append(it)
+        return [], []
+
+
+def has_words(crate: str, definition: Definition, calls: list[Function], words: list[str]) -> bool:
     """Whether all of these words occur in a rule, as the name of its crate or its functions, or in its definition."""
-    searched = " ".join([crate, rule.definition.text, *(it.name for it in rule.functions)]).lower()
+    searched = " ".join([crate, definition.text, *(it.name for it in calls)]).lower()
     return all(it.lower() in searched for it in words)
 
 
-def shown(rule: Rule) -> str:
+def shown(definition: Definition, way: list[str], calls: list[Function], guarded: str) -> str:
     """A rule with the text of its definition and of its functions, its rows and its planted bugs."""
-    texts = [f"{it.place.file}:{it.place.line}\n{it.text}\n" for it in (rule.definition, *rule.functions[:SHOWN])]
-    rows_of = [f"rows: {rule.rows}"] if rule.rows else []
-    return "\n".join([*texts, *rows_of, *(f"planted bug: {it.place.file}" for it in rule.bugs()), ""])
+    texts = [f"{it.place.file}:{it.place.line}\n{it.text}\n" for it in (definition, *calls[:SHOWN])]
+    if way:
+        texts.insert(1, f"used by {', and that by '.join(way)}, which is cited by\n")
+    rows_of = [f"rows: {guarded}"] if guarded else []
+    attacked = dict.fromkeys(bug for it in calls for bug in it.bugs)
+    return "\n".join([*texts, *rows_of, *(f"planted bug: {it.place.file}" for it in attacked), ""])
 
 
 def show(words: list[str]) -> int:
-    """Prints the rules in which all of these words occur, and returns how many there are."""
-    found = [it for crate in crates() for it in rules(crate) if has_words(crate, it, words)]
-    print("\n".join(shown(it) for it in found))
+    """Prints the rules in which all of these words occur, those with them in their names first, and returns how many there are."""
+    ways = Ways()
+    found = []
+    for (crate, name), it in ways.found.items():
+        way, calls = ways.shortest((crate, name))
+        if calls and has_words(crate, it, calls, words):
+            named_so = name in words, sum(word.lower() in name.lower() for word in words)
+            found.append((named_so, -len(way), shown(it, way, calls, rows(crate).get(name, ""))))
+    found.sort(key=lambda it: it[:2], reverse=True)
+    print("\n".join(text for *_, text in found))
     return len(found)

@@ -118,9 +118,11 @@ SPECS = """-- ---- sizes
 -- there are
 abbrev pub count : ℕ
 count = 3
-pub bare : ℕ
+pub IsBare : ℕ
 """
-SOURCE = """impl Store {
+SOURCE = """impl Shown for Store {
+    ghost shows = { count };
+
     /// Returns how many there are.
     pub fn count(&self) -> usize
         ensures { result ≡ count }
@@ -128,31 +130,43 @@ SOURCE = """impl Store {
         self.len
     }
 
-    fn other(&self) {}
+    fn other(&self)
+        ensures { IsBare };
 }
 """
 
 
 class Rules(unittest.TestCase):
     def test_a_definition_has_the_comment_above_it_and_its_line(self) -> None:
-        (found,) = rules.definitions_in("crates/a/specs/A.antt", SPECS)
+        found, bare = rules.definitions_in("crates/a/specs/A.antt", SPECS)
         self.assertEqual((found.name, found.place.line, found.words), ("count", 5, "how many there are"))
-        self.assertEqual(found.text, "-- how many\n-- there are\nabbrev pub count : ℕ\ncount = 3\npub bare : ℕ")
+        self.assertEqual(found.text, "-- how many\n-- there are\nabbrev pub count : ℕ\ncount = 3")
+        self.assertEqual((bare.name, bare.place.line, bare.words), ("IsBare", 7, "is bare"))
 
     def test_a_function_has_what_its_contract_cites_and_the_bugs_in_it(self) -> None:
         bugs = [rules.Bug(name, rules.Place(name), "crates/a/src/a.rt", old) for name, old in (("in", "self.len"), ("out", "self.size"))]
-        count, other = rules.functions_in("crates/a/src/a.rt", SOURCE, bugs)
-        self.assertEqual((count.name, count.place.line, [it.name for it in count.bugs]), ("Store::count", 3, ["in"]))
+        count, other, shows = rules.functions_in("crates/a/src/a.rt", SOURCE, bugs)
+        self.assertEqual((count.name, count.place.line, [it.name for it in count.bugs]), ("Store::count", 5, ["in"]))
         self.assertIn("count", count.cites)
         self.assertTrue(count.text.endswith("self.len\n    }"))
-        self.assertEqual((other.place.line, other.text, other.cites), (9, "    fn other(&self) {}", frozenset()))
+        self.assertEqual((other.place.line, other.text, other.cites), (11, "    fn other(&self)\n        ensures { IsBare };", frozenset({"IsBare"})))
+        self.assertEqual((shows.name, shows.place.line, shows.cites), ("Store::shows", 2, frozenset({"count"})))
 
     def test_a_rule_leads_to_the_lines_of_its_names(self) -> None:
-        (definition,) = rules.definitions_in("crates/a/specs/A.antt", SPECS)
+        definition, _ = rules.definitions_in("crates/a/specs/A.antt", SPECS)
         rule = rules.Rule(definition, rules.functions_in("crates/a/src/a.rt", SOURCE, [])[:1], "`row`")
-        self.assertEqual(rules.row_of(rule), "| how many there are | [`count`](../../crates/a/specs/A.antt#L5) | [`Store::count`](../../crates/a/src/a.rt#L3) | `row` |  |")
-        self.assertTrue(rules.has_words("a", rule, ["MANY", "store"]))
-        self.assertFalse(rules.has_words("a", rule, ["many", "few"]))
+        self.assertEqual(rules.row_of(rule), "| how many there are | [`count`](../../crates/a/specs/A.antt#L5) | [`Store::count`](../../crates/a/src/a.rt#L5) | `row` |  |")
+        self.assertTrue(rules.has_words("a", definition, rule.functions, ["MANY", "store"]))
+        self.assertFalse(rules.has_words("a", definition, rule.functions, ["many", "few"]))
+
+    def test_a_definition_leads_by_the_shortest_way_to_the_functions_that_cite_one_that_uses_it(self) -> None:
+        ways = rules.Ways.__new__(rules.Ways)
+        call = rules.functions_in("crates/a/src/a.rt", SOURCE, [])[0]
+        ways.users = {("a", "low"): [("a", "far"), ("b", "near")], ("a", "far"): [("b", "end")]}
+        ways.calls = {("b", "near"): [call], ("b", "end"): [call]}
+        self.assertEqual(ways.shortest(("a", "low")), (["near"], [call]))
+        self.assertEqual(ways.shortest(("b", "near")), ([], [call]))
+        self.assertEqual(ways.shortest(("a", "none")), ([], []))
 
     def test_a_page_that_isnt_as_it_is_made_is_named(self) -> None:
         (fault,) = rules.differing("| a | [`count`](x#L5) |", "| a | [`count`](x#L6) |\n| b | [`more`](x#L9) |")
