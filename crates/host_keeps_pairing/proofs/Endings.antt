@@ -85,18 +85,12 @@ module _ (origin : ℕ → ℕ) (own foreign : ℕ) where
   -- ---- a pair that is ready no longer
 
   reset_knows : (peer : Host) (q : PairState) (ph : Phase) (x : End) (k : List Life) → q.phase ≡ ph → (is_ready q.phase ≡ false → x ≡ nothing) → Knows k x → Knows (all_known origin peer own foreign (reset_notices peer ph) k) nothing
-  reset_knows peer q phase.Closed x k e idle h = knows_nothing q x k idle (ap is_ready e) h
-  reset_knows peer q phase.Want x k e idle h = knows_nothing q x k idle (ap is_ready e) h
-  reset_knows peer q (phase.Gone early) x k e idle h = knows_nothing q x k idle (ap is_ready e) h
-  reset_knows peer q phase.Heard x k e idle h = knows_nothing q x k idle (ap is_ready e) h
   reset_knows peer q phase.Ready x k e idle h = let same : same_host peer peer ≡ true = same_host-refl peer in rw same tt
+  reset_knows peer q ph x k e idle h = knows_nothing q x k idle (ap is_ready e) h
 
   reply_same : (peer : Host) (ph : Phase) (k : List Life) → all_known origin peer own foreign (reply_notices peer ph) k ≡ k
   reply_same peer phase.Closed k = refl
-  reply_same peer phase.Want k = refl
-  reply_same peer (phase.Gone early) k = refl
-  reply_same peer phase.Heard k = refl
-  reply_same peer phase.Ready k = refl
+  reply_same peer ph k = refl
 
   -- notices after none
   after_none : (peer : Host) (old ns : List Notice) (k : List Life) (y : End) → old ≡ [] → Knows (all_known origin peer own foreign ns k) y → Knows (all_known origin peer own foreign (old ++ ns) k) y
@@ -122,9 +116,7 @@ module _ (origin : ℕ → ℕ) (own foreign : ℕ) where
   answered_knows peer answer.Rfnm link t x k none h knows =
       after_none peer t.notices [] k (kept_in (answered_turn peer answer.Rfnm link t).pair x) none
       (knows_kept (answered_turn peer answer.Rfnm link t).pair x k (λ e. h.idle (rfnm_idle (link == 0) t.pair.phase e)) knows)
-  answered_knows peer answer.Incomplete link t x k none h knows = failing_knows peer (record t { pair = freed link t.pair }) x k none h.idle knows
-  answered_knows peer answer.Dead link t x k none h knows = failing_knows peer (record t { pair = freed link t.pair }) x k none h.idle knows
-  answered_knows peer answer.NotTaken link t x k none h knows = failing_knows peer (record t { pair = freed link t.pair }) x k none h.idle knows
+  answered_knows peer kind link t x k none h knows = failing_knows peer (record t { pair = freed link t.pair }) x k none h.idle knows
 
   -- ---- a host
 
@@ -197,25 +189,15 @@ module _ (origin : ℕ → ℕ) (own foreign : ℕ) where
       → Knows (all_known origin peer own foreign (served_notices s r) k) (after_request peer r x)
   unfolding served_notices
   request_knows s (request.Contact contacted) peer x k h knows = contact_knows s contacted peer x k h knows (same_host peer contacted) (is_ready (pair_with contacted s.peers).phase) refl refl
-  request_knows s (request.Listen socket size) peer x k h knows = knows
-  request_knows s (request.OpenSend host mine yours size) peer x k h knows = knows
-  request_knows s (request.OpenReceive host mine yours) peer x k h knows = knows
-  request_knows s (request.Send socket bits) peer x k h knows = knows
-  request_knows s (request.Grant socket messages bits) peer x k h knows = knows
-  request_knows s (request.AskBack socket messages bits) peer x k h knows = knows
-  request_knows s (request.Interrupt socket) peer x k h knows = knows
-  request_knows s (request.Close socket) peer x k h knows = knows
-  request_knows s (request.Echo host octet) peer x k h knows = knows
+  request_knows s r peer x k h knows = knows
 
   -- what goes out
   parcel_knows : (stamp : ℕ) (peer : Host) (listening : List Listener) (q : PairState) (p : Parcel) (x : End) → HasEnd origin own foreign q x
       → Learns origin peer own foreign [] (parcel_gone peer stamp q.busy p (desk_of q listening)).notices x (all_gone (marks stamp own foreign (commands_of q p)) x)
-  parcel_knows stamp peer listening q parcel.Reset x h = λ k knows. knows
-  parcel_knows stamp peer listening q parcel.Reply x h = λ k knows. knows
   parcel_knows stamp peer listening q (parcel.Commands count) x h =
       all_gone_learns origin peer own foreign 0 stamp (take count q.queue) (desk_of q listening) (marks 0 own foreign (drop count q.queue)) x
       (subst (λ (l : List Mark). Stand true origin 0 (at own foreign q.entries) l x) (parted origin own foreign 0 count q.queue) (h.ends 0))
-  parcel_knows stamp peer listening q (parcel.Bytes e size count) x h = λ k knows. knows
+  parcel_knows stamp peer listening q p x h = λ k knows. knows
 
   pub offer_knows : (s : NcpState) (stamp : ℕ) (g : Peer) (p : Parcel) (x : End) (k : List Life) → AreInOrder s.peers → next_in s.peers ≡ Some (g, p) → HasEnd origin own foreign (pair_with g.host s.peers) x
       → Knows k x → Knows (all_known origin g.host own foreign (offered s stamp).1 k) (all_gone (marks stamp own foreign (commands_of g.pair p)) x)
@@ -226,17 +208,10 @@ module _ (origin : ℕ → ℕ) (own foreign : ℕ) where
   -- ---- what is reported of another peer
 
   other_one : (peer other : Host) (n : Notice) (k : List Life) → IsAbout other n → same_host peer other ≡ false → known_after origin peer own foreign n k ≡ k
-  other_one peer other (notice.Ready p) k is away = refl
-  other_one peer other (notice.ContactFailed p) k is away = refl
   other_one peer other (notice.PairReset p) k is away = let e : same_host peer p ≡ false = ap (same_host peer) is ∙ away in rw e refl
   other_one peer other (notice.Opened socket p there asked partner) k is away = let e : same_host peer p ≡ false = ap (same_host peer) is ∙ away in rw e refl
   other_one peer other (notice.Ended socket p there) k is away = let e : same_host peer p ≡ false = ap (same_host peer) is ∙ away in rw e refl
-  other_one peer other (notice.Sent socket bits) k is away = refl
-  other_one peer other (notice.Arrived socket bits) k is away = refl
-  other_one peer other (notice.Returned socket messages bits) k is away = refl
-  other_one peer other (notice.Interrupt socket) k is away = refl
-  other_one peer other (notice.Echoed p octet) k is away = refl
-  other_one peer other (notice.RemoteError p code detail) k is away = refl
+  other_one peer other n k is away = refl
 
   pub others_leave : (peer other : Host) (ns : List Notice) (k : List Life) → AreAbout other ns → same_host peer other ≡ false → all_known origin peer own foreign ns k ≡ k
   others_leave peer other [] k are away = refl

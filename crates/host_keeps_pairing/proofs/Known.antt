@@ -308,7 +308,6 @@ module _ (origin : ℕ → ℕ) (peer : Host) (own foreign : ℕ) where
 
   pub taken_learns : (place : ℕ) (busy : List ℕ) (stamp : ℕ) (c : Command) (d : DeskState) (x : End) → AllFit (mark_of (origin stamp) foreign own c) x → On origin own foreign place true d x
       → Learns d.notices (commands.desk_taken peer busy stamp c d).notices x (words.all_taken (mark_of (origin stamp) foreign own c) x)
-  taken_learns place busy stamp command.Nop d x fit h = learns_none d.notices x
   taken_learns place busy stamp (command.Rts receive send link) d x fit h =
       let e : (receive == foreign && send == own) ≡ are send receive own foreign = and_turned (receive == foreign) (send == own) in
       to_all (receive == foreign && send == own) place send receive (Ask (origin stamp)) x d.notices (commands.desk_taken peer busy stamp (command.Rts receive send link) d).notices e
@@ -326,11 +325,9 @@ module _ (origin : ℕ → ℕ) (peer : Host) (own foreign : ℕ) where
   taken_learns place busy stamp (command.Ret link messages bits) d x fit h = found_learns (command.Ret link messages bits) (ret_taken link messages bits) (receiver_on link d) d x (λ e. ret_learns link messages bits e d x)
   taken_learns place busy stamp (command.Inr link) d x fit h = found_learns (command.Inr link) interrupted (sender_on link d) d x (λ e. learns_more d.notices (notice.Interrupt e.own ∷ []) x (λ k. refl))
   taken_learns place busy stamp (command.Ins link) d x fit h = found_learns (command.Ins link) interrupted (receiver_on link d) d x (λ e. learns_more d.notices (notice.Interrupt e.own ∷ []) x (λ k. refl))
-  taken_learns place busy stamp (command.Eco octet) d x fit h = learns_none d.notices x
   taken_learns place busy stamp (command.Erp octet) d x fit h = learns_more d.notices (notice.Echoed peer octet ∷ []) x (λ k. refl)
   taken_learns place busy stamp (command.Err code detail) d x fit h = learns_more d.notices (notice.RemoteError peer code detail ∷ []) x (λ k. refl)
-  taken_learns place busy stamp command.Rst d x fit h = learns_none d.notices x
-  taken_learns place busy stamp command.Rrp d x fit h = learns_none d.notices x
+  taken_learns place busy stamp c d x fit h = learns_none d.notices x
 
   -- ---- what goes out
 
@@ -359,20 +356,10 @@ module _ (origin : ℕ → ℕ) (peer : Host) (own foreign : ℕ) where
 
   gone_learns : (place stamp : ℕ) (c : Command) (d : DeskState) (ws : List Mark) (x : End) → Stand true origin place (at own foreign d.entries) (mark_of place own foreign c ++ ws) x
       → Learns d.notices (command_gone peer stamp c d).notices x (all_gone (mark_of stamp own foreign c) x)
-  gone_learns place stamp command.Nop d ws x h = learns_none d.notices x
   gone_learns place stamp (command.Rts receive send link) d ws x h = request_learns place stamp receive send d ws x (are receive send own foreign) refl h
   gone_learns place stamp (command.Str send receive size) d ws x h = request_learns place stamp send receive d ws x (are send receive own foreign) refl h
   gone_learns place stamp (command.Cls mine yours) d ws x h = closes_learns place stamp mine yours d ws x (are mine yours own foreign) refl h
-  gone_learns place stamp (command.All link messages bits) d ws x h = learns_none d.notices x
-  gone_learns place stamp (command.Gvb link messages bits) d ws x h = learns_none d.notices x
-  gone_learns place stamp (command.Ret link messages bits) d ws x h = learns_none d.notices x
-  gone_learns place stamp (command.Inr link) d ws x h = learns_none d.notices x
-  gone_learns place stamp (command.Ins link) d ws x h = learns_none d.notices x
-  gone_learns place stamp (command.Eco octet) d ws x h = learns_none d.notices x
-  gone_learns place stamp (command.Erp octet) d ws x h = learns_none d.notices x
-  gone_learns place stamp (command.Err code detail) d ws x h = learns_none d.notices x
-  gone_learns place stamp command.Rst d ws x h = learns_none d.notices x
-  gone_learns place stamp command.Rrp d ws x h = learns_none d.notices x
+  gone_learns place stamp c d ws x h = learns_none d.notices x
 
   pub all_gone_learns : (place stamp : ℕ) (cs : List Command) (d : DeskState) (ws : List Mark) (x : End) → Stand true origin place (at own foreign d.entries) (marks place own foreign cs ++ ws) x
       → Learns d.notices (commands_gone peer stamp cs d).notices x (all_gone (marks stamp own foreign cs) x)

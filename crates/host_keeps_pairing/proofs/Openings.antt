@@ -239,7 +239,6 @@ module _ (origin : ℕ → ℕ) (own foreign : ℕ) where
 
   pub taken_tells : (place : ℕ) (peer : Host) (busy : List ℕ) (stamp : ℕ) (c : Command) (d : DeskState) (x : End) (lives : List Life) → AllFit (mark_of (origin stamp) foreign own c) x → On origin own foreign place true d x
       → Tells d.notices (commands.desk_taken peer busy stamp c d).notices lives (all_lives_taken (mark_of (origin stamp) foreign own c) x lives)
-  taken_tells place peer busy stamp command.Nop d x lives fit h = none_tells d.notices lives
   taken_tells place peer busy stamp (command.Rts receive send link) d x lives fit h =
       let e : (receive == foreign && send == own) ≡ are send receive own foreign = and_turned (receive == foreign) (send == own) in
       to_all (receive == foreign && send == own) send receive (Ask (origin stamp)) x d.notices (commands.desk_taken peer busy stamp (command.Rts receive send link) d).notices lives e
@@ -255,11 +254,9 @@ module _ (origin : ℕ → ℕ) (own foreign : ℕ) where
   taken_tells place peer busy stamp (command.Ret link messages bits) d x lives fit h = found_tells (command.Ret link messages bits) (ret_taken link messages bits) (receiver_on link d) d lives (λ e. ret_tells link messages bits e d lives)
   taken_tells place peer busy stamp (command.Inr link) d x lives fit h = found_tells (command.Inr link) interrupted (sender_on link d) d lives (λ e. tells_more d.notices (notice.Interrupt e.own ∷ []) lives (λ told. refl))
   taken_tells place peer busy stamp (command.Ins link) d x lives fit h = found_tells (command.Ins link) interrupted (receiver_on link d) d lives (λ e. tells_more d.notices (notice.Interrupt e.own ∷ []) lives (λ told. refl))
-  taken_tells place peer busy stamp (command.Eco octet) d x lives fit h = none_tells d.notices lives
   taken_tells place peer busy stamp (command.Erp octet) d x lives fit h = tells_more d.notices (notice.Echoed peer octet ∷ []) lives (λ told. refl)
   taken_tells place peer busy stamp (command.Err code detail) d x lives fit h = tells_more d.notices (notice.RemoteError peer code detail ∷ []) lives (λ told. refl)
-  taken_tells place peer busy stamp command.Rst d x lives fit h = none_tells d.notices lives
-  taken_tells place peer busy stamp command.Rrp d x lives fit h = none_tells d.notices lives
+  taken_tells place peer busy stamp c d x lives fit h = none_tells d.notices lives
 
   -- ---- what goes out
 
@@ -279,20 +276,10 @@ module _ (origin : ℕ → ℕ) (own foreign : ℕ) where
 
   gone_tells : (place : ℕ) (peer : Host) (stamp : ℕ) (c : Command) (d : DeskState) (words : List Mark) (x : End) (lives : List Life) → Stand true origin place (at own foreign d.entries) (mark_of place own foreign c ++ words) x
       → Tells d.notices (command_gone peer stamp c d).notices lives (all_lives_gone (mark_of stamp own foreign c) x lives)
-  gone_tells place peer stamp command.Nop d words x lives h = none_tells d.notices lives
   gone_tells place peer stamp (command.Rts receive send link) d words x lives h = request_tells place peer stamp receive send d words x lives (are receive send own foreign) refl h
   gone_tells place peer stamp (command.Str send receive size) d words x lives h = request_tells place peer stamp send receive d words x lives (are send receive own foreign) refl h
   gone_tells place peer stamp (command.Cls mine yours) d words x lives h = closes_tells peer stamp mine yours d x lives (are mine yours own foreign)
-  gone_tells place peer stamp (command.All link messages bits) d words x lives h = none_tells d.notices lives
-  gone_tells place peer stamp (command.Gvb link messages bits) d words x lives h = none_tells d.notices lives
-  gone_tells place peer stamp (command.Ret link messages bits) d words x lives h = none_tells d.notices lives
-  gone_tells place peer stamp (command.Inr link) d words x lives h = none_tells d.notices lives
-  gone_tells place peer stamp (command.Ins link) d words x lives h = none_tells d.notices lives
-  gone_tells place peer stamp (command.Eco octet) d words x lives h = none_tells d.notices lives
-  gone_tells place peer stamp (command.Erp octet) d words x lives h = none_tells d.notices lives
-  gone_tells place peer stamp (command.Err code detail) d words x lives h = none_tells d.notices lives
-  gone_tells place peer stamp command.Rst d words x lives h = none_tells d.notices lives
-  gone_tells place peer stamp command.Rrp d words x lives h = none_tells d.notices lives
+  gone_tells place peer stamp c d words x lives h = none_tells d.notices lives
 
   all_lives_append : (ms ns : List Mark) (x : End) (lives : List Life) → all_lives_gone (ms ++ ns) x lives ≡ all_lives_gone ns (all_gone ms x) (all_lives_gone ms x lives)
   all_lives_append [] ns x lives = refl

@@ -67,20 +67,10 @@ module _ (origin : ℕ → ℕ) (own foreign place : ℕ) where
 
   pub one_gone : (peer : Host) (stamp : ℕ) (c : Command) (d : DeskState) (words : List Mark) (x : End) → Stand true origin place (at own foreign d.entries) (mark_of place own foreign c ++ words) x
       → Stand true origin place (at own foreign (command_gone peer stamp c d).entries) words (all_gone (mark_of stamp own foreign c) x)
-  one_gone peer stamp command.Nop d words x h = h
   one_gone peer stamp (command.Rts receive send link) d words x h = request_by peer stamp receive send d words x (are receive send own foreign) refl h
   one_gone peer stamp (command.Str send receive size) d words x h = request_by peer stamp send receive d words x (are send receive own foreign) refl h
   one_gone peer stamp (command.Cls mine yours) d words x h = cls_by peer stamp mine yours d words x (are mine yours own foreign) refl h
-  one_gone peer stamp (command.All link messages bits) d words x h = h
-  one_gone peer stamp (command.Gvb link messages bits) d words x h = h
-  one_gone peer stamp (command.Ret link messages bits) d words x h = h
-  one_gone peer stamp (command.Inr link) d words x h = h
-  one_gone peer stamp (command.Ins link) d words x h = h
-  one_gone peer stamp (command.Eco octet) d words x h = h
-  one_gone peer stamp (command.Erp octet) d words x h = h
-  one_gone peer stamp (command.Err code detail) d words x h = h
-  one_gone peer stamp command.Rst d words x h = h
-  one_gone peer stamp command.Rrp d words x h = h
+  one_gone peer stamp c d words x h = h
 
   all_go : (peer : Host) (stamp : ℕ) (cs : List Command) (d : DeskState) (words : List Mark) (x : End) → Stand true origin place (at own foreign d.entries) (marks place own foreign cs ++ words) x
       → Stand true origin place (at own foreign (commands_gone peer stamp cs d).entries) words (all_gone (marks stamp own foreign cs) x)
@@ -118,10 +108,8 @@ module _ (origin : ℕ → ℕ) (own foreign place : ℕ) where
 -- ---- a parcel
 
 pub parcel_may : (origin : ℕ → ℕ) (own foreign stamp : ℕ) (q : PairState) (x : Parcel) (e : End) (next : ℕ) → next ≤ stamp → HasEnd origin own foreign q e → MayAllGo (marks stamp own foreign (commands_of q x)) e next
-parcel_may origin own foreign stamp q parcel.Reset e next below h = tt
-parcel_may origin own foreign stamp q parcel.Reply e next below h = tt
 parcel_may origin own foreign stamp q (parcel.Commands count) e next below h = commands_may origin own foreign stamp count q.entries q.queue e next below (h.ends stamp)
-parcel_may origin own foreign stamp q (parcel.Bytes b size count) e next below h = tt
+parcel_may origin own foreign stamp q x e next below h = tt
 
 -- a pair that speaks is ready
 not_idle : (q : PairState) (P : Type 0) → q.phase ≡ phase.Ready → is_ready q.phase ≡ false → P

@@ -56,9 +56,7 @@ called s = record s { closing = close_due s.closing }
 
 due_cls : (c : Closing) → has_cls c ≡ true → has_cls (close_due c) ≡ true
 due_cls closing.No e = absurd (cc)
-due_cls closing.Due e = e
-due_cls closing.Queued e = e
-due_cls closing.Sent e = e
+due_cls c e = e
 
 module _ (origin : ℕ → ℕ) (own foreign place : ℕ) where
   stand_called : (m : Bool) (a p : Option ℕ) (c : Closing) (b : Bool) (words : List Mark) (x : End)
@@ -66,9 +64,7 @@ module _ (origin : ℕ → ℕ) (own foreign place : ℕ) where
       → Stand true origin place (called (record { mine = m; asked = a; partner = p; closing = c; partner_closed = b }) ∷ []) words x
   unfolding called
   stand_called m a p closing.No b words x h = (record { live = λ e. refl; refused = λ e. ((h.0.refused e).0, absurd (let r : false ≡ true = (h.0.refused e).1 in cc)); asked = λ e. absurd (cc); own = h.0.own }, h.1, h.2)
-  stand_called m a p closing.Due b words x h = h
-  stand_called m a p closing.Queued b words x h = h
-  stand_called m a p closing.Sent b words x h = h
+  stand_called m a p c b words x h = h
 
   -- at most one of some ends is called off
   abbrev Touched : List Standing → List Standing → Type 0

@@ -50,21 +50,15 @@ closed_by s = record s { closing = close_due s.closing; partner_closed = true }
 
 due_cls : (c : Closing) → has_cls c ≡ true → has_cls (close_due c) ≡ true
 due_cls closing.No e = absurd (cc)
-due_cls closing.Due e = e
-due_cls closing.Queued e = e
-due_cls closing.Sent e = e
+due_cls c e = e
 
 due_sent : (c : Closing) → is_sent (close_due c) ≡ is_sent c
 due_sent closing.No = refl
-due_sent closing.Due = refl
-due_sent closing.Queued = refl
-due_sent closing.Sent = refl
+due_sent c = refl
 
 due_waits : (c : Closing) → close_waits (close_due c) ≡ close_waits c
 due_waits closing.No = refl
-due_waits closing.Due = refl
-due_waits closing.Queued = refl
-due_waits closing.Sent = refl
+due_waits c = refl
 
 closed_end : (origin : ℕ → ℕ) (s : Standing) → (b : Bool) → is_sent s.closing ≡ b → is_sent (close_due s.closing) ≡ b → mark_taken Close (plain origin s) ≡ end_of origin (closed_by s)
 closed_end origin s true e f = rw (e, f) refl
@@ -151,10 +145,8 @@ pub record IsClose (mine : Bool) (asked : Option ℕ) (c : Closing) (m : Mark) (
   pub rest : words ≡ []
 
 one_close : (mine : Bool) (asked : Option ℕ) (c : Closing) (m : Mark) (words : List Mark) → (mine ≡ true → is_some asked ≡ true) → m ∷ words ≡ close_waits c → IsClose mine asked c m words
-one_close mine asked closing.No m words h e = absurd (cc)
-one_close mine asked closing.Due m words h e = absurd (cc)
 one_close mine asked closing.Queued m words h e = record { mark = same_head m Close words [] e; queued = refl; own = h; rest = same_tail m Close words [] e }
-one_close mine asked closing.Sent m words h e = absurd (cc)
+one_close mine asked c m words h e = absurd (cc)
 
 pub heads : (place : ℕ) (mine : Bool) (asked : Option ℕ) (c : Closing) (m : Mark) (words : List Mark) → m ∷ words ≡ request_due place mine asked ++ close_waits c
     → IsRequest mine asked c place m words ⊎ IsClose mine asked c m words

@@ -213,7 +213,6 @@ module _ (origin : ℕ → ℕ) (own foreign place : ℕ) where
 
   pub on_taken : (peer : Host) (busy : List ℕ) (stamp : ℕ) (c : Command) (d : DeskState) (x : End) → NamesFreeLink c d.entries → AllFit (mark_of (origin stamp) foreign own c) x → On origin own foreign place true d x
       → On origin own foreign place true (commands.desk_taken peer busy stamp c d) (words.all_taken (mark_of (origin stamp) foreign own c) x)
-  on_taken peer busy stamp command.Nop d x free fit h = h
   on_taken peer busy stamp (command.Rts receive send link) d x free fit h =
       let e : (receive == foreign && send == own) ≡ are send receive own foreign = and_turned (receive == foreign) (send == own) in
       subst (λ (y : End). On origin own foreign place true (commands.desk_taken peer busy stamp (command.Rts receive send link) d) y) (one_mark (receive == foreign && send == own) (are send receive own foreign) (Ask (origin stamp)) x e)
@@ -233,7 +232,4 @@ module _ (origin : ℕ → ℕ) (own foreign place : ℕ) where
   on_taken peer busy stamp (command.Inr link) d x free fit h = on_found (command.Inr link) interrupted (sender_on link d) d x (λ e. h) h
   on_taken peer busy stamp (command.Ins link) d x free fit h = on_found (command.Ins link) interrupted (receiver_on link d) d x (λ e. h) h
   on_taken peer busy stamp (command.Eco octet) d x free fit h = on_queued origin own foreign place true (command.Erp octet) d x refl h
-  on_taken peer busy stamp (command.Erp octet) d x free fit h = h
-  on_taken peer busy stamp (command.Err code detail) d x free fit h = h
-  on_taken peer busy stamp command.Rst d x free fit h = h
-  on_taken peer busy stamp command.Rrp d x free fit h = h
+  on_taken peer busy stamp c d x free fit h = h

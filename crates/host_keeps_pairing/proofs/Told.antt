@@ -81,17 +81,11 @@ module _ (origin : ℕ → ℕ) (own foreign : ℕ) where
 
   reset_other : (peer : Host) (ph : Phase) → AreOther origin own foreign (reset_notices peer ph)
   reset_other peer phase.Closed told = refl
-  reset_other peer phase.Want told = refl
-  reset_other peer (phase.Gone early) told = refl
-  reset_other peer phase.Heard told = refl
-  reset_other peer phase.Ready told = refl
+  reset_other peer ph told = refl
 
   reply_other : (peer : Host) (ph : Phase) → AreOther origin own foreign (reply_notices peer ph)
   reply_other peer phase.Closed told = refl
-  reply_other peer phase.Want told = refl
-  reply_other peer (phase.Gone early) told = refl
-  reply_other peer phase.Heard told = refl
-  reply_other peer phase.Ready told = refl
+  reply_other peer ph told = refl
 
   failed_other : (peer : Host) (ph : Phase) (t : TurnState) → t.notices ≡ [] → AreOther origin own foreign (failed_by peer ph t).notices
   failed_other peer phase.Closed t e told = ap (λ (ns : List Notice). with_openings origin own foreign ns told) e
@@ -108,9 +102,7 @@ module _ (origin : ℕ → ℕ) (own foreign : ℕ) where
 
   answered_other : (peer : Host) (kind : Answer) (link : ℕ) (t : TurnState) → t.notices ≡ [] → AreOther origin own foreign (answered_turn peer kind link t).notices
   answered_other peer answer.Rfnm link t e = λ told. ap (λ (ns : List Notice). with_openings origin own foreign (ns ++ []) told) e
-  answered_other peer answer.Incomplete link t e = failing peer (record t { pair = freed link t.pair }) e
-  answered_other peer answer.Dead link t e = failing peer (record t { pair = freed link t.pair }) e
-  answered_other peer answer.NotTaken link t e = failing peer (record t { pair = freed link t.pair }) e
+  answered_other peer kind link t e = failing peer (record t { pair = freed link t.pair }) e
 
   -- ---- a host
 
@@ -182,25 +174,15 @@ module _ (origin : ℕ → ℕ) (own foreign : ℕ) where
   pub request_other : (s : NcpState) (r : Request) (told : List Life) → with_openings origin own foreign (served_notices s r) told ≡ told
   unfolding served_notices
   request_other s (request.Contact peer) told = contact_other peer (is_ready (pair_with peer s.peers).phase) told
-  request_other s (request.Listen socket size) told = refl
-  request_other s (request.OpenSend peer mine yours size) told = refl
-  request_other s (request.OpenReceive peer mine yours) told = refl
-  request_other s (request.Send socket bits) told = refl
-  request_other s (request.Grant socket messages bits) told = refl
-  request_other s (request.AskBack socket messages bits) told = refl
-  request_other s (request.Interrupt socket) told = refl
-  request_other s (request.Close socket) told = refl
-  request_other s (request.Echo peer octet) told = refl
+  request_other s r told = refl
 
   -- what goes out
   parcel_tells : (stamp : ℕ) (peer : Host) (listening : List Listener) (q : PairState) (p : Parcel) (x : End) (lives : List Life) → HasEnd origin own foreign q x
       → Tells origin own foreign [] (parcel_gone peer stamp q.busy p (desk_of q listening)).notices lives (all_lives_gone (marks stamp own foreign (commands_of q p)) x lives)
-  parcel_tells stamp peer listening q parcel.Reset x lives h = λ told k. k
-  parcel_tells stamp peer listening q parcel.Reply x lives h = λ told k. k
   parcel_tells stamp peer listening q (parcel.Commands count) x lives h =
       all_gone_tells origin own foreign 0 peer stamp (take count q.queue) (desk_of q listening) (marks 0 own foreign (drop count q.queue)) x lives
       (subst (λ (l : List Mark). Stand true origin 0 (at own foreign q.entries) l x) (parted origin own foreign 0 count q.queue) (h.ends 0))
-  parcel_tells stamp peer listening q (parcel.Bytes e size count) x lives h = λ told k. k
+  parcel_tells stamp peer listening q p x lives h = λ told k. k
 
   pub offer_tells : (s : NcpState) (stamp : ℕ) (g : Peer) (p : Parcel) (x : End) (told lives : List Life) → AreInOrder s.peers → next_in s.peers ≡ Some (g, p) → HasEnd origin own foreign (pair_with g.host s.peers) x
       → AreAmong told lives → AreAmong (with_openings origin own foreign (offered s stamp).1 told) (all_lives_gone (marks stamp own foreign (commands_of g.pair p)) x lives)

@@ -25,20 +25,9 @@ use Rattle.host_keeps_pairing.proofs.Takes.{on_data, on_taken}
 
 -- no RST and no RRP is taken as one
 taken_when : (peer : Host) (stamp : ℕ) (c : Command) (t : TurnState) → is_alone c ≡ false → command_taken peer stamp c t ≡ if_ready (commands.desk_taken peer t.pair.busy stamp c) t
-taken_when peer stamp command.Nop t e = refl
-taken_when peer stamp (command.Rts receive send link) t e = refl
-taken_when peer stamp (command.Str send receive size) t e = refl
-taken_when peer stamp (command.Cls mine yours) t e = refl
-taken_when peer stamp (command.All link messages bits) t e = refl
-taken_when peer stamp (command.Gvb link messages bits) t e = refl
-taken_when peer stamp (command.Ret link messages bits) t e = refl
-taken_when peer stamp (command.Inr link) t e = refl
-taken_when peer stamp (command.Ins link) t e = refl
-taken_when peer stamp (command.Eco octet) t e = refl
-taken_when peer stamp (command.Erp octet) t e = refl
-taken_when peer stamp (command.Err code detail) t e = refl
 taken_when peer stamp command.Rst t e = absurd (cc)
 taken_when peer stamp command.Rrp t e = absurd (cc)
+taken_when peer stamp c t e = refl
 
 -- an order does its work on the connections, where the pair is ready
 abbrev pub work_of : Host → List ℕ → ℕ → Order → DeskState → DeskState
@@ -64,11 +53,8 @@ ready_when peer stamp o t e ready = order_when peer stamp o t e ∙ ap (λ (b : 
 
 -- a pair that is not ready after an RRP was not ready before it
 pub reply_idle : (ph : Phase) → is_ready (reply_phase ph) ≡ false → is_ready ph ≡ false
-reply_idle phase.Closed e = refl
-reply_idle phase.Want e = refl
-reply_idle (phase.Gone early) e = refl
-reply_idle phase.Heard e = refl
 reply_idle phase.Ready e = absurd (cc)
+reply_idle ph e = refl
 
 -- a pair that is not ready after an RFNM was not ready before it
 pub rfnm_idle : (zero : Bool) (ph : Phase) → is_ready (if zero then taken_phase ph else ph) ≡ false → is_ready ph ≡ false
@@ -146,9 +132,7 @@ module _ (origin : ℕ → ℕ) (own foreign : ℕ) where
   fails : (peer : Host) (ph : Phase) (t : TurnState) (x : End) → t.pair.phase ≡ ph → HasEnd origin own foreign t.pair x → HasEnd origin own foreign (failed_by peer ph t).pair (kept_in (failed_by peer ph t).pair x)
   fails peer phase.Closed t x e h = same_kept t.pair x h
   fails peer phase.Want t x e h = same_kept t.pair x h
-  fails peer (phase.Gone early) t x e h = record { ends = λ place. (refl, refl); idle = λ i. refl }
-  fails peer phase.Heard t x e h = record { ends = λ place. (refl, refl); idle = λ i. refl }
-  fails peer phase.Ready t x e h = record { ends = λ place. (refl, refl); idle = λ i. refl }
+  fails peer ph t x e h = record { ends = λ place. (refl, refl); idle = λ i. refl }
 
   after_failed : (peer : Host) (t : TurnState) (x : End) → HasEnd origin own foreign t.pair x → HasEnd origin own foreign (failed peer t).pair (kept_in (failed peer t).pair x)
   after_failed peer t x h = by (is_gone t.pair.phase || not t.pair.owed) where
@@ -161,6 +145,4 @@ module _ (origin : ℕ → ℕ) (own foreign : ℕ) where
   after_answer peer answer.Rfnm link t x h =
       same_kept (answered_turn peer answer.Rfnm link t).pair x
       (after_settled (record t { pair = record (freed link t.pair) { phase = if link == 0 then taken_phase t.pair.phase else t.pair.phase } }) x (record { ends = h.ends; idle = λ e. h.idle (rfnm_idle (link == 0) t.pair.phase e) }))
-  after_answer peer answer.Incomplete link t x h = after_failed peer (record t { pair = freed link t.pair }) x (record { ends = h.ends; idle = h.idle })
-  after_answer peer answer.Dead link t x h = after_failed peer (record t { pair = freed link t.pair }) x (record { ends = h.ends; idle = h.idle })
-  after_answer peer answer.NotTaken link t x h = after_failed peer (record t { pair = freed link t.pair }) x (record { ends = h.ends; idle = h.idle })
+  after_answer peer kind link t x h = after_failed peer (record t { pair = freed link t.pair }) x (record { ends = h.ends; idle = h.idle })

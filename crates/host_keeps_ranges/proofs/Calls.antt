@@ -87,9 +87,7 @@ settled_range t h = turn_range t (settled t.pair.busy (desk_of t.pair t.listenin
 failed_by_range : (peer : Host) (ph : Phase) (t : TurnState) → RangedTurn t → RangedTurn (failed_by peer ph t)
 failed_by_range peer phase.Closed t h = h
 failed_by_range peer phase.Want t h = h
-failed_by_range peer (phase.Gone early) t h = record { pair = record { ends = tt; commands = tt }; sizes = h.sizes }
-failed_by_range peer phase.Heard t h = record { pair = record { ends = tt; commands = tt }; sizes = h.sizes }
-failed_by_range peer phase.Ready t h = record { pair = record { ends = tt; commands = tt }; sizes = h.sizes }
+failed_by_range peer ph t h = record { pair = record { ends = tt; commands = tt }; sizes = h.sizes }
 
 failed_range : (peer : Host) (t : TurnState) → RangedTurn t → RangedTurn (failed peer t)
 failed_range peer t h = by (is_gone t.pair.phase || not t.pair.owed) where
@@ -102,9 +100,7 @@ freed_range link t h = record { pair = record { ends = h.pair.ends; commands = h
 
 answer_range : (peer : Host) (kind : Answer) (link : ℕ) (t : TurnState) → RangedTurn t → RangedTurn (answered_turn peer kind link t)
 answer_range peer answer.Rfnm link t h = settled_range _ (record { pair = record { ends = h.pair.ends; commands = h.pair.commands }; sizes = h.sizes })
-answer_range peer answer.Incomplete link t h = failed_range peer (record t { pair = freed link t.pair }) (freed_range link t h)
-answer_range peer answer.Dead link t h = failed_range peer (record t { pair = freed link t.pair }) (freed_range link t h)
-answer_range peer answer.NotTaken link t h = failed_range peer (record t { pair = freed link t.pair }) (freed_range link t h)
+answer_range peer kind link t h = failed_range peer (record t { pair = freed link t.pair }) (freed_range link t h)
 
 -- ---- a host
 

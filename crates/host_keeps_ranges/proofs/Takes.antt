@@ -208,7 +208,6 @@ ranged_told ns d h = record { ends = h.ends; commands = h.commands; sizes = h.si
 -- ---- all commands, and data
 
 pub ranged_taken : (peer : Host) (busy : List ℕ) (stamp : ℕ) (c : Command) (d : DeskState) → IsCommand c → Ranged d → Ranged (commands.desk_taken peer busy stamp c d)
-ranged_taken peer busy stamp command.Nop d ok h = h
 ranged_taken peer busy stamp (command.Rts receive send link) d ok h = ranged_rts peer send receive link stamp d ok h
 ranged_taken peer busy stamp (command.Str send receive size) d ok h = ranged_str_by peer receive send size stamp (entry_at receive send d.entries) d ok h
 ranged_taken peer busy stamp (command.Cls mine yours) d ok h = ranged_cls peer busy yours mine (entry_at yours mine d.entries) d ok h
@@ -226,8 +225,7 @@ ranged_taken peer busy stamp (command.Ins link) d ok h =
 ranged_taken peer busy stamp (command.Eco octet) d ok h = ranged_queued (command.Erp octet) d ok h
 ranged_taken peer busy stamp (command.Erp octet) d ok h = ranged_told _ d h
 ranged_taken peer busy stamp (command.Err code detail) d ok h = ranged_told _ d h
-ranged_taken peer busy stamp command.Rst d ok h = h
-ranged_taken peer busy stamp command.Rrp d ok h = h
+ranged_taken peer busy stamp c d ok h = h
 
 ranged_arrived : (link : ℕ) (e : Entry) (text : List Bool) (o : Option DataHeader) (d : DeskState) → Ranged d → Ranged (arrived_if link e text o d)
 ranged_arrived link e text None d h = ranged_error ERRONEOUS (octets_of text) d (omega arith) (octets_below text) h

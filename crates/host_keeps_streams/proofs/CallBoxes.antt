@@ -19,7 +19,7 @@ use Rattle.host_pairs.proofs.lemmas.{both, not_is, what_goes}
 use Rattle.host_keeps_streams.specs.Closings.{all_sent, sent_open}
 use Rattle.host_keeps_streams.specs.Ends.{HasSender}
 use Rattle.host_keeps_streams.specs.Formed.{AreSound}
-use Rattle.host_keeps_streams.specs.Histories.{Call, Hears, Takes, Says, Sends, Answered, OpensReceiver, OpensSender, Grants, AsksBack, Gives, Closes, IsAllowed, KeepBox, is_out, sent_at}
+use Rattle.host_keeps_streams.specs.Histories.{Call, Hears, Says, Sends, Answered, OpensSender, Closes, IsAllowed, KeepBox, is_out, sent_at}
 use Rattle.host_keeps_streams.specs.Moves.{asked_sent, closes, hears_rts, of_end, rts_sent, sent_out}
 use Rattle.host_keeps_streams.specs.Names.{named, AreKnown}
 use Rattle.host_keeps_streams.proofs.Asks.{link_is}
@@ -72,16 +72,7 @@ module _ (name : ℕ → ℕ → ℕ) (link : ℕ) (peer : Host) (q : PairState)
   hears_box stamp said (command.Cls foreign own) = cls_box name link peer q.busy own foreign (desk_of q listening) s h k sound.apart (entry_at own foreign q.entries) refl
   hears_box stamp said (command.All l m n) = keep_if (is_busy q.busy link) (l == link) (senders.Hear (words.All said m n) ∷ []) s (tt, tt)
   hears_box stamp said (command.Gvb l m n) = keep_if (is_busy q.busy link) (l == link) (senders.Hear (words.Gvb said m n) ∷ []) s (tt, tt)
-  hears_box stamp said (command.Str send receive size) = tt
-  hears_box stamp said (command.Ret l m n) = tt
-  hears_box stamp said command.Nop = tt
-  hears_box stamp said (command.Inr l) = tt
-  hears_box stamp said (command.Ins l) = tt
-  hears_box stamp said (command.Eco octet) = tt
-  hears_box stamp said (command.Erp octet) = tt
-  hears_box stamp said (command.Err code detail) = tt
-  hears_box stamp said command.Rst = tt
-  hears_box stamp said command.Rrp = tt
+  hears_box stamp said c = tt
 
   asked_box : (out : Bool) (o : Option Entry) → KeepBox out (asked_sent name link s o) s
   asked_box out None = tt
@@ -92,18 +83,7 @@ module _ (name : ℕ → ℕ → ℕ) (link : ℕ) (peer : Host) (q : PairState)
   says_box : (out : Bool) (c : Command) → KeepBox out (sent_out name link c q.entries s) s
   says_box out (command.Rts receive send l) = asked_box out (entry_at receive send q.entries)
   says_box out (command.Str send receive size) = asked_box out (entry_at send receive q.entries)
-  says_box out (command.Cls own foreign) = tt
-  says_box out command.Nop = tt
-  says_box out (command.All l m n) = tt
-  says_box out (command.Gvb l m n) = tt
-  says_box out (command.Ret l m n) = tt
-  says_box out (command.Inr l) = tt
-  says_box out (command.Ins l) = tt
-  says_box out (command.Eco octet) = tt
-  says_box out (command.Erp octet) = tt
-  says_box out (command.Err code detail) = tt
-  says_box out command.Rst = tt
-  says_box out command.Rrp = tt
+  says_box out c = tt
 
   bytes_box : (e : Entry) (z n : ℕ) → next_of q ≡ Some (Bytes e z n) → (v : Bool) → sends_on link e ≡ v → KeepBox (is_busy q.busy link) (if v then senders.Send (named name e) z (take (z * n) e.bits) ∷ [] else []) s
   bytes_box e z n next true on =
@@ -119,13 +99,9 @@ module _ (name : ℕ → ℕ → ℕ) (link : ℕ) (peer : Host) (q : PairState)
 
   pub call_box : (c : Call) → IsAllowed link c q s → KeepBox (is_out link c q) (sent_at name link c q listening s) s
   call_box (Hears stamp said c) a = hears_box stamp said c
-  call_box (Takes l text) a = tt
   call_box (Says stamp c) a = says_box (is_busy q.busy link) c
   call_box (Sends stamp e z n) a = bytes_box e z n a (sends_on link e) refl
   call_box (Answered l) a = told_box l (l == link)
-  call_box (OpensReceiver own foreign) a = tt
   call_box (OpensSender own foreign z) a = (tt, tt)
-  call_box (Grants socket m n e) a = tt
-  call_box (AsksBack socket m n e) a = tt
-  call_box (Gives socket bits e) a = tt
   call_box (Closes socket e) a = closes_box name link socket q e a.0 s h k sound
+  call_box c a = tt

@@ -54,19 +54,14 @@ module _ (P : ℕ → Type 0) (c : ℕ) (out : P c → ⊥) where
   heard_one (words.Str k z) r p u = let away : (c == k) ≡ false = other k p in record { unasked = u.unasked; untold = (rw away u.untold); unheard = u.unheard }
   heard_one (words.Cls k) r p u = let away : (c == k) ≡ false = other k p in record { unasked = u.unasked; untold = u.untold; unheard = (rw away u.unheard) }
   heard_one (words.Ret k m n) r p u = taken_back m n r.end r u
-  heard_one (words.Rts k) r p u = u
-  heard_one (words.All k m n) r p u = u
-  heard_one (words.Gvb k m n) r p u = u
+  heard_one w r p u = u
 
   moved_one : (m : receivers.Move) (r : Receiver) → Concerns P m → IsUnknown c r → IsUnknown c (receivers.moved m r)
   moved_one (receivers.Ask k) r p u = let away : (c == k) ≡ false = other k p in record { unasked = (rw away u.unasked); untold = u.untold; unheard = u.unheard }
-  moved_one (receivers.Open k) r p u = record { unasked = u.unasked; untold = u.untold; unheard = u.unheard }
-  moved_one (receivers.Grant k m n) r p u = record { unasked = u.unasked; untold = u.untold; unheard = u.unheard }
   moved_one (receivers.AskBack k m n) r p u = u
-  moved_one (receivers.Close k) r p u = record { unasked = u.unasked; untold = u.untold; unheard = u.unheard }
-  moved_one (receivers.Free k) r p u = record { unasked = u.unasked; untold = u.untold; unheard = u.unheard }
   moved_one (receivers.Hear w) r p u = heard_one w r p u
   moved_one (receivers.Take z bits) r p u = data_taken z bits r.end r u
+  moved_one m r p u = record { unasked = u.unasked; untold = u.untold; unheard = u.unheard }
 
   -- what is unknown stays so by moves of others
   pub still_unknown : (ms : List receivers.Move) (r : Receiver) → AllConcern P ms → IsUnknown c r → IsUnknown c (all_received ms r)

@@ -34,19 +34,7 @@ module _ (name : ℕ → ℕ → ℕ) (link : ℕ) (peer : Host) (q : PairState)
   module _ (r : Receiver) (h : HasReceiver name link q.entries r) (new : AllNewReceived name q.entries r) where
     new_for : (c : Command) → NewReceived name c q.entries r
     new_for (command.Str send receive size) = new receive send
-    new_for (command.Rts receive send l) = tt
-    new_for (command.Cls own foreign) = tt
-    new_for (command.All l m n) = tt
-    new_for (command.Gvb l m n) = tt
-    new_for (command.Ret l m n) = tt
-    new_for (command.Inr l) = tt
-    new_for (command.Ins l) = tt
-    new_for (command.Eco octet) = tt
-    new_for (command.Erp octet) = tt
-    new_for (command.Err code detail) = tt
-    new_for command.Nop = tt
-    new_for command.Rst = tt
-    new_for command.Rrp = tt
+    new_for c = tt
 
     pub call_received : (s : Sender) (c : Call) → IsAllowed link c q s → Received name link (received_at name link c q listening) (ends_by peer c q listening) r
     call_received s (Hears stamp said c) a = hears_all name link peer q.busy stamp said (desk_of q listening) r h c a.0 sound.apart (new_for c)
@@ -64,19 +52,7 @@ module _ (name : ℕ → ℕ → ℕ) (link : ℕ) (peer : Host) (q : PairState)
   module _ (s : Sender) (h : HasSender name link q.entries s) (k : AreKnown name q.entries s) (new : AllNewSent name q.entries s) where
     new_to_send : (c : Command) → NewSent name c q.entries s
     new_to_send (command.Rts receive send l) = new send receive
-    new_to_send (command.Str send receive size) = tt
-    new_to_send (command.Cls own foreign) = tt
-    new_to_send (command.All l m n) = tt
-    new_to_send (command.Gvb l m n) = tt
-    new_to_send (command.Ret l m n) = tt
-    new_to_send (command.Inr l) = tt
-    new_to_send (command.Ins l) = tt
-    new_to_send (command.Eco octet) = tt
-    new_to_send (command.Erp octet) = tt
-    new_to_send (command.Err code detail) = tt
-    new_to_send command.Nop = tt
-    new_to_send command.Rst = tt
-    new_to_send command.Rrp = tt
+    new_to_send c = tt
 
     pub call_sent : (c : Call) → IsAllowed link c q s → Sent name link (sent_at name link c q listening s) (ends_by peer c q listening) s
     call_sent (Hears stamp said c) a = takes_all name link peer q.busy stamp said (desk_of q listening) s h k sound.apart sound.formed c a.0 (new_to_send c) a.1
@@ -95,18 +71,7 @@ module _ (name : ℕ → ℕ → ℕ) (link : ℕ) (peer : Host) (q : PairState)
     new_number : (c : Command) → NewNumber name c q.entries
     new_number (command.Rts receive send l) = new send receive
     new_number (command.Str send receive size) = new receive send
-    new_number (command.Cls own foreign) = tt
-    new_number (command.All l m n) = tt
-    new_number (command.Gvb l m n) = tt
-    new_number (command.Ret l m n) = tt
-    new_number (command.Inr l) = tt
-    new_number (command.Ins l) = tt
-    new_number (command.Eco octet) = tt
-    new_number (command.Erp octet) = tt
-    new_number (command.Err code detail) = tt
-    new_number command.Nop = tt
-    new_number command.Rst = tt
-    new_number command.Rrp = tt
+    new_number c = tt
 
     pub call_sound : (s : Sender) (c : Call) → IsAllowed link c q s → AreSound name (ends_by peer c q listening)
     call_sound s (Hears stamp said c) a = sound_taken name peer q.busy stamp (desk_of q listening) sound c a.0 (new_number c)

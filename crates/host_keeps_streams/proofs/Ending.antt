@@ -35,9 +35,7 @@ stay_now busy e due = rw due refl
 
 pub not_called : (v : Closing) → is_called_off v ≡ false → v ≡ closing.No
 not_called closing.No e = refl
-not_called closing.Due e = absurd (cc)
-not_called closing.Queued e = absurd (cc)
-not_called closing.Sent e = absurd (cc)
+not_called v e = absurd (cc)
 
 received_drained : (busy : List ℕ) (e : Entry) → is_receiving e ≡ true → is_drained busy e ≡ true
 received_drained busy e there = rw there refl

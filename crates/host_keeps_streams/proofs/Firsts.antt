@@ -5,7 +5,7 @@ use Rattle.ncp_control.specs.declared.command.Command.{Command}
 use Rattle.ncp_control.specs.declared.command.Command.TheVariants as command
 use Rattle.ncp_control.specs.DataHeader.{header_of}
 use Rattle.ncp_control.specs.declared.data_header.DataHeader.{DataHeader}
-use Rattle.stream_law.specs.Words.{Word, Rts, Str, All, Gvb, Ret, Cls, for, covers, holds, is_size}
+use Rattle.stream_law.specs.Words.{Word, Str, Ret, Cls, for, covers, holds, is_size}
 use Rattle.stream_law.specs.Receivers as receivers
 use Rattle.stream_law.specs.Receivers.{Receiver}
 use Rattle.stream_law.proofs.lemmas.{at, for_here}
@@ -17,7 +17,7 @@ use Rattle.host_pairs.specs.declared.entry.Closing.TheVariants as closing
 use Rattle.host_pairs.specs.declared.entry.Entry.{Entry}
 use Rattle.host_pairs.specs.declared.listener.Listener.{Listener}
 use Rattle.host_keeps_streams.specs.Closings.{all_received, received_close, received_gone, received_open}
-use Rattle.host_keeps_streams.specs.Histories.{Call, Hears, Takes, Says, Sends, Answered, OpensReceiver, OpensSender, Grants, AsksBack, Gives, Closes, Moment, HasClosed, IsClosing, name_now, received_at, receiver_now}
+use Rattle.host_keeps_streams.specs.Histories.{Call, Hears, Takes, Says, OpensReceiver, Grants, AsksBack, Closes, Moment, HasClosed, IsClosing, name_now, received_at, receiver_now}
 use Rattle.host_keeps_streams.specs.Moves.{answers_str, asked_received, asks_for, closed_received, cls_received, closes_on, data_received, on_link, received_by, received_out, str_received}
 use Rattle.host_keeps_streams.specs.Names.{named}
 
@@ -46,22 +46,14 @@ first_taken z bits (Some k) r = by (receivers.is_open k r && is_size z (r.size k
   by false t = rw t refl
 
 first_heard : (w : Word) (r : Receiver) → (receivers.hears w r).first ≡ r.first
-first_heard (Str k z) r = refl
-first_heard (Cls k) r = refl
 first_heard (Ret k m n) r = first_back m n r.end r
-first_heard (Rts k) r = refl
-first_heard (All k m n) r = refl
-first_heard (Gvb k m n) r = refl
+first_heard w r = refl
 
 first_moved : (m : receivers.Move) → NoClose m → (r : Receiver) → (receivers.moved m r).first ≡ r.first
-first_moved (receivers.Ask k) n r = refl
-first_moved (receivers.Open k) n r = refl
-first_moved (receivers.Grant k x y) n r = refl
-first_moved (receivers.AskBack k x y) n r = refl
 first_moved (receivers.Close k) n r = absurd n
-first_moved (receivers.Free k) n r = refl
 first_moved (receivers.Hear w) n r = first_heard w r
 first_moved (receivers.Take z bits) n r = first_taken z bits r.end r
+first_moved m n r = refl
 
 first_all : (ms : List receivers.Move) → NoCloses ms → (r : Receiver) → (all_received ms r).first ≡ r.first
 first_all [] n r = refl
@@ -106,17 +98,7 @@ none_out : (name : ℕ → ℕ → ℕ) (link : ℕ) (c : Command) (es : List En
 none_out name link (command.Rts receive send l) es = none_asked name link (entry_at receive send es)
 none_out name link (command.Str send receive size) es = none_asked name link (entry_at send receive es)
 none_out name link (command.Cls own foreign) es = none_closed name link (entry_at own foreign es)
-none_out name link (command.All l m n) es = tt
-none_out name link (command.Gvb l m n) es = tt
-none_out name link (command.Ret l m n) es = tt
-none_out name link (command.Inr l) es = tt
-none_out name link (command.Ins l) es = tt
-none_out name link (command.Eco octet) es = tt
-none_out name link (command.Erp octet) es = tt
-none_out name link (command.Err code detail) es = tt
-none_out name link command.Nop es = tt
-none_out name link command.Rst es = tt
-none_out name link command.Rrp es = tt
+none_out name link c es = tt
 
 none_data : (link l : ℕ) (text : List Bool) (h : Option DataHeader) → NoCloses (data_received link l text h)
 none_data link l text None = tt
@@ -159,17 +141,7 @@ first_by name link said (command.Str send receive size) d r =
     (none_str link (name receive send) size (listener_on receive d.listening) (free_link d.entries) (entry_at receive send d.entries)) r
 first_by name link said (command.Cls foreign own) d r = first_cls link (name own foreign) (entry_at own foreign d.entries) r
 first_by name link said (command.Ret l m n) d r = first_all (if l == link then receivers.Hear (Ret said m n) ∷ [] else []) (none_if (l == link) (receivers.Hear (Ret said m n) ∷ []) (tt, tt)) r
-first_by name link said (command.Rts receive send l) d r = refl
-first_by name link said (command.All l m n) d r = refl
-first_by name link said (command.Gvb l m n) d r = refl
-first_by name link said (command.Inr l) d r = refl
-first_by name link said (command.Ins l) d r = refl
-first_by name link said (command.Eco octet) d r = refl
-first_by name link said (command.Erp octet) d r = refl
-first_by name link said (command.Err code detail) d r = refl
-first_by name link said command.Nop d r = refl
-first_by name link said command.Rst d r = refl
-first_by name link said command.Rrp d r = refl
+first_by name link said c d r = refl
 
 -- ---- and an end that a user closes may say it first
 
@@ -200,19 +172,16 @@ first_call name link c (Hears stamp said w) q listening r f = inl (before c (all
 first_call name link c (Takes l text) q listening r f =
     inl (before c (all_received (data_received link l text (header_of text)) r).first r.first (first_all (data_received link l text (header_of text)) (none_data link l text (header_of text)) r) f)
 first_call name link c (Says stamp w) q listening r f = inl (before c (all_received (received_out name link w q.entries) r).first r.first (first_all (received_out name link w q.entries) (none_out name link w q.entries) r) f)
-first_call name link c (Sends stamp e z n) q listening r f = inl f
-first_call name link c (Answered l) q listening r f = inl f
 first_call name link c (OpensReceiver own foreign) q listening r f =
     inl (before c (all_received (asks_for link (name own foreign) (free_link q.entries)) r).first r.first (first_all (asks_for link (name own foreign) (free_link q.entries)) (none_asks link (name own foreign) (free_link q.entries)) r) f)
-first_call name link c (OpensSender own foreign z) q listening r f = inl f
 first_call name link c (Grants socket m n e) q listening r f =
     inl (before c (all_received (on_link link e (receivers.Grant (named name e) m n ∷ [])) r).first r.first
     (first_all (on_link link e (receivers.Grant (named name e) m n ∷ [])) (none_if (receives_on link e) (receivers.Grant (named name e) m n ∷ []) (tt, tt)) r) f)
 first_call name link c (AsksBack socket m n e) q listening r f =
     inl (before c (all_received (on_link link e (receivers.AskBack (named name e) m n ∷ [])) r).first r.first
     (first_all (on_link link e (receivers.AskBack (named name e) m n ∷ [])) (none_if (receives_on link e) (receivers.AskBack (named name e) m n ∷ []) (tt, tt)) r) f)
-first_call name link c (Gives socket bits e) q listening r f = inl f
 first_call name link c (Closes socket e) q listening r f = first_on name link c socket e r f
+first_call name link c x q listening r f = inl f
 
 pub closed_first : (number : ℕ → ℕ → ℕ → ℕ) (peer : Host) (link c : ℕ) (ms : List Moment) → (receiver_now number peer link ms).first c ≡ true → HasClosed number peer link c ms
 closed_first number peer link c [] f = let both : false ≡ true = f in absurd (cc)

@@ -53,20 +53,10 @@ module _ (name : ℕ → ℕ → ℕ) (link : ℕ) (peer : Host) (stamp : ℕ) (
     by false off = rw off (tt, ending.gone_elsewhere name link peer stamp own foreign d e r found off h)
 
   pub out_received : (c : Command) → HasSaid c d.entries → Received name link (received_out name link c d.entries) (command_gone peer stamp c d).entries r
-  out_received command.Nop said = (tt, h)
   out_received (command.Rts receive send l) said = request_received receive send (entry_at receive send d.entries) refl
   out_received (command.Str send receive size) said = request_received send receive (entry_at send receive d.entries) refl
   out_received (command.Cls own foreign) said = closing_received own foreign (entry_at own foreign d.entries) refl said
-  out_received (command.All l m n) said = (tt, h)
-  out_received (command.Gvb l m n) said = (tt, h)
-  out_received (command.Ret l m n) said = (tt, h)
-  out_received (command.Inr l) said = (tt, h)
-  out_received (command.Ins l) said = (tt, h)
-  out_received (command.Eco octet) said = (tt, h)
-  out_received (command.Erp octet) said = (tt, h)
-  out_received (command.Err code detail) said = (tt, h)
-  out_received command.Rst said = (tt, h)
-  out_received command.Rrp said = (tt, h)
+  out_received c said = (tt, h)
 
 -- ---- senders
 
@@ -183,15 +173,7 @@ module _ (name : ℕ → ℕ → ℕ) (link : ℕ) (peer : Host) (stamp : ℕ) (
     known = known_filter name stays (changed_first (is_at own foreign) cls_sent d.entries) s (closing_known own foreign (entry_at own foreign d.entries) refl said);
   }
   out_sent (command.All l m n) said = still
-  out_sent (command.Gvb l m n) said = still
-  out_sent (command.Ret l m n) said = still
-  out_sent (command.Inr l) said = still
-  out_sent (command.Ins l) said = still
-  out_sent (command.Eco octet) said = still
-  out_sent (command.Erp octet) said = still
-  out_sent (command.Err code detail) said = still
-  out_sent command.Rst said = still
-  out_sent command.Rrp said = still
+  out_sent c said = still
 
 -- ---- all ends stay sound
 
@@ -230,12 +212,4 @@ module _ (name : ℕ → ℕ → ℕ) (peer : Host) (stamp : ℕ) (d : DeskState
     apart = apart_filter name stays (changed_first (is_at own foreign) cls_sent d.entries) (apart_changed name (is_at own foreign) cls_sent d.entries (λ x. refl) sound.apart);
   }
   out_sound (command.All l m n) = sound
-  out_sound (command.Gvb l m n) = sound
-  out_sound (command.Ret l m n) = sound
-  out_sound (command.Inr l) = sound
-  out_sound (command.Ins l) = sound
-  out_sound (command.Eco octet) = sound
-  out_sound (command.Erp octet) = sound
-  out_sound (command.Err code detail) = sound
-  out_sound command.Rst = sound
-  out_sound command.Rrp = sound
+  out_sound c = sound

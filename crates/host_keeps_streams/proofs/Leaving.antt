@@ -25,10 +25,8 @@ use Rattle.host_keeps_streams.proofs.Senders.{own_sender}
 use Rattle.host_keeps_streams.proofs.Ending.{shut_one, stays, close_now, not_called}
 
 pub due_open : (v : Closing) → is_due v ≡ true → has_cls v ≡ false
-due_open closing.No e = absurd (cc)
 due_open closing.Due e = refl
-due_open closing.Queued e = absurd (cc)
-due_open closing.Sent e = absurd (cc)
+due_open v e = absurd (cc)
 
 pub cls_not_due : (v : Closing) → has_cls v ≡ true → is_due v ≡ false
 cls_not_due closing.No e = absurd (cc)
@@ -158,12 +156,8 @@ module _ (name : ℕ → ℕ → ℕ) (link : ℕ) where
   waiting_by e s i unclosed = inl (record { end = i.end; opened = i.opened; shut = refl; closed = unclosed; size = i.size; allocation = i.allocation; live = refl })
 
   heard_by : (e : Entry) (s : Sender) → IsSender (name e.own e.foreign) e s → (v : Closing) → e.closing ≡ v → (w : Bool) → Done e v w (senders.shuts (name e.own e.foreign) s.end s)
-  heard_by e s i closing.No same true =
-      subst (λ (t : Sender). Done e closing.No true t) (sym (heard_unclosed (name e.own e.foreign) s i.end (i.closed ∙ ap has_cls same))) (drained_by e s i (i.closed ∙ ap has_cls same))
   heard_by e s i closing.No same false =
       subst (λ (t : Sender). Done e closing.No false t) (sym (heard_unclosed (name e.own e.foreign) s i.end (i.closed ∙ ap has_cls same))) (tt, waiting_by e s i (i.closed ∙ ap has_cls same))
-  heard_by e s i closing.Due same true =
-      subst (λ (t : Sender). Done e closing.Due true t) (sym (heard_unclosed (name e.own e.foreign) s i.end (i.closed ∙ ap has_cls same))) (drained_by e s i (i.closed ∙ ap has_cls same))
   heard_by e s i closing.Due same false =
       subst (λ (t : Sender). Done e closing.Due false t) (sym (heard_unclosed (name e.own e.foreign) s i.end (i.closed ∙ ap has_cls same))) (tt, waiting_by e s i (i.closed ∙ ap has_cls same))
   heard_by e s i closing.Queued same w =
@@ -171,6 +165,8 @@ module _ (name : ℕ → ℕ → ℕ) (link : ℕ) where
       (tt, inr (record { closed = refl; shut = refl; live = refl; none = λ k f o. absurd (cc) }))
   heard_by e s i closing.Sent same w =
       subst (λ (t : Sender). Done e closing.Sent w t) (sym (heard_closed (name e.own e.foreign) s i.end (i.closed ∙ ap has_cls same))) (tt, λ k f. absurd (cc))
+  heard_by e s i v same true =
+      subst (λ (t : Sender). Done e v true t) (sym (heard_unclosed (name e.own e.foreign) s i.end (i.closed ∙ ap has_cls same))) (drained_by e s i (i.closed ∙ ap has_cls same))
 
   pub cls_sends : (peer : Host) (busy : List ℕ) (stamp own foreign : ℕ) (d : DeskState) (e : Entry) (s : Sender) → entry_at own foreign d.entries ≡ Some e → sends_on link e ≡ true → e.partner_closed ≡ false → HasSender name link d.entries s
       → MayAllSend (senders.Hear (words.Cls (name e.own e.foreign)) ∷ sent_heard e.closing (is_answered busy e.link) (name e.own e.foreign)) s

@@ -22,7 +22,7 @@ use Rattle.host_pairs.specs.declared.entry.Closing.TheVariants as closing
 use Rattle.host_pairs.specs.declared.entry.Entry.{Entry}
 use Rattle.host_pairs.specs.declared.listener.Listener.{Listener}
 use Rattle.host_keeps_streams.specs.Closings.{received_close, received_gone, received_open, sent_open}
-use Rattle.host_keeps_streams.specs.Histories.{Call, Hears, Takes, Says, Sends, Answered, OpensReceiver, OpensSender, Grants, AsksBack, Gives, Closes, ends_by, received_at, sent_at}
+use Rattle.host_keeps_streams.specs.Histories.{Call, Hears, Takes, Says, Sends, Answered, OpensReceiver, OpensSender, Grants, AsksBack, Closes, ends_by, received_at, sent_at}
 use Rattle.host_keeps_streams.specs.Moves.{answers_str, asked_received, asked_sent, asks_for, closed_received, closes, closes_on, cls_received, cls_sent, data_received, hears_rts, of_end, received_out, rts_sent, sent_out, str_received, told_on}
 use Rattle.host_keeps_streams.specs.Names.{named, numbers, is_among}
 use Rattle.host_keeps_streams.proofs.Concerns.{AllConcern, AllConcernSent, concern_both}
@@ -71,10 +71,8 @@ open_sent P true c = (tt, tt)
 open_sent P false c = tt
 
 close_none : (P : ℕ → Type 0) (v : Closing) (c : ℕ) → AllConcern P (received_close v c)
-close_none P closing.No c = (tt, tt)
-close_none P closing.Due c = (tt, tt)
 close_none P closing.Queued c = tt
-close_none P closing.Sent c = (tt, tt)
+close_none P v c = (tt, tt)
 
 gone_none : (P : ℕ → Type 0) (v : Bool) (c : ℕ) → AllConcern P (received_gone v c)
 gone_none P true c = (tt, tt)
@@ -144,34 +142,14 @@ module _ (name : ℕ → ℕ → ℕ) (link : ℕ) where
   says_meets P es (command.Rts receive send l) = asked_meets P (entry_at receive send es)
   says_meets P es (command.Str send receive size) = asked_meets P (entry_at send receive es)
   says_meets P es (command.Cls own foreign) = closed_meets P (entry_at own foreign es)
-  says_meets P es command.Nop = tt
-  says_meets P es (command.All l m n) = tt
-  says_meets P es (command.Gvb l m n) = tt
-  says_meets P es (command.Ret l m n) = tt
-  says_meets P es (command.Inr l) = tt
-  says_meets P es (command.Ins l) = tt
-  says_meets P es (command.Eco octet) = tt
-  says_meets P es (command.Erp octet) = tt
-  says_meets P es (command.Err code detail) = tt
-  says_meets P es command.Rst = tt
-  says_meets P es command.Rrp = tt
+  says_meets P es c = tt
 
   module _ (peer : Host) (q : PairState) (listening : List Listener) where
     hears_meets : (stamp said : ℕ) (c : Command) → AllConcern (Meets name q.entries (ends_by peer (Hears stamp said c) q listening)) (received_at name link (Hears stamp said c) q listening)
     hears_meets stamp said (command.Str send receive size) = str_meets peer receive send size stamp (desk_of q listening) (entry_at receive send q.entries) refl
     hears_meets stamp said (command.Cls foreign own) = cls_meets own foreign q.entries (ends_by peer (Hears stamp said (command.Cls foreign own)) q listening) (entry_at own foreign q.entries) refl
     hears_meets stamp said (command.Ret l m n) = if_none (Meets name q.entries (ends_by peer (Hears stamp said (command.Ret l m n)) q listening)) (l == link) (receivers.Hear (words.Ret said m n) ∷ []) (tt, tt)
-    hears_meets stamp said (command.Rts receive send l) = tt
-    hears_meets stamp said command.Nop = tt
-    hears_meets stamp said (command.All l m n) = tt
-    hears_meets stamp said (command.Gvb l m n) = tt
-    hears_meets stamp said (command.Inr l) = tt
-    hears_meets stamp said (command.Ins l) = tt
-    hears_meets stamp said (command.Eco octet) = tt
-    hears_meets stamp said (command.Erp octet) = tt
-    hears_meets stamp said (command.Err code detail) = tt
-    hears_meets stamp said command.Rst = tt
-    hears_meets stamp said command.Rrp = tt
+    hears_meets stamp said c = tt
 
     data_meets : (P : ℕ → Type 0) (l : ℕ) (text : List Bool) (o : Option DataHeader) → AllConcern P (data_received link l text o)
     data_meets P l text None = tt
@@ -189,14 +167,11 @@ module _ (name : ℕ → ℕ → ℕ) (link : ℕ) where
     call_meets (Hears stamp said c) = hears_meets stamp said c
     call_meets (Takes l text) = data_meets (Meets name q.entries (ends_by peer (Takes l text) q listening)) l text (header_of text)
     call_meets (Says stamp c) = says_meets (Meets name q.entries (ends_by peer (Says stamp c) q listening)) q.entries c
-    call_meets (Sends stamp e z n) = tt
-    call_meets (Answered l) = tt
     call_meets (OpensReceiver own foreign) = opens_meets own foreign (free_link q.entries)
-    call_meets (OpensSender own foreign z) = tt
     call_meets (Grants socket m n e) = if_none (Meets name q.entries (ends_by peer (Grants socket m n e) q listening)) (receives_on link e) (receivers.Grant (named name e) m n ∷ []) (tt, tt)
     call_meets (AsksBack socket m n e) = if_none (Meets name q.entries (ends_by peer (AsksBack socket m n e) q listening)) (receives_on link e) (receivers.AskBack (named name e) m n ∷ []) (tt, tt)
-    call_meets (Gives socket bits e) = tt
     call_meets (Closes socket e) = if_none (Meets name q.entries (ends_by peer (Closes socket e) q listening)) (receives_on link e) (receivers.Close (named name e) ∷ []) (tt, tt)
+    call_meets c = tt
 
 -- ---- senders
 
@@ -242,18 +217,7 @@ module _ (name : ℕ → ℕ → ℕ) (link : ℕ) (s : Sender) where
   says_met : (P : ℕ → Type 0) (es : List Entry) (c : Command) → AllConcernSent P (sent_out name link c es s)
   says_met P es (command.Rts receive send l) = asked_met P (entry_at receive send es)
   says_met P es (command.Str send receive size) = asked_met P (entry_at send receive es)
-  says_met P es (command.Cls own foreign) = tt
-  says_met P es command.Nop = tt
-  says_met P es (command.All l m n) = tt
-  says_met P es (command.Gvb l m n) = tt
-  says_met P es (command.Ret l m n) = tt
-  says_met P es (command.Inr l) = tt
-  says_met P es (command.Ins l) = tt
-  says_met P es (command.Eco octet) = tt
-  says_met P es (command.Erp octet) = tt
-  says_met P es (command.Err code detail) = tt
-  says_met P es command.Rst = tt
-  says_met P es command.Rrp = tt
+  says_met P es c = tt
 
   module _ (peer : Host) (q : PairState) (listening : List Listener) where
     hears_met : (stamp said : ℕ) (c : Command) → AllConcernSent (Meets name q.entries (ends_by peer (Hears stamp said c) q listening)) (sent_at name link (Hears stamp said c) q listening s)
@@ -261,31 +225,18 @@ module _ (name : ℕ → ℕ → ℕ) (link : ℕ) (s : Sender) where
     hears_met stamp said (command.Cls foreign own) = cls_met q.busy own foreign q.entries (ends_by peer (Hears stamp said (command.Cls foreign own)) q listening) (entry_at own foreign q.entries)
     hears_met stamp said (command.All l m n) = if_sent (Meets name q.entries (ends_by peer (Hears stamp said (command.All l m n)) q listening)) (l == link) (senders.Hear (words.All said m n) ∷ []) (tt, tt)
     hears_met stamp said (command.Gvb l m n) = if_sent (Meets name q.entries (ends_by peer (Hears stamp said (command.Gvb l m n)) q listening)) (l == link) (senders.Hear (words.Gvb said m n) ∷ []) (tt, tt)
-    hears_met stamp said (command.Str send receive size) = tt
-    hears_met stamp said (command.Ret l m n) = tt
-    hears_met stamp said command.Nop = tt
-    hears_met stamp said (command.Inr l) = tt
-    hears_met stamp said (command.Ins l) = tt
-    hears_met stamp said (command.Eco octet) = tt
-    hears_met stamp said (command.Erp octet) = tt
-    hears_met stamp said (command.Err code detail) = tt
-    hears_met stamp said command.Rst = tt
-    hears_met stamp said command.Rrp = tt
+    hears_met stamp said c = tt
 
     told_met : (P : ℕ → Type 0) (l : ℕ) → AllConcernSent P (told_on link l)
     told_met P l = if_sent P (l == link) (senders.Told ∷ []) (tt, tt)
 
     pub call_met : (c : Call) → AllConcernSent (Meets name q.entries (ends_by peer c q listening)) (sent_at name link c q listening s)
     call_met (Hears stamp said c) = hears_met stamp said c
-    call_met (Takes l text) = tt
     call_met (Says stamp c) = says_met (Meets name q.entries (ends_by peer (Says stamp c) q listening)) q.entries c
     call_met (Sends stamp e z n) = if_sent (Meets name q.entries (ends_by peer (Sends stamp e z n) q listening)) (sends_on link e) (senders.Send (named name e) z (take (z * n) e.bits) ∷ []) (tt, tt)
     call_met (Answered l) =
         concern_both (Meets name q.entries (ends_by peer (Answered l) q listening)) (told_on link l) (closes name (freed l q).busy q.entries) (told_met (Meets name q.entries (ends_by peer (Answered l) q listening)) l)
         (closes_among name (Meets name q.entries (ends_by peer (Answered l) q listening)) (freed l q).busy q.entries (λ k t. inl t))
-    call_met (OpensReceiver own foreign) = tt
     call_met (OpensSender own foreign z) = (inr (among_last name q.entries (sending_end own foreign z)), tt)
-    call_met (Grants socket m n e) = tt
-    call_met (AsksBack socket m n e) = tt
-    call_met (Gives socket bits e) = tt
     call_met (Closes socket e) = closes_meet name q.busy (is_mine_on socket) called_off q.entries (ends_by peer (Closes socket e) q listening) (λ x. refl)
+    call_met c = tt

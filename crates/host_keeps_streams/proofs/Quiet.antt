@@ -46,7 +46,6 @@ data_same on l text d (Open e) off = data_if on l text e d (header_of text) off
 -- ---- receivers
 
 pub receiver_leaves : (link : ℕ) (peer : Host) (busy : List ℕ) (stamp : ℕ) (c : Command) (d : DeskState) → LeavesReceiver link c → Same (receives_on link) d (desk_taken peer busy stamp c d)
-receiver_leaves link peer busy stamp command.Nop d a = refl
 receiver_leaves link peer busy stamp (command.Rts receive send l) d a = absurd a
 receiver_leaves link peer busy stamp (command.Str send receive size) d a = absurd a
 receiver_leaves link peer busy stamp (command.Cls own foreign) d a = absurd a
@@ -58,11 +57,7 @@ receiver_leaves link peer busy stamp (command.Ret l m n) d a =
     at_end_same (receives_on link) (command.Ret l m n) (ret_taken l m n) (receiver_on l d) d (λ e. ret_same (receives_on link) l m n e d (λ x t. (other_receives link l a x t, other_receives link l a (returned m n x) t)))
 receiver_leaves link peer busy stamp (command.Inr l) d a = at_end_same (receives_on link) (command.Inr l) interrupted (sender_on l d) d (λ e. refl)
 receiver_leaves link peer busy stamp (command.Ins l) d a = at_end_same (receives_on link) (command.Ins l) interrupted (receiver_on l d) d (λ e. refl)
-receiver_leaves link peer busy stamp (command.Eco octet) d a = refl
-receiver_leaves link peer busy stamp (command.Erp octet) d a = refl
-receiver_leaves link peer busy stamp (command.Err code detail) d a = refl
-receiver_leaves link peer busy stamp command.Rst d a = refl
-receiver_leaves link peer busy stamp command.Rrp d a = refl
+receiver_leaves link peer busy stamp c d a = refl
 
 pub receiver_elsewhere : (link l : ℕ) (text : List Bool) (d : DeskState) → (l == link) ≡ false → Same (receives_on link) d (data_taken l text d)
 receiver_elsewhere link l text d away = data_same (receives_on link) l text d (receiver_on l d) (λ n x t. (other_receives link l away x t, other_receives link l away (spent n x) t))
@@ -70,7 +65,6 @@ receiver_elsewhere link l text d away = data_same (receives_on link) l text d (r
 -- ---- senders
 
 pub sender_leaves : (link : ℕ) (peer : Host) (busy : List ℕ) (stamp : ℕ) (c : Command) (d : DeskState) → LeavesSender link c → Same (sends_on link) d (desk_taken peer busy stamp c d)
-sender_leaves link peer busy stamp command.Nop d a = refl
 sender_leaves link peer busy stamp (command.Rts receive send l) d a = absurd a
 sender_leaves link peer busy stamp (command.Str send receive size) d a = absurd a
 sender_leaves link peer busy stamp (command.Cls own foreign) d a = absurd a
@@ -82,11 +76,7 @@ sender_leaves link peer busy stamp (command.Ret l m n) d a =
     at_end_same (sends_on link) (command.Ret l m n) (ret_taken l m n) (receiver_on l d) d (λ e. ret_same (sends_on link) l m n e d (λ x t. (not_sent link x (received_is l x t), not_sent link (returned m n x) (received_is l x t))))
 sender_leaves link peer busy stamp (command.Inr l) d a = at_end_same (sends_on link) (command.Inr l) interrupted (sender_on l d) d (λ e. refl)
 sender_leaves link peer busy stamp (command.Ins l) d a = at_end_same (sends_on link) (command.Ins l) interrupted (receiver_on l d) d (λ e. refl)
-sender_leaves link peer busy stamp (command.Eco octet) d a = refl
-sender_leaves link peer busy stamp (command.Erp octet) d a = refl
-sender_leaves link peer busy stamp (command.Err code detail) d a = refl
-sender_leaves link peer busy stamp command.Rst d a = refl
-sender_leaves link peer busy stamp command.Rrp d a = refl
+sender_leaves link peer busy stamp c d a = refl
 
 -- data of the peer are no matter of those that send
 pub sender_hears_data : (link l : ℕ) (text : List Bool) (d : DeskState) → Same (sends_on link) d (data_taken l text d)

@@ -238,17 +238,8 @@ module _ (name : ℕ → ℕ → ℕ) (link : ℕ) where
     left c l = (tt, subst (λ (xs : List Entry). AreReceiver name xs r) (sym (receiver_leaves link peer busy stamp c d l)) h)
 
     pub hears_all : (c : Command) → IsCommand c → AreApart (numbers name d.entries) → NewReceived name c d.entries r → Received name link (received_by name link k c d) (desk_taken peer busy stamp c d).entries r
-    hears_all command.Nop i a new = left command.Nop tt
     hears_all (command.Rts receive send l) i a new = (tt, rts_leaves peer stamp send receive l d r (odd_is send i.3) h)
     hears_all (command.Str send receive size) i a new = str_receives peer stamp receive send size d r i.3 h a new
     hears_all (command.Cls foreign own) i a new = cls_hears peer busy stamp own foreign d r h a
-    hears_all (command.All l m n) i a new = left (command.All l m n) tt
-    hears_all (command.Gvb l m n) i a new = left (command.Gvb l m n) tt
     hears_all (command.Ret l m n) i a new = ret_by peer busy stamp k l m n d r h (l == link) refl
-    hears_all (command.Inr l) i a new = left (command.Inr l) tt
-    hears_all (command.Ins l) i a new = left (command.Ins l) tt
-    hears_all (command.Eco octet) i a new = left (command.Eco octet) tt
-    hears_all (command.Erp octet) i a new = left (command.Erp octet) tt
-    hears_all (command.Err code detail) i a new = left (command.Err code detail) tt
-    hears_all command.Rst i a new = left command.Rst tt
-    hears_all command.Rrp i a new = left command.Rrp tt
+    hears_all c i a new = left c tt

@@ -95,9 +95,7 @@ module _ (name : ℕ → ℕ → ℕ) (link own foreign : ℕ) (q : PairState) w
 
 due_sent : (v : Closing) → is_sent (close_due v) ≡ is_sent v
 due_sent closing.No = refl
-due_sent closing.Due = refl
-due_sent closing.Queued = refl
-due_sent closing.Sent = refl
+due_sent v = refl
 
 off_live : (e : Entry) → is_over (called_off e) ≡ is_over e
 off_live e = ap (λ (v : Bool). v && e.partner_closed) (due_sent e.closing)

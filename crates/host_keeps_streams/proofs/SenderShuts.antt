@@ -90,9 +90,7 @@ heard_apart name c (x ∷ y ∷ ys) s n h = absurd h
 
 pub due_cls : (v : Closing) → has_cls v ≡ has_cls (close_due v)
 due_cls closing.No = refl
-due_cls closing.Due = refl
-due_cls closing.Queued = refl
-due_cls closing.Sent = refl
+due_cls v = refl
 
 module _ (name : ℕ → ℕ → ℕ) (link : ℕ) where
   module _ (peer : Host) (busy : List ℕ) (own foreign : ℕ) (d : DeskState) (s : Sender) (h : HasSender name link d.entries s) (k : AreKnown name d.entries s) (a : AreApart (numbers name d.entries))
@@ -117,10 +115,6 @@ module _ (name : ℕ → ℕ → ℕ) (link : ℕ) where
         (inl (record { end = i.end; opened = i.opened; shut = refl; closed = i.closed ∙ due_cls e.closing; size = i.size; allocation = i.allocation; live = live }))
 
     heard_by : IsSender (named name e) e s → (v : Closing) → e.closing ≡ v → Heard (senders.shuts (named name e) s.end s)
-    heard_by i closing.No same =
-        subst Heard (sym (heard_unclosed (named name e) s i.end (i.closed ∙ ap has_cls same))) (open_due closing.No same refl i (rw same refl) (rw same refl))
-    heard_by i closing.Due same =
-        subst Heard (sym (heard_unclosed (named name e) s i.end (i.closed ∙ ap has_cls same))) (open_due closing.Due same refl i (rw same refl) (rw same refl))
     heard_by i closing.Queued same =
         let list : filter stays (closed_by_partner e ∷ []) ≡ closed_by_partner e ∷ [] = (rw same refl) in
         subst Heard (sym (heard_closed (named name e) s i.end (i.closed ∙ ap has_cls same)))
@@ -128,6 +122,8 @@ module _ (name : ℕ → ℕ → ℕ) (link : ℕ) where
     heard_by i closing.Sent same =
         let list : filter stays (closed_by_partner e ∷ []) ≡ [] = (rw same refl) in
         subst Heard (sym (heard_closed (named name e) s i.end (i.closed ∙ ap has_cls same))) (subst (λ (xs : List Entry). AreSender name xs (record s { end = None })) (sym list) (none_ended s))
+    heard_by i v same =
+        subst Heard (sym (heard_unclosed (named name e) s i.end (i.closed ∙ ap has_cls same))) (open_due v same refl i (rw same refl) (rw same refl))
 
     shut_on : sends_on link e ≡ true → HasSender name link (filter stays (changed_first (is_at own foreign) closed_by_partner d.entries)) (all_sent (heard (named name e) s.end) s)
     shut_on on =

@@ -138,7 +138,6 @@ module _ (name : ℕ → ℕ → ℕ) (link : ℕ) (peer : Host) (busy : List �
 
   module _ (a : AreApart (numbers name d.entries)) (formed : AreFormed d.entries) where
     pub takes_all : (c : Command) → IsCommand c → NewSent name c d.entries s → FindsFree link c d.entries s → Sent name link (sent_by name link k busy c d s) (desk_taken peer busy stamp c d).entries s
-    takes_all command.Nop i new free = left command.Nop tt known
     takes_all (command.Rts receive send l) i new free = rts_by send receive l (odd_is send i.3) formed a new free (list_any (sends_on l) d.entries) refl
     takes_all (command.Str send receive size) i new free = str_leaves receive send size i.3 a
     takes_all (command.Cls foreign own) i new free = closings.cls_hears name link peer busy own foreign d s h known a (entry_at own foreign d.entries) refl
@@ -147,8 +146,4 @@ module _ (name : ℕ → ℕ → ℕ) (link : ℕ) (peer : Host) (busy : List �
     takes_all (command.Ret l m n) i new free = left (command.Ret l m n) tt (at_end_known name s (command.Ret l m n) (ret_taken l m n) (receiver_on l d) d known (λ e. ret_known name s l m n e d known))
     takes_all (command.Inr l) i new free = left (command.Inr l) tt (at_end_known name s (command.Inr l) interrupted (sender_on l d) d known (λ e. known))
     takes_all (command.Ins l) i new free = left (command.Ins l) tt (at_end_known name s (command.Ins l) interrupted (receiver_on l d) d known (λ e. known))
-    takes_all (command.Eco octet) i new free = left (command.Eco octet) tt known
-    takes_all (command.Erp octet) i new free = left (command.Erp octet) tt known
-    takes_all (command.Err code detail) i new free = left (command.Err code detail) tt known
-    takes_all command.Rst i new free = left command.Rst tt known
-    takes_all command.Rrp i new free = left command.Rrp tt known
+    takes_all c i new free = left c tt known

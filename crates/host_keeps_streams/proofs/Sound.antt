@@ -109,7 +109,6 @@ module _ (name : ℕ → ℕ → ℕ) where
     -- ---- all commands
 
     pub sound_taken : (c : Command) → IsCommand c → NewNumber name c d.entries → AreSound name (desk_taken peer busy stamp c d).entries
-    sound_taken command.Nop i new = s
     sound_taken (command.Rts receive send l) i new = rts_sound send receive l (odd_is send i.3) new (list_any (sends_on l) d.entries) refl
     sound_taken (command.Str send receive size) i new = str_by receive send size i.3 new (entry_at receive send d.entries) refl
     sound_taken (command.Cls foreign own) i new = cls_by own foreign (entry_at own foreign d.entries)
@@ -120,8 +119,4 @@ module _ (name : ℕ → ℕ → ℕ) where
     sound_taken (command.Ret l m n) i new = at_end_sound (command.Ret l m n) (ret_taken l m n) (receiver_on l d) (ret_sound l m n)
     sound_taken (command.Inr l) i new = at_end_sound (command.Inr l) interrupted (sender_on l d) (λ e. s)
     sound_taken (command.Ins l) i new = at_end_sound (command.Ins l) interrupted (receiver_on l d) (λ e. s)
-    sound_taken (command.Eco octet) i new = s
-    sound_taken (command.Erp octet) i new = s
-    sound_taken (command.Err code detail) i new = s
-    sound_taken command.Rst i new = s
-    sound_taken command.Rrp i new = s
+    sound_taken c i new = s

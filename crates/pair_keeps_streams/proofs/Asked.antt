@@ -45,22 +45,14 @@ taken_asked z bits (Some c) r k = by (receivers.is_open c r && is_size z (r.size
   by false t = rw t refl
 
 word_asked : (w : words.Word) (r : Receiver) (k : ℕ) → (receivers.hears w r).asked k ≡ r.asked k
-word_asked (words.Str c z) r k = refl
-word_asked (words.Cls c) r k = refl
 word_asked (words.Ret c m n) r k = returned_asked m n r.end r k
-word_asked (words.Rts c) r k = refl
-word_asked (words.All c m n) r k = refl
-word_asked (words.Gvb c m n) r k = refl
+word_asked w r k = refl
 
 moved_asked : (m : receivers.Move) (r : Receiver) → AsksNone m → (k : ℕ) → (receivers.moved m r).asked k ≡ r.asked k
 moved_asked (receivers.Ask c) r a k = absurd a
-moved_asked (receivers.Open c) r a k = refl
-moved_asked (receivers.Grant c m n) r a k = refl
-moved_asked (receivers.AskBack c m n) r a k = refl
-moved_asked (receivers.Close c) r a k = refl
-moved_asked (receivers.Free c) r a k = refl
 moved_asked (receivers.Hear w) r a k = word_asked w r k
 moved_asked (receivers.Take z bits) r a k = taken_asked z bits r.end r k
+moved_asked m r a k = refl
 
 pub same_asked : (ms : List receivers.Move) (r : Receiver) → AllAskNone ms → (k : ℕ) → (all_received ms r).asked k ≡ r.asked k
 same_asked [] r a k = refl
@@ -73,10 +65,8 @@ open_none true c = (tt, tt)
 open_none false c = tt
 
 close_none : (v : Closing) (c : ℕ) → AllAskNone (received_close v c)
-close_none closing.No c = (tt, tt)
-close_none closing.Due c = (tt, tt)
 close_none closing.Queued c = tt
-close_none closing.Sent c = (tt, tt)
+close_none v c = (tt, tt)
 
 gone_none : (v : Bool) (c : ℕ) → AllAskNone (received_gone v c)
 gone_none true c = (tt, tt)
@@ -115,17 +105,7 @@ module _ (name : ℕ → ℕ → ℕ) (link : ℕ) where
   out_none (command.Rts receive send l) es = asked_none (entry_at receive send es)
   out_none (command.Str send receive size) es = asked_none (entry_at send receive es)
   out_none (command.Cls own foreign) es = closed_none (entry_at own foreign es)
-  out_none command.Nop es = tt
-  out_none (command.All l m n) es = tt
-  out_none (command.Gvb l m n) es = tt
-  out_none (command.Ret l m n) es = tt
-  out_none (command.Inr l) es = tt
-  out_none (command.Ins l) es = tt
-  out_none (command.Eco octet) es = tt
-  out_none (command.Erp octet) es = tt
-  out_none (command.Err code detail) es = tt
-  out_none command.Rst es = tt
-  out_none command.Rrp es = tt
+  out_none c es = tt
 
   -- ---- calls that ask
 

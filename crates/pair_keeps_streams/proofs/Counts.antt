@@ -11,53 +11,19 @@ use Rattle.pair_keeps_streams.specs.Words.{closings_in, with_closing, receiver_w
 
 pub closing_same : (c : Command) (m n : ℕ → ℕ → ℕ) → ((x y : ℕ) → m x y ≡ n x y) → (x y : ℕ) → with_closing c m x y ≡ with_closing c n x y
 closing_same (command.Cls own foreign) m n same x y = ap (λ (k : ℕ). if x == own && y == foreign then suc k else k) (same x y)
-closing_same (command.Rts receive send l) m n same x y = same x y
-closing_same (command.Str send receive size) m n same x y = same x y
-closing_same (command.All l a b) m n same x y = same x y
-closing_same (command.Gvb l a b) m n same x y = same x y
-closing_same (command.Ret l a b) m n same x y = same x y
-closing_same (command.Inr l) m n same x y = same x y
-closing_same (command.Ins l) m n same x y = same x y
-closing_same (command.Eco octet) m n same x y = same x y
-closing_same (command.Erp octet) m n same x y = same x y
-closing_same (command.Err code detail) m n same x y = same x y
-closing_same command.Nop m n same x y = same x y
-closing_same command.Rst m n same x y = same x y
-closing_same command.Rrp m n same x y = same x y
+closing_same c m n same x y = same x y
 
 module _ (number : ℕ → ℕ → ℕ → ℕ) (link : ℕ) where
   receiver_same : (asked : ℕ → Bool) (c : Command) (m n : ℕ → ℕ → ℕ) → ((x y : ℕ) → m x y ≡ n x y) → receiver_word number link asked m c ≡ receiver_word number link asked n c
   receiver_same asked (command.Cls own foreign) m n same =
       ap (λ (k : ℕ). if is_receive_socket own && asked (number own foreign k) then Cls (number own foreign k) ∷ [] else []) (same own foreign)
   receiver_same asked (command.Rts receive send l) m n same = ap (λ (k : ℕ). if l == link then Rts (number receive send k) ∷ [] else []) (same receive send)
-  receiver_same asked (command.Str send receive size) m n same = refl
-  receiver_same asked (command.All l a b) m n same = refl
-  receiver_same asked (command.Gvb l a b) m n same = refl
-  receiver_same asked (command.Ret l a b) m n same = refl
-  receiver_same asked (command.Inr l) m n same = refl
-  receiver_same asked (command.Ins l) m n same = refl
-  receiver_same asked (command.Eco octet) m n same = refl
-  receiver_same asked (command.Erp octet) m n same = refl
-  receiver_same asked (command.Err code detail) m n same = refl
-  receiver_same asked command.Nop m n same = refl
-  receiver_same asked command.Rst m n same = refl
-  receiver_same asked command.Rrp m n same = refl
+  receiver_same asked c m n same = refl
 
   sender_same : (c : Command) (m n : ℕ → ℕ → ℕ) → ((x y : ℕ) → m x y ≡ n x y) → sender_word number link m c ≡ sender_word number link n c
   sender_same (command.Cls own foreign) m n same = ap (λ (k : ℕ). if is_receive_socket own then [] else Cls (number own foreign k) ∷ []) (same own foreign)
   sender_same (command.Str send receive size) m n same = ap (λ (k : ℕ). Str (number send receive k) size ∷ []) (same send receive)
-  sender_same (command.Rts receive send l) m n same = refl
-  sender_same (command.All l a b) m n same = refl
-  sender_same (command.Gvb l a b) m n same = refl
-  sender_same (command.Ret l a b) m n same = refl
-  sender_same (command.Inr l) m n same = refl
-  sender_same (command.Ins l) m n same = refl
-  sender_same (command.Eco octet) m n same = refl
-  sender_same (command.Erp octet) m n same = refl
-  sender_same (command.Err code detail) m n same = refl
-  sender_same command.Nop m n same = refl
-  sender_same command.Rst m n same = refl
-  sender_same command.Rrp m n same = refl
+  sender_same c m n same = refl
 
 -- ---- CLS are counted up
 
@@ -66,19 +32,7 @@ closing_more (command.Cls own foreign) n x y = by (x == own && y == foreign) ref
   by : (v : Bool) → (x == own && y == foreign) ≡ v → n x y ≤ with_closing (command.Cls own foreign) n x y
   by true e = rw e (omega arith)
   by false e = rw e (omega arith)
-closing_more (command.Rts receive send l) n x y = omega arith
-closing_more (command.Str send receive size) n x y = omega arith
-closing_more (command.All l a b) n x y = omega arith
-closing_more (command.Gvb l a b) n x y = omega arith
-closing_more (command.Ret l a b) n x y = omega arith
-closing_more (command.Inr l) n x y = omega arith
-closing_more (command.Ins l) n x y = omega arith
-closing_more (command.Eco octet) n x y = omega arith
-closing_more (command.Erp octet) n x y = omega arith
-closing_more (command.Err code detail) n x y = omega arith
-closing_more command.Nop n x y = omega arith
-closing_more command.Rst n x y = omega arith
-closing_more command.Rrp n x y = omega arith
+closing_more c n x y = omega arith
 
 closings_more : (cs : List Command) (n : ℕ → ℕ → ℕ) (x y : ℕ) → n x y ≤ closings_in cs n x y
 closings_more [] n x y = omega arith
@@ -130,19 +84,7 @@ module _ (number : ℕ → ℕ → ℕ → ℕ) (link : ℕ) (asked other : ℕ 
 
     same_at : (c : Command) (cs : List Command) (n : ℕ → ℕ → ℕ) → ((k : ℕ) → (asked k ≡ other k) ⊎ IsBeyond number (closings_in (c ∷ cs) n) k) → IsAskedSame number asked other n c
     same_at (command.Cls own foreign) cs n same = λ e. same_cls own foreign cs n same
-    same_at (command.Rts receive send l) cs n same = tt
-    same_at (command.Str send receive size) cs n same = tt
-    same_at (command.All l a b) cs n same = tt
-    same_at (command.Gvb l a b) cs n same = tt
-    same_at (command.Ret l a b) cs n same = tt
-    same_at (command.Inr l) cs n same = tt
-    same_at (command.Ins l) cs n same = tt
-    same_at (command.Eco octet) cs n same = tt
-    same_at (command.Erp octet) cs n same = tt
-    same_at (command.Err code detail) cs n same = tt
-    same_at command.Nop cs n same = tt
-    same_at command.Rst cs n same = tt
-    same_at command.Rrp cs n same = tt
+    same_at c cs n same = tt
 
     same_all : (cs : List Command) (n : ℕ → ℕ → ℕ) → ((k : ℕ) → (asked k ≡ other k) ⊎ IsBeyond number (closings_in cs n) k) → AreAskedSame number asked other n cs
     same_all [] n same = tt

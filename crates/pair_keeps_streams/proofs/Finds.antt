@@ -2,7 +2,7 @@
 use Rattle.std.proofs.Common.{◌≡◌, ℕ, ◌==◌, true, List, [], ◌∷◌, map, refl, ap, ◌∙◌, eq-eqb}
 use Rattle.ncp_control.specs.declared.command.Command.{Command}
 use Rattle.ncp_control.specs.declared.command.Command.TheVariants as command
-use Rattle.stream_law.specs.Words.{Word, Rts, Str, All, Gvb, Ret, Cls}
+use Rattle.stream_law.specs.Words.{Word, Rts}
 use Rattle.stream_law.specs.Streams.{Stream}
 use Rattle.stream_law.proofs.lemmas.{link_free}
 use Rattle.host_keeps_streams.specs.Formed.{FindsFree}
@@ -13,11 +13,7 @@ use Rattle.pair_keeps_streams.proofs.Joint.{Joint, Party, heard_by}
 -- a word that is an RTS, but for what is left out of it, is that RTS
 plain_rts : (w : Word) (c : ℕ) → plain w ≡ Rts c → w ≡ Rts c
 plain_rts (Rts k) c e = e
-plain_rts (Str k size) c e = absurd (cc)
-plain_rts (All k m n) c e = absurd (cc)
-plain_rts (Gvb k m n) c e = absurd (cc)
-plain_rts (Ret k m n) c e = absurd (cc)
-plain_rts (Cls k) c e = absurd (cc)
+plain_rts w c e = absurd (cc)
 
 first_word : (ws more : List Word) (c : ℕ) → map plain ws ≡ Rts c ∷ more → (rest : List Word) × (ws ≡ Rts c ∷ rest)
 first_word [] more c e = absurd (cc)
@@ -34,15 +30,4 @@ module _ (number other : ℕ → ℕ → ℕ → ℕ) (tells : IsTelling number)
     first : l ≡ link → (rest : List Word) × (y.to_sender ≡ Rts (other receive send (heard_by a receive send)) ∷ rest)
     first here = first_word y.to_sender (receiver_words other link y.receiver.asked (with_closing (command.Rts receive send l) (heard_by a)) more) (other receive send (heard_by a receive send)) (said here)
   finds_free (command.Str send receive size) more e = tt
-  finds_free (command.Cls own foreign) more e = tt
-  finds_free (command.All l m n) more e = tt
-  finds_free (command.Gvb l m n) more e = tt
-  finds_free (command.Ret l m n) more e = tt
-  finds_free (command.Inr l) more e = tt
-  finds_free (command.Ins l) more e = tt
-  finds_free (command.Eco octet) more e = tt
-  finds_free (command.Erp octet) more e = tt
-  finds_free (command.Err code detail) more e = tt
-  finds_free command.Nop more e = tt
-  finds_free command.Rst more e = tt
-  finds_free command.Rrp more e = tt
+  finds_free c more e = tt

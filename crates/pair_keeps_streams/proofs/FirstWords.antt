@@ -41,27 +41,15 @@ split (w ∷ ws) v vs e = record { first = w; rest = ws; is = refl; same = ap (f
 
 pub plain_rts : (w : Word) (c : ℕ) → plain w ≡ Rts c → w ≡ Rts c
 plain_rts (Rts k) c e = e
-plain_rts (Str k z) c e = absurd (cc)
-plain_rts (All k m n) c e = absurd (cc)
-plain_rts (Gvb k m n) c e = absurd (cc)
-plain_rts (Ret k m n) c e = absurd (cc)
-plain_rts (Cls k) c e = absurd (cc)
+plain_rts w c e = absurd (cc)
 
 pub plain_str : (w : Word) (c z : ℕ) → plain w ≡ Str c z → w ≡ Str c z
 plain_str (Str k y) c z e = e
-plain_str (Rts k) c z e = absurd (cc)
-plain_str (All k m n) c z e = absurd (cc)
-plain_str (Gvb k m n) c z e = absurd (cc)
-plain_str (Ret k m n) c z e = absurd (cc)
-plain_str (Cls k) c z e = absurd (cc)
+plain_str w c z e = absurd (cc)
 
 pub plain_cls : (w : Word) (c : ℕ) → plain w ≡ Cls c → w ≡ Cls c
 plain_cls (Cls k) c e = e
-plain_cls (Rts k) c e = absurd (cc)
-plain_cls (Str k z) c e = absurd (cc)
-plain_cls (All k m n) c e = absurd (cc)
-plain_cls (Gvb k m n) c e = absurd (cc)
-plain_cls (Ret k m n) c e = absurd (cc)
+plain_cls w c e = absurd (cc)
 
 -- the connection in which it was said
 abbrev with_number : ℕ → Word → Word
@@ -74,27 +62,15 @@ with_number k (Cls c) = Cls c
 
 pub plain_all : (w : Word) (m n : ℕ) → plain w ≡ All 0 m n → (k : ℕ) × (w ≡ All k m n)
 plain_all (All k a b) m n e = (k, ap (with_number k) e)
-plain_all (Rts k) m n e = absurd (cc)
-plain_all (Str k z) m n e = absurd (cc)
-plain_all (Gvb k a b) m n e = absurd (cc)
-plain_all (Ret k a b) m n e = absurd (cc)
-plain_all (Cls k) m n e = absurd (cc)
+plain_all w m n e = absurd (cc)
 
 pub plain_gvb : (w : Word) (m n : ℕ) → plain w ≡ Gvb 0 m n → (k : ℕ) × (w ≡ Gvb k m n)
 plain_gvb (Gvb k a b) m n e = (k, ap (with_number k) e)
-plain_gvb (Rts k) m n e = absurd (cc)
-plain_gvb (Str k z) m n e = absurd (cc)
-plain_gvb (All k a b) m n e = absurd (cc)
-plain_gvb (Ret k a b) m n e = absurd (cc)
-plain_gvb (Cls k) m n e = absurd (cc)
+plain_gvb w m n e = absurd (cc)
 
 pub plain_ret : (w : Word) (m n : ℕ) → plain w ≡ Ret 0 m n → (k : ℕ) × (w ≡ Ret k m n)
 plain_ret (Ret k a b) m n e = (k, ap (with_number k) e)
-plain_ret (Rts k) m n e = absurd (cc)
-plain_ret (Str k z) m n e = absurd (cc)
-plain_ret (All k a b) m n e = absurd (cc)
-plain_ret (Gvb k a b) m n e = absurd (cc)
-plain_ret (Cls k) m n e = absurd (cc)
+plain_ret w m n e = absurd (cc)
 
 -- ---- what each makes of it
 
@@ -130,10 +106,8 @@ str_hears link c z l free (Some e) f =
     subst (λ (v : Bool). HearOne (Str c z) (if v then [] else receivers.Hear (Str c z) ∷ received_open (receives_on link e && is_some e.asked) c)) (sym first) (refl, open_quiet (receives_on link e && is_some e.asked) c)
 
 close_quiet : (v : Closing) (c : ℕ) → AreQuiet (received_close v c)
-close_quiet closing.No c = (tt, tt)
-close_quiet closing.Due c = (tt, tt)
 close_quiet closing.Queued c = tt
-close_quiet closing.Sent c = (tt, tt)
+close_quiet v c = (tt, tt)
 
 closes_on_quiet : (link c : ℕ) (e : Entry) → AreQuiet (closes_on link c e)
 closes_on_quiet link c e = if_quiet (receives_on link e) (received_close e.closing c) (close_quiet e.closing c)

@@ -93,17 +93,7 @@ module _ (peer : Host) (busy : List ℕ) (stamp : ℕ) (d : DeskState) where
   out_heard name apart (command.Cls own foreign) = λ x y. (let a : IsAlike (entry_at x y d.entries) (entry_at x y (changed_first (is_at own foreign) cls_sent d.entries))
       = changed_alike (is_at own foreign) cls_sent (record { own = λ x. refl; foreign = λ x. refl }) (λ x. refl) d.entries x y in
       swept_heard d.entries (changed_first (is_at own foreign) cls_sent d.entries) (separate name (changed_first (is_at own foreign) cls_sent d.entries) (apart_changed name (is_at own foreign) cls_sent d.entries (λ x. refl) apart)) x y a.0 ∙ a.1)
-  out_heard name apart command.Nop = same_unheard d.entries
-  out_heard name apart (command.All l m n) = same_unheard d.entries
-  out_heard name apart (command.Gvb l m n) = same_unheard d.entries
-  out_heard name apart (command.Ret l m n) = same_unheard d.entries
-  out_heard name apart (command.Inr l) = same_unheard d.entries
-  out_heard name apart (command.Ins l) = same_unheard d.entries
-  out_heard name apart (command.Eco octet) = same_unheard d.entries
-  out_heard name apart (command.Erp octet) = same_unheard d.entries
-  out_heard name apart (command.Err code detail) = same_unheard d.entries
-  out_heard name apart command.Rst = same_unheard d.entries
-  out_heard name apart command.Rrp = same_unheard d.entries
+  out_heard name apart c = same_unheard d.entries
 
   module _ (name gone : ℕ → ℕ → ℕ) (apart : AreApart (numbers name d.entries)) where
     abbrev IsCounted : Command → Type 0
@@ -128,12 +118,7 @@ module _ (peer : Host) (busy : List ℕ) (stamp : ℕ) (d : DeskState) where
     taken_heard (command.Ret l m n) f = plainly (at_end (command.Ret l m n) (ret_taken l m n) (receiver_on l d) d).entries (at_end_heard (command.Ret l m n) (ret_taken l m n) (receiver_on l d) (ret_heard l m n))
     taken_heard (command.Inr l) f = plainly (at_end (command.Inr l) interrupted (sender_on l d) d).entries (at_end_heard (command.Inr l) interrupted (sender_on l d) (λ e. same_unheard d.entries))
     taken_heard (command.Ins l) f = plainly (at_end (command.Ins l) interrupted (receiver_on l d) d).entries (at_end_heard (command.Ins l) interrupted (receiver_on l d) (λ e. same_unheard d.entries))
-    taken_heard command.Nop f = plainly d.entries (same_unheard d.entries)
-    taken_heard (command.Eco octet) f = plainly d.entries (same_unheard d.entries)
-    taken_heard (command.Erp octet) f = plainly d.entries (same_unheard d.entries)
-    taken_heard (command.Err code detail) f = plainly d.entries (same_unheard d.entries)
-    taken_heard command.Rst f = plainly d.entries (same_unheard d.entries)
-    taken_heard command.Rrp f = plainly d.entries (same_unheard d.entries)
+    taken_heard c f = plainly d.entries (same_unheard d.entries)
 
 -- ---- each call
 

@@ -23,7 +23,7 @@ use Rattle.host_pairs.specs.Parcels.{link_of}
 use Rattle.host_pairs.specs.Turn.{freed}
 use Rattle.host_pairs.specs.declared.entry.Entry.{Entry}
 use Rattle.host_pairs.specs.declared.listener.Listener.{Listener}
-use Rattle.host_keeps_streams.specs.Histories.{Call, Hears, Takes, Says, Sends as SendsBytes, Answered, OpensReceiver, OpensSender, Grants, AsksBack, Gives, Closes, IsTelling, ends_by, gone_by}
+use Rattle.host_keeps_streams.specs.Histories.{Call, Hears, Takes, Answered, OpensReceiver, OpensSender, Grants, AsksBack, Closes, IsTelling, ends_by, gone_by}
 use Rattle.host_keeps_streams.specs.Names.{named}
 use Rattle.host_keeps_streams.proofs.lemmas.{Holds, name_of}
 use Rattle.pair_keeps_streams.specs.Words.{plain, closings_in, said_of, heard_from, receiver_words, sender_words}
@@ -34,15 +34,13 @@ use Rattle.pair_keeps_streams.specs.Words.{plain, closings_in, said_of, heard_fr
 abbrev pub queue_by : Host → Call → PairState → List Listener → List Command
 queue_by peer (Hears stamp said c) q listening = (desk_taken peer q.busy stamp c (desk_of q listening)).queue
 queue_by peer (Takes l text) q listening = (data_taken l text (desk_of q listening)).queue
-queue_by peer (Says stamp c) q listening = q.queue
-queue_by peer (SendsBytes stamp e size count) q listening = q.queue
 queue_by peer (Answered l) q listening = (settled (freed l q).busy (desk_of q listening)).queue
 queue_by peer (OpensReceiver own foreign) q listening = (receiver_requested own foreign (free_link q.entries) q).queue
 queue_by peer (OpensSender own foreign size) q listening = (requested (sending_end own foreign size) (command.Str own foreign size) q).queue
 queue_by peer (Grants socket messages bits e) q listening = q.queue ++ command.All (link_of e.link) messages bits ∷ []
 queue_by peer (AsksBack socket messages bits e) q listening = q.queue ++ command.Gvb (link_of e.link) messages bits ∷ []
-queue_by peer (Gives socket bits e) q listening = q.queue
 queue_by peer (Closes socket e) q listening = (closed_end socket q).queue
+queue_by peer c q listening = q.queue
 
 -- requests are of a receiving socket and a sending one, and a user asks back at a receiving one
 abbrev pub IsPaired : Command → Type 0

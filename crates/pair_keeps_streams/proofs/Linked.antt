@@ -143,17 +143,7 @@ module _ (name : ℕ → ℕ → ℕ) (link : ℕ) (peer : Host) (busy : List �
   out_linked (command.Str send receive size) = kept (is_at send receive) (asked_at stamp) (record { own = λ x. refl; foreign = λ x. refl }) (λ x t i. refl)
   out_linked (command.Cls own foreign) =
       linked_filter name link r stays (changed_first (is_at own foreign) cls_sent d.entries) (kept (is_at own foreign) cls_sent (record { own = λ x. refl; foreign = λ x. refl }) (λ x t i. refl))
-  out_linked command.Nop = l
-  out_linked (command.All other m n) = l
-  out_linked (command.Gvb other m n) = l
-  out_linked (command.Ret other m n) = l
-  out_linked (command.Inr other) = l
-  out_linked (command.Ins other) = l
-  out_linked (command.Eco octet) = l
-  out_linked (command.Erp octet) = l
-  out_linked (command.Err code detail) = l
-  out_linked command.Rst = l
-  out_linked command.Rrp = l
+  out_linked c = l
 
   -- ---- with what is asked for by it
 
@@ -186,7 +176,6 @@ module _ (name : ℕ → ℕ → ℕ) (link : ℕ) (peer : Host) (busy : List �
         (str_none name link (name own foreign) z (listener_on own d.listening) (free_link d.entries) e) (str_found own foreign z e)
 
   taken_linked : (said : ℕ) (c : Command) → IsCommand c → ((own foreign : ℕ) → entry_at own foreign d.entries ≡ None → IsNew own foreign) → AreLinked name link (desk_taken peer busy stamp c d).entries (all_received (received_by name link said c d) r)
-  taken_linked said command.Nop i new = l
   taken_linked said (command.Rts receive send other) i new = rts_all send receive other (odd_is send i.3) (list_any (sends_on other) d.entries) refl
   taken_linked said (command.Str send receive size) i new = str_by receive send size (new receive send) (entry_at receive send d.entries) refl
   taken_linked said (command.Cls foreign own) i new =
@@ -198,11 +187,7 @@ module _ (name : ℕ → ℕ → ℕ) (link : ℕ) (peer : Host) (busy : List �
       (if_none (other == link) (receivers.Hear (words.Ret said m n) ∷ []) (tt, tt)) (at_end_linked (command.Ret other m n) (ret_taken other m n) (receiver_on other d) (ret_linked other m n))
   taken_linked said (command.Inr other) i new = at_end_linked (command.Inr other) interrupted (sender_on other d) (λ e. l)
   taken_linked said (command.Ins other) i new = at_end_linked (command.Ins other) interrupted (receiver_on other d) (λ e. l)
-  taken_linked said (command.Eco octet) i new = l
-  taken_linked said (command.Erp octet) i new = l
-  taken_linked said (command.Err code detail) i new = l
-  taken_linked said command.Rst i new = l
-  taken_linked said command.Rrp i new = l
+  taken_linked said c i new = l
 
 -- ---- each call
 

@@ -19,7 +19,7 @@ use Rattle.host_pairs.specs.declared.entry.Closing.TheVariants as closing
 use Rattle.host_pairs.specs.declared.entry.Entry.{Entry}
 use Rattle.host_pairs.specs.declared.listener.Listener.{Listener}
 use Rattle.host_keeps_streams.specs.Closings.{all_received, received_close, received_gone, received_open}
-use Rattle.host_keeps_streams.specs.Histories.{Call, Hears, Takes, Says, Sends, Answered, OpensReceiver, OpensSender, Grants, AsksBack, Gives, Closes, IsTelling, IsAllowed, received_at}
+use Rattle.host_keeps_streams.specs.Histories.{Call, Hears, Takes, Says, OpensReceiver, Grants, AsksBack, Closes, IsTelling, IsAllowed, received_at}
 use Rattle.host_keeps_streams.specs.Moves.{answers_str, asked_received, asks_for, closed_received, cls_received, data_received, str_received}
 use Rattle.host_keeps_streams.specs.Names.{named}
 use Rattle.host_keeps_streams.proofs.lemmas.{name_of}
@@ -51,22 +51,14 @@ module _ (P : ℕ → Type 0) (c : ℕ) (out : P c → ⊥) where
     by false e = rw e refl
 
   hear_asked : (w : words.Word) (r : Receiver) → r.asked c ≡ (receivers.hears w r).asked c
-  hear_asked (words.Str k z) r = refl
   hear_asked (words.Ret k m n) r = back_asked m n r.end r
-  hear_asked (words.Cls k) r = refl
-  hear_asked (words.Rts k) r = refl
-  hear_asked (words.All k m n) r = refl
-  hear_asked (words.Gvb k m n) r = refl
+  hear_asked w r = refl
 
   move_asked : (m : receivers.Move) (r : Receiver) → Asks P m → r.asked c ≡ (receivers.moved m r).asked c
   move_asked (receivers.Ask k) r p = let other : (c == k) ≡ false = ne_eqb c k (λ e. out (subst P (sym e) p)) in rw other refl
-  move_asked (receivers.Open k) r p = refl
-  move_asked (receivers.Grant k m n) r p = refl
-  move_asked (receivers.AskBack k m n) r p = refl
-  move_asked (receivers.Close k) r p = refl
-  move_asked (receivers.Free k) r p = refl
   move_asked (receivers.Hear w) r p = hear_asked w r
   move_asked (receivers.Take z bits) r p = take_asked z bits r.end r
+  move_asked m r p = refl
 
   moves_asked : (ms : List receivers.Move) (r : Receiver) → AllAsk P ms → r.asked c ≡ (all_received ms r).asked c
   moves_asked [] r p = refl
@@ -88,10 +80,8 @@ module _ (P : ℕ → Type 0) where
   gone_ask false c = tt
 
   close_ask : (v : Closing) (c : ℕ) → AllAsk P (received_close v c)
-  close_ask closing.No c = (tt, tt)
-  close_ask closing.Due c = (tt, tt)
   close_ask closing.Queued c = tt
-  close_ask closing.Sent c = (tt, tt)
+  close_ask v c = (tt, tt)
 
   asks_ask : (link c : ℕ) (o : Option ℕ) → P c → AllAsk P (asks_for link c o)
   asks_ask link c None p = tt
@@ -133,46 +123,23 @@ module _ (P : ℕ → Type 0) where
     heard_ask stamp said (command.Str send receive z) = str_ask link (name receive send) z (listener_on receive listening) (free_link q.entries) (entry_at receive send q.entries) (new receive send)
     heard_ask stamp said (command.Cls foreign own) = cls_ask link (name own foreign) (entry_at own foreign q.entries)
     heard_ask stamp said (command.Ret l m n) = if_ask (l == link) (receivers.Hear (words.Ret said m n) ∷ []) (tt, tt)
-    heard_ask stamp said (command.Rts receive send l) = tt
-    heard_ask stamp said (command.All l m n) = tt
-    heard_ask stamp said (command.Gvb l m n) = tt
-    heard_ask stamp said (command.Inr l) = tt
-    heard_ask stamp said (command.Ins l) = tt
-    heard_ask stamp said (command.Eco octet) = tt
-    heard_ask stamp said (command.Erp octet) = tt
-    heard_ask stamp said (command.Err code detail) = tt
-    heard_ask stamp said command.Nop = tt
-    heard_ask stamp said command.Rst = tt
-    heard_ask stamp said command.Rrp = tt
+    heard_ask stamp said c = tt
 
     out_ask : (stamp : ℕ) (c : Command) → AllAsk P (received_at name link (Says stamp c) q listening)
     out_ask stamp (command.Rts receive send l) = asked_ask name link (entry_at receive send q.entries)
     out_ask stamp (command.Str send receive z) = asked_ask name link (entry_at send receive q.entries)
     out_ask stamp (command.Cls own foreign) = closed_ask name link (entry_at own foreign q.entries)
-    out_ask stamp (command.Ret l m n) = tt
-    out_ask stamp (command.All l m n) = tt
-    out_ask stamp (command.Gvb l m n) = tt
-    out_ask stamp (command.Inr l) = tt
-    out_ask stamp (command.Ins l) = tt
-    out_ask stamp (command.Eco octet) = tt
-    out_ask stamp (command.Erp octet) = tt
-    out_ask stamp (command.Err code detail) = tt
-    out_ask stamp command.Nop = tt
-    out_ask stamp command.Rst = tt
-    out_ask stamp command.Rrp = tt
+    out_ask stamp c = tt
 
     call_ask : (k : Call) (s : Sender) → IsAllowed link k q s → AllAsk P (received_at name link k q listening)
     call_ask (Hears stamp said c) s a = heard_ask stamp said c
     call_ask (Takes l text) s a = data_ask link l text (header_of text)
     call_ask (Says stamp c) s a = out_ask stamp c
-    call_ask (Sends stamp e z n) s a = tt
-    call_ask (Answered l) s a = tt
     call_ask (OpensReceiver own foreign) s a = asks_ask link (name own foreign) (free_link q.entries) (new own foreign a.1)
-    call_ask (OpensSender own foreign z) s a = tt
     call_ask (Grants socket m n e) s a = if_ask (receives_on link e) (receivers.Grant (named name e) m n ∷ []) (tt, tt)
     call_ask (AsksBack socket m n e) s a = if_ask (receives_on link e) (receivers.AskBack (named name e) m n ∷ []) (tt, tt)
-    call_ask (Gives socket bits e) s a = tt
     call_ask (Closes socket e) s a = if_ask (receives_on link e) (receivers.Close (named name e) ∷ []) (tt, tt)
+    call_ask k s a = tt
 
 -- ---- no CLS was said of it
 

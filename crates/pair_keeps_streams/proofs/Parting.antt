@@ -35,20 +35,13 @@ record IsSilent (number : ℕ → ℕ → ℕ → ℕ) (link : ℕ) (c : Command
   sent : (n : ℕ → ℕ → ℕ) → sender_word number link n c ≡ []
 
 silent : (number : ℕ → ℕ → ℕ → ℕ) (link : ℕ) (c : Command) → IsWordless c → IsSilent number link c
-silent number link (command.Err code detail) w = record { counts = λ n. refl; received = λ a n. refl; sent = λ n. refl }
-silent number link (command.Erp octet) w = record { counts = λ n. refl; received = λ a n. refl; sent = λ n. refl }
-silent number link (command.Eco octet) w = record { counts = λ n. refl; received = λ a n. refl; sent = λ n. refl }
-silent number link (command.Inr l) w = record { counts = λ n. refl; received = λ a n. refl; sent = λ n. refl }
-silent number link (command.Ins l) w = record { counts = λ n. refl; received = λ a n. refl; sent = λ n. refl }
-silent number link command.Nop w = record { counts = λ n. refl; received = λ a n. refl; sent = λ n. refl }
-silent number link command.Rst w = record { counts = λ n. refl; received = λ a n. refl; sent = λ n. refl }
-silent number link command.Rrp w = record { counts = λ n. refl; received = λ a n. refl; sent = λ n. refl }
 silent number link (command.Rts r s l) w = absurd (w)
 silent number link (command.Str s r z) w = absurd (w)
 silent number link (command.All l m n) w = absurd (w)
 silent number link (command.Gvb l m n) w = absurd (w)
 silent number link (command.Ret l m n) w = absurd (w)
 silent number link (command.Cls own foreign) w = absurd (w)
+silent number link c w = record { counts = λ n. refl; received = λ a n. refl; sent = λ n. refl }
 
 module _ (number other : ℕ → ℕ → ℕ → ℕ) (tells : IsTelling number) (others : IsTelling other) (link : ℕ) where
   -- the other way round

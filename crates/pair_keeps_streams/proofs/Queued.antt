@@ -133,7 +133,6 @@ module _ (number : ℕ → ℕ → ℕ → ℕ) (tells : IsTelling number) (link
       (received_words (received_at (name_of number gone) link k q listening)) (sent_words (sent_at (name_of number gone) link k q listening s) s)
 
   hears_told : (stamp said : ℕ) (c : Command) → IsCommand c → CallTold (Hears stamp said c)
-  hears_told stamp said command.Nop i = quiet_told number link gone (desk_of q listening) r.asked
   hears_told stamp said (command.Rts receive send l) i = rts_told number link gone peer stamp send receive (desk_of q listening) r.asked l (odd_is send i.3) s
   hears_told stamp said (command.Str send receive size) i = str_told number link gone peer stamp receive send (desk_of q listening) size i.3 r (never_asked receive send)
   hears_told stamp said (command.Cls foreign own) i = cls_told number link gone q.entries q.queue r h.sound.apart h.received linked peer q.busy own foreign listening s
@@ -145,10 +144,7 @@ module _ (number : ℕ → ℕ → ℕ → ℕ) (tells : IsTelling number) (link
   hears_told stamp said (command.Inr l) i = interrupt_told number link gone (desk_of q listening) r.asked (command.Inr l) (sender_on l (desk_of q listening))
   hears_told stamp said (command.Ins l) i = interrupt_told number link gone (desk_of q listening) r.asked (command.Ins l) (receiver_on l (desk_of q listening))
   hears_told stamp said (command.Eco octet) i = echo_told number link gone (desk_of q listening) r.asked octet
-  hears_told stamp said (command.Erp octet) i = quiet_told number link gone (desk_of q listening) r.asked
-  hears_told stamp said (command.Err code detail) i = quiet_told number link gone (desk_of q listening) r.asked
-  hears_told stamp said command.Rst i = quiet_told number link gone (desk_of q listening) r.asked
-  hears_told stamp said command.Rrp i = quiet_told number link gone (desk_of q listening) r.asked
+  hears_told stamp said c i = quiet_told number link gone (desk_of q listening) r.asked
 
   call_told : (k : Call) → IsAllowed link k q s → IsPairedCall k → CallTold k
   call_told (Hears stamp said c) a p = hears_told stamp said c a.0

@@ -114,17 +114,7 @@ module _ (number : ℕ → ℕ → ℕ → ℕ) (link : ℕ) (gone : ℕ → ℕ
   says_told peer stamp (command.Cls own foreign) q listening s a said =
       silent number link gone q.entries q.queue (filter stays (changed_first (is_at own foreign) cls_sent q.entries)) asked (gone_kept own foreign q.entries a said) _ _
       (closed_silent (name_of number gone) link (entry_at own foreign q.entries)) refl
-  says_told peer stamp (command.All l m n) q listening s a said = silent number link gone q.entries q.queue q.entries asked (kept_same q.entries) [] [] refl refl
-  says_told peer stamp (command.Gvb l m n) q listening s a said = silent number link gone q.entries q.queue q.entries asked (kept_same q.entries) [] [] refl refl
-  says_told peer stamp (command.Ret l m n) q listening s a said = silent number link gone q.entries q.queue q.entries asked (kept_same q.entries) [] [] refl refl
-  says_told peer stamp (command.Inr l) q listening s a said = silent number link gone q.entries q.queue q.entries asked (kept_same q.entries) [] [] refl refl
-  says_told peer stamp (command.Ins l) q listening s a said = silent number link gone q.entries q.queue q.entries asked (kept_same q.entries) [] [] refl refl
-  says_told peer stamp (command.Eco octet) q listening s a said = silent number link gone q.entries q.queue q.entries asked (kept_same q.entries) [] [] refl refl
-  says_told peer stamp (command.Erp octet) q listening s a said = silent number link gone q.entries q.queue q.entries asked (kept_same q.entries) [] [] refl refl
-  says_told peer stamp (command.Err code detail) q listening s a said = silent number link gone q.entries q.queue q.entries asked (kept_same q.entries) [] [] refl refl
-  says_told peer stamp command.Nop q listening s a said = silent number link gone q.entries q.queue q.entries asked (kept_same q.entries) [] [] refl refl
-  says_told peer stamp command.Rst q listening s a said = silent number link gone q.entries q.queue q.entries asked (kept_same q.entries) [] [] refl refl
-  says_told peer stamp command.Rrp q listening s a said = silent number link gone q.entries q.queue q.entries asked (kept_same q.entries) [] [] refl refl
+  says_told peer stamp c q listening s a said = silent number link gone q.entries q.queue q.entries asked (kept_same q.entries) [] [] refl refl
 
   -- ---- data
 

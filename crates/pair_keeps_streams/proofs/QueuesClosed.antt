@@ -133,12 +133,10 @@ module _ (number : ℕ → ℕ → ℕ → ℕ) (link : ℕ) (gone : ℕ → ℕ
       same_number = own_name (name_of number gone) link own foreign e es found
 
       first_on : receives_on link e ≡ true → (v : Closing) → e.closing ≡ v → (c : ℕ) → named (name_of number gone) e ≡ c → FirstTold (receivers.Hear (words.Cls c) ∷ received_close v c)
-      first_on o closing.No same c n =
-          peer_settled (words.Cls c ∷ []) (ap (λ (k : ℕ). words.Cls k ∷ []) (sym n) ∙ closed_one busy (is_at own foreign) closed_by_partner e found refl refl (λ x. refl) (must_heard (received_is link e o) closing.No same) o)
-      first_on o closing.Due same c n =
-          peer_settled (words.Cls c ∷ []) (ap (λ (k : ℕ). words.Cls k ∷ []) (sym n) ∙ closed_one busy (is_at own foreign) closed_by_partner e found refl refl (λ x. refl) (must_heard (received_is link e o) closing.Due same) o)
       first_on o closing.Queued same c n = peer_settled [] (closed_not busy (is_at own foreign) closed_by_partner e found refl refl (λ x. refl) (must_heard (received_is link e o) closing.Queued same) o)
       first_on o closing.Sent same c n = peer_settled [] (closed_not busy (is_at own foreign) closed_by_partner e found refl refl (λ x. refl) (must_heard (received_is link e o) closing.Sent same) o)
+      first_on o v same c n =
+          peer_settled (words.Cls c ∷ []) (ap (λ (k : ℕ). words.Cls k ∷ []) (sym n) ∙ closed_one busy (is_at own foreign) closed_by_partner e found refl refl (λ x. refl) (must_heard (received_is link e o) v same) o)
 
       first_by : (c : ℕ) → named (name_of number gone) e ≡ c → (v : Bool) → receives_on link e ≡ v → FirstTold (receivers.Hear (words.Cls c) ∷ (if v then received_close e.closing c else []))
       first_by c n true o = first_on o e.closing refl c n

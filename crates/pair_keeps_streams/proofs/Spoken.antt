@@ -18,19 +18,7 @@ with_same (command.Cls a b) n m e own foreign = by (own == a && foreign == b) wh
   by : (v : Bool) → (if v then suc (n own foreign) else n own foreign) ≡ (if v then suc (m own foreign) else m own foreign)
   by true = ap suc (e own foreign)
   by false = e own foreign
-with_same (command.Rts r s l) n m e own foreign = e own foreign
-with_same (command.Str s r z) n m e own foreign = e own foreign
-with_same (command.All l a b) n m e own foreign = e own foreign
-with_same (command.Gvb l a b) n m e own foreign = e own foreign
-with_same (command.Ret l a b) n m e own foreign = e own foreign
-with_same (command.Inr l) n m e own foreign = e own foreign
-with_same (command.Ins l) n m e own foreign = e own foreign
-with_same (command.Eco octet) n m e own foreign = e own foreign
-with_same (command.Erp octet) n m e own foreign = e own foreign
-with_same (command.Err code detail) n m e own foreign = e own foreign
-with_same command.Nop n m e own foreign = e own foreign
-with_same command.Rst n m e own foreign = e own foreign
-with_same command.Rrp n m e own foreign = e own foreign
+with_same c n m e own foreign = e own foreign
 
 pub closings_same : (cs : List Command) (n m : ℕ → ℕ → ℕ) → ((own foreign : ℕ) → n own foreign ≡ m own foreign) → (own foreign : ℕ) → closings_in cs n own foreign ≡ closings_in cs m own foreign
 closings_same [] n m e own foreign = e own foreign
@@ -42,19 +30,7 @@ with_more (command.Cls a b) n own foreign = by (own == a && foreign == b) where
   by : (v : Bool) → n own foreign ≤ (if v then suc (n own foreign) else n own foreign)
   by true = omega arith
   by false = omega arith
-with_more (command.Rts r s l) n own foreign = omega arith
-with_more (command.Str s r z) n own foreign = omega arith
-with_more (command.All l a b) n own foreign = omega arith
-with_more (command.Gvb l a b) n own foreign = omega arith
-with_more (command.Ret l a b) n own foreign = omega arith
-with_more (command.Inr l) n own foreign = omega arith
-with_more (command.Ins l) n own foreign = omega arith
-with_more (command.Eco octet) n own foreign = omega arith
-with_more (command.Erp octet) n own foreign = omega arith
-with_more (command.Err code detail) n own foreign = omega arith
-with_more command.Nop n own foreign = omega arith
-with_more command.Rst n own foreign = omega arith
-with_more command.Rrp n own foreign = omega arith
+with_more c n own foreign = omega arith
 
 closings_more : (cs : List Command) (n : ℕ → ℕ → ℕ) (own foreign : ℕ) → n own foreign ≤ closings_in cs n own foreign
 closings_more [] n own foreign = omega arith
@@ -93,18 +69,7 @@ module _ (number : ℕ → ℕ → ℕ → ℕ) (link : ℕ) where
       let below : n own foreign < with_closing (command.Cls own foreign) n own foreign = (let h : with_closing (command.Cls own foreign) n own foreign ≡ suc (n own foreign) = with_here own foreign n in omega (arith, h)) in
       ap (λ (v : Bool). if is_receive_socket own && v then Cls (number own foreign (n own foreign)) ∷ [] else []) (a own foreign (n own foreign) below)
       ∙ ap (λ (g : ℕ). if is_receive_socket own && more (number own foreign g) then Cls (number own foreign g) ∷ [] else []) (e own foreign)
-  receiver_one asked more n m e (command.Str s r z) a = refl
-  receiver_one asked more n m e (command.All l x y) a = refl
-  receiver_one asked more n m e (command.Gvb l x y) a = refl
-  receiver_one asked more n m e (command.Ret l x y) a = refl
-  receiver_one asked more n m e (command.Inr l) a = refl
-  receiver_one asked more n m e (command.Ins l) a = refl
-  receiver_one asked more n m e (command.Eco octet) a = refl
-  receiver_one asked more n m e (command.Erp octet) a = refl
-  receiver_one asked more n m e (command.Err code detail) a = refl
-  receiver_one asked more n m e command.Nop a = refl
-  receiver_one asked more n m e command.Rst a = refl
-  receiver_one asked more n m e command.Rrp a = refl
+  receiver_one asked more n m e c a = refl
 
   asked_less : (asked more : ℕ → Bool) (cs : List Command) (n : ℕ → ℕ → ℕ) → AskedSame asked more (closings_in cs n) → AskedSame asked more n
   asked_less asked more cs n a own foreign g l = a own foreign g (let h : n own foreign ≤ closings_in cs n own foreign = closings_more cs n own foreign in omega (arith, l, h))
@@ -119,18 +84,7 @@ module _ (number : ℕ → ℕ → ℕ → ℕ) (link : ℕ) where
   sender_one : (n m : ℕ → ℕ → ℕ) → ((own foreign : ℕ) → n own foreign ≡ m own foreign) → (c : Command) → sender_word number link n c ≡ sender_word number link m c
   sender_one n m e (command.Str s r z) = ap (λ (g : ℕ). Str (number s r g) z ∷ []) (e s r)
   sender_one n m e (command.Cls own foreign) = ap (λ (g : ℕ). if is_receive_socket own then [] else Cls (number own foreign g) ∷ []) (e own foreign)
-  sender_one n m e (command.Rts r s l) = refl
-  sender_one n m e (command.All l x y) = refl
-  sender_one n m e (command.Gvb l x y) = refl
-  sender_one n m e (command.Ret l x y) = refl
-  sender_one n m e (command.Inr l) = refl
-  sender_one n m e (command.Ins l) = refl
-  sender_one n m e (command.Eco octet) = refl
-  sender_one n m e (command.Erp octet) = refl
-  sender_one n m e (command.Err code detail) = refl
-  sender_one n m e command.Nop = refl
-  sender_one n m e command.Rst = refl
-  sender_one n m e command.Rrp = refl
+  sender_one n m e c = refl
 
   pub sender_same : (cs : List Command) (n m : ℕ → ℕ → ℕ) → ((own foreign : ℕ) → n own foreign ≡ m own foreign) → sender_words number link n cs ≡ sender_words number link m cs
   sender_same [] n m e = refl

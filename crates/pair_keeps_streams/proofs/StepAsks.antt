@@ -17,7 +17,7 @@ use Rattle.host_pairs.specs.declared.entry.Entry.{Entry}
 use Rattle.host_pairs.specs.declared.listener.Listener.{Listener}
 use Rattle.host_keeps_streams.specs.Closings.{received_gone, received_open, sent_open}
 use Rattle.host_keeps_streams.specs.Formed.{HasSaid}
-use Rattle.host_keeps_streams.specs.Histories.{Call, Hears, Takes, Says, Sends, Answered, OpensReceiver, OpensSender, Grants, AsksBack, Gives, Closes, IsTelling, IsAllowed, KeepBox, is_out, ends_by, gone_by, received_at, sent_at}
+use Rattle.host_keeps_streams.specs.Histories.{Call, Takes, Says, Answered, OpensReceiver, OpensSender, Grants, AsksBack, Gives, Closes, IsTelling, IsAllowed, KeepBox, is_out, ends_by, gone_by, received_at, sent_at}
 use Rattle.host_keeps_streams.specs.Moves.{asked_received, asked_sent, asks_for, closed_received, closes, data_received, of_end, received_out, sent_out}
 use Rattle.host_keeps_streams.specs.Names.{named}
 use Rattle.host_keeps_streams.proofs.lemmas.{name_of}
@@ -86,17 +86,7 @@ out_quiet : (name : ℕ → ℕ → ℕ) (link : ℕ) (c : Command) (es : List E
 out_quiet name link (command.Rts receive send l) es = asked_quiet name link (entry_at receive send es)
 out_quiet name link (command.Str send receive z) es = asked_quiet name link (entry_at send receive es)
 out_quiet name link (command.Cls own foreign) es = closed_quiet name link (entry_at own foreign es)
-out_quiet name link (command.Ret l m n) es = tt
-out_quiet name link (command.All l m n) es = tt
-out_quiet name link (command.Gvb l m n) es = tt
-out_quiet name link (command.Inr l) es = tt
-out_quiet name link (command.Ins l) es = tt
-out_quiet name link (command.Eco octet) es = tt
-out_quiet name link (command.Erp octet) es = tt
-out_quiet name link (command.Err code detail) es = tt
-out_quiet name link command.Nop es = tt
-out_quiet name link command.Rst es = tt
-out_quiet name link command.Rrp es = tt
+out_quiet name link c es = tt
 
 -- an end that opens leaves the box
 opens_keep : (out v : Bool) (c : ℕ) (s : Sender) → KeepBox out (sent_open v c) s
@@ -117,18 +107,7 @@ asked_calm name link s (Some e) = by (sends_on link e) s.end where
 out_calm : (name : ℕ → ℕ → ℕ) (link : ℕ) (c : Command) (es : List Entry) (s : Sender) → AreQuietSent (sent_out name link c es s) × KeepBox true (sent_out name link c es s) s
 out_calm name link (command.Rts receive send l) es s = asked_calm name link s (entry_at receive send es)
 out_calm name link (command.Str send receive z) es s = asked_calm name link s (entry_at send receive es)
-out_calm name link (command.Cls own foreign) es s = (tt, tt)
-out_calm name link (command.Ret l m n) es s = (tt, tt)
-out_calm name link (command.All l m n) es s = (tt, tt)
-out_calm name link (command.Gvb l m n) es s = (tt, tt)
-out_calm name link (command.Inr l) es s = (tt, tt)
-out_calm name link (command.Ins l) es s = (tt, tt)
-out_calm name link (command.Eco octet) es s = (tt, tt)
-out_calm name link (command.Erp octet) es s = (tt, tt)
-out_calm name link (command.Err code detail) es s = (tt, tt)
-out_calm name link command.Nop es s = (tt, tt)
-out_calm name link command.Rst es s = (tt, tt)
-out_calm name link command.Rrp es s = (tt, tt)
+out_calm name link c es s = (tt, tt)
 
 -- data on another link
 passes_quiet : (link l : ℕ) (text : List Bool) (o : Option DataHeader) → (l == link) ≡ false → AreQuiet (data_received link l text o)
@@ -186,11 +165,7 @@ module _ (number other : ℕ → ℕ → ℕ → ℕ) (tells : IsTelling number)
   asks_calm (AsksBack socket m n e) i = (if_quiet (receives_on link e) (receivers.AskBack (named (name_of number gone) e) m n ∷ []) (tt, tt), tt, tt)
   asks_calm (Gives socket bits e) i = (tt, tt, tt)
   asks_calm (Closes socket e) i = (if_quiet (receives_on link e) (receivers.Close (named (name_of number gone) e) ∷ []) (tt, tt), closes_quiet (name_of number gone) q.busy (with_end socket called_off q).entries, tt)
-  asks_calm (Hears stamp told c) i = absurd (i)
-  asks_calm (Takes l text) i = absurd (i)
-  asks_calm (Says stamp c) i = absurd (i)
-  asks_calm (Sends stamp e z n) i = absurd (i)
-  asks_calm (Answered l) i = absurd (i)
+  asks_calm k i = absurd (i)
 
   -- a user asks
   pub asks : (k : Call) → IsAsking k → IsAllowed link k q y.sender → IsPairedCall k → (is_out link k q ≡ false → post ≡ Free) → Stepped number other tells others link x y (staying gone q.entries pending post) peer k q listening post b

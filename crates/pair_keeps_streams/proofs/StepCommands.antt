@@ -28,19 +28,7 @@ module _ (number other : ℕ → ℕ → ℕ → ℕ) (tells : IsTelling number)
     (q : PairState) (j : Joint number other tells others link x y (staying gone q.entries pending post) b) (peer : Host) (listening : List Listener) (stamp : ℕ) (more : List Command) where
   finds : (c : Command) → b.pending ≡ c ∷ more → IsFirst c q.entries → (is_busy q.busy link ≡ false → post ≡ Free) → FindsFree link c q.entries y.sender
   finds (command.Rts receive send l) e first room = rts_free number other tells others facts same link off x y gone pending post b q j peer listening stamp room more receive send l e first
-  finds (command.Str send receive z) e first room = tt
-  finds (command.All l m n) e first room = tt
-  finds (command.Gvb l m n) e first room = tt
-  finds (command.Ret l m n) e first room = tt
-  finds (command.Cls foreign own) e first room = tt
-  finds (command.Inr l) e first room = tt
-  finds (command.Ins l) e first room = tt
-  finds (command.Eco octet) e first room = tt
-  finds (command.Erp octet) e first room = tt
-  finds (command.Err code detail) e first room = tt
-  finds command.Nop e first room = tt
-  finds command.Rst e first room = tt
-  finds command.Rrp e first room = tt
+  finds c e first room = tt
 
   -- a command that is no word
   none_found : (c : Command) → ((told : ℕ) → received_at (name_of number gone) link (Hears stamp told c) q listening ≡ []) → ((told : ℕ) → sent_at (name_of number gone) link (Hears stamp told c) q listening y.sender ≡ [])
@@ -68,14 +56,7 @@ module _ (number other : ℕ → ℕ → ℕ → ℕ) (tells : IsTelling number)
     found (command.Gvb l m n) e first good keep = gvb_found number other tells others facts same link off x y gone pending post b q j peer listening stamp room more l m n e
     found (command.Ret l m n) e first good keep = ret_found number other tells others facts same link off x y gone pending post b q j peer listening stamp room more l m n e
     found (command.Cls foreign own) e first good keep = cls_found number other tells others facts same link off x y gone pending post b q j peer listening stamp room more foreign own e first.0 first.1 first.2 good keep
-    found (command.Inr l) e first good keep = none_found (command.Inr l) (λ i. refl) (λ i. refl) (line_at (command.Inr l) e).received (line_at (command.Inr l) e).sent
-    found (command.Ins l) e first good keep = none_found (command.Ins l) (λ i. refl) (λ i. refl) (line_at (command.Ins l) e).received (line_at (command.Ins l) e).sent
-    found (command.Eco octet) e first good keep = none_found (command.Eco octet) (λ i. refl) (λ i. refl) (line_at (command.Eco octet) e).received (line_at (command.Eco octet) e).sent
-    found (command.Erp octet) e first good keep = none_found (command.Erp octet) (λ i. refl) (λ i. refl) (line_at (command.Erp octet) e).received (line_at (command.Erp octet) e).sent
-    found (command.Err code detail) e first good keep = none_found (command.Err code detail) (λ i. refl) (λ i. refl) (line_at (command.Err code detail) e).received (line_at (command.Err code detail) e).sent
-    found command.Nop e first good keep = none_found command.Nop (λ i. refl) (λ i. refl) (line_at command.Nop e).received (line_at command.Nop e).sent
-    found command.Rst e first good keep = none_found command.Rst (λ i. refl) (λ i. refl) (line_at command.Rst e).received (line_at command.Rst e).sent
-    found command.Rrp e first good keep = none_found command.Rrp (λ i. refl) (λ i. refl) (line_at command.Rrp e).received (line_at command.Rrp e).sent
+    found c e first good keep = none_found c (λ i. refl) (λ i. refl) (line_at c e).received (line_at c e).sent
 
     pub hears : (c : Command) → b.pending ≡ c ∷ more → IsCommand c → IsPaired c → IsFirst c q.entries → IsHeard c q.entries
         → (told : ℕ) × Stepped number other tells others link x y (staying gone q.entries pending post) peer (Hears stamp told c) q listening post (record b { pending = more })

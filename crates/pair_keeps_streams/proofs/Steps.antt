@@ -19,7 +19,7 @@ use Rattle.host_pairs.specs.declared.entry.Entry.{Entry}
 use Rattle.host_pairs.specs.declared.listener.Listener.{Listener}
 use Rattle.host_keeps_streams.specs.Closings.{all_received, all_sent}
 use Rattle.host_keeps_streams.specs.Formed.{HasSaid}
-use Rattle.host_keeps_streams.specs.Histories.{Call, Hears, Takes, Says, Sends, Answered, OpensReceiver, OpensSender, Grants, AsksBack, Gives, Closes, IsTelling, IsAllowed, is_out, ends_by, gone_by, received_at, sent_at}
+use Rattle.host_keeps_streams.specs.Histories.{Call, Hears, Takes, Says, Sends, Answered, IsTelling, IsAllowed, is_out, ends_by, gone_by, received_at, sent_at}
 use Rattle.host_keeps_streams.proofs.lemmas.{Holds}
 use Rattle.pair_keeps_streams.specs.Words.{heard_of}
 use Rattle.pair_keeps_streams.proofs.Joint.{IsPaired, IsPairedCall, IsFirst, Party, Post, Free, Lies, Fetched, Joint}
@@ -37,16 +37,7 @@ module _ (number : ℕ → ℕ → ℕ → ℕ) (tells : IsTelling number) where
   unheard_at : (link : ℕ) (gone : ℕ → ℕ → ℕ) (peer : Host) (q : PairState) (listening : List Listener) (r : Receiver) (s : Sender) (k : Call) → Holds number tells link gone q.entries r s → IsNoHearing k → (own foreign : ℕ)
       → heard_of (gone_by q.entries (ends_by peer k q listening) gone) (ends_by peer k q listening) own foreign ≡ heard_of gone q.entries own foreign
   unheard_at link gone peer q listening r s (Hears stamp said c) h silent own foreign = absurd (silent)
-  unheard_at link gone peer q listening r s (Takes l text) h silent own foreign = heard_step number tells link gone peer q listening r s h (Takes l text) tt foreign own
-  unheard_at link gone peer q listening r s (Says stamp c) h silent own foreign = heard_step number tells link gone peer q listening r s h (Says stamp c) tt foreign own
-  unheard_at link gone peer q listening r s (Sends stamp e z n) h silent own foreign = heard_step number tells link gone peer q listening r s h (Sends stamp e z n) tt foreign own
-  unheard_at link gone peer q listening r s (Answered l) h silent own foreign = heard_step number tells link gone peer q listening r s h (Answered l) tt foreign own
-  unheard_at link gone peer q listening r s (OpensReceiver o f) h silent own foreign = heard_step number tells link gone peer q listening r s h (OpensReceiver o f) tt foreign own
-  unheard_at link gone peer q listening r s (OpensSender o f z) h silent own foreign = heard_step number tells link gone peer q listening r s h (OpensSender o f z) tt foreign own
-  unheard_at link gone peer q listening r s (Grants socket m n e) h silent own foreign = heard_step number tells link gone peer q listening r s h (Grants socket m n e) tt foreign own
-  unheard_at link gone peer q listening r s (AsksBack socket m n e) h silent own foreign = heard_step number tells link gone peer q listening r s h (AsksBack socket m n e) tt foreign own
-  unheard_at link gone peer q listening r s (Gives socket bits e) h silent own foreign = heard_step number tells link gone peer q listening r s h (Gives socket bits e) tt foreign own
-  unheard_at link gone peer q listening r s (Closes socket e) h silent own foreign = heard_step number tells link gone peer q listening r s h (Closes socket e) tt foreign own
+  unheard_at link gone peer q listening r s k h silent own foreign = heard_step number tells link gone peer q listening r s h k tt foreign own
 
   facts : Facts number tells
   facts = record {
@@ -125,19 +116,7 @@ any_received name link stamp s t (command.Ret l m n) q listening r = by (l == li
   by : (v : Bool) → all_received (if v then receivers.Hear (Ret s m n) ∷ [] else []) r ≡ all_received (if v then receivers.Hear (Ret t m n) ∷ [] else []) r
   by true = refl
   by false = refl
-any_received name link stamp s t (command.Rts receive send l) q listening r = refl
-any_received name link stamp s t (command.Str send receive z) q listening r = refl
-any_received name link stamp s t (command.Cls foreign own) q listening r = refl
-any_received name link stamp s t (command.All l m n) q listening r = refl
-any_received name link stamp s t (command.Gvb l m n) q listening r = refl
-any_received name link stamp s t (command.Inr l) q listening r = refl
-any_received name link stamp s t (command.Ins l) q listening r = refl
-any_received name link stamp s t (command.Eco octet) q listening r = refl
-any_received name link stamp s t (command.Erp octet) q listening r = refl
-any_received name link stamp s t (command.Err code detail) q listening r = refl
-any_received name link stamp s t command.Nop q listening r = refl
-any_received name link stamp s t command.Rst q listening r = refl
-any_received name link stamp s t command.Rrp q listening r = refl
+any_received name link stamp s t c q listening r = refl
 
 pub any_sent : (name : ℕ → ℕ → ℕ) (link stamp s t : ℕ) (c : Command) (q : PairState) (listening : List Listener) (u : Sender)
     → all_sent (sent_at name link (Hears stamp s c) q listening u) u ≡ all_sent (sent_at name link (Hears stamp t c) q listening u) u
@@ -149,15 +128,4 @@ any_sent name link stamp s t (command.Gvb l m n) q listening u = by (l == link) 
   by : (v : Bool) → all_sent (if v then senders.Hear (Gvb s m n) ∷ [] else []) u ≡ all_sent (if v then senders.Hear (Gvb t m n) ∷ [] else []) u
   by true = refl
   by false = refl
-any_sent name link stamp s t (command.Rts receive send l) q listening u = refl
-any_sent name link stamp s t (command.Str send receive z) q listening u = refl
-any_sent name link stamp s t (command.Cls foreign own) q listening u = refl
-any_sent name link stamp s t (command.Ret l m n) q listening u = refl
-any_sent name link stamp s t (command.Inr l) q listening u = refl
-any_sent name link stamp s t (command.Ins l) q listening u = refl
-any_sent name link stamp s t (command.Eco octet) q listening u = refl
-any_sent name link stamp s t (command.Erp octet) q listening u = refl
-any_sent name link stamp s t (command.Err code detail) q listening u = refl
-any_sent name link stamp s t command.Nop q listening u = refl
-any_sent name link stamp s t command.Rst q listening u = refl
-any_sent name link stamp s t command.Rrp q listening u = refl
+any_sent name link stamp s t c q listening u = refl

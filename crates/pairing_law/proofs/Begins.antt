@@ -21,27 +21,20 @@ use Rattle.reset_law.proofs.lemmas.{at, carry, contradicts, down_pair, ready_pha
 
 -- the peer has taken the RST of this contact
 abbrev HasGone : Phase → Box → Type 0
-HasGone Closed box = ⊥
-HasGone Want box = ⊥
 HasGone (Gone early) Empty = ⊥
 HasGone (Gone early) (Waiting p m) = ⊥
 HasGone (Gone early) (Taken p m) = Unit {0}
 HasGone Heard box = Unit {0}
-HasGone Ready box = ⊥
+HasGone c box = ⊥
 
 gone_unready : (ph : Phase) (box : Box) → HasGone ph box → is_ready ph ≡ false
-gone_unready Closed box h = refl
-gone_unready Want box h = refl
-gone_unready (Gone early) box h = refl
-gone_unready Heard box h = refl
 gone_unready Ready box h = absurd h
+gone_unready ph box h = refl
 
 put_gone : (ph : Phase) (x y : Box) (p : ℕ) (m : Message) → y ≡ Waiting p m → HasGone ph y → HasGone ph x
-put_gone Closed x y p m e h = h
-put_gone Want x y p m e h = h
 put_gone (Gone early) x y p m e h = absurd (subst (λ (z : Box). HasGone (Gone early) z) e h)
 put_gone Heard x y p m e h = tt
-put_gone Ready x y p m e h = h
+put_gone ph x y p m e h = h
 
 at_zero : (bs : ℕ → Box) (l : ℕ) (x : Box) → l ≡ 0 → at_link bs l x 0 ≡ x
 at_zero bs l x e = elim (at bs l x 0) [
@@ -57,10 +50,7 @@ sent_gone false l here m p bs may h = h
 
 reset_gone : (ph : Phase) (box : Box) → HasGone (reset_phase ph) box → HasGone ph box
 reset_gone Closed box h = h
-reset_gone Want box h = h
-reset_gone (Gone early) box h = h
-reset_gone Heard box h = h
-reset_gone Ready box h = h
+reset_gone ph box h = h
 
 early_gone : (early late : Bool) (box : Box) → HasGone (Gone early) box → HasGone (Gone late) box
 early_gone early late Empty h = h
@@ -68,11 +58,9 @@ early_gone early late (Waiting p m) h = h
 early_gone early late (Taken p m) h = h
 
 reply_gone : (ph : Phase) (box : Box) → HasGone (reply_phase ph) box → HasGone ph box
-reply_gone Closed box h = h
-reply_gone Want box h = h
 reply_gone (Gone early) box h = early_gone true early box h
 reply_gone Heard box h = tt
-reply_gone Ready box h = h
+reply_gone ph box h = h
 
 took_gone : (t : Bool) (m : Message) (p : Pair) (box : Box) → HasGone (pair_moved (when t (Take m)) p).phase box → HasGone p.phase box
 took_gone true Reset p box h = reset_gone p.phase box h
@@ -84,11 +72,9 @@ abbrev IsGone : Phase → Type 0
 IsGone ph = (early : Bool) × (ph ≡ Gone early)
 
 gone_either : (ph : Phase) (x y : Box) → HasGone ph y → HasGone ph x ⊎ IsGone ph
-gone_either Closed x y h = inl h
-gone_either Want x y h = inl h
 gone_either (Gone early) x y h = inr (early, refl)
 gone_either Heard x y h = inl tt
-gone_either Ready x y h = inl h
+gone_either ph x y h = inl h
 
 fetched_gone : (t : Bool) (l here : ℕ) (ph : Phase) (bs : ℕ → Box) → HasGone ph (posted here (when t (Fetch l)) bs 0) → HasGone ph (bs 0) ⊎ ((t ≡ true) × (l ≡ 0) × IsGone ph)
 fetched_gone true l here ph bs h = elim (at bs l (fetched (bs l)) 0) [
@@ -106,12 +92,10 @@ rfnm_taken (Waiting p m) early f = absurd f
 rfnm_taken (Taken p m) early f = tt
 
 rfnm_gone : (ph : Phase) (x y : Box) → Fits answer.Rfnm x → HasGone (taken_phase ph) y → HasGone ph x
-rfnm_gone Closed x y f h = h
-rfnm_gone Want x y f h = h
 rfnm_gone (Gone true) x y f h = absurd h
 rfnm_gone (Gone false) x y f h = rfnm_taken x false f
 rfnm_gone Heard x y f h = tt
-rfnm_gone Ready x y f h = h
+rfnm_gone ph x y f h = h
 
 failed_gone : (ph : Phase) (owed : Bool) (x y : Box) → HasGone (failed_phase ph owed) y → HasGone ph x
 failed_gone Closed owed x y h = h

@@ -134,13 +134,11 @@ fits_same : (k : Answer) (x : Box) → Fits k x → Fits k (placed_box x)
 fits_same answer.Rfnm Empty f = absurd f
 fits_same answer.Rfnm (Waiting p m) f = absurd f
 fits_same answer.Rfnm (Taken p m) f = tt
-fits_same answer.Dead Empty f = absurd f
 fits_same answer.Dead (Waiting p m) f = tt
 fits_same answer.Dead (Taken p m) f = absurd f
-fits_same answer.Incomplete Empty f = absurd f
 fits_same answer.Incomplete (Waiting p m) f = tt
 fits_same answer.Incomplete (Taken p m) f = tt
-fits_same answer.NotTaken Empty f = absurd f
+fits_same k Empty f = absurd f
 fits_same answer.NotTaken (Waiting p m) f = tt
 fits_same answer.NotTaken (Taken p m) f = absurd f
 
@@ -187,13 +185,8 @@ box_reset a b x y l m (Waiting p n) = reset_same a b x y l m (with_place p m) p 
 box_reset a b x y l m (Taken p n) = refl
 
 takes_same : (a b : Host) (e : Event) (events : List Event) → takes_reset a b (placed_event e events) ≡ takes_reset a b e
-takes_same a b (Contact x y) events = refl
-takes_same a b (Out x y l m) events = refl
 takes_same a b (In x y l m) events = box_reset a b x y l m (boxes x y events l)
-takes_same a b (Told x y l k) events = refl
-takes_same a b (Down x) events = refl
-takes_same a b (Up x) events = refl
-takes_same a b Idle events = refl
+takes_same a b e events = refl
 
 ready_same : (a b : Host) (events : List Event) → ready a b (placed events) ≡ ready a b events
 ready_same a b events = ap (λ (p : Pair). is_ready p.phase) (pair_same a b events)

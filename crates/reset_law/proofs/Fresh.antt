@@ -42,9 +42,7 @@ past_step (Take Reset) here m h = past_either m.pending here m.clean h
 past_step (Take Reply) here m h = past_other (counts m) here m.clean h
 past_step (Take (Other text)) here m h = past_more here m.clean h
 past_step (Hear l answer.Rfnm) here m h = past_more here m.clean h
-past_step (Hear l answer.Dead) here m h = past_more here m.clean h
-past_step (Hear l answer.Incomplete) here m h = past_more here m.clean h
-past_step (Hear l answer.NotTaken) here m h = past_more here m.clean h
+past_step (Hear l c) here m h = past_more here m.clean h
 past_step Begin here m h = tt
 
 past_if : (t : Bool) (part : Part) (here : ℕ) (m : Monitor) → IsPast here m.clean → IsPast (1 + here) (monitored here (when t part) m).clean
@@ -77,12 +75,10 @@ ready_after_rfnm true Ready e = refl
 ready_after_rfnm false ph e = e
 
 ready_after_failure : (ph : Phase) (owed : Bool) → failed_phase ph owed ≡ Ready → ph ≡ Ready
-ready_after_failure Closed owed e = absurd (cc)
-ready_after_failure Want owed e = absurd (cc)
-ready_after_failure (Gone early) owed e = absurd (cc)
 ready_after_failure Heard true e = absurd (cc)
 ready_after_failure Heard false e = absurd (cc)
 ready_after_failure Ready owed e = refl
+ready_after_failure ph owed e = absurd (cc)
 
 -- all but RST and RRP that are taken leave a host ready only where it was, and with the same clean point
 abbrev IsPlain : Part → Type 0
@@ -99,9 +95,7 @@ plain_ready (Take Reset) here p m plain e = absurd plain
 plain_ready (Take Reply) here p m plain e = absurd plain
 plain_ready (Take (Other text)) here p m plain e = (e, refl)
 plain_ready (Hear l answer.Rfnm) here p m plain e = (ready_after_rfnm (l == 0) p.phase e, refl)
-plain_ready (Hear l answer.Dead) here p m plain e = (ready_after_failure p.phase p.owed e, refl)
-plain_ready (Hear l answer.Incomplete) here p m plain e = (ready_after_failure p.phase p.owed e, refl)
-plain_ready (Hear l answer.NotTaken) here p m plain e = (ready_after_failure p.phase p.owed e, refl)
+plain_ready (Hear l c) here p m plain e = (ready_after_failure p.phase p.owed e, refl)
 plain_ready Begin here p m plain e = absurd (cc)
 
 pub still_ready : (t : Bool) (part : Part) (here : ℕ) (p : Pair) (m : Monitor) → IsPlain part → (pair_moved (when t part) p).phase ≡ Ready → (p.phase ≡ Ready) × ((monitored here (when t part) m).clean ≡ m.clean)

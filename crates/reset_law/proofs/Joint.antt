@@ -5,7 +5,7 @@ use Rattle.interface.specs.declared.crossing.Answer.{Answer}
 use Rattle.interface.specs.declared.crossing.Answer.TheVariants as answer
 use Rattle.ncp_control.specs.Phases.{reset_phase}
 use Rattle.ncp_control.specs.declared.phase.Phase.{Phase}
-use Rattle.ncp_control.specs.declared.phase.Phase.TheVariants.{Closed, Want, Gone, Heard, Ready}
+use Rattle.ncp_control.specs.declared.phase.Phase.TheVariants.{Want, Gone, Ready}
 use Rattle.reset_law.specs.Events.{Message, Reset, Reply, Other, Event, Contact, Out, In, Told, Down, Up, Idle, Call, Send, Take, Hear, Begin, when, are, place, is_up}
 use Rattle.reset_law.specs.Boxes.{Box, Empty, Waiting, Taken, WaitsWith, Post, Put, Fetch, Clear, ClearAll, fetched, posted, at_link, boxes}
 use Rattle.reset_law.specs.Pairs.{Kind, Rst, Plain, kind_of, Pair, MaySend, pair_moved, pair}
@@ -21,11 +21,8 @@ use Rattle.reset_law.proofs.Fresh.{turned_about, still_ready, ready_taken}
 -- ---- tests
 
 pub ready_phase : (ph : Phase) → is_ready ph ≡ true → ph ≡ Ready
-ready_phase Closed e = absurd (cc)
-ready_phase Want e = absurd (cc)
-ready_phase (Gone early) e = absurd (cc)
-ready_phase Heard e = absurd (cc)
 ready_phase Ready e = refl
+ready_phase ph e = absurd (cc)
 
 pub phase_ready : (ph : Phase) → ph ≡ Ready → is_ready ph ≡ true
 phase_ready ph e = ap is_ready e
@@ -36,11 +33,9 @@ contradicts t e f = let both : true ≡ false = sym e ∙ f in absurd (cc)
 -- ---- an RST that was taken
 
 unready : (ph : Phase) (m : Monitor) (begun : Bool) (out : ℕ → Option Kind) → Shape ph m begun out → out 0 ≡ Some Rst → (ph ≢ Ready) × (reset_phase ph ≢ Ready)
-unready Closed m begun out s rst = absurd (s.no_rst rst)
 unready Want m begun out s rst = ((λ e. absurd (cc)), (λ e. absurd (cc)))
 unready (Gone early) m begun out s rst = ((λ e. absurd (cc)), (λ e. absurd (cc)))
-unready Heard m begun out s rst = absurd (s.no_rst rst)
-unready Ready m begun out s rst = absurd (s.no_rst rst)
+unready ph m begun out s rst = absurd (s.no_rst rst)
 
 taken_either : (t : Bool) (p : Pair) → (pair_moved (when t (Take Reset)) p).phase ≡ Ready → (p.phase ≡ Ready) ⊎ (reset_phase p.phase ≡ Ready)
 taken_either true p e = inr e

@@ -147,11 +147,7 @@ no_reset hosts (In x y l Reset) events r a b other = false_if (are a b y x) (λ 
 no_reset hosts (In x y l Reply) events r a b other = refl
 no_reset hosts (In x y l (Other text)) events r a b other = refl
 no_reset hosts (Contact x y) events r a b other = refl
-no_reset hosts (Out x y l m) events r a b other = refl
-no_reset hosts (Told x y l k) events r a b other = refl
-no_reset hosts (Down x) events r a b other = refl
-no_reset hosts (Up x) events r a b other = refl
-no_reset hosts Idle events r a b other = refl
+no_reset hosts e events r a b other = refl
 
 -- so both stay
 pub joint_stays : (hosts : List Host) (events : List Event) → IsRun hosts events → (a b : Host) → joint a b events ≡ true → stays a b events ≡ true
@@ -206,13 +202,11 @@ no_fetch true here k l bs e = absurd (cc)
 no_fetch false here k l bs e = refl
 
 failed_owed : (ph : Phase) (owed : Bool) → failed_phase ph owed ≡ Ready → owed ≡ true
-failed_owed Closed owed e = absurd (cc)
-failed_owed Want owed e = absurd (cc)
-failed_owed (Gone early) owed e = absurd (cc)
 failed_owed Heard true e = refl
 failed_owed Heard false e = absurd (cc)
 failed_owed Ready true e = refl
 failed_owed Ready false e = absurd (cc)
+failed_owed ph owed e = absurd (cc)
 
 -- a host that is notified of a message's answer stays ready by RFNM, or because it owes an RRP
 told_owed : (t : Bool) (k : ℕ) (kind : Answer) (p : Pair) → t ≡ true → (pair_moved (when t (Hear k kind)) p).phase ≡ Ready → (kind ≡ answer.Rfnm) ⊎ (p.owed ≡ true)
@@ -339,13 +333,10 @@ up_step false here l p bs = inl refl
 stay_step : (hosts : List Host) (e : Event) (events : List Event) (a b : Host) (l : ℕ) → Stay hosts events a b (joint a b (e ∷ events)) → IsRun hosts (e ∷ events) → takes_reset b a e ≡ false
     → HeardBefore a b l events → HeardNow a b l e events (joint a b (e ∷ events))
 stay_step hosts (Contact x y) events a b l s r kept h = quiet hosts (Contact x y) events a b l (joint a b (Contact x y ∷ events)) s refl refl (inl refl) h
-stay_step hosts (Out x y k Reset) events a b l s r kept h =
-    quiet hosts (Out x y k Reset) events a b l (joint a b (Out x y k Reset ∷ events)) s refl refl
-    (inl (signal_put (are a b x y) (place events) k l Reset (boxes a b events) refl (λ same. carry (λ v w. boxes v w events k ≡ Empty) a b x y same r.0.1))) h
-stay_step hosts (Out x y k Reply) events a b l s r kept h =
-    quiet hosts (Out x y k Reply) events a b l (joint a b (Out x y k Reply ∷ events)) s refl refl
-    (inl (signal_put (are a b x y) (place events) k l Reply (boxes a b events) refl (λ same. carry (λ v w. boxes v w events k ≡ Empty) a b x y same r.0.1))) h
 stay_step hosts (Out x y k (Other text)) events a b l s r kept h = out_step hosts x y k text events a b l (joint a b (Out x y k (Other text) ∷ events)) s r h (are a b x y) refl
+stay_step hosts (Out x y k c) events a b l s r kept h =
+    quiet hosts (Out x y k c) events a b l (joint a b (Out x y k c ∷ events)) s refl refl
+    (inl (signal_put (are a b x y) (place events) k l c (boxes a b events) refl (λ same. carry (λ v w. boxes v w events k ≡ Empty) a b x y same r.0.1))) h
 stay_step hosts (In x y k Reset) events a b l s r kept h =
     quiet hosts (In x y k Reset) events a b l (joint a b (In x y k Reset ∷ events)) s refl refl
     (inl (no_fetch (are a b x y) (place events) k l (boxes a b events) (false_if (are a b x y) (λ same. contradicts (are b a y x) (turned_about b a y x same) kept)))) h
@@ -412,11 +403,7 @@ heard_waiting hosts (In x y k (Other text)) events r a b l = by (are a b x y) (l
 heard_waiting hosts (In x y k Reset) events r a b l = inl refl
 heard_waiting hosts (In x y k Reply) events r a b l = inl refl
 heard_waiting hosts (Contact x y) events r a b l = inl refl
-heard_waiting hosts (Out x y k m) events r a b l = inl refl
-heard_waiting hosts (Told x y k kind) events r a b l = inl refl
-heard_waiting hosts (Down x) events r a b l = inl refl
-heard_waiting hosts (Up x) events r a b l = inl refl
-heard_waiting hosts Idle events r a b l = inl refl
+heard_waiting hosts e events r a b l = inl refl
 
 -- whoever has left meanwhile
 pub heard_front : (hosts : List Host) (events : List Event) → IsRun hosts events → (a b : Host) (l : ℕ) → IsPrefix (heard_in_stay a b l events) (said_in_stay a b l events)

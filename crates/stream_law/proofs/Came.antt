@@ -72,20 +72,12 @@ all_came (Receives (receivers.Take z bits) ∷ events) c run =
     let old : length ((stream events).sender.sent c) ≡ came c events + (if c == run.0.1.0 then 1 else 0) = all_came events c run.1 ∙ ap (λ (b : Box). came c events + waiting_of c b) waits in
     one_came (c == run.0.1.0) (length ((stream events).sender.sent c)) (came c events) old
     ∙ ap (λ (o : Option ℕ). (if is_of c o then suc (came c events) else came c events) + 0) (sym end)
-all_came (Receives (receivers.Ask k) ∷ events) c run = all_came events c run.1
-all_came (Receives (receivers.Open k) ∷ events) c run = all_came events c run.1
-all_came (Receives (receivers.Grant k m n) ∷ events) c run = all_came events c run.1
-all_came (Receives (receivers.AskBack k m n) ∷ events) c run = all_came events c run.1
-all_came (Receives (receivers.Close k) ∷ events) c run = all_came events c run.1
-all_came (Receives (receivers.Free k) ∷ events) c run = all_came events c run.1
-all_came (Receives (receivers.Hear w) ∷ events) c run = all_came events c run.1
-all_came (Sends (senders.Ask k z) ∷ events) c run = all_came events c run.1
-all_came (Sends (senders.Open k) ∷ events) c run = all_came events c run.1
+all_came (Receives k ∷ events) c run = all_came events c run.1
 all_came (Sends (senders.Send k z bits) ∷ events) c run =
     for_length c k bits (stream events).sender.sent (came c events) (all_came events c run.1 ∙ ap (λ (b : Box). came c events + waiting_of c b) run.0.1)
-all_came (Sends (senders.Close k) ∷ events) c run = all_came events c run.1
 all_came (Sends (senders.Hear w) ∷ events) c run = ap (λ (f : ℕ → List (List Bool)). length (f c)) (hears_sent w (stream events).sender) ∙ all_came events c run.1
 all_came (Sends senders.Told ∷ events) c run = all_came events c run.1 ∙ ap (λ (b : Box). came c events + waiting_of c b) run.0.1
+all_came (Sends k ∷ events) c run = all_came events c run.1
 
 -- none waits of a connection that the sender has closed
 none_waits : (x : Stream) → Inv x → (c : ℕ) → x.receiver.over c ≡ true → (b : Box) → x.box ≡ b → waiting_of c b ≡ 0

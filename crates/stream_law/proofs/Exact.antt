@@ -409,9 +409,7 @@ exact_heard : (r : Receiver) (s : Sender) (d rest : List Word) (b : Box) (w : Wo
 exact_heard r s d rest b (Str c z) h x = exact_str r s d rest b c z x
 exact_heard r s d rest b (Ret c m n) h x = exact_ret r s d rest b c m n h x
 exact_heard r s d rest b (Cls c) h x = exact_over r s d rest b c x
-exact_heard r s d rest b (Rts c) h x = absurd (h.up)
-exact_heard r s d rest b (All c m n) h x = absurd (h.up)
-exact_heard r s d rest b (Gvb c m n) h x = absurd (h.up)
+exact_heard r s d rest b w h x = absurd (h.up)
 
 exact_told : (r : Receiver) (s : Sender) (rest u : List Word) (b : Box) (w : Word) → IsPrompt (Sends (senders.Hear w)) (made r s (w ∷ rest) u b) → Inv (made r s (w ∷ rest) u b) → Exact (made r s (w ∷ rest) u b)
     → Exact (made r (senders.hears w s) rest (word_queued (senders.says (senders.Hear w) s) u) b)

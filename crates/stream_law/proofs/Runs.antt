@@ -43,9 +43,7 @@ heard : (r : Receiver) (s : Sender) (d rest : List Word) (b : Box) (w : Word) �
 heard r s d rest b (Str c z) h = receives.kept_str r s d rest b c z h
 heard r s d rest b (Ret c m n) h = receives.kept_ret r s d rest b c m n h
 heard r s d rest b (Cls c) h = receives.kept_cls r s d rest b c h
-heard r s d rest b (Rts c) h = absurd (h.up)
-heard r s d rest b (All c m n) h = absurd (h.up)
-heard r s d rest b (Gvb c m n) h = absurd (h.up)
+heard r s d rest b w h = absurd (h.up)
 
 -- and what the sender does
 heard_by_sender : (r : Receiver) (s : Sender) (rest u : List Word) (b : Box) (w : Word) → Inv (made r s (w ∷ rest) u b)
