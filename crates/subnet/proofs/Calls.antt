@@ -10,6 +10,7 @@ pub mod Ending
 pub mod Highest
 pub mod Joining
 pub mod Living
+pub mod Losing
 pub mod Opens
 pub mod Outstanding
 pub mod Owning

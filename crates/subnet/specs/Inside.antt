@@ -1,6 +1,7 @@
 pub mod Calling
 pub mod Highest
 pub mod Joined
+pub mod Losing
 pub mod Remembering
 pub mod Resting
 pub mod Seeking

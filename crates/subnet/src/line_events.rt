@@ -21,10 +21,17 @@ impl Parts {
         ensures live { OnOk result (AreLive self.new.imps) }
         ensures keeps { SameLog self.old self.new }
     {
-        if !self.is_imp(imp.number()) {
+        let number = imp.number();
+        if !self.is_imp(number) {
             return Err(CarrierFault::NoSuch);
         }
-        self.at_imp(imp.number(), ImpCall::Resend)
+        if !self.is_up(number) {
+            return Err(CarrierFault::IsDown);
+        }
+        if self.send_again(number).is_err() {
+            return Err(CarrierFault::OutOfMemory);
+        }
+        Ok(())
     }
 
     /// Sends an IMP's distances to its neighbours.
@@ -34,10 +41,17 @@ impl Parts {
         ensures live { OnOk result (AreLive self.new.imps) }
         ensures keeps { SameLog self.old self.new }
     {
-        if !self.is_imp(imp.number()) {
+        let number = imp.number();
+        if !self.is_imp(number) {
             return Err(CarrierFault::NoSuch);
         }
-        self.at_imp(imp.number(), ImpCall::Route)
+        if !self.is_up(number) {
+            return Err(CarrierFault::IsDown);
+        }
+        if self.tell(number).is_err() {
+            return Err(CarrierFault::OutOfMemory);
+        }
+        Ok(())
     }
 
     /// Takes an IMP's end of a line down.

@@ -1,9 +1,10 @@
 //! The lines of a subnet, and where the ports of its IMPs lead.
 
-ghost use Rattle.std.specs.Prelude.{◌≡◌, ◌<◌, ℕ, [], length, map, slice_get, slice_set, slice_index_or, IfOk, IfSome, OnOk, OnErr, Some};
+ghost use Rattle.std.specs.Prelude.{◌≡◌, ◌<◌, ℕ, [], length, map, slice_get, slice_set, slice_index_or, IfOk, IfSome, OnOk, OnErr, Some, true};
 ghost use Rattle.subnet.specs.Net.{Wire, wire_at, far_end, frames_on, dropping, port_of, line_from, put_one, put_all};
 ghost use Rattle.subnet.specs.Opening as start;
 ghost use Rattle.subnet.specs.Inside.Joined.{numbers, lines_from, ports_at, ports_from, AreJoined};
+ghost use Rattle.subnet.specs.Inside.Losing.{LosesAllAt};
 ghost use Rattle.subnet.specs.Inside.Taking.{hollowed};
 
 use crate::wire::{Ends, Wire};
@@ -174,6 +175,17 @@ impl Lines {
                 wire.put(imp, frame)
             }
             None => Ok(()),
+        }
+    }
+
+    /// Returns whether a frame that an IMP puts on the line at one of its ports is lost, since that line is full.
+    #[tactic(auto, using(crate::proofs::Calls::Losing::lost_there, crate::proofs::Calls::Losing::lost_nowhere))]
+    pub(crate) fn is_full(&self, imp: u8, port: u8) -> bool
+        ensures { result ≡ true → LosesAllAt self.now imp port }
+    {
+        match self.line_at(imp, port) {
+            Some(line) => self.wires[line].is_full(imp),
+            None => true,
         }
     }
 

@@ -77,8 +77,9 @@ fn resend_all(lines: &mut Lines, number: u8, imp: &Imp) -> Result<(), AllocError
     Ok(())
 }
 
-/// Puts the frames of the busy channels of a port on the line there, if the port is live.
-#[tactic(auto, using(crate::proofs::Calls::Resending::channel_next, crate::proofs::Calls::Resending::none_busy, crate::proofs::Calls::Resending::some_busy))]
+/// Puts the frames of the busy channels of a port on the line there, if the port is live. Where the line is full, they are
+/// not even made.
+#[tactic(auto, using(crate::proofs::Calls::Losing::resent_lost, crate::proofs::Calls::Resending::channel_next, crate::proofs::Calls::Resending::none_busy, crate::proofs::Calls::Resending::some_busy))]
 fn resend_port(lines: &mut Lines, number: u8, at: u8, port: &Port) -> Result<(), AllocError>
     ensures ok { OnOk result (lines.new ≡ put_all lines.old number (resent_by at port.now)) }
     ensures count { length lines.new ≡ length lines.old }
@@ -88,6 +89,9 @@ fn resend_port(lines: &mut Lines, number: u8, at: u8, port: &Port) -> Result<(),
         return Ok(());
     }
     if port.line.busy_channels() == 0 {
+        return Ok(());
+    }
+    if lines.is_full(number, at) {
         return Ok(());
     }
     for channel in 0..CHANNELS as u8 {

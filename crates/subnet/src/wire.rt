@@ -4,6 +4,7 @@ ghost use Rattle.std.specs.Prelude.{◌≡◌, ◌<◌, [], length, slice_get, s
 ghost use Rattle.subnet.specs.Net as net;
 ghost use Rattle.subnet.specs.Net.{ends_at, far_end, frames_on, followed_by, with_frame, dropping};
 ghost use Rattle.subnet.specs.Inside.Calling.{copied_grows};
+ghost use Rattle.subnet.specs.Inside.Losing.{LosesAll};
 ghost use Rattle.subnet.specs.Inside.Taking.{hollow, hollowed};
 ghost use Rattle.subnet.specs.Opening as start;
 
@@ -136,6 +137,18 @@ impl Wire {
         match direction {
             Direction::Forward => lose(&mut self.forward, place),
             Direction::Back => lose(&mut self.back, place),
+        }
+    }
+
+    /// Returns whether as many frames are live the way that leads from an IMP as can be: one more is lost.
+    #[tactic(auto, using(crate::proofs::Calls::Losing::forward_full, crate::proofs::Calls::Losing::back_full))]
+    pub(crate) fn is_full(&self, imp: u8) -> bool
+        ensures { result ≡ true → LosesAll imp self.now }
+    {
+        if self.ends.a == imp {
+            self.forward.len() >= LINE_PLACES
+        } else {
+            self.back.len() >= LINE_PLACES
         }
     }
 
