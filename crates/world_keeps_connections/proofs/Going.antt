@@ -153,11 +153,7 @@ module _ (origin : ℕ → ℕ) (h p : Host) (own foreign : ℕ) where
   told_known g (notice.Sent socket bits) k lives known = same_if (same_host h g) k (where_it (lives_at g socket) (carried bits) lives) (where_keeps (lives_at g socket) (carried bits) k lives (λ x e. (e, refl)) known)
   told_known g (notice.Arrived socket bits) k lives known = same_if (same_host h g) k (where_it (lives_at g socket) (carried bits) lives) (where_keeps (lives_at g socket) (carried bits) k lives (λ x e. (e, refl)) known)
   told_known g (notice.Returned socket messages bits) k lives known = same_if (same_host h g) k (where_it (lives_at g socket) (returned messages bits) lives) (where_keeps (lives_at g socket) (returned messages bits) k lives (λ x e. (e, refl)) known)
-  told_known g (notice.Ready q) k lives known = same_if (same_host h g) k lives known
-  told_known g (notice.ContactFailed q) k lives known = same_if (same_host h g) k lives known
-  told_known g (notice.Interrupt socket) k lives known = same_if (same_host h g) k lives known
-  told_known g (notice.Echoed q octet) k lives known = same_if (same_host h g) k lives known
-  told_known g (notice.RemoteError q code detail) k lives known = same_if (same_host h g) k lives known
+  told_known g n k lives known = same_if (same_host h g) k lives known
 
   all_told_by : (g : Host) (b : Bool) → same_host h g ≡ b → (ns : List Notice) (k : List Life) (kept : Kept) → AreKnown k kept.book.lives → AreKnown (if b then all_known origin p own foreign ns k else k) (all_told g ns kept).book.lives
   all_told_by g b e [] k kept known = same_if b k kept.book.lives known
@@ -170,15 +166,7 @@ module _ (origin : ℕ → ℕ) (h p : Host) (own foreign : ℕ) where
 
   asked_known : (g : Host) (r : Request) (k : List Life) (lives : List book.Life) → AreKnown k lives → AreKnown k (lives_asked g r lives)
   asked_known g (request.Grant socket messages bits) k lives known = where_keeps (lives_at g socket) (granted messages bits) k lives (λ x e. (e, refl)) known
-  asked_known g (request.Contact q) k lives known = known
-  asked_known g (request.Listen socket size) k lives known = known
-  asked_known g (request.OpenSend q mine yours size) k lives known = known
-  asked_known g (request.OpenReceive q mine yours) k lives known = known
-  asked_known g (request.Send socket bits) k lives known = known
-  asked_known g (request.AskBack socket messages bits) k lives known = known
-  asked_known g (request.Interrupt socket) k lives known = known
-  asked_known g (request.Close socket) k lives known = known
-  asked_known g (request.Echo q octet) k lives known = known
+  asked_known g r k lives known = known
 
   -- a host that stops ends its lives
   down_by : (g : Host) (k : List Life) (lives : List book.Life) → AreKnown k lives → (b : Bool) → same_host h g ≡ b → AreKnown (if b then [] else k) (where_it (lives_on g) life_ended lives)

@@ -133,11 +133,7 @@ module _ (a : Host) (k : ℕ) where
   each_aside P (notice.Sent socket bits) lives handed off e = each_apart (lives_at a socket) (carried bits) P lives handed (λ x. refl) (λ x. other_socket a socket x off) e
   each_aside P (notice.Arrived socket bits) lives handed off e = each_apart (lives_at a socket) (carried bits) P lives handed (λ x. refl) (λ x. other_socket a socket x off) e
   each_aside P (notice.Returned socket messages bits) lives handed off e = each_apart (lives_at a socket) (returned messages bits) P lives handed (λ x. refl) (λ x. other_socket a socket x off) e
-  each_aside P (notice.Ready peer) lives handed off e = e
-  each_aside P (notice.ContactFailed peer) lives handed off e = e
-  each_aside P (notice.Interrupt socket) lives handed off e = e
-  each_aside P (notice.Echoed peer octet) lives handed off e = e
-  each_aside P (notice.RemoteError peer code detail) lives handed off e = e
+  each_aside P n lives handed off e = e
 
   -- ---- notices of other hosts
 
@@ -162,11 +158,7 @@ module _ (a : Host) (k : ℕ) where
   each_away P h (notice.Sent socket bits) lives handed off e = each_apart (lives_at h socket) (carried bits) P lives handed (λ x. refl) (λ x. away_at h socket x off) e
   each_away P h (notice.Arrived socket bits) lives handed off e = each_apart (lives_at h socket) (carried bits) P lives handed (λ x. refl) (λ x. away_at h socket x off) e
   each_away P h (notice.Returned socket messages bits) lives handed off e = each_apart (lives_at h socket) (returned messages bits) P lives handed (λ x. refl) (λ x. away_at h socket x off) e
-  each_away P h (notice.Ready peer) lives handed off e = e
-  each_away P h (notice.ContactFailed peer) lives handed off e = e
-  each_away P h (notice.Interrupt socket) lives handed off e = e
-  each_away P h (notice.Echoed peer octet) lives handed off e = e
-  each_away P h (notice.RemoteError peer code detail) lives handed off e = e
+  each_away P h n lives handed off e = e
 
   pub all_away : (P : Life → List Bool → Type 0) (h : Host) (ns : List Notice) (κ : Kept) → same_host h a ≡ false → EachIn a k P κ → EachIn a k P (all_told h ns κ)
   all_away P h [] κ off e = e

@@ -133,11 +133,7 @@ module _ (lives : List Life) (here : ℕ) (log : List Crossing) where
     calm_told (notice.Sent s bits) xs t now = absurd t
     calm_told (notice.Arrived s bits) xs t now = absurd t
     calm_told (notice.Returned s messages bits) xs t now = calm_returned (lives_at h s) messages bits xs
-    calm_told (notice.Ready q) xs t now = calm_none xs
-    calm_told (notice.ContactFailed q) xs t now = calm_none xs
-    calm_told (notice.Interrupt s) xs t now = calm_none xs
-    calm_told (notice.Echoed q octet) xs t now = calm_none xs
-    calm_told (notice.RemoteError q code detail) xs t now = calm_none xs
+    calm_told n xs t now = calm_none xs
 
     calm_all_told : (ns : List Notice) (k : Kept) → Each (Tells h p log) ns → Each (Stamped lives here) ns → Calm k.book.lives (all_told h ns k).book.lives
     calm_all_told [] k t now = calm_none k.book.lives
@@ -145,10 +141,7 @@ module _ (lives : List Life) (here : ℕ) (log : List Crossing) where
 
   calm_crossed : (c : Crossing) (xs : List Life) → Calm xs (lives_crossed c xs)
   calm_crossed (crossing.Down g) xs = calm_ended (lives_on g) xs
-  calm_crossed (crossing.Up g) xs = calm_none xs
-  calm_crossed (crossing.Out m) xs = calm_none xs
-  calm_crossed (crossing.In m) xs = calm_none xs
-  calm_crossed (crossing.Answer kind f) xs = calm_none xs
+  calm_crossed c xs = calm_none xs
 
   calm_asked : (g : Host) (r : Request) (xs : List Life) → Calm xs (lives_asked g r xs)
   calm_asked g (request.Grant socket messages bits) xs = calm_granted (lives_at g socket) messages bits xs

@@ -345,15 +345,7 @@ module _ (hosts : List Host) (addresses : HaveAddresses hosts) where
       unsent : (y : Moment) → IsTimeline hosts (y ∷ ms) → IsUnsent y w.life
       unsent (Crossed c) t = tt
       unsent (Asked h (request.Send socket bits)) t = not_handed h socket bits t.0.2
-      unsent (Asked h (request.Contact peer)) t = tt
-      unsent (Asked h (request.Listen socket size)) t = tt
-      unsent (Asked h (request.OpenSend peer own foreign size)) t = tt
-      unsent (Asked h (request.OpenReceive peer own foreign)) t = tt
-      unsent (Asked h (request.Grant socket m n)) t = tt
-      unsent (Asked h (request.AskBack socket m n)) t = tt
-      unsent (Asked h (request.Interrupt socket)) t = tt
-      unsent (Asked h (request.Close socket)) t = tt
-      unsent (Asked h (request.Echo peer octet)) t = tt
+      unsent (Asked h c) t = tt
 
       may : (y : Moment) → mail.IsRun hosts (crossings_of (y ∷ ms)) → IsTimeline hosts (y ∷ ms)
           → May (IsShut r.socket r.own_stamp) Nothing r.host r.peer (shut_rules r.socket r.own_stamp r.peer) y ms
@@ -365,9 +357,7 @@ module _ (hosts : List Host) (addresses : HaveAddresses hosts) where
         out g (parcel.Bytes e size count) from to next order is = tt
       may (Crossed (crossing.In m)) on t =
           λ to from. ((λ zero. shut_hears r.socket r.own_stamp (places ms) (orders_of m.text)), (λ off e k f o h. tt))
-      may (Crossed (crossing.Answer kind f)) on t = tt
-      may (Crossed (crossing.Down h)) on t = tt
-      may (Crossed (crossing.Up h)) on t = tt
+      may (Crossed c) on t = tt
       may (Asked h q) on t = tt
 
       placed_next : (y : Moment) → r.own_stamp < places (y ∷ ms)

@@ -71,14 +71,11 @@ not_same f g off on = by (same_flow f g) refl where
 quiet_text : (comes : Bool) (f : Flow) (c : Crossing) → (f.link.0 == 0) ≡ false → IsControl c → text_of comes f c ≡ []
 quiet_text true f (crossing.In m) off on = let e : same_flow f m.flow ≡ false = not_same f m.flow off on in rw e refl
 quiet_text false f (crossing.Out m) off on = let e : same_flow f m.flow ≡ false = not_same f m.flow off on in rw e refl
-quiet_text true f (crossing.Out m) off on = refl
 quiet_text false f (crossing.In m) off on = refl
-quiet_text true f (crossing.Answer kind k) off on = refl
 quiet_text false f (crossing.Answer kind k) off on = refl
-quiet_text true f (crossing.Down h) off on = refl
 quiet_text false f (crossing.Down h) off on = refl
-quiet_text true f (crossing.Up h) off on = refl
 quiet_text false f (crossing.Up h) off on = refl
+quiet_text true f c off on = refl
 
 -- the text of what is on a flow
 text_here : (v : Bool) (f g : Flow) (text : List Bool) → g ≡ f → (if same_flow f g then text ∷ [] else []) ≡ text ∷ []

@@ -150,9 +150,7 @@ module _ (x : Life) (link : ℕ) (N : Type 0) where
     may g (parcel.Commands count) from to next order is = held_goes (places moments) _ below
     may g (parcel.Bytes e size count) from to next order is = tt
   held_may (Crossed (crossing.In m)) moments a b story below later = λ to from. ((λ zero. held_hears (places moments) _ later), (λ off e k f o t. tt))
-  held_may (Crossed (crossing.Answer kind f)) moments a b story below later = tt
-  held_may (Crossed (crossing.Down g)) moments a b story below later = tt
-  held_may (Crossed (crossing.Up g)) moments a b story below later = tt
+  held_may (Crossed c) moments a b story below later = tt
   held_may (Asked g r) moments a b story below later = tt
 
 -- ---- what holds of all lives

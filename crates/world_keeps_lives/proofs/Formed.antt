@@ -93,9 +93,7 @@ module _ (x : Life) (link : ℕ) where
     may g (parcel.Commands count) from to next order is = bound_goes (places moments) _ below
     may g (parcel.Bytes e size count) from to next order is = tt
   bound_may (Crossed (crossing.In m)) moments a b story below later = λ to from. ((λ zero. bound_hears (places moments) _ later), (λ off e k f o t. tt))
-  bound_may (Crossed (crossing.Answer kind f)) moments a b story below later = tt
-  bound_may (Crossed (crossing.Down g)) moments a b story below later = tt
-  bound_may (Crossed (crossing.Up g)) moments a b story below later = tt
+  bound_may (Crossed c) moments a b story below later = tt
   bound_may (Asked g r) moments a b story below later = tt
 
 -- ---- a life after one moment more
@@ -165,11 +163,7 @@ module _ (moments : List Moment) where
     half_told (notice.Sent s bits) lives t k = absurd t
     half_told (notice.Arrived s bits) lives t k = absurd t
     half_told (notice.Returned s messages bits) lives t k = half_where (lives_at h s) (returned messages bits) lives (half_returned messages bits) k
-    half_told (notice.Ready q) lives t k = k
-    half_told (notice.ContactFailed q) lives t k = k
-    half_told (notice.Interrupt s) lives t k = k
-    half_told (notice.Echoed q octet) lives t k = k
-    half_told (notice.RemoteError q code detail) lives t k = k
+    half_told n lives t k = k
 
     half_all_told : (ns : List Notice) (k : Kept) → Each (Tells h p (crossings_of moments)) ns → Each (Half moments) k.book.lives → Each (Half moments) (all_told h ns k).book.lives
     half_all_told [] k t q = q
@@ -177,10 +171,7 @@ module _ (moments : List Moment) where
 
   half_crossed : (c : Crossing) (lives : List Life) → Each (Half moments) lives → Each (Half moments) (lives_crossed c lives)
   half_crossed (crossing.Down h) lives k = half_where (lives_on h) life_ended lives half_ended k
-  half_crossed (crossing.Up h) lives k = k
-  half_crossed (crossing.Out m) lives k = k
-  half_crossed (crossing.In m) lives k = k
-  half_crossed (crossing.Answer kind f) lives k = k
+  half_crossed c lives k = k
 
   half_asked : (h : Host) (r : Request) (lives : List Life) → Each (Half moments) lives → Each (Half moments) (lives_asked h r lives)
   half_asked h (request.Grant socket messages bits) lives k = half_where (lives_at h socket) (granted messages bits) lives (half_granted messages bits) k

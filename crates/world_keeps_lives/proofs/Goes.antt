@@ -128,22 +128,12 @@ module _ (a : Host) (k : ℕ) (m : Place) (p : Host) (k0 : Kept) where
         good_quiet a k m p k0 (is_at own foreign) cls_sent d e f refl (λ e r g. refl) (λ is l κ i. at_less a k m p e (cls_sent e) l κ (sent_less e) (sent_drains e (queued e f)) i) h
 
   one_goes : (origin : ℕ → ℕ) (stamp : ℕ) (c : Command) (cs behind : List Command) (d : DeskState) → IsCommand c → Waits origin d.entries (c ∷ cs) behind → G a k m p k0 d → G a k m p k0 (command_gone p stamp c d)
-  one_goes origin stamp command.Nop cs behind d is w h = h
   one_goes origin stamp (command.Rts receive send link) cs behind d is w h =
       asks origin stamp receive send d (marks 0 receive send cs ++ marks 0 receive send behind) (parted origin (command.Rts receive send link) cs behind d receive send (w receive send (inl (is.1, is.3)))) h
   one_goes origin stamp (command.Str send receive size) cs behind d is w h =
       asks origin stamp send receive d (marks 0 send receive cs ++ marks 0 send receive behind) (parted origin (command.Str send receive size) cs behind d send receive (w send receive (inr (is.1, is.3)))) h
   one_goes origin stamp (command.Cls own foreign) cs behind d is w h = good_swept a k m p k0 (changed (is_at own foreign) cls_sent d) (good_closed origin own foreign cs behind d w h)
-  one_goes origin stamp (command.All link messages bits) cs behind d is w h = h
-  one_goes origin stamp (command.Gvb link messages bits) cs behind d is w h = h
-  one_goes origin stamp (command.Ret link messages bits) cs behind d is w h = h
-  one_goes origin stamp (command.Inr link) cs behind d is w h = h
-  one_goes origin stamp (command.Ins link) cs behind d is w h = h
-  one_goes origin stamp (command.Eco octet) cs behind d is w h = h
-  one_goes origin stamp (command.Erp octet) cs behind d is w h = h
-  one_goes origin stamp (command.Err code detail) cs behind d is w h = h
-  one_goes origin stamp command.Rst cs behind d is w h = h
-  one_goes origin stamp command.Rrp cs behind d is w h = h
+  one_goes origin stamp c cs behind d is w h = h
 
   pub all_go : (origin : ℕ → ℕ) (stamp : ℕ) (cs behind : List Command) (d : DeskState) → AreCommands cs → Waits origin d.entries cs behind → G a k m p k0 d → G a k m p k0 (commands_gone p stamp cs d)
   all_go origin stamp [] behind d is w h = h

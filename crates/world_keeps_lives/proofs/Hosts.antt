@@ -189,19 +189,7 @@ module _ (a : Host) (k : ℕ) where
 
 gone_listening : (p : Host) (stamp : ℕ) (c : Command) (d : DeskState) → (command_gone p stamp c d).listening ≡ d.listening
 gone_listening p stamp command.Nop d = refl
-gone_listening p stamp (command.Rts receive send link) d = refl
-gone_listening p stamp (command.Str send receive size) d = refl
-gone_listening p stamp (command.Cls own foreign) d = refl
-gone_listening p stamp (command.All link messages bits) d = refl
-gone_listening p stamp (command.Gvb link messages bits) d = refl
-gone_listening p stamp (command.Ret link messages bits) d = refl
-gone_listening p stamp (command.Inr link) d = refl
-gone_listening p stamp (command.Ins link) d = refl
-gone_listening p stamp (command.Eco octet) d = refl
-gone_listening p stamp (command.Erp octet) d = refl
-gone_listening p stamp (command.Err code detail) d = refl
-gone_listening p stamp command.Rst d = refl
-gone_listening p stamp command.Rrp d = refl
+gone_listening p stamp c d = refl
 
 all_listening : (p : Host) (stamp : ℕ) (cs : List Command) (d : DeskState) → (commands_gone p stamp cs d).listening ≡ d.listening
 all_listening p stamp [] d = refl

@@ -90,17 +90,10 @@ module _ (a : Host) (k : ℕ) where
 
   -- what another host's user asks for
   asked_away : (h : Host) (r : Request) (κ : Kept) → same_host h a ≡ false → (P : Life → List Bool → Type 0) → EachIn a k P κ → EachIn a k P (asked h r κ)
-  asked_away h (request.Contact p) κ off P e = e
-  asked_away h (request.Listen socket size) κ off P e = e
-  asked_away h (request.OpenSend p own foreign size) κ off P e = e
-  asked_away h (request.OpenReceive p own foreign) κ off P e = e
   asked_away h (request.Send socket bits) κ off P e =
       each_handed a k (lives_at h socket) bits P P κ.book.lives κ.handed (λ x t there on o. absurd (away_at a k h socket x off there on)) (λ x t there out o. o) e
   asked_away h (request.Grant socket messages bits) κ off P e = each_apart a k (lives_at h socket) (granted messages bits) P κ.book.lives κ.handed (λ x. refl) (λ x. away_at a k h socket x off) e
-  asked_away h (request.AskBack socket messages bits) κ off P e = e
-  asked_away h (request.Interrupt socket) κ off P e = e
-  asked_away h (request.Close socket) κ off P e = e
-  asked_away h (request.Echo p octet) κ off P e = e
+  asked_away h r κ off P e = e
 
   -- another host
   away : (h : Host) (ns : List Notice) (s : NcpState) (κ next : Kept) → same_host a h ≡ false → ((P : Life → List Bool → Type 0) → EachIn a k P κ → EachIn a k P next) → Holds a k s κ → Holds a k s (all_told h ns next)

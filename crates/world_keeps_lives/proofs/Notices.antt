@@ -98,15 +98,7 @@ untold c log (t ∷ told) u a = inl (u, a)
 quiet_notice : (h p : Host) (log : List Crossing) (n : Notice) → Tells h p log n → IsQuiet n
 quiet_notice h p log (notice.Sent s bits) t = absurd t
 quiet_notice h p log (notice.Arrived s bits) t = absurd t
-quiet_notice h p log (notice.Opened s q f a b) t = refl
-quiet_notice h p log (notice.Ended s q f) t = refl
-quiet_notice h p log (notice.PairReset q) t = refl
-quiet_notice h p log (notice.Returned s messages bits) t = refl
-quiet_notice h p log (notice.Ready q) t = refl
-quiet_notice h p log (notice.ContactFailed q) t = refl
-quiet_notice h p log (notice.Interrupt s) t = refl
-quiet_notice h p log (notice.Echoed q octet) t = refl
-quiet_notice h p log (notice.RemoteError q code detail) t = refl
+quiet_notice h p log n t = refl
 
 -- the notices of data stay the same
 quiet_moment : (y : Moment) (moments : List Moment) (h p : Host) (log : List Crossing) → Each (Tells h p log) (notices_by y moments) → data_told (kept_in (y ∷ moments)).book.notices ≡ data_told (kept_in moments).book.notices

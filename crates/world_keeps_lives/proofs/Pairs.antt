@@ -232,11 +232,7 @@ told_later h (notice.Arrived socket bits) x t lives handed i =
     later_where (lives_at h socket) (carried bits) x t lives handed (goes_at h socket) (carried_then bits) i
 told_later h (notice.Returned socket m n) x t lives handed i =
     later_where (lives_at h socket) (returned m n) x t lives handed (goes_at h socket) (returned_then m n) i
-told_later h (notice.Ready peer) x t lives handed i = as_is x t lives handed i
-told_later h (notice.ContactFailed peer) x t lives handed i = as_is x t lives handed i
-told_later h (notice.Interrupt socket) x t lives handed i = as_is x t lives handed i
-told_later h (notice.Echoed peer octet) x t lives handed i = as_is x t lives handed i
-told_later h (notice.RemoteError peer code detail) x t lives handed i = as_is x t lives handed i
+told_later h n x t lives handed i = as_is x t lives handed i
 
 all_later : (h : Host) (ns : List Notice) (k : Kept) (x : Life) (t : List Bool) → IsPair x t k.book.lives k.handed
     → Later x t (all_told h ns k).book.lives (all_told h ns k).handed
@@ -252,10 +248,7 @@ crossed_later : (c : Crossing) (x : Life) (t : List Bool) (lives : List Life) (h
     → IsPair x t lives handed → Later x t (lives_crossed c lives) handed
 crossed_later (crossing.Down h) x t lives handed i =
     later_where (lives_on h) life_ended x t lives handed (goes_on h) ending_then i
-crossed_later (crossing.Up h) x t lives handed i = as_is x t lives handed i
-crossed_later (crossing.Out m) x t lives handed i = as_is x t lives handed i
-crossed_later (crossing.In m) x t lives handed i = as_is x t lives handed i
-crossed_later (crossing.Answer kind f) x t lives handed i = as_is x t lives handed i
+crossed_later c x t lives handed i = as_is x t lives handed i
 
 -- nothing is handed over in a life
 abbrev pub IsUnsent : Moment → Life → Type 0
@@ -282,14 +275,7 @@ asked_later h (request.Send socket bits) x t lives handed off i =
     as_is x t lives _ (pair_handed (lives_at h socket) bits x t lives handed off i)
 asked_later h (request.Grant socket m n) x t lives handed off i =
     later_where (lives_at h socket) (granted m n) x t lives handed (goes_at h socket) (granted_then m n) i
-asked_later h (request.Contact peer) x t lives handed off i = as_is x t lives handed i
-asked_later h (request.Listen socket size) x t lives handed off i = as_is x t lives handed i
-asked_later h (request.OpenSend peer own foreign size) x t lives handed off i = as_is x t lives handed i
-asked_later h (request.OpenReceive peer own foreign) x t lives handed off i = as_is x t lives handed i
-asked_later h (request.AskBack socket m n) x t lives handed off i = as_is x t lives handed i
-asked_later h (request.Interrupt socket) x t lives handed off i = as_is x t lives handed i
-asked_later h (request.Close socket) x t lives handed off i = as_is x t lives handed i
-asked_later h (request.Echo peer octet) x t lives handed off i = as_is x t lives handed i
+asked_later h r x t lives handed off i = as_is x t lives handed i
 
 kept_later : (y : Moment) (k : Kept) (x : Life) (t : List Bool) → IsUnsent y x → IsPair x t k.book.lives k.handed
     → Later x t (kept_by y k).book.lives (kept_by y k).handed

@@ -106,9 +106,7 @@ pub record Quiet (e f : Entry) : Type 0 where
 
 pub due_still : (c : Closing) → has_cls c ≡ true → has_cls (close_due c) ≡ true
 due_still closing.No e = e
-due_still closing.Due e = e
-due_still closing.Queued e = e
-due_still closing.Sent e = e
+due_still c e = e
 
 pub quiet_when : (b : Bool) (e : Entry) → Quiet e (closed_when b e)
 quiet_when true e = record { own = refl; foreign = refl; mine = refl; asked = refl; partner = refl; link = refl; closing = λ c. refl; off = λ c. c }
@@ -249,17 +247,12 @@ module _ (P : Entry → Type 0) (N : Notice → Type 0) (peer : Host) (rules : R
 
   reset_told : (p : Phase) → Each N (reset_notices peer p)
   reset_told phase.Closed = (rules.others _ tt, tt)
-  reset_told phase.Want = tt
-  reset_told (phase.Gone early) = tt
-  reset_told phase.Heard = tt
   reset_told phase.Ready = (rules.others _ tt, tt)
+  reset_told p = tt
 
   reply_told : (p : Phase) → Each N (reply_notices peer p)
-  reply_told phase.Closed = tt
-  reply_told phase.Want = tt
-  reply_told (phase.Gone early) = tt
   reply_told phase.Heard = (rules.others _ tt, tt)
-  reply_told phase.Ready = tt
+  reply_told p = tt
 
   module _ (stamp : ℕ) (orders : List Order) (hears : Hears P stamp orders) where
     good_rts_heard : (own foreign link : ℕ) (l : Option Listener) (d : DeskState) → Contains orders (Legal (command.Rts foreign own link)) → is_receive_socket foreign ≡ true → is_send_socket own ≡ true → Good d → Good (rts_heard own foreign link stamp l d)
@@ -303,7 +296,6 @@ module _ (P : Entry → Type 0) (N : Notice → Type 0) (peer : Host) (rules : R
         (good_fault ERRONEOUS (command.Ret link messages bits) d h)
 
     good_taken : (busy : List ℕ) (c : Command) (d : DeskState) → IsOrder (Legal c) → Contains orders (Legal c) → Good d → Good (desk_taken peer busy stamp c d)
-    good_taken busy command.Nop d ok there h = h
     good_taken busy (command.Rts receive send link) d ok there h = good_rts send receive link d there ok.1 ok.3 h
     good_taken busy (command.Str send receive size) d ok there h = good_str_by receive send size (entry_at receive send d.entries) d there ok.1 ok.3 h
     good_taken busy (command.Cls mine yours) d ok there h = good_cls busy yours mine (entry_at yours mine d.entries) d h
@@ -318,8 +310,7 @@ module _ (P : Entry → Type 0) (N : Notice → Type 0) (peer : Host) (rules : R
     good_taken busy (command.Eco octet) d ok there h = good_queued (command.Erp octet) d h
     good_taken busy (command.Erp octet) d ok there h = good_told _ d (rules.others _ tt, tt) h
     good_taken busy (command.Err code detail) d ok there h = good_told _ d (rules.others _ tt, tt) h
-    good_taken busy command.Rst d ok there h = h
-    good_taken busy command.Rrp d ok there h = h
+    good_taken busy c d ok there h = h
 
     turn_command : (c : Command) (t : TurnState) → IsOrder (Legal c) → Contains orders (Legal c) → GoodTurn t → GoodTurn (command_taken peer stamp c t)
     turn_command command.Rst t ok there h = record { ends = tt; told = each_append N t.notices _ h.told (reset_told t.pair.phase) }
@@ -423,9 +414,7 @@ module _ (P : Entry → Type 0) (N : Notice → Type 0) (peer : Host) (rules : R
 
   pub turn_answered : (kind : Answer) (link : ℕ) (t : TurnState) → GoodTurn t → GoodTurn (answered_turn peer kind link t)
   turn_answered answer.Rfnm link t h = turn_settled _ (record { ends = h.ends; told = h.told })
-  turn_answered answer.Incomplete link t h = turn_failed (record t { pair = freed link t.pair }) (record { ends = h.ends; told = h.told })
-  turn_answered answer.Dead link t h = turn_failed (record t { pair = freed link t.pair }) (record { ends = h.ends; told = h.told })
-  turn_answered answer.NotTaken link t h = turn_failed (record t { pair = freed link t.pair }) (record { ends = h.ends; told = h.told })
+  turn_answered kind link t h = turn_failed (record t { pair = freed link t.pair }) (record { ends = h.ends; told = h.told })
 
   -- ---- what a user asks for
 

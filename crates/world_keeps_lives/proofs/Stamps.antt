@@ -97,10 +97,8 @@ module _ (hosts : List Host) (addresses : HaveAddresses hosts) (moments : List M
         n = story m refl
 
         may : (z : Parcel) → MayTell (Due lives (places moments)) (Stamped lives (places moments)) m.flow.destination (rules lives (places moments) m.flow.destination) (places moments) z (pair_with m.flow.destination (program m.flow.source moments).peers)
-        may parcel.Reset = tt
-        may parcel.Reply = tt
         may (parcel.Commands count) = goes lives (places moments) _
-        may (parcel.Bytes e size count) = tt
+        may z = tt
   stamped (Crossed (crossing.In m)) story =
       (message_keeps (Due lives (places moments)) (Stamped lives (places moments)) m.flow.source (rules lives (places moments) m.flow.source) (program m.flow.destination moments) m (places moments) refl
       ((λ zero. hears lives (places moments) _), (λ off e k f o t. tt)) (old m.flow.destination m.flow.source)).told

@@ -44,9 +44,7 @@ closed_less false e = record { mine = (refl, refl); foreign = refl; asked = refl
 
 due_cls : (c : Closing) → has_cls c ≡ has_cls (close_due c)
 due_cls closing.No = refl
-due_cls closing.Due = refl
-due_cls closing.Queued = refl
-due_cls closing.Sent = refl
+due_cls c = refl
 
 pub called_less : (e : Entry) → IsLess e (called_off e)
 called_less e = record {

@@ -248,7 +248,6 @@ module _ (a : Host) (k : ℕ) (m : Place) (p : Host) (k0 : Kept) where
   -- ---- all commands
 
   pub good_taken : (busy : List ℕ) (stamp : ℕ) (c : Command) (d : DeskState) → G d → G (desk_taken p busy stamp c d)
-  good_taken busy stamp command.Nop d h = h
   good_taken busy stamp (command.Rts receive send link) d h = good_rts send receive link stamp d h
   good_taken busy stamp (command.Str send receive size) d h = good_str_by receive send size stamp (entry_at receive send d.entries) d refl h
   good_taken busy stamp (command.Cls own foreign) d h = good_cls busy foreign own (entry_at foreign own d.entries) d h
@@ -268,8 +267,7 @@ module _ (a : Host) (k : ℕ) (m : Place) (p : Host) (k0 : Kept) where
   good_taken busy stamp (command.Eco octet) d h = good_queued a k m p k0 (command.Erp octet) d h
   good_taken busy stamp (command.Erp octet) d h = good_aside a k m p k0 (notice.Echoed p octet ∷ []) d (tt, tt) h
   good_taken busy stamp (command.Err code detail) d h = good_aside a k m p k0 (notice.RemoteError p code detail ∷ []) d (tt, tt) h
-  good_taken busy stamp command.Rst d h = h
-  good_taken busy stamp command.Rrp d h = h
+  good_taken busy stamp c d h = h
 
   -- ---- data
 

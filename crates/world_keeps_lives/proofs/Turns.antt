@@ -98,17 +98,12 @@ module _ (a : Host) (k : ℕ) (m : Place) (p : Host) (k0 : Kept) where
 
       told_by : (ph : Phase) → t.pair.phase ≡ ph → At a k m p [] (listens_on k t.listening) (all_told a (reset_notices p ph) (all_told a t.notices k0))
       told_by phase.Closed e = none_gone (notice.Ready p ∷ []) t (tt, tt) (idle phase.Closed e refl) h
-      told_by phase.Want e = none_gone [] t tt (idle phase.Want e refl) h
-      told_by (phase.Gone early) e = none_gone [] t tt (idle (phase.Gone early) e refl) h
-      told_by phase.Heard e = none_gone [] t tt (idle phase.Heard e refl) h
       told_by phase.Ready e = cleared_on (mine_on k t.pair.entries) (listens_on k t.listening) (all_told a t.notices k0) h.on
+      told_by ph e = none_gone [] t tt (idle ph e refl) h
 
   reply_aside : (ph : Phase) → AreAside a k (reply_notices p ph)
-  reply_aside phase.Closed = tt
-  reply_aside phase.Want = tt
-  reply_aside (phase.Gone early) = tt
   reply_aside phase.Heard = (tt, tt)
-  reply_aside phase.Ready = tt
+  reply_aside ph = tt
 
   good_reply : (t : TurnState) → GoodTurn t → GoodTurn (reply_taken p t)
   good_reply t h = record {
@@ -124,20 +119,9 @@ module _ (a : Host) (k : ℕ) (m : Place) (p : Host) (k0 : Kept) where
   good_command stamp c t h = good_ready (desk_taken p t.pair.busy stamp c) t (good_taken a k m p (all_told a t.notices k0) t.pair.busy stamp c (desk_of t.pair t.listening)) h
 
   good_legal : (stamp : ℕ) (c : Command) (t : TurnState) → GoodTurn t → GoodTurn (command_taken p stamp c t)
-  good_legal stamp command.Nop t h = good_command stamp command.Nop t h
-  good_legal stamp (command.Rts receive send link) t h = good_command stamp (command.Rts receive send link) t h
-  good_legal stamp (command.Str send receive size) t h = good_command stamp (command.Str send receive size) t h
-  good_legal stamp (command.Cls own foreign) t h = good_command stamp (command.Cls own foreign) t h
-  good_legal stamp (command.All link messages bits) t h = good_command stamp (command.All link messages bits) t h
-  good_legal stamp (command.Gvb link messages bits) t h = good_command stamp (command.Gvb link messages bits) t h
-  good_legal stamp (command.Ret link messages bits) t h = good_command stamp (command.Ret link messages bits) t h
-  good_legal stamp (command.Inr link) t h = good_command stamp (command.Inr link) t h
-  good_legal stamp (command.Ins link) t h = good_command stamp (command.Ins link) t h
-  good_legal stamp (command.Eco octet) t h = good_command stamp (command.Eco octet) t h
-  good_legal stamp (command.Erp octet) t h = good_command stamp (command.Erp octet) t h
-  good_legal stamp (command.Err code detail) t h = good_command stamp (command.Err code detail) t h
   good_legal stamp command.Rst t h = good_reset t h
   good_legal stamp command.Rrp t h = good_reply t h
+  good_legal stamp c t h = good_command stamp c t h
 
   good_order : (stamp : ℕ) (o : Order) (t : TurnState) → GoodTurn t → GoodTurn (order_taken p stamp o t)
   good_order stamp (Legal c) t h = good_legal stamp c t h
@@ -182,6 +166,4 @@ module _ (a : Host) (k : ℕ) (m : Place) (p : Host) (k0 : Kept) where
   good_answer answer.Rfnm link t h =
       good_settled_turn (record t { pair = record (freed link t.pair) { phase = if link == 0 then taken_phase t.pair.phase else t.pair.phase } })
       (record { refusing = h.refusing; idle = λ i. h.idle (rfnm_idle (link == 0) t.pair.phase i); on = h.on })
-  good_answer answer.Incomplete link t h = good_failed (record t { pair = freed link t.pair }) (record { refusing = h.refusing; idle = h.idle; on = h.on })
-  good_answer answer.Dead link t h = good_failed (record t { pair = freed link t.pair }) (record { refusing = h.refusing; idle = h.idle; on = h.on })
-  good_answer answer.NotTaken link t h = good_failed (record t { pair = freed link t.pair }) (record { refusing = h.refusing; idle = h.idle; on = h.on })
+  good_answer kind link t h = good_failed (record t { pair = freed link t.pair }) (record { refusing = h.refusing; idle = h.idle; on = h.on })

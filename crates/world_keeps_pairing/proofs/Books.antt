@@ -72,11 +72,7 @@ module _ (origin : ℕ → ℕ) (h p : Host) (own foreign : ℕ) where
   notice_lives g (notice.Sent socket bits) xs = where_same (lives_at g socket) (carried bits) (λ x told. refl) xs [] ∙ if_same (same_host h g) (Here xs)
   notice_lives g (notice.Arrived socket bits) xs = where_same (lives_at g socket) (carried bits) (λ x told. refl) xs [] ∙ if_same (same_host h g) (Here xs)
   notice_lives g (notice.Returned socket messages bits) xs = where_same (lives_at g socket) (returned messages bits) (λ x told. refl) xs [] ∙ if_same (same_host h g) (Here xs)
-  notice_lives g (notice.Ready peer) xs = if_same (same_host h g) (Here xs)
-  notice_lives g (notice.ContactFailed peer) xs = if_same (same_host h g) (Here xs)
-  notice_lives g (notice.Interrupt socket) xs = if_same (same_host h g) (Here xs)
-  notice_lives g (notice.Echoed peer octet) xs = if_same (same_host h g) (Here xs)
-  notice_lives g (notice.RemoteError peer code detail) xs = if_same (same_host h g) (Here xs)
+  notice_lives g n xs = if_same (same_host h g) (Here xs)
 
   told_on : (b : Bool) (n : Notice) (ns : List Notice) (new old : List Life) → new ≡ (if b then of_peer n old else old) → (if b then all_of_peer ns new else new) ≡ (if b then all_of_peer (n ∷ ns) old else old)
   told_on true n ns new old e = ap (all_of_peer ns) e
@@ -91,22 +87,11 @@ module _ (origin : ℕ → ℕ) (h p : Host) (own foreign : ℕ) where
 
   crossed_same : (c : Crossing) (xs : List book.Life) → Here (lives_crossed c xs) ≡ Here xs
   crossed_same (crossing.Down g) xs = where_same (lives_on g) life_ended (λ x told. refl) xs []
-  crossed_same (crossing.Up g) xs = refl
-  crossed_same (crossing.Out m) xs = refl
-  crossed_same (crossing.In m) xs = refl
-  crossed_same (crossing.Answer kind f) xs = refl
+  crossed_same c xs = refl
 
   asked_same : (g : Host) (r : Request) (xs : List book.Life) → Here (lives_asked g r xs) ≡ Here xs
   asked_same g (request.Grant socket messages bits) xs = where_same (lives_at g socket) (granted messages bits) (λ x told. refl) xs []
-  asked_same g (request.Contact peer) xs = refl
-  asked_same g (request.Listen socket size) xs = refl
-  asked_same g (request.OpenSend peer mine yours size) xs = refl
-  asked_same g (request.OpenReceive peer mine yours) xs = refl
-  asked_same g (request.Send socket bits) xs = refl
-  asked_same g (request.AskBack socket messages bits) xs = refl
-  asked_same g (request.Interrupt socket) xs = refl
-  asked_same g (request.Close socket) xs = refl
-  asked_same g (request.Echo peer octet) xs = refl
+  asked_same g r xs = refl
 
   by_same : (x : Moment) (k : Kept) → Here (kept_by x k).book.lives ≡ Here k.book.lives
   by_same (Crossed c) k = crossed_same c k.book.lives
@@ -124,30 +109,12 @@ module _ (origin : ℕ → ℕ) (h p : Host) (own foreign : ℕ) where
   one_about : (q : Host) (n : Notice) (told : List Life) → IsAbout q n → same_host p q ≡ true → of_peer n told ≡ with_opening origin own foreign n told
   one_about q (notice.Opened socket peer other asked partner) told about same =
       ap (λ (b : Bool). if b && (socket == own && other == foreign) then record { own = asked; partner = origin partner } ∷ told else told) (ap (same_host p) about ∙ same)
-  one_about q (notice.Ended socket peer other) told about same = refl
-  one_about q (notice.PairReset peer) told about same = refl
-  one_about q (notice.Sent socket bits) told about same = refl
-  one_about q (notice.Arrived socket bits) told about same = refl
-  one_about q (notice.Returned socket messages bits) told about same = refl
-  one_about q (notice.Ready peer) told about same = refl
-  one_about q (notice.ContactFailed peer) told about same = refl
-  one_about q (notice.Interrupt socket) told about same = refl
-  one_about q (notice.Echoed peer octet) told about same = refl
-  one_about q (notice.RemoteError peer code detail) told about same = refl
+  one_about q n told about same = refl
 
   one_other : (q : Host) (n : Notice) (told : List Life) → IsAbout q n → same_host p q ≡ false → of_peer n told ≡ told
   one_other q (notice.Opened socket peer other asked partner) told about away =
       ap (λ (b : Bool). if b && (socket == own && other == foreign) then record { own = asked; partner = origin partner } ∷ told else told) (ap (same_host p) about ∙ away)
-  one_other q (notice.Ended socket peer other) told about away = refl
-  one_other q (notice.PairReset peer) told about away = refl
-  one_other q (notice.Sent socket bits) told about away = refl
-  one_other q (notice.Arrived socket bits) told about away = refl
-  one_other q (notice.Returned socket messages bits) told about away = refl
-  one_other q (notice.Ready peer) told about away = refl
-  one_other q (notice.ContactFailed peer) told about away = refl
-  one_other q (notice.Interrupt socket) told about away = refl
-  one_other q (notice.Echoed peer octet) told about away = refl
-  one_other q (notice.RemoteError peer code detail) told about away = refl
+  one_other q n told about away = refl
 
   -- those about this peer are what the program reported of the two sockets, and those about another none
   pub about_peer : (q : Host) (ns : List Notice) (told : List Life) → AreAbout q ns → same_host p q ≡ true → all_of_peer ns told ≡ with_openings origin own foreign ns told
@@ -174,12 +141,4 @@ module _ (origin : ℕ → ℕ) (h p : Host) (own foreign : ℕ) where
   pub asked_none : (s : NcpState) (r : Request) (told : List Life) → all_of_peer (served_notices s r) told ≡ told
   unfolding served_notices
   asked_none s (request.Contact peer) told = contact_none peer (is_ready (pair_with peer s.peers).phase) told
-  asked_none s (request.Listen socket size) told = refl
-  asked_none s (request.OpenSend peer mine yours size) told = refl
-  asked_none s (request.OpenReceive peer mine yours) told = refl
-  asked_none s (request.Send socket bits) told = refl
-  asked_none s (request.Grant socket messages bits) told = refl
-  asked_none s (request.AskBack socket messages bits) told = refl
-  asked_none s (request.Interrupt socket) told = refl
-  asked_none s (request.Close socket) told = refl
-  asked_none s (request.Echo peer octet) told = refl
+  asked_none s r told = refl

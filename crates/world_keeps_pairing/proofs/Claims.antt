@@ -1,6 +1,5 @@
 -- Which link the last request of a receiver named, for each pair of sockets.
 use Rattle.std.proofs.Common.{◌≡◌, ◌⊎◌, inl, inr, ℕ, ◌<◌, ◌≤◌, Bool, true, false, if◌then◌else◌, List, [], ◌∷◌, Option, Some, None, refl, ap, sym, subst, ◌∙◌, arith}
-use Rattle.host_pairs.proofs.lemmas.{both}
 use Rattle.pairing_law.specs.Ends.{End, nothing, fits, gone, mark_taken}
 use Rattle.pairing_law.specs.Marks.{Mark, Ask, Close, Asks}
 use Rattle.pairing_law.specs.Sides as sides

@@ -132,9 +132,7 @@ module _ (said taken : List Claim) where
   fails : (peer : Host) (ph : Phase) (t : TurnState) → LinksOf said taken t.pair → LinksOf said taken (failed_by peer ph t).pair
   fails peer phase.Closed t h = h
   fails peer phase.Want t h = h
-  fails peer (phase.Gone early) t h = record { sends = tt; names = tt; own = tt; single = λ l. tt }
-  fails peer phase.Heard t h = record { sends = tt; names = tt; own = tt; single = λ l. tt }
-  fails peer phase.Ready t h = record { sends = tt; names = tt; own = tt; single = λ l. tt }
+  fails peer ph t h = record { sends = tt; names = tt; own = tt; single = λ l. tt }
 
   failed_links : (peer : Host) (t : TurnState) → LinksOf said taken t.pair → LinksOf said taken (failed peer t).pair
   failed_links peer t h = by (is_gone t.pair.phase || not t.pair.owed) where
@@ -144,9 +142,7 @@ module _ (said taken : List Claim) where
 
   answered_links : (peer : Host) (kind : Answer) (link : ℕ) (t : TurnState) → LinksOf said taken t.pair → LinksOf said taken (answered_turn peer kind link t).pair
   answered_links peer answer.Rfnm link t h = linked_settled said taken (freed link t.pair).busy (desk_of (freed link t.pair) t.listening) h
-  answered_links peer answer.Incomplete link t h = failed_links peer (record t { pair = freed link t.pair }) h
-  answered_links peer answer.Dead link t h = failed_links peer (record t { pair = freed link t.pair }) h
-  answered_links peer answer.NotTaken link t h = failed_links peer (record t { pair = freed link t.pair }) h
+  answered_links peer kind link t h = failed_links peer (record t { pair = freed link t.pair }) h
 
   answer_by : (s : NcpState) (kind : Answer) (f : Flow) (h : Host) → LinksOf said taken (pair_with h s.peers) → (b c : Bool) → same_host s.own f.source ≡ b → is_busy (pair_with f.destination s.peers).busy f.link.0 ≡ c
       → LinksOf said taken (pair_with h (accepted_answer s kind f).0.peers)

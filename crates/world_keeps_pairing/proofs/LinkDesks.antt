@@ -167,7 +167,6 @@ module _ (said taken_claims : List Claim) where
   IsOther c = Unit {0}
 
   pub linked_other : (peer : Host) (busy : List ℕ) (stamp : ℕ) (c : Command) (d : DeskState) → IsOther c → Linked said taken_claims d → Linked said taken_claims (desk_taken peer busy stamp c d)
-  linked_other peer busy stamp command.Nop d o h = h
   linked_other peer busy stamp (command.Rts receive send link) d o h = absurd o
   linked_other peer busy stamp (command.Str send receive size) d o h = linked_str_by peer receive send size stamp (entry_at receive send d.entries) d o.0 o.1 refl h
   linked_other peer busy stamp (command.Cls own foreign) d o h = linked_cls peer busy foreign own (entry_at foreign own d.entries) d h
@@ -180,10 +179,7 @@ module _ (said taken_claims : List Claim) where
   linked_other peer busy stamp (command.Inr link) d o h = linked_at (command.Inr link) interrupted (sender_on link d) d (λ e. h) h
   linked_other peer busy stamp (command.Ins link) d o h = linked_at (command.Ins link) interrupted (receiver_on link d) d (λ e. h) h
   linked_other peer busy stamp (command.Eco octet) d o h = linked_queued (command.Erp octet) d (λ claims. refl) h
-  linked_other peer busy stamp (command.Erp octet) d o h = h
-  linked_other peer busy stamp (command.Err code detail) d o h = h
-  linked_other peer busy stamp command.Rst d o h = h
-  linked_other peer busy stamp command.Rrp d o h = h
+  linked_other peer busy stamp c d o h = h
 
   pub linked_wrong : (code : ℕ) (octets : List ℕ) (d : DeskState) → Linked said taken_claims d → Linked said taken_claims (command_queued (error code octets) d)
   linked_wrong code octets d h = linked_error code octets d h

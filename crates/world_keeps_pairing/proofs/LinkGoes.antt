@@ -36,9 +36,7 @@ none_later (Close ∷ ms) ns h = none_later ms ns h
 
 close_none : (c : Closing) → NoAsk (close_waits c)
 close_none closing.No = tt
-close_none closing.Due = tt
-close_none closing.Queued = tt
-close_none closing.Sent = tt
+close_none c = tt
 
 asked_none : (mine : Bool) (p : ℕ) (c : Closing) → NoAsk (request_due 0 mine (Some p) ++ close_waits c)
 asked_none true p c = close_none c
@@ -50,10 +48,8 @@ pub record DueAsk (mine : Bool) (asked : Option ℕ) (words : List Mark) : Type 
   pub none : NoAsk words
 
 not_close : (words : List Mark) (c : Closing) → Ask 0 ∷ words ≡ close_waits c → ⊥
-not_close words closing.No e = absurd (let both : Ask 0 ∷ words ≡ [] = e in cc)
-not_close words closing.Due e = absurd (let both : Ask 0 ∷ words ≡ [] = e in cc)
 not_close words closing.Queued e = absurd (let both : Ask 0 ∷ words ≡ Close ∷ [] = e in cc)
-not_close words closing.Sent e = absurd (let both : Ask 0 ∷ words ≡ [] = e in cc)
+not_close words c e = absurd (let both : Ask 0 ∷ words ≡ [] = e in cc)
 
 tail_of : List Mark → List Mark
 tail_of [] = []
@@ -82,20 +78,8 @@ front_none (Ask p ∷ ms) ns h = absurd h
 front_none (Close ∷ ms) ns h = front_none ms ns h
 
 pending_one : (s : Sockets) (c : Command) (base : List Claim) → NoAsk (mark_of 0 s.receive s.send c) → last_link s (claim_of c base) ≡ last_link s base
-pending_one s command.Nop base h = refl
 pending_one s (command.Rts r n link) base h = pending_by s r n link base (r == s.receive && n == s.send) (is_receive_socket r && is_send_socket n) refl h
-pending_one s (command.Str n r size) base h = refl
-pending_one s (command.Cls a b) base h = refl
-pending_one s (command.All a b c) base h = refl
-pending_one s (command.Gvb a b c) base h = refl
-pending_one s (command.Ret a b c) base h = refl
-pending_one s (command.Inr a) base h = refl
-pending_one s (command.Ins a) base h = refl
-pending_one s (command.Eco a) base h = refl
-pending_one s (command.Erp a) base h = refl
-pending_one s (command.Err a b) base h = refl
-pending_one s command.Rst base h = refl
-pending_one s command.Rrp base h = refl
+pending_one s c base h = refl
 
 -- what waits of another end names nothing for these sockets
 last_same : (s : Sockets) (cs : List Command) (xs ys : List Claim) → last_link s xs ≡ last_link s ys → NoAsk (marks 0 s.receive s.send cs) → last_link s (all_claims cs xs) ≡ last_link s ys

@@ -74,20 +74,9 @@ close_if true r n xs = refl
 close_if false r n xs = refl
 
 claims_next : (stamp : ℕ) (c : Command) (xs : List Step) → said_claims (all_said Receiver (word_by Receiver stamp (Legal c)) xs) ≡ claim_of c (said_claims xs)
-claims_next stamp command.Nop xs = refl
 claims_next stamp (command.Rts r n l) xs = claim_if (is_receive_socket r && is_send_socket n) r n l stamp xs
-claims_next stamp (command.Str n r size) xs = refl
 claims_next stamp (command.Cls a b) xs = close_if (is_receive_socket a && is_send_socket b) a b xs
-claims_next stamp (command.All a b c) xs = refl
-claims_next stamp (command.Gvb a b c) xs = refl
-claims_next stamp (command.Ret a b c) xs = refl
-claims_next stamp (command.Inr a) xs = refl
-claims_next stamp (command.Ins a) xs = refl
-claims_next stamp (command.Eco a) xs = refl
-claims_next stamp (command.Erp a) xs = refl
-claims_next stamp (command.Err a b) xs = refl
-claims_next stamp command.Rst xs = refl
-claims_next stamp command.Rrp xs = refl
+claims_next stamp c xs = refl
 
 close_free : (b : Bool) (r n : ℕ) (xs : List Step) → NameFree (if b then record { sockets = record { receive = r; send = n }; link = 0; mark = Close } ∷ [] else []) xs
 close_free true r n xs = (tt, tt)
@@ -100,23 +89,12 @@ module _ (origin other : ℕ → ℕ) (peer : Host) (stamp : ℕ) (taken : List 
 
   one_free : (c : Command) (rest : List Command) (es : List Entry) (xs : List Step) → IsCommand c → AreSteps xs → AllPairs (said_words Receiver xs) → Receives origin es (c ∷ rest) xs → Links (all_claims (c ∷ rest) (said_claims xs)) taken es
       → NameFree (word_by Receiver stamp (Legal c)) xs
-  one_free command.Nop rest es xs ok steps pairs ends h = tt
   one_free (command.Rts r n l) rest es xs ok steps pairs ends h =
       let good : (is_receive_socket r && is_send_socket n) ≡ true = ap (λ (b : Bool). b && is_send_socket n) ok.1 ∙ ok.3 in
       subst (λ (b : Bool). NameFree (if b then record { sockets = record { receive = r; send = n }; link = l; mark = Ask stamp } ∷ [] else []) xs) (sym good)
       (is_free origin r n l rest taken es xs ok.1 ok.3 steps pairs ends h, tt)
-  one_free (command.Str n r size) rest es xs ok steps pairs ends h = tt
   one_free (command.Cls a b) rest es xs ok steps pairs ends h = close_free (is_receive_socket a && is_send_socket b) a b xs
-  one_free (command.All a b c) rest es xs ok steps pairs ends h = tt
-  one_free (command.Gvb a b c) rest es xs ok steps pairs ends h = tt
-  one_free (command.Ret a b c) rest es xs ok steps pairs ends h = tt
-  one_free (command.Inr a) rest es xs ok steps pairs ends h = tt
-  one_free (command.Ins a) rest es xs ok steps pairs ends h = tt
-  one_free (command.Eco a) rest es xs ok steps pairs ends h = tt
-  one_free (command.Erp a) rest es xs ok steps pairs ends h = tt
-  one_free (command.Err a b) rest es xs ok steps pairs ends h = tt
-  one_free command.Rst rest es xs ok steps pairs ends h = tt
-  one_free command.Rrp rest es xs ok steps pairs ends h = tt
+  one_free c rest es xs ok steps pairs ends h = tt
 
   self_mark : (a b : ℕ) → (if a == a && b == b then Ask 0 ∷ [] else []) ≡ Ask 0 ∷ []
   self_mark a b = ap (λ (t : Bool). if t then Ask 0 ∷ [] else []) (ap (λ (t : Bool). t && b == b) (eq-eqb a a refl) ∙ eq-eqb b b refl)
@@ -127,22 +105,12 @@ module _ (origin other : ℕ → ℕ) (peer : Host) (stamp : ℕ) (taken : List 
       links_asked claims taken a b (asked_at stamp) es (λ e. (refl, refl, refl, refl, refl)) (one_at true o 0 a b es (Ask 0 ∷ words) x waits) (mine_by o a b es words x waits) k
 
   one_links : (c : Command) (rest : List Command) (d : DeskState) (xs : List Step) (claims : List Claim) → IsCommand c → Receives origin d.entries (c ∷ rest) xs → Sends d.entries (c ∷ rest) → Links claims taken d.entries → Links claims taken (command_gone peer stamp c d).entries
-  one_links command.Nop rest d xs claims ok r s h = h
   one_links (command.Rts a b l) rest d xs claims ok r s h = asked_gone origin a b claims d.entries (marks 0 a b rest) _ (r (record { receive = a; send = b }) (ok.1, ok.3) 0) h
   one_links (command.Str a b size) rest d xs claims ok r s h = asked_gone other a b claims d.entries (marks 0 a b rest) _ (s (record { receive = b; send = a }) (ok.3, ok.1) 0).1 h
   one_links (command.Cls a b) rest d xs claims ok r s h =
       links_filter claims taken (λ e. not (is_over e)) (changed_at a b cls_sent d.entries)
       (links_changed claims taken (is_at a b) cls_sent d.entries (λ e. record { own = refl; foreign = refl; link = refl; mine = refl; partner = λ k. k; asked = λ k. k }) h)
-  one_links (command.All a b c) rest d xs claims ok r s h = h
-  one_links (command.Gvb a b c) rest d xs claims ok r s h = h
-  one_links (command.Ret a b c) rest d xs claims ok r s h = h
-  one_links (command.Inr a) rest d xs claims ok r s h = h
-  one_links (command.Ins a) rest d xs claims ok r s h = h
-  one_links (command.Eco a) rest d xs claims ok r s h = h
-  one_links (command.Erp a) rest d xs claims ok r s h = h
-  one_links (command.Err a b) rest d xs claims ok r s h = h
-  one_links command.Rst rest d xs claims ok r s h = h
-  one_links command.Rrp rest d xs claims ok r s h = h
+  one_links c rest d xs claims ok r s h = h
 
   receives_next : (c : Command) (rest : List Command) (d : DeskState) (xs : List Step) → IsCommand c → Receives origin d.entries (c ∷ rest) xs → Receives origin (command_gone peer stamp c d).entries rest (all_said Receiver (word_by Receiver stamp (Legal c)) xs)
   receives_next c rest d xs ok r = λ s q place.

@@ -38,7 +38,7 @@ use Rattle.ncp_control.specs.Command.{IsCommand}
 use Rattle.ncp_control.specs.Numbers.{is_receive_socket, is_send_socket}
 use Rattle.ncp_control.specs.declared.command.Command.{Command}
 use Rattle.ncp_control.specs.declared.command.Command.TheVariants as command
-use Rattle.host_pairs.specs.Entries.{is_at, is_link}
+use Rattle.host_pairs.specs.Entries.{is_link}
 use Rattle.host_pairs.specs.declared.entry.Closing.{Closing}
 use Rattle.host_pairs.specs.declared.entry.Closing.TheVariants as closing
 use Rattle.host_pairs.specs.declared.entry.Entry.{Entry}
@@ -143,19 +143,13 @@ module _ (origin : Host → Host → ℕ → ℕ) (hosts : List Host) (ranged_at
 
   names : (a b : Host) (x : Moment) (moments : List Moment) → IsStory (x ∷ moments) → ((h : Host) → IsRanged (program h moments)) → AllTied origin moments → NamesFreeAt a b x moments
   names a b (Crossed (crossing.Out m)) moments story ranged t = out_names a b m moments story ranged t (same_host a m.flow.source) (same_host b m.flow.destination) refl refl
-  names a b (Crossed (crossing.In m)) moments story ranged t = tt
-  names a b (Crossed (crossing.Answer kind f)) moments story ranged t = tt
-  names a b (Crossed (crossing.Down g)) moments story ranged t = tt
-  names a b (Crossed (crossing.Up g)) moments story ranged t = tt
+  names a b (Crossed c) moments story ranged t = tt
   names a b (Asked g r) moments story ranged t =
       by_request (λ e. NameFree (words_of Receiver (stay.said_by a b 0 (placed_event e (events_of moments)))) (all_said Sender (words_of Sender (stay.said_by b a 0 (placed_event e (events_of moments)))) (steps a b (law_events moments)))) g r (λ peer. tt) tt
 
   pub takes : (x : Moment) (moments : List Moment) → IsStory (x ∷ moments) → IsRun hosts (events_of (x ∷ moments)) → ((h : Host) → IsRanged (program h moments)) → IsOrigin origin x moments → AllTied origin moments → TakesFreeAt x moments
-  takes (Crossed (crossing.Out m)) moments story run ranged from t = tt
   takes (Crossed (crossing.In m)) moments story run ranged from t = in_free origin hosts m moments story run ranged from (t.tied m.flow.source m.flow.destination) (t.linked m.flow.destination m.flow.source)
-  takes (Crossed (crossing.Answer kind f)) moments story run ranged from t = tt
-  takes (Crossed (crossing.Down g)) moments story run ranged from t = tt
-  takes (Crossed (crossing.Up g)) moments story run ranged from t = tt
+  takes (Crossed c) moments story run ranged from t = tt
   takes (Asked g r) moments story run ranged from t = tt
 
   links : (a b : Host) (x : Moment) (moments : List Moment) → IsStory (x ∷ moments) → IsRun hosts (events_of (x ∷ moments)) → AreServed (x ∷ moments) → ((h : Host) → IsRanged (program h moments)) → IsOrigin origin x moments → AllTied origin moments → Linked a b (x ∷ moments)
@@ -192,9 +186,7 @@ asks_append (Close ∷ xs) ys = asks_append xs ys
 
 none_in_close : (c : Closing) → asks (close_waits c) ≡ 0
 none_in_close closing.No = refl
-none_in_close closing.Due = refl
-none_in_close closing.Queued = refl
-none_in_close closing.Sent = refl
+none_in_close c = refl
 
 one_due : (mine : Bool) (asked : Option ℕ) → asks (request_due 0 mine asked) ≤ 1
 one_due true None = omega arith

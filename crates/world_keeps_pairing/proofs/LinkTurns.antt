@@ -220,15 +220,7 @@ module _ (origin : ℕ → ℕ) (peer : Host) (stamp : ℕ) (said : List Claim) 
         (linked_other said (heard_claims xs) peer t.pair.busy stamp (command.Cls own foreign) (desk_of t.pair t.listening) tt h),
   )
   one_links (Legal (command.All l a b)) t xs legal steps ends h = (tt, linked_other said (heard_claims xs) peer t.pair.busy stamp (command.All l a b) (desk_of t.pair t.listening) tt h)
-  one_links (Legal (command.Gvb l a b)) t xs legal steps ends h = (tt, linked_other said (heard_claims xs) peer t.pair.busy stamp (command.Gvb l a b) (desk_of t.pair t.listening) tt h)
-  one_links (Legal (command.Ret l a b)) t xs legal steps ends h = (tt, linked_other said (heard_claims xs) peer t.pair.busy stamp (command.Ret l a b) (desk_of t.pair t.listening) tt h)
-  one_links (Legal (command.Inr l)) t xs legal steps ends h = (tt, linked_other said (heard_claims xs) peer t.pair.busy stamp (command.Inr l) (desk_of t.pair t.listening) tt h)
-  one_links (Legal (command.Ins l)) t xs legal steps ends h = (tt, linked_other said (heard_claims xs) peer t.pair.busy stamp (command.Ins l) (desk_of t.pair t.listening) tt h)
-  one_links (Legal (command.Eco a)) t xs legal steps ends h = (tt, linked_other said (heard_claims xs) peer t.pair.busy stamp (command.Eco a) (desk_of t.pair t.listening) tt h)
-  one_links (Legal (command.Erp a)) t xs legal steps ends h = (tt, linked_other said (heard_claims xs) peer t.pair.busy stamp (command.Erp a) (desk_of t.pair t.listening) tt h)
-  one_links (Legal (command.Err a b)) t xs legal steps ends h = (tt, linked_other said (heard_claims xs) peer t.pair.busy stamp (command.Err a b) (desk_of t.pair t.listening) tt h)
-  one_links (Legal command.Rst) t xs legal steps ends h = (tt, linked_other said (heard_claims xs) peer t.pair.busy stamp command.Rst (desk_of t.pair t.listening) tt h)
-  one_links (Legal command.Rrp) t xs legal steps ends h = (tt, linked_other said (heard_claims xs) peer t.pair.busy stamp command.Rrp (desk_of t.pair t.listening) tt h)
+  one_links (Legal c) t xs legal steps ends h = (tt, linked_other said (heard_claims xs) peer t.pair.busy stamp c (desk_of t.pair t.listening) tt h)
 
   heard_join : (ws vs : List Word) (xs : List Step) → all_heard Sender (ws ++ vs) xs ≡ all_heard Sender vs (all_heard Sender ws xs)
   heard_join [] vs xs = refl

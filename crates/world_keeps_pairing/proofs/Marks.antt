@@ -80,33 +80,13 @@ module _ (s : Sockets) (pair : IsPair s) where
   order_at Receiver place (Legal (command.Str n r size)) h =
       ap (λ (t : Bool). if t then Ask place ∷ [] else []) (sym (apart n r s.receive s.send (λ e. even_odd n (ap is_receive_socket e ∙ pair.0) h.1)))
   order_at Receiver place (Legal (command.Cls own foreign)) h = at_word own foreign 0 Close
-  order_at Receiver place (Legal command.Nop) h = refl
-  order_at Receiver place (Legal (command.All link messages bits)) h = refl
-  order_at Receiver place (Legal (command.Gvb link messages bits)) h = refl
-  order_at Receiver place (Legal (command.Ret link messages bits)) h = refl
-  order_at Receiver place (Legal (command.Inr link)) h = refl
-  order_at Receiver place (Legal (command.Ins link)) h = refl
-  order_at Receiver place (Legal (command.Eco octet)) h = refl
-  order_at Receiver place (Legal (command.Erp octet)) h = refl
-  order_at Receiver place (Legal (command.Err code detail)) h = refl
-  order_at Receiver place (Legal command.Rst) h = refl
-  order_at Receiver place (Legal command.Rrp) h = refl
+  order_at Receiver place (Legal c) h = refl
   order_at Sender place (Wrong code octets) h = refl
   order_at Sender place (Legal (command.Rts r n link)) h =
       ap (λ (t : Bool). if t then Ask place ∷ [] else []) (sym (apart r n s.send s.receive (λ e. even_odd r h.1 (ap is_send_socket e ∙ pair.1))))
   order_at Sender place (Legal (command.Str n r size)) h = at_word r n 0 (Ask place) ∙ when_turned (Ask place) (r == s.receive) (n == s.send)
   order_at Sender place (Legal (command.Cls own foreign)) h = at_word foreign own 0 Close ∙ when_turned Close (foreign == s.receive) (own == s.send)
-  order_at Sender place (Legal command.Nop) h = refl
-  order_at Sender place (Legal (command.All link messages bits)) h = refl
-  order_at Sender place (Legal (command.Gvb link messages bits)) h = refl
-  order_at Sender place (Legal (command.Ret link messages bits)) h = refl
-  order_at Sender place (Legal (command.Inr link)) h = refl
-  order_at Sender place (Legal (command.Ins link)) h = refl
-  order_at Sender place (Legal (command.Eco octet)) h = refl
-  order_at Sender place (Legal (command.Erp octet)) h = refl
-  order_at Sender place (Legal (command.Err code detail)) h = refl
-  order_at Sender place (Legal command.Rst) h = refl
-  order_at Sender place (Legal command.Rrp) h = refl
+  order_at Sender place (Legal c) h = refl
 
   orders_at : (who : Who) (place : ℕ) (orders : List Order) → AreOrders orders → at s (words_by who place orders) ≡ marks_in place (own_of who s) (foreign_of who s) orders
   orders_at who place [] h = refl
@@ -141,34 +121,12 @@ word_pairs r n link m = by (is_receive_socket r && is_send_socket n) refl where
 pub order_pairs : (who : Who) (place : ℕ) (o : Order) → AllPairs (word_by who place o)
 order_pairs Receiver place (Wrong code octets) = tt
 order_pairs Receiver place (Legal (command.Rts r n link)) = word_pairs r n link (Ask place)
-order_pairs Receiver place (Legal (command.Str n r size)) = tt
 order_pairs Receiver place (Legal (command.Cls own foreign)) = word_pairs own foreign 0 Close
-order_pairs Receiver place (Legal command.Nop) = tt
-order_pairs Receiver place (Legal (command.All link messages bits)) = tt
-order_pairs Receiver place (Legal (command.Gvb link messages bits)) = tt
-order_pairs Receiver place (Legal (command.Ret link messages bits)) = tt
-order_pairs Receiver place (Legal (command.Inr link)) = tt
-order_pairs Receiver place (Legal (command.Ins link)) = tt
-order_pairs Receiver place (Legal (command.Eco octet)) = tt
-order_pairs Receiver place (Legal (command.Erp octet)) = tt
-order_pairs Receiver place (Legal (command.Err code detail)) = tt
-order_pairs Receiver place (Legal command.Rst) = tt
-order_pairs Receiver place (Legal command.Rrp) = tt
+order_pairs Receiver place (Legal c) = tt
 order_pairs Sender place (Wrong code octets) = tt
-order_pairs Sender place (Legal (command.Rts r n link)) = tt
 order_pairs Sender place (Legal (command.Str n r size)) = word_pairs r n 0 (Ask place)
 order_pairs Sender place (Legal (command.Cls own foreign)) = word_pairs foreign own 0 Close
-order_pairs Sender place (Legal command.Nop) = tt
-order_pairs Sender place (Legal (command.All link messages bits)) = tt
-order_pairs Sender place (Legal (command.Gvb link messages bits)) = tt
-order_pairs Sender place (Legal (command.Ret link messages bits)) = tt
-order_pairs Sender place (Legal (command.Inr link)) = tt
-order_pairs Sender place (Legal (command.Ins link)) = tt
-order_pairs Sender place (Legal (command.Eco octet)) = tt
-order_pairs Sender place (Legal (command.Erp octet)) = tt
-order_pairs Sender place (Legal (command.Err code detail)) = tt
-order_pairs Sender place (Legal command.Rst) = tt
-order_pairs Sender place (Legal command.Rrp) = tt
+order_pairs Sender place (Legal c) = tt
 
 orders_pairs : (who : Who) (place : ℕ) (orders : List Order) → AllPairs (words_by who place orders)
 orders_pairs who place [] = tt
@@ -203,17 +161,7 @@ mark_at place own foreign (Wrong code octets) = tt
 mark_at place own foreign (Legal (command.Rts r n link)) = ask_at place (r == own && n == foreign)
 mark_at place own foreign (Legal (command.Str n r size)) = ask_at place (n == own && r == foreign)
 mark_at place own foreign (Legal (command.Cls a b)) = close_at place (a == own && b == foreign)
-mark_at place own foreign (Legal command.Nop) = tt
-mark_at place own foreign (Legal (command.All link messages bits)) = tt
-mark_at place own foreign (Legal (command.Gvb link messages bits)) = tt
-mark_at place own foreign (Legal (command.Ret link messages bits)) = tt
-mark_at place own foreign (Legal (command.Inr link)) = tt
-mark_at place own foreign (Legal (command.Ins link)) = tt
-mark_at place own foreign (Legal (command.Eco octet)) = tt
-mark_at place own foreign (Legal (command.Erp octet)) = tt
-mark_at place own foreign (Legal (command.Err code detail)) = tt
-mark_at place own foreign (Legal command.Rst) = tt
-mark_at place own foreign (Legal command.Rrp) = tt
+mark_at place own foreign (Legal c) = tt
 
 pub marks_at : (place own foreign : ℕ) (orders : List Order) → AllAt place (marks_in place own foreign orders)
 marks_at place own foreign [] = tt

@@ -40,11 +40,8 @@ use Rattle.world_keeps_pairing.proofs.Turns.{IsQuiet, heard_is, other, ready_is,
 use Rattle.world_keeps_pairing.proofs.Moments.{Side_of, Tie, in_away, waiting}
 
 ready_phase : (ph : host.Phase) → program_phases.is_ready ph ≡ true → ph ≡ phase.Ready
-ready_phase phase.Closed e = absurd (let both : false ≡ true = e in cc)
-ready_phase phase.Want e = absurd (let both : false ≡ true = e in cc)
-ready_phase (phase.Gone early) e = absurd (let both : false ≡ true = e in cc)
-ready_phase phase.Heard e = absurd (let both : false ≡ true = e in cc)
 ready_phase phase.Ready e = refl
+ready_phase ph e = absurd (let both : false ≡ true = e in cc)
 
 pub are_same : (x y : Host) → are x y x y ≡ true
 are_same x y = ap (λ (b : Bool). b && same_host y y) (same_host-refl x) ∙ same_host-refl y

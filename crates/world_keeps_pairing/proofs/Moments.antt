@@ -51,15 +51,7 @@ place_is moments = place_same moments ∙ sym (places_same moments)
 -- of what a user asks only a contact changes what a program has
 contact_else : (p : Host) (r : Request) (x : End) → ((peer : Host) × (r ≡ request.Contact peer)) ⊎ (after_request p r x ≡ x)
 contact_else p (request.Contact peer) x = inl (peer, refl)
-contact_else p (request.Listen socket size) x = inr refl
-contact_else p (request.OpenSend peer own foreign size) x = inr refl
-contact_else p (request.OpenReceive peer own foreign) x = inr refl
-contact_else p (request.Send socket bits) x = inr refl
-contact_else p (request.Grant socket messages bits) x = inr refl
-contact_else p (request.AskBack socket messages bits) x = inr refl
-contact_else p (request.Interrupt socket) x = inr refl
-contact_else p (request.Close socket) x = inr refl
-contact_else p (request.Echo peer octet) x = inr refl
+contact_else p r x = inr refl
 
 module _ (s : Sockets) (is_pair : IsPair s) (who : Who) (h p : Host) (origin : ℕ → ℕ) where
   abbrev own : ℕ

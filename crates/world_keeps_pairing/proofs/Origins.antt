@@ -56,11 +56,8 @@ origin_is none log newer m moments is = λ place box zero.
 -- ---- all moments
 
 is_origin : (none : ℕ) (log newer : List Crossing) (x : Moment) (moments : List Moment) → log ≡ newer ++ crossings_of (x ∷ moments) → IsOrigin (origin_or none log) x moments
-is_origin none log newer (Crossed (crossing.Out m)) moments is = tt
 is_origin none log newer (Crossed (crossing.In m)) moments is = origin_is none log newer m moments is
-is_origin none log newer (Crossed (crossing.Answer kind f)) moments is = tt
-is_origin none log newer (Crossed (crossing.Down h)) moments is = tt
-is_origin none log newer (Crossed (crossing.Up h)) moments is = tt
+is_origin none log newer (Crossed c) moments is = tt
 is_origin none log newer (Asked h r) moments is = tt
 
 pub served_below : (x : Moment) (moments : List Moment) → AreServed (x ∷ moments) → AreServed moments

@@ -43,35 +43,11 @@ pub data Sort (link : ℕ) (text : List Bool) : Type 0 where
 
 rst_only : (c : Command) → is_rst c ≡ true → c ≡ command.Rst
 rst_only command.Rst e = refl
-rst_only command.Rrp e = absurd (let no : false ≡ true = e in cc)
-rst_only command.Nop e = absurd (let no : false ≡ true = e in cc)
-rst_only (command.Rts a b c) e = absurd (let no : false ≡ true = e in cc)
-rst_only (command.Str a b c) e = absurd (let no : false ≡ true = e in cc)
-rst_only (command.Cls a b) e = absurd (let no : false ≡ true = e in cc)
-rst_only (command.All a b c) e = absurd (let no : false ≡ true = e in cc)
-rst_only (command.Gvb a b c) e = absurd (let no : false ≡ true = e in cc)
-rst_only (command.Ret a b c) e = absurd (let no : false ≡ true = e in cc)
-rst_only (command.Inr a) e = absurd (let no : false ≡ true = e in cc)
-rst_only (command.Ins a) e = absurd (let no : false ≡ true = e in cc)
-rst_only (command.Eco a) e = absurd (let no : false ≡ true = e in cc)
-rst_only (command.Erp a) e = absurd (let no : false ≡ true = e in cc)
-rst_only (command.Err a b) e = absurd (let no : false ≡ true = e in cc)
+rst_only c e = absurd (let no : false ≡ true = e in cc)
 
 rrp_only : (c : Command) → is_rrp c ≡ true → c ≡ command.Rrp
 rrp_only command.Rrp e = refl
-rrp_only command.Rst e = absurd (let no : false ≡ true = e in cc)
-rrp_only command.Nop e = absurd (let no : false ≡ true = e in cc)
-rrp_only (command.Rts a b c) e = absurd (let no : false ≡ true = e in cc)
-rrp_only (command.Str a b c) e = absurd (let no : false ≡ true = e in cc)
-rrp_only (command.Cls a b) e = absurd (let no : false ≡ true = e in cc)
-rrp_only (command.All a b c) e = absurd (let no : false ≡ true = e in cc)
-rrp_only (command.Gvb a b c) e = absurd (let no : false ≡ true = e in cc)
-rrp_only (command.Ret a b c) e = absurd (let no : false ≡ true = e in cc)
-rrp_only (command.Inr a) e = absurd (let no : false ≡ true = e in cc)
-rrp_only (command.Ins a) e = absurd (let no : false ≡ true = e in cc)
-rrp_only (command.Eco a) e = absurd (let no : false ≡ true = e in cc)
-rrp_only (command.Erp a) e = absurd (let no : false ≡ true = e in cc)
-rrp_only (command.Err a b) e = absurd (let no : false ≡ true = e in cc)
+rrp_only c e = absurd (let no : false ≡ true = e in cc)
 
 alone_is : (test : Command → Bool) (only : Command) → ((c : Command) → test c ≡ true → c ≡ only) → (orders : List Order) → is_alone test orders ≡ true → orders ≡ Legal only ∷ []
 alone_is test only k [] e = absurd (let no : false ≡ true = e in cc)
@@ -95,18 +71,7 @@ joint_one : (o : Order) → IsPlain o → AreJoint (o ∷ [])
 joint_one (Wrong code octets) h = (tt, tt)
 joint_one (Legal command.Rst) h = absurd (let no : true ≡ false = h.0 in cc)
 joint_one (Legal command.Rrp) h = absurd (let no : true ≡ false = h.1 in cc)
-joint_one (Legal command.Nop) h = (refl, tt)
-joint_one (Legal (command.Rts a b c)) h = (refl, tt)
-joint_one (Legal (command.Str a b c)) h = (refl, tt)
-joint_one (Legal (command.Cls a b)) h = (refl, tt)
-joint_one (Legal (command.All a b c)) h = (refl, tt)
-joint_one (Legal (command.Gvb a b c)) h = (refl, tt)
-joint_one (Legal (command.Ret a b c)) h = (refl, tt)
-joint_one (Legal (command.Inr a)) h = (refl, tt)
-joint_one (Legal (command.Ins a)) h = (refl, tt)
-joint_one (Legal (command.Eco a)) h = (refl, tt)
-joint_one (Legal (command.Erp a)) h = (refl, tt)
-joint_one (Legal (command.Err a b)) h = (refl, tt)
+joint_one (Legal c) h = (refl, tt)
 
 pub plain_joint : (orders : List Order) → AllPlain orders → AreJoint orders
 plain_joint [] h = tt
@@ -123,13 +88,11 @@ abbrev pub read_marks : ℕ → ℕ → ℕ → ℕ → List Bool → List Mark
 read_marks place own foreign link text = if link == 0 then marks_in place own foreign (orders_of text) else []
 
 parcel_marks : (place own foreign : ℕ) (q : PairState) (p : Pair) (x : Parcel) → Agrees q p → next_of q ≡ Some x → IsReadBack q x → marks place own foreign (commands_of q x) ≡ read_marks place own foreign (link_for x) (text_for q x)
-parcel_marks place own foreign q p parcel.Reset a n back = sym (ap (marks_in place own foreign) back ∙ legal_marks place own foreign (commands_of q parcel.Reset))
-parcel_marks place own foreign q p parcel.Reply a n back = sym (ap (marks_in place own foreign) back ∙ legal_marks place own foreign (commands_of q parcel.Reply))
-parcel_marks place own foreign q p (parcel.Commands count) a n back = sym (ap (marks_in place own foreign) back ∙ legal_marks place own foreign (commands_of q (parcel.Commands count)))
 parcel_marks place own foreign q p (parcel.Bytes e size count) a n back =
     let may : MayGo q (parcel.Bytes e size count) = what_goes q (parcel.Bytes e size count) n in
     let away : (parcel.link_of e.link == 0) ≡ false = data_away q e size count a.linked may.1.linked n in
     ap (λ (b : Bool). if b then marks_in place own foreign (orders_of (text_for q (parcel.Bytes e size count))) else []) (sym away)
+parcel_marks place own foreign q p x a n back = sym (ap (marks_in place own foreign) back ∙ legal_marks place own foreign (commands_of q x))
 
 module _ (origin : ℕ → ℕ) (own foreign : ℕ) where
   abbrev pub Has : Host → NcpState → End → Type 0

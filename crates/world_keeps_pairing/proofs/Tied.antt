@@ -76,10 +76,7 @@ module _ (s : Sockets) (is_pair : IsPair s) (who : Who) (h p : Host) (origin : �
 
   pub may_turn : (x : Moment) (moments : List Moment) → IsStory (x ∷ moments) → IsRanged (program h moments) → (Side_of s is_pair who h p origin moments).next ≤ places moments → Tie s is_pair who h p origin moments → May x moments
   may_turn (Crossed (crossing.Out m)) moments story ranged below t = out_may_turn m moments story ranged below t
-  may_turn (Crossed (crossing.In m)) moments story ranged below t = tt
-  may_turn (Crossed (crossing.Answer kind f)) moments story ranged below t = tt
-  may_turn (Crossed (crossing.Down g)) moments story ranged below t = tt
-  may_turn (Crossed (crossing.Up g)) moments story ranged below t = tt
+  may_turn (Crossed c) moments story ranged below t = tt
   may_turn (Asked g r) moments story ranged below t =
       by_request (λ e. MayAllGo (at_texts s who (stay.said_by h p 0 (placed_event e (events_of moments)))) (Side_of s is_pair who h p origin moments).end (Side_of s is_pair who h p origin moments).next) g r (λ peer. tt) tt
 
@@ -123,10 +120,7 @@ module _ (s : Sockets) (is_pair : IsPair s) (who : Who) (h p : Host) (origin : �
 
   next_turn : (x : Moment) (moments : List Moment) → Next moments ≤ places moments → Next (x ∷ moments) ≤ places (x ∷ moments)
   next_turn (Crossed (crossing.Out m)) moments below = out_next m moments below
-  next_turn (Crossed (crossing.In m)) moments below = let same : Next (Crossed (crossing.In m) ∷ moments) ≡ Next moments = next_is (placed_event (event_of (crossing.In m)) (events_of moments)) moments in omega (arith, same, below)
-  next_turn (Crossed (crossing.Answer kind f)) moments below = let same : Next (Crossed (crossing.Answer kind f) ∷ moments) ≡ Next moments = next_is (placed_event (event_of (crossing.Answer kind f)) (events_of moments)) moments in omega (arith, same, below)
-  next_turn (Crossed (crossing.Down g)) moments below = let same : Next (Crossed (crossing.Down g) ∷ moments) ≡ Next moments = next_is (placed_event (event_of (crossing.Down g)) (events_of moments)) moments in omega (arith, same, below)
-  next_turn (Crossed (crossing.Up g)) moments below = let same : Next (Crossed (crossing.Up g) ∷ moments) ≡ Next moments = next_is (placed_event (event_of (crossing.Up g)) (events_of moments)) moments in omega (arith, same, below)
+  next_turn (Crossed c) moments below = let same : Next (Crossed c ∷ moments) ≡ Next moments = next_is (placed_event (event_of c) (events_of moments)) moments in omega (arith, same, below)
   next_turn (Asked g r) moments below =
       let same : Next (Asked g r ∷ moments) ≡ Next moments =
       next_is (placed_event (event_by g r) (events_of moments)) moments

@@ -66,17 +66,7 @@ module _ (own foreign : ℕ) (u : IsUnpaired own foreign) where
       (λ e. let is : ((n == own) ≡ true) × ((r == foreign) ≡ true) = both (n == own) (r == foreign) e in
       two_true (is_send_socket own) (is_receive_socket foreign) (is_send_socket n) (is_receive_socket r) (ap is_send_socket (sym (eqb-true n own is.0))) (ap is_receive_socket (sym (eqb-true r foreign is.1))) h.1 h.3 u.1)
   order_closes place (Legal (command.Cls mine yours)) h = close_if (mine == own && yours == foreign)
-  order_closes place (Legal command.Nop) h = tt
-  order_closes place (Legal (command.All link messages bits)) h = tt
-  order_closes place (Legal (command.Gvb link messages bits)) h = tt
-  order_closes place (Legal (command.Ret link messages bits)) h = tt
-  order_closes place (Legal (command.Inr link)) h = tt
-  order_closes place (Legal (command.Ins link)) h = tt
-  order_closes place (Legal (command.Eco octet)) h = tt
-  order_closes place (Legal (command.Erp octet)) h = tt
-  order_closes place (Legal (command.Err code detail)) h = tt
-  order_closes place (Legal command.Rst) h = tt
-  order_closes place (Legal command.Rrp) h = tt
+  order_closes place (Legal c) h = tt
 
   orders_close : (place : ℕ) (orders : List Order) → AreOrders orders → AllClose (marks_in place own foreign orders)
   orders_close place [] h = tt

@@ -40,10 +40,7 @@ module _ (origin : Host → Host → ℕ → ℕ) (moments : List Moment) (range
 
   silent_turn : (x : Moment) → IsStory (x ∷ moments) → AllSilent (crossings_of (x ∷ moments))
   silent_turn (Crossed (crossing.Out m)) story = (out_silent m story, old.silent)
-  silent_turn (Crossed (crossing.In m)) story = old.silent
-  silent_turn (Crossed (crossing.Answer kind f)) story = old.silent
-  silent_turn (Crossed (crossing.Down g)) story = old.silent
-  silent_turn (Crossed (crossing.Up g)) story = old.silent
+  silent_turn (Crossed c) story = old.silent
   silent_turn (Asked g r) story = old.silent
 
   -- nor does one that is taken, since it went out

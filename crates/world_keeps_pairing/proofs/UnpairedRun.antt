@@ -52,15 +52,7 @@ asked_nothing p (request.Contact peer) = by (same_host p peer) where
   by : (b : Bool) → (if b then nothing else nothing) ≡ nothing
   by true = refl
   by false = refl
-asked_nothing p (request.Listen socket size) = refl
-asked_nothing p (request.OpenSend peer own foreign size) = refl
-asked_nothing p (request.OpenReceive peer own foreign) = refl
-asked_nothing p (request.Send socket bits) = refl
-asked_nothing p (request.Grant socket messages bits) = refl
-asked_nothing p (request.AskBack socket messages bits) = refl
-asked_nothing p (request.Interrupt socket) = refl
-asked_nothing p (request.Close socket) = refl
-asked_nothing p (request.Echo peer octet) = refl
+asked_nothing p r = refl
 
 gone_nothing : (b : Bool) (ms : List Mark) → ms ≡ [] → all_gone (if b then ms else []) nothing ≡ nothing
 gone_nothing true ms e = ap (λ (l : List Mark). all_gone l nothing) e

@@ -60,10 +60,7 @@ went_once a b c d n (crossing.Up h ∷ log) v w = went_once a b c d n log v w
 
 went_more : (a b : Host) (n : ℕ) (c : Crossing) (log : List Crossing) → Went a b n log → Went a b n (c ∷ log)
 went_more a b n (crossing.Out m) log w = inr w
-went_more a b n (crossing.In m) log w = w
-went_more a b n (crossing.Answer kind f) log w = w
-went_more a b n (crossing.Down h) log w = w
-went_more a b n (crossing.Up h) log w = w
+went_more a b n c log w = w
 
 drop_went : (a b : Host) (n k : ℕ) (log : List Crossing) → Went a b n (drop k log) → Went a b n log
 drop_went a b n zero log w = w
@@ -194,14 +191,8 @@ module _ (h p : Host) where
         (sym (said_is s is_pair who h p m.flow.source m.flow.destination m.flow.link.0 (place (events_of moments)) m.text))
         (out_marks m moments (same_host h m.flow.source) (same_host p m.flow.destination) refl refl))
         (side_more (crossing.Out m) (crossings_of moments) (Side_of s is_pair who h p origin moments) (side_went moments))
-    side_went (Crossed (crossing.In m) ∷ moments) =
-        event_went (crossings_of (Crossed (crossing.In m) ∷ moments)) (placed_event (event_of (crossing.In m)) (events_of moments)) moments tt (side_more (crossing.In m) (crossings_of moments) (Side_of s is_pair who h p origin moments) (side_went moments))
-    side_went (Crossed (crossing.Answer kind f) ∷ moments) =
-        event_went (crossings_of (Crossed (crossing.Answer kind f) ∷ moments)) (placed_event (event_of (crossing.Answer kind f)) (events_of moments)) moments tt (side_more (crossing.Answer kind f) (crossings_of moments) (Side_of s is_pair who h p origin moments) (side_went moments))
-    side_went (Crossed (crossing.Down g) ∷ moments) =
-        event_went (crossings_of (Crossed (crossing.Down g) ∷ moments)) (placed_event (event_of (crossing.Down g)) (events_of moments)) moments tt (side_more (crossing.Down g) (crossings_of moments) (Side_of s is_pair who h p origin moments) (side_went moments))
-    side_went (Crossed (crossing.Up g) ∷ moments) =
-        event_went (crossings_of (Crossed (crossing.Up g) ∷ moments)) (placed_event (event_of (crossing.Up g)) (events_of moments)) moments tt (side_more (crossing.Up g) (crossings_of moments) (Side_of s is_pair who h p origin moments) (side_went moments))
+    side_went (Crossed c ∷ moments) =
+        event_went (crossings_of (Crossed c ∷ moments)) (placed_event (event_of c) (events_of moments)) moments tt (side_more c (crossings_of moments) (Side_of s is_pair who h p origin moments) (side_went moments))
     side_went (Asked g r ∷ moments) =
         event_went (crossings_of (Asked g r ∷ moments)) (placed_event (event_in (Asked g r)) (events_of moments)) moments
         (by_request (λ e. MarksWent (crossings_of moments) (at_texts s who (stay.said_by h p 0 (placed_event e (events_of moments))))) g r (λ peer. tt) tt) (side_went moments)

@@ -44,10 +44,8 @@ use Rattle.world_keeps_streams.proofs.Books.Parted.{HasLeft, heard_more, sender_
 use Rattle.world_keeps_streams.proofs.Books.Later.{closes_whole, named_request}
 
 sent_cls : (c : Closing) → is_sent c ≡ true → has_cls c ≡ true
-sent_cls closing.No e = e
-sent_cls closing.Due e = e
 sent_cls closing.Queued e = refl
-sent_cls closing.Sent e = e
+sent_cls c e = e
 
 -- ---- the same life later
 

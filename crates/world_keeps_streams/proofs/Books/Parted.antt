@@ -8,7 +8,7 @@ use Rattle.pairing_law.specs.Marks.{Ask, Close, Mark, closes}
 use Rattle.pairing_law.specs.Sides.{Side, hears, says}
 use Rattle.pairing_law.specs.Places.{placed_event}
 use Rattle.pairing_law.proofs.lemmas.{Joined, count, stays_same}
-use Rattle.reset_law.specs.Events.{Contact, Down, Event, Idle, In, Other, Out, Reply, Reset, Told, Up, are}
+use Rattle.reset_law.specs.Events.{Contact, Event, Other, Out, Reply, Reset, are}
 use Rattle.reset_law.specs.Stays as stay
 use Rattle.reset_law.proofs.lemmas.{begins_either, stays_ready}
 use Rattle.sockets.specs.Pairs.{pair_with}
@@ -85,11 +85,6 @@ stayed false false s off ready on = absurd (cc)
 -- by an event by which a host leaves it says nothing
 silent : (h p : Host) (e : Event) (events : List Event) → stay.stays h p events ≡ true → stay.stays h p (e ∷ events) ≡ false → stay.said_by h p 0 e ≡ []
 silent h p (Contact x y) events on off = refl
-silent h p (In x y k m) events on off = refl
-silent h p (Told x y k kind) events on off = refl
-silent h p (Down x) events on off = refl
-silent h p (Up x) events on off = refl
-silent h p Idle events on off = refl
 silent h p (Out x y k Reset) events on off = refl
 silent h p (Out x y k Reply) events on off = refl
 silent h p (Out x y k (Other text)) events on off = by (are h p x y) refl where
@@ -100,6 +95,7 @@ silent h p (Out x y k (Other text)) events on off = by (are h p x y) refl where
   by false away = rw away refl
   by true is =
       absurd (stayed (stay.begins h p (Out x y k (Other text)) events) (stay.ready h p (Out x y k (Other text) ∷ events)) (stay.stays h p events) off (rw is ready) on)
+silent h p e events on off = refl
 
 -- ---- a moment more
 

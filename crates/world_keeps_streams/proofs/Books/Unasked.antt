@@ -13,7 +13,7 @@ use Rattle.pairing_law.specs.Links.{Receiver, Sender, Sockets}
 use Rattle.pairing_law.specs.Marks.{Ask, Asks, Close, Mark}
 use Rattle.pairing_law.specs.Places.{placed_event, tagged}
 use Rattle.pairing_law.specs.Sides.{Side, says}
-use Rattle.reset_law.specs.Events.{Contact, Down, Event, Idle, In, Other, Out, Reply, Reset, Told, Up, are, place}
+use Rattle.reset_law.specs.Events.{Contact, Event, Other, Out, Reply, Reset, are, place}
 use Rattle.reset_law.specs.Stays as stay
 use Rattle.reset_law.proofs.lemmas.{begins_either}
 use Rattle.promise.specs.Formed.{CrossedAt}
@@ -56,17 +56,7 @@ of_command : (n own foreign : ℕ) (c : Command) → AllAt n (mark_of n own fore
 of_command n own foreign (command.Rts receive send link) = at_if n (receive == own && send == foreign) (Ask n) (refl, tt)
 of_command n own foreign (command.Str send receive size) = at_if n (send == own && receive == foreign) (Ask n) (refl, tt)
 of_command n own foreign (command.Cls mine yours) = at_if n (mine == own && yours == foreign) Close tt
-of_command n own foreign (command.All l a b) = tt
-of_command n own foreign (command.Gvb l a b) = tt
-of_command n own foreign (command.Ret l a b) = tt
-of_command n own foreign (command.Inr l) = tt
-of_command n own foreign (command.Ins l) = tt
-of_command n own foreign (command.Eco octet) = tt
-of_command n own foreign (command.Erp octet) = tt
-of_command n own foreign (command.Err code detail) = tt
-of_command n own foreign command.Nop = tt
-of_command n own foreign command.Rst = tt
-of_command n own foreign command.Rrp = tt
+of_command n own foreign c = tt
 
 of_orders : (n own foreign : ℕ) (orders : List Order) → AllAt n (marks_in n own foreign orders)
 of_orders n own foreign [] = tt
@@ -77,11 +67,6 @@ of_orders n own foreign (Wrong code octets ∷ orders) = of_orders n own foreign
 module _ (s : Sockets) (q : IsPair s) (h p : Host) where
   of_event : (e : Event) (events : List Event) → AllAt (place events) (at_texts s Sender (stay.said_by h p 0 (placed_event e events)))
   of_event (Contact x y) events = tt
-  of_event (In x y k m) events = tt
-  of_event (Told x y k kind) events = tt
-  of_event (Down x) events = tt
-  of_event (Up x) events = tt
-  of_event Idle events = tt
   of_event (Out x y k Reset) events = tt
   of_event (Out x y k Reply) events = tt
   of_event (Out x y k (Other text)) events = by (are h p x y && 0 == k) where
@@ -90,6 +75,7 @@ module _ (s : Sockets) (q : IsPair s) (h p : Host) where
     by true =
         subst (λ (ms : List Mark). AllAt (place events) ms) (sym (heard_is s q Receiver (place events) text))
         (of_orders (place events) (foreign_of Receiver s) (own_of Receiver s) (orders_of text))
+  of_event e events = tt
 
 -- what is asked for after marks was asked for before, or is of their place
 asked_by : (k n there : ℕ) (ms : List Mark) (x : Side) → AllAt there ms → Asks k n (all_says ms x).said → (n ≡ there) ⊎ Asks k n x.said

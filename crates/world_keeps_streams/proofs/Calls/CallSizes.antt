@@ -107,8 +107,6 @@ module _ (s : NcpState) (b : Host) (sizes : AreSizes s.listening) where
 
   request_sizes : (r : Request) → refusal s r ≡ None → IsAsked r → AllSizes (request_calls b s r)
   unfolding refusal
-  request_sizes (request.Contact peer) may is = tt
-  request_sizes (request.Listen socket size) may is = tt
   request_sizes (request.OpenSend peer own foreign size) may is =
       let first : (not (is_ready (pair_with peer s.peers).phase) ≡ false) × _ = not_first (not (is_ready (pair_with peer s.peers).phase)) _ _ may in
       let second : (not (is_send_socket own && is_receive_socket foreign) ≡ false) × _ = not_first (not (is_send_socket own && is_receive_socket foreign)) _ _ first.1 in
@@ -118,12 +116,11 @@ module _ (s : NcpState) (b : Host) (sizes : AreSizes s.listening) where
   request_sizes (request.Send socket bits) may is = owner_sizes (Gives socket bits) (λ e. tt) (owner_of socket s.peers)
   request_sizes (request.Grant socket messages bits) may is = owner_sizes (Grants socket messages bits) (λ e. tt) (owner_of socket s.peers)
   request_sizes (request.AskBack socket messages bits) may is = owner_sizes (AsksBack socket messages bits) (λ e. tt) (owner_of socket s.peers)
-  request_sizes (request.Interrupt socket) may is = tt
   request_sizes (request.Close socket) may is = by (listens_on socket s.listening) where
     by : (c : Bool) → AllSizes (if c then [] else owner_calls b (Closes socket) (pair_with b s.peers) s.listening (owner_of socket s.peers))
     by true = tt
     by false = owner_sizes (Closes socket) (λ e. tt) (owner_of socket s.peers)
-  request_sizes (request.Echo peer octet) may is = tt
+  request_sizes r may is = tt
 
 -- ---- moments
 

@@ -141,9 +141,7 @@ module _ (peer : Host) (link : ℕ) (t : TurnState) where
   fails : (ph : Phase) → t.pair.phase ≡ ph → Turned peer false t.pair (failed_by peer ph cleared).pair told_of
   fails phase.Closed e = record { leads = λ n r. clash _ (is_ready t.pair.phase) r (ap is_ready e); drops = λ f. clash _ true refl (sym f); idle = λ i. i }
   fails phase.Want e = record { leads = λ n r. clash _ (is_ready t.pair.phase) r (ap is_ready e); drops = λ f. clash _ true refl (sym f); idle = λ i. i }
-  fails (phase.Gone early) e = record { leads = λ n r. clash _ true refl (sym r); drops = λ f. clash _ true refl (sym f); idle = λ i j. (refl, refl) }
-  fails phase.Heard e = record { leads = λ n r. clash _ true refl (sym r); drops = λ f. clash _ true refl (sym f); idle = λ i j. (refl, refl) }
-  fails phase.Ready e = record { leads = λ n r. clash _ true refl (sym r); drops = λ f. clash _ true refl (sym f); idle = λ i j. (refl, refl) }
+  fails ph e = record { leads = λ n r. clash _ true refl (sym r); drops = λ f. clash _ true refl (sym f); idle = λ i j. (refl, refl) }
 
   settles : (ph : Phase) → (is_ready ph ≡ false → is_ready t.pair.phase ≡ false) → Turned peer false t.pair (settled_turn (record t { pair = record (freed link t.pair) { phase = ph } })).pair told_of
   settles ph back = record {
@@ -158,28 +156,16 @@ module _ (peer : Host) (link : ℕ) (t : TurnState) where
 
   pub answer_turned : (kind : Answer) → Turned peer false t.pair (answered_turn peer kind link t).pair told_of
   answer_turned answer.Rfnm = settles (rfnm_phase link t.pair.phase) (rfnm_idle (link == 0) t.pair.phase)
-  answer_turned answer.Incomplete = lost (is_gone t.pair.phase || not t.pair.owed)
-  answer_turned answer.Dead = lost (is_gone t.pair.phase || not t.pair.owed)
-  answer_turned answer.NotTaken = lost (is_gone t.pair.phase || not t.pair.owed)
+  answer_turned kind = lost (is_gone t.pair.phase || not t.pair.owed)
 
 -- ---- what goes out
 
 module _ (peer : Host) (stamp : ℕ) where
   pub gone_same : (c : Command) (d e : DeskState) → d.entries ≡ e.entries → (command_gone peer stamp c d).entries ≡ (command_gone peer stamp c e).entries
-  gone_same command.Nop d e is = is
   gone_same (command.Rts receive send link) d e is = rw is refl
   gone_same (command.Str send receive size) d e is = rw is refl
   gone_same (command.Cls own foreign) d e is = rw is refl
-  gone_same (command.All link messages bits) d e is = is
-  gone_same (command.Gvb link messages bits) d e is = is
-  gone_same (command.Ret link messages bits) d e is = is
-  gone_same (command.Inr link) d e is = is
-  gone_same (command.Ins link) d e is = is
-  gone_same (command.Eco octet) d e is = is
-  gone_same (command.Erp octet) d e is = is
-  gone_same (command.Err code detail) d e is = is
-  gone_same command.Rst d e is = is
-  gone_same command.Rrp d e is = is
+  gone_same c d e is = is
 
   said_leads : (cs : List Command) (q : PairState) (listening : List Listener) (older base : List calls.Moment) (d : DeskState) → d.entries ≡ q.entries → IsHistory peer (older ++ base) → ends_now peer (older ++ base) ≡ q.entries
       → IsHistory peer (commands_said peer stamp cs q listening older ++ base) × (ends_now peer (commands_said peer stamp cs q listening older ++ base) ≡ (commands_gone peer stamp cs d).entries)

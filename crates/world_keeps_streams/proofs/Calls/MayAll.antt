@@ -60,19 +60,7 @@ HearNoRts (m ∷ ms) = HearsNoRts m.call × HearNoRts ms
 
 hears_allowed : (link stamp said : ℕ) (q : PairState) (s : Sender) (c : Command) → NoRts c → MayCall (Hears stamp said c) q → IsAllowed link (Hears stamp said c) q s
 hears_allowed link stamp said q s (command.Rts a b c) n m = absurd n
-hears_allowed link stamp said q s (command.Str a b c) n m = (m.0, tt)
-hears_allowed link stamp said q s (command.Cls a b) n m = (m.0, tt)
-hears_allowed link stamp said q s (command.All a b c) n m = (m.0, tt)
-hears_allowed link stamp said q s (command.Gvb a b c) n m = (m.0, tt)
-hears_allowed link stamp said q s (command.Ret a b c) n m = (m.0, tt)
-hears_allowed link stamp said q s (command.Inr a) n m = (m.0, tt)
-hears_allowed link stamp said q s (command.Ins a) n m = (m.0, tt)
-hears_allowed link stamp said q s (command.Eco a) n m = (m.0, tt)
-hears_allowed link stamp said q s (command.Erp a) n m = (m.0, tt)
-hears_allowed link stamp said q s (command.Err a b) n m = (m.0, tt)
-hears_allowed link stamp said q s command.Nop n m = (m.0, tt)
-hears_allowed link stamp said q s command.Rst n m = (m.0, tt)
-hears_allowed link stamp said q s command.Rrp n m = (m.0, tt)
+hears_allowed link stamp said q s c n m = (m.0, tt)
 
 call_allowed : (link : ℕ) (q : PairState) (s : Sender) (k : Call) → HearsNoRts k → MayCall k q → IsAllowed link k q s
 call_allowed link q s (Hears stamp said c) n m = hears_allowed link stamp said q s c n m
@@ -82,10 +70,8 @@ call_allowed link q s (Sends stamp e size count) n m = m.0
 call_allowed link q s (Answered l) n m = tt
 call_allowed link q s (OpensReceiver own foreign) n m = (m.0, m.2)
 call_allowed link q s (OpensSender own foreign size) n m = m.2
-call_allowed link q s (Grants socket messages bits e) n m = m
 call_allowed link q s (AsksBack socket messages bits e) n m = (m.0, m.1)
-call_allowed link q s (Gives socket bits e) n m = m
-call_allowed link q s (Closes socket e) n m = m
+call_allowed link q s k n m = m
 
 more_allowed : (number : ℕ → ℕ → ℕ → ℕ) (peer : Host) (link : ℕ) (cs older : List calls.Moment) → HearNoRts cs → AllMay cs → AreAllowed number peer link older → AreAllowed number peer link (cs ++ older)
 more_allowed number peer link [] older n m a = a
@@ -137,10 +123,7 @@ request_quiet peer s (request.Grant socket m n) = owner_quiet peer (Grants socke
 request_quiet peer s (request.AskBack socket m n) = owner_quiet peer (AsksBack socket m n) (pair_with peer s.peers) s.listening (owner_of socket s.peers) (λ e. tt)
 request_quiet peer s (request.Close socket) =
     close_quiet (listens_on socket s.listening) (owner_calls peer (Closes socket) (pair_with peer s.peers) s.listening (owner_of socket s.peers)) (owner_quiet peer (Closes socket) (pair_with peer s.peers) s.listening (owner_of socket s.peers) (λ e. tt))
-request_quiet peer s (request.Contact host) = tt
-request_quiet peer s (request.Listen socket size) = tt
-request_quiet peer s (request.Interrupt socket) = tt
-request_quiet peer s (request.Echo host octet) = tt
+request_quiet peer s r = tt
 
 one_order : (peer : Host) (stamp : ℕ) (c : Command) (os : List Order) (t : TurnState) → NoRts c → os ≡ Legal c ∷ [] → HearNoRts (orders_heard peer stamp os t [])
 one_order peer stamp c os t n e = subst (λ (o : List Order). HearNoRts (orders_heard peer stamp o t [])) (sym e) (n, tt)

@@ -114,8 +114,6 @@ module _ (s : NcpState) (b : Host) where
 
   pub request_may : (r : Request) → AreInOrder s.peers → refusal s r ≡ None → AllMay (request_calls b s r)
   unfolding refusal
-  request_may (request.Contact peer) order may = tt
-  request_may (request.Listen socket size) order may = tt
   request_may (request.OpenSend peer own foreign size) order may =
       let first : (not (is_ready (pair_with peer s.peers).phase) ≡ false) × _ = not_first (not (is_ready (pair_with peer s.peers).phase)) _ _ may in
       let second : (not (is_send_socket own && is_receive_socket foreign) ≡ false) × _ = not_first (not (is_send_socket own && is_receive_socket foreign)) _ _ first.1 in
@@ -143,6 +141,5 @@ module _ (s : NcpState) (b : Host) where
       let first : (not (is_receive_socket socket) ≡ false) × (on_open closing_fault (owner_of socket s.peers) ≡ None) = not_first (not (is_receive_socket socket)) _ _ may in
       owner_may socket (owner_of socket s.peers) (AsksBack socket messages bits) order refl
       (λ g e f found. (found, (open_parts closing_fault g e (subst (λ (o : Option (Host × Entry)). on_open closing_fault o ≡ None) f first.1)).0, not_false (is_receive_socket socket) first.0))
-  request_may (request.Interrupt socket) order may = tt
   request_may (request.Close socket) order may = closes_may socket order (listens_on socket s.listening) may
-  request_may (request.Echo peer octet) order may = tt
+  request_may r order may = tt

@@ -21,18 +21,7 @@ use Rattle.pair_keeps_streams.proofs.lemmas.{IsHeard}
 heard : (c : Command) (es : List Entry) → may.IsHeard c es → IsHeard c es
 heard (command.Rts receive send link) es h = h
 heard (command.Cls foreign own) es h = h
-heard (command.Str send receive size) es h = tt
-heard (command.All link messages bits) es h = tt
-heard (command.Gvb link messages bits) es h = tt
-heard (command.Ret link messages bits) es h = tt
-heard (command.Inr link) es h = tt
-heard (command.Ins link) es h = tt
-heard (command.Eco octet) es h = tt
-heard (command.Erp octet) es h = tt
-heard (command.Err code detail) es h = tt
-heard command.Nop es h = tt
-heard command.Rst es h = tt
-heard command.Rrp es h = tt
+heard c es h = tt
 
 one_call : (k : Call) (q : PairState) → may.MayCall k q → MayCall k q
 one_call (Hears stamp said c) q h = (h.0, h.1, h.2, heard c q.entries h.3)
@@ -42,10 +31,8 @@ one_call (Sends stamp e size count) q h = h
 one_call (Answered link) q h = tt
 one_call (OpensReceiver own foreign) q h = ((λ l s. (h.0, h.2)), (h.0, h.1))
 one_call (OpensSender own foreign size) q h = ((λ l s. h.2), (h.0, h.1))
-one_call (Grants socket messages bits e) q h = ((λ l s. h), tt)
 one_call (AsksBack socket messages bits e) q h = ((λ l s. (h.0, h.1)), h.2)
-one_call (Gives socket bits e) q h = ((λ l s. h), tt)
-one_call (Closes socket e) q h = ((λ l s. h), tt)
+one_call k q h = ((λ l s. h), tt)
 
 all_calls : (cs : List calls.Moment) → AllMay cs → MayCalls cs
 all_calls [] h = tt

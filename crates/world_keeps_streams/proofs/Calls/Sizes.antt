@@ -98,7 +98,6 @@ end_sized c change Ending d k h = h
 end_sized c change (Open e) d k h = k e
 
 taken_sized : (peer : Host) (busy : List ℕ) (stamp : ℕ) (c : Command) (d : DeskState) → IsCommand c → AreSizes d.listening → AreSized d.entries → AreSized (desk_taken peer busy stamp c d).entries
-taken_sized peer busy stamp command.Nop d ok sizes h = h
 taken_sized peer busy stamp (command.Rts receive send link) d ok sizes h =
     either (list_any (sends_on link) d.entries) (commands.faulted ERRONEOUS (command.Rts receive send link) d) (rts_taken_by peer send receive link stamp (entry_at send receive d.entries) d) h
     (rts_sized_by peer send receive link stamp (entry_at send receive d.entries) d sizes h)
@@ -111,11 +110,7 @@ taken_sized peer busy stamp (command.Ret link messages bits) d ok sizes h =
     (λ e. either (nat_le messages e.allocation.messages && nat_le bits e.allocation.bits) _ (commands.faulted ERRONEOUS (command.Ret link messages bits) d) (sized_changed _ _ d.entries (λ y k. k) h) h) h
 taken_sized peer busy stamp (command.Inr link) d ok sizes h = end_sized (command.Inr link) interrupted (sender_on link d) d (λ e. h) h
 taken_sized peer busy stamp (command.Ins link) d ok sizes h = end_sized (command.Ins link) interrupted (receiver_on link d) d (λ e. h) h
-taken_sized peer busy stamp (command.Eco octet) d ok sizes h = h
-taken_sized peer busy stamp (command.Erp octet) d ok sizes h = h
-taken_sized peer busy stamp (command.Err code detail) d ok sizes h = h
-taken_sized peer busy stamp command.Rst d ok sizes h = h
-taken_sized peer busy stamp command.Rrp d ok sizes h = h
+taken_sized peer busy stamp c d ok sizes h = h
 
 arrived_sized : (link : ℕ) (e : Entry) (text : List Bool) (o : Option DataHeader) (d : DeskState) → AreSized d.entries → AreSized (arrived_if link e text o d).entries
 arrived_sized link e text None d h = h
@@ -149,14 +144,12 @@ sized_by : (peer : Host) (k : Call) (q : PairState) (listening : List Listener) 
 sized_by peer (Hears stamp said c) q listening is sizes h = taken_sized peer q.busy stamp c _ is sizes h
 sized_by peer (Takes l text) q listening is sizes h = data_sized l text _ _ h
 sized_by peer (Says stamp c) q listening is sizes h = gone_sized peer stamp c _ h
-sized_by peer (Sends stamp e size count) q listening is sizes h = sized_changed _ _ q.entries (λ y k. k) h
 sized_by peer (Answered l) q listening is sizes h = sized_mapped _ q.entries (λ y k. k) h
 sized_by peer (OpensReceiver own foreign) q listening is sizes h = opened_sized own foreign (free_link q.entries) q h
 sized_by peer (OpensSender own foreign size) q listening is sizes h = sized_more q.entries _ h is
-sized_by peer (Grants socket messages bits e) q listening is sizes h = sized_changed _ _ q.entries (λ y k. k) h
 sized_by peer (AsksBack socket messages bits e) q listening is sizes h = h
-sized_by peer (Gives socket bits e) q listening is sizes h = sized_changed _ _ q.entries (λ y k. k) h
 sized_by peer (Closes socket e) q listening is sizes h = sized_mapped _ _ (λ y k. k) (sized_changed _ _ q.entries (λ y k. k) h)
+sized_by peer c q listening is sizes h = sized_changed _ _ q.entries (λ y k. k) h
 
 -- ---- all calls
 

@@ -90,10 +90,6 @@ module _ (told next_told : ℕ → ℕ → ℕ → ℕ → Type 0) (grows : (own
     }
 
     of : (d : Deed) → Acts d es new → Receives (name_of number gone) link d (r link) (rr link) → IsBlank k (rr link) ⊎ HitsReceiver link k
-    of deeds.Nothing act q = inl (plain (q.taken k) (q.granted k) (q.returned k))
-    of (deeds.Opens e m n) act q = inl (plain (q.taken k) (q.granted k) (q.returned k))
-    of (deeds.Ends over) act q = inl (plain (q.taken k) (q.granted k) (q.returned k))
-    of (deeds.Leaves e bits) act q = inl (plain (q.taken k) (q.granted k) (q.returned k))
     of (deeds.Arrives e bits) act q = by (at_receiver (name_of number gone) link k e) refl where
       by : (v : Bool) → at_receiver (name_of number gone) link k e ≡ v → IsBlank k (rr link) ⊎ HitsReceiver link k
       by true t = inr (e, act.0, t)
@@ -106,6 +102,7 @@ module _ (told next_told : ℕ → ℕ → ℕ → ℕ → Type 0) (grows : (own
       by : (v : Bool) → at_receiver (name_of number gone) link k e ≡ v → IsBlank k (rr link) ⊎ HitsReceiver link k
       by true t = inr (e, act, t)
       by false t = inl (plain (q.taken k) (q.granted k) (rw t at (q.returned k)))
+    of d act q = inl (plain (q.taken k) (q.granted k) (q.returned k))
 
   abbrev Takes : ℕ → ℕ → Type 0
   Takes link k = (l : Lives next_told a b number (gone_by es new gone) new rr ss (After a b deed lives) link k) × (receives l.life ≡ true)
@@ -133,16 +130,11 @@ module _ (told next_told : ℕ → ℕ → ℕ → ℕ → Type 0) (grows : (own
   HitsSender link k = (e : Entry) × IsAt e es × (at_sender (name_of number gone) link k e ≡ true)
 
   unsent_by : (link k : ℕ) → (d : Deed) → Acts d es new → Sends (name_of number gone) link d (s link) (ss link) → (s link).sent k ≡ [] → ((ss link).sent k ≡ []) ⊎ HitsSender link k
-  unsent_by link k deeds.Nothing act q u = inl (q k ∙ u)
-  unsent_by link k (deeds.Opens e m n) act q u = inl (q k ∙ u)
-  unsent_by link k (deeds.Ends over) act q u = inl (q k ∙ u)
-  unsent_by link k (deeds.Arrives e bits) act q u = inl (q k ∙ u)
-  unsent_by link k (deeds.Grants e m n) act q u = inl (q k ∙ u)
-  unsent_by link k (deeds.Returns e m n) act q u = inl (q k ∙ u)
   unsent_by link k (deeds.Leaves e bits) act q u = by (at_sender (name_of number gone) link k e) refl where
     by : (v : Bool) → at_sender (name_of number gone) link k e ≡ v → ((ss link).sent k ≡ []) ⊎ HitsSender link k
     by true t = inr (e, act.0, t)
     by false t = let same : (ss link).sent k ≡ (s link).sent k = rw t at (q k) in inl (same ∙ u)
+  unsent_by link k d act q u = inl (q k ∙ u)
 
   abbrev Sent : ℕ → ℕ → Type 0
   Sent link k = (l : Lives next_told a b number (gone_by es new gone) new rr ss (After a b deed lives) link k) × (sends l.life ≡ true)
@@ -178,10 +170,7 @@ module _ (told next_told : ℕ → ℕ → ℕ → ℕ → Type 0) (grows : (own
     foreign = ap (λ (z : Entry). z.foreign) o;
   }
   opens_new (deeds.Ends over) e o = absurd o
-  opens_new (deeds.Arrives f bits) e o = absurd o
-  opens_new (deeds.Leaves f bits) e o = absurd o
-  opens_new (deeds.Grants f m n) e o = absurd o
-  opens_new (deeds.Returns f m n) e o = absurd o
+  opens_new d e o = absurd o
 
   opens_old : (e : Entry) → Among e new → (f : Entry) → e.own ≡ f.own → e.foreign ≡ f.foreign → LifeFor a b f lives → LifeFor a b e (After a b deed lives)
   opens_old e there f own foreign l = record {
@@ -281,12 +270,7 @@ module _ (told next_told : ℕ → ℕ → ℕ → ℕ → Type 0) (grows : (own
   new_by_deed (deeds.Opens e u v) act q t x (inl is) h =
       subst (λ (z : Life). (z.ended ≡ false → EndOf new z) → (link : ℕ) × (g : ℕ) × CarriedOn next_told number (gone_by es new gone) new rr ss link g z) is (λ k. new_next e u v act (k refl) q t) h
   new_by_deed (deeds.Opens e u v) act q t x (inr is) h = absurd is
-  new_by_deed deeds.Nothing act q t x is h = absurd is
-  new_by_deed (deeds.Ends over) act q t x is h = absurd is
-  new_by_deed (deeds.Arrives e bits) act q t x is h = absurd is
-  new_by_deed (deeds.Leaves e bits) act q t x is h = absurd is
-  new_by_deed (deeds.Grants e m n) act q t x is h = absurd is
-  new_by_deed (deeds.Returns e m n) act q t x is h = absurd is
+  new_by_deed d act q t x is h = absurd is
 
   all_next : (x : Life) → Among x (After a b deed lives) → x.host ≡ a → x.peer ≡ b → (link : ℕ) × (g : ℕ) × CarriedOn next_told number (gone_by es new gone) new rr ss link g x
   all_next x there host peer = elim (among_either (map (λ z. life_by a b deed z) lives) (new_by a b deed) x there) [

@@ -51,20 +51,9 @@ module _ (number : ℕ → ℕ → ℕ → ℕ) (tells : IsTelling number) (a b 
   AreOrdinary (o ∷ os) = IsOrdinary o × AreOrdinary os
 
   ordinary_is : (stamp : ℕ) (c : Command) (t : TurnState) → IsOrdinary (Legal c) → command_taken b stamp c t ≡ if_ready (desk_taken b t.pair.busy stamp c) t
-  ordinary_is stamp command.Nop t o = refl
-  ordinary_is stamp (command.Rts receive send link) t o = refl
-  ordinary_is stamp (command.Str send receive size) t o = refl
-  ordinary_is stamp (command.Cls own foreign) t o = refl
-  ordinary_is stamp (command.All link m n) t o = refl
-  ordinary_is stamp (command.Gvb link m n) t o = refl
-  ordinary_is stamp (command.Ret link m n) t o = refl
-  ordinary_is stamp (command.Inr link) t o = refl
-  ordinary_is stamp (command.Ins link) t o = refl
-  ordinary_is stamp (command.Eco octet) t o = refl
-  ordinary_is stamp (command.Erp octet) t o = refl
-  ordinary_is stamp (command.Err code detail) t o = refl
   ordinary_is stamp command.Rst t o = absurd o
   ordinary_is stamp command.Rrp t o = absurd o
+  ordinary_is stamp c t o = refl
 
   module _ (κ : Kept) (n : ℕ) where
     -- at each socket of the host

@@ -49,11 +49,7 @@ module _ (a b : Host) where
   told_over h (notice.Sent socket bits) n ls l o = where_over n (book.lives_at h socket) (book.carried bits) ls (λ x e. e) o
   told_over h (notice.Arrived socket bits) n ls l o = where_over n (book.lives_at h socket) (book.carried bits) ls (λ x e. e) o
   told_over h (notice.Returned socket p q) n ls l o = where_over n (book.lives_at h socket) (book.returned p q) ls (λ x e. e) o
-  told_over h (notice.Ready peer) n ls l o = o
-  told_over h (notice.ContactFailed peer) n ls l o = o
-  told_over h (notice.Interrupt socket) n ls l o = o
-  told_over h (notice.Echoed peer octet) n ls l o = o
-  told_over h (notice.RemoteError peer code detail) n ls l o = o
+  told_over h m n ls l o = o
 
   all_over : (h : Host) (ms : List Notice) (n : ℕ) (ls : List Life) → n ≤ length ls → AreOver a b n ls → AreOver a b n (all_lives h ms ls)
   all_over h [] n ls l o = o
@@ -61,22 +57,11 @@ module _ (a b : Host) where
 
   asked_over : (h : Host) (q : Request) (n : ℕ) (ls : List Life) → AreOver a b n ls → AreOver a b n (lives_asked h q ls)
   asked_over h (request.Grant socket p q) n ls o = where_over n (book.lives_at h socket) (book.granted p q) ls (λ x e. e) o
-  asked_over h (request.Contact p) n ls o = o
-  asked_over h (request.Listen socket size) n ls o = o
-  asked_over h (request.OpenSend p own foreign size) n ls o = o
-  asked_over h (request.OpenReceive p own foreign) n ls o = o
-  asked_over h (request.Send socket bits) n ls o = o
-  asked_over h (request.AskBack socket p q) n ls o = o
-  asked_over h (request.Interrupt socket) n ls o = o
-  asked_over h (request.Close socket) n ls o = o
-  asked_over h (request.Echo p octet) n ls o = o
+  asked_over h q n ls o = o
 
   kept_over : (x : Moment) (n : ℕ) (k : Kept) → AreOver a b n k.book.lives → AreOver a b n (kept_by x k).book.lives
-  kept_over (Crossed (crossing.Out m)) n k o = o
-  kept_over (Crossed (crossing.In m)) n k o = o
-  kept_over (Crossed (crossing.Answer kind f)) n k o = o
   kept_over (Crossed (crossing.Down h)) n k o = where_over n (book.lives_on h) book.life_ended k.book.lives (λ x e f g. refl) o
-  kept_over (Crossed (crossing.Up h)) n k o = o
+  kept_over (Crossed c) n k o = o
   kept_over (Asked h q) n k o = asked_over h q n k.book.lives o
 
   moment_over : (x : Moment) (ms : List Moment) (n : ℕ) → n ≤ length (kept_in ms).book.lives → AreOver a b n (kept_in ms).book.lives → AreOver a b n (kept_in (x ∷ ms)).book.lives

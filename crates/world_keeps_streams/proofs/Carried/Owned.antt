@@ -107,11 +107,7 @@ told_longer h (notice.PairReset peer) ls = let e : length (where_it (book.lives_
 told_longer h (notice.Sent socket bits) ls = let e : length (where_it (book.lives_at h socket) (book.carried bits) ls) ≡ length ls = where_length (book.lives_at h socket) (book.carried bits) ls in omega (arith, e)
 told_longer h (notice.Arrived socket bits) ls = let e : length (where_it (book.lives_at h socket) (book.carried bits) ls) ≡ length ls = where_length (book.lives_at h socket) (book.carried bits) ls in omega (arith, e)
 told_longer h (notice.Returned socket m n) ls = let e : length (where_it (book.lives_at h socket) (book.returned m n) ls) ≡ length ls = where_length (book.lives_at h socket) (book.returned m n) ls in omega (arith, e)
-told_longer h (notice.Ready peer) ls = omega arith
-told_longer h (notice.ContactFailed peer) ls = omega arith
-told_longer h (notice.Interrupt socket) ls = omega arith
-told_longer h (notice.Echoed peer octet) ls = omega arith
-told_longer h (notice.RemoteError peer code detail) ls = omega arith
+told_longer h n ls = omega arith
 
 pub all_longer : (h : Host) (ns : List Notice) (ls : List Life) → length ls ≤ length (all_lives h ns ls)
 all_longer h [] ls = omega arith
@@ -122,22 +118,11 @@ all_longer h (n ∷ ns) ls =
 
 asked_length : (h : Host) (q : Request) (ls : List Life) → length (lives_asked h q ls) ≡ length ls
 asked_length h (request.Grant socket m n) ls = where_length (book.lives_at h socket) (book.granted m n) ls
-asked_length h (request.Contact p) ls = refl
-asked_length h (request.Listen socket size) ls = refl
-asked_length h (request.OpenSend p own foreign size) ls = refl
-asked_length h (request.OpenReceive p own foreign) ls = refl
-asked_length h (request.Send socket bits) ls = refl
-asked_length h (request.AskBack socket m n) ls = refl
-asked_length h (request.Interrupt socket) ls = refl
-asked_length h (request.Close socket) ls = refl
-asked_length h (request.Echo p octet) ls = refl
+asked_length h q ls = refl
 
 pub by_length : (x : Moment) (k : Kept) → length (kept_by x k).book.lives ≡ length k.book.lives
-by_length (Crossed (crossing.Out m)) k = refl
-by_length (Crossed (crossing.In m)) k = refl
-by_length (Crossed (crossing.Answer kind f)) k = refl
 by_length (Crossed (crossing.Down h)) k = where_length (book.lives_on h) book.life_ended k.book.lives
-by_length (Crossed (crossing.Up h)) k = refl
+by_length (Crossed c) k = refl
 by_length (Asked h q) k = asked_length h q k.book.lives
 
 -- a book only grows

@@ -53,18 +53,7 @@ module _ (number : ℕ → ℕ → ℕ → ℕ) (tells : IsTelling number) (a b 
   says_once (command.Str send receive size) cs behind es is w = λ e f.
       let s : (x : End) × _ = all_marks (command.Str send receive size) cs behind es w send receive (inr (is.1, is.3)) in
       unasked origin send receive es (marks 0 send receive (cs ++ behind)) s.0 e s.1 f
-  says_once command.Nop cs behind es is w = tt
-  says_once (command.Cls own foreign) cs behind es is w = tt
-  says_once (command.All link messages bits) cs behind es is w = tt
-  says_once (command.Gvb link messages bits) cs behind es is w = tt
-  says_once (command.Ret link messages bits) cs behind es is w = tt
-  says_once (command.Inr link) cs behind es is w = tt
-  says_once (command.Ins link) cs behind es is w = tt
-  says_once (command.Eco octet) cs behind es is w = tt
-  says_once (command.Erp octet) cs behind es is w = tt
-  says_once (command.Err code detail) cs behind es is w = tt
-  says_once command.Rst cs behind es is w = tt
-  says_once command.Rrp cs behind es is w = tt
+  says_once c cs behind es is w = tt
 
   -- ---- one command goes out
 
@@ -78,17 +67,7 @@ module _ (number : ℕ → ℕ → ℕ → ℕ) (tells : IsTelling number) (a b 
   gone_same (command.Rts receive send link) q listening ns = refl
   gone_same (command.Str send receive size) q listening ns = refl
   gone_same (command.Cls own foreign) q listening ns = refl
-  gone_same command.Nop q listening ns = ap (λ (xs : List Notice). Desk q listening xs) (sym (append-nil ns))
-  gone_same (command.All link m k) q listening ns = ap (λ (xs : List Notice). Desk q listening xs) (sym (append-nil ns))
-  gone_same (command.Gvb link m k) q listening ns = ap (λ (xs : List Notice). Desk q listening xs) (sym (append-nil ns))
-  gone_same (command.Ret link m k) q listening ns = ap (λ (xs : List Notice). Desk q listening xs) (sym (append-nil ns))
-  gone_same (command.Inr link) q listening ns = ap (λ (xs : List Notice). Desk q listening xs) (sym (append-nil ns))
-  gone_same (command.Ins link) q listening ns = ap (λ (xs : List Notice). Desk q listening xs) (sym (append-nil ns))
-  gone_same (command.Eco octet) q listening ns = ap (λ (xs : List Notice). Desk q listening xs) (sym (append-nil ns))
-  gone_same (command.Erp octet) q listening ns = ap (λ (xs : List Notice). Desk q listening xs) (sym (append-nil ns))
-  gone_same (command.Err code detail) q listening ns = ap (λ (xs : List Notice). Desk q listening xs) (sym (append-nil ns))
-  gone_same command.Rst q listening ns = ap (λ (xs : List Notice). Desk q listening xs) (sym (append-nil ns))
-  gone_same command.Rrp q listening ns = ap (λ (xs : List Notice). Desk q listening xs) (sym (append-nil ns))
+  gone_same c q listening ns = ap (λ (xs : List Notice). Desk q listening xs) (sym (append-nil ns))
 
   -- at each socket of the host
   abbrev pub PlacedAt : DeskState → Type 0

@@ -298,7 +298,6 @@ module _ (name : ℕ → ℕ → ℕ) (p : Host) (q : PairState) (listening : Li
   is_at_link link e f o = record { there = (found_among (receives_on link) q.entries e f).0; mine = open_mine e (refusing_found (receives_on link) q.entries e refusing f) o; opened = o }
 
   hear_does : (stamp : ℕ) (c : Command) → IsCommand c → Does (hears stamp c q) q.entries (desk_taken p q.busy stamp c (desk_of q listening)).entries
-  hear_does stamp command.Nop i = does_nothing q.entries
   hear_does stamp (command.Rts receive send link) i =
       does_if (list_any (sends_on link) q.entries) deeds.Nothing (matches send receive (asked_on_link stamp link) q.entries (entry_at send receive q.entries)) q.entries _ _ (does_nothing q.entries)
       (rts_does send receive link stamp i.4 (entry_at send receive q.entries) refl)
@@ -316,11 +315,7 @@ module _ (name : ℕ → ℕ → ℕ) (p : Host) (q : PairState) (listening : Li
       (counts_does (receives_on link) (returned m n) (deeds.Returns e m n) (λ x. same_becomes (deeds.Returns e m n) x (returned m n x) refl refl refl refl refl refl refl) (is_at_link link e f o)) (does_nothing q.entries))
   hear_does stamp (command.Inr link) i = at_does (command.Inr link) interrupted (λ w. deeds.Nothing) (find (sends_on link) q.entries) refl refl (λ e f o. does_nothing q.entries)
   hear_does stamp (command.Ins link) i = at_does (command.Ins link) interrupted (λ w. deeds.Nothing) (find (receives_on link) q.entries) refl refl (λ e f o. does_nothing q.entries)
-  hear_does stamp (command.Eco octet) i = does_nothing q.entries
-  hear_does stamp (command.Erp octet) i = does_nothing q.entries
-  hear_does stamp (command.Err code detail) i = does_nothing q.entries
-  hear_does stamp command.Rst i = does_nothing q.entries
-  hear_does stamp command.Rrp i = does_nothing q.entries
+  hear_does stamp c i = does_nothing q.entries
 
   -- ---- data
 
@@ -354,17 +349,7 @@ module _ (name : ℕ → ℕ → ℕ) (p : Host) (q : PairState) (listening : Li
   out_does stamp (command.Cls own foreign) u =
       does_sweeps name q.entries (changed_at own foreign cls_sent q.entries) (changed_stays (is_at own foreign) cls_sent q.entries (λ x. less_become deeds.Nothing x (cls_sent x) (sent_less x) refl))
       (subst (λ (ns : List ℕ). AreApart ns) (sym (numbers_changed name (is_at own foreign) cls_sent q.entries (λ x. refl))) apart)
-  out_does stamp command.Nop u = does_nothing q.entries
-  out_does stamp (command.All link m n) u = does_nothing q.entries
-  out_does stamp (command.Gvb link m n) u = does_nothing q.entries
-  out_does stamp (command.Ret link m n) u = does_nothing q.entries
-  out_does stamp (command.Inr link) u = does_nothing q.entries
-  out_does stamp (command.Ins link) u = does_nothing q.entries
-  out_does stamp (command.Eco octet) u = does_nothing q.entries
-  out_does stamp (command.Erp octet) u = does_nothing q.entries
-  out_does stamp (command.Err code detail) u = does_nothing q.entries
-  out_does stamp command.Rst u = does_nothing q.entries
-  out_does stamp command.Rrp u = does_nothing q.entries
+  out_does stamp c u = does_nothing q.entries
 
   bytes_does : (stamp : ℕ) (e : Entry) (size count : ℕ) → next_of q ≡ Some (Bytes e size count) → Does (deeds.Leaves e (take (size * count) e.bits)) q.entries (changed_first (may_send_on q.busy (link_of e.link)) (bits_gone (size * count)) q.entries)
   bytes_does stamp e size count next =

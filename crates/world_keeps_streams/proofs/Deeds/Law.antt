@@ -23,7 +23,7 @@ use Rattle.host_pairs.specs.declared.entry.Entry.{Entry}
 use Rattle.host_pairs.specs.declared.listener.Listener.{Listener}
 use Rattle.host_keeps_streams.specs.Closings.{all_received, received_close, received_gone, received_open}
 use Rattle.host_keeps_streams.specs.Ends.{HasReceiver}
-use Rattle.host_keeps_streams.specs.Histories.{Call, Hears, Takes, Says, Sends, Answered, OpensReceiver, OpensSender, Grants, AsksBack, Gives, Closes, received_at}
+use Rattle.host_keeps_streams.specs.Histories.{Call, Hears, Takes, Says, Sends, OpensReceiver, Grants, AsksBack, Closes, received_at}
 use Rattle.host_keeps_streams.specs.Moves.{answers_str, asks_for, cls_received, closed_received, asked_received, data_received, on_link, received_by, received_out, str_received}
 use Rattle.host_keeps_streams.specs.Names.{named}
 use Rattle.host_keeps_streams.proofs.lemmas.{accept_same, at_link, back_same, bits_there, find_passes, other_receives}
@@ -52,12 +52,8 @@ same : (r : Receiver) → Same r r
 same r = record { taken = λ c. refl; granted = λ c. refl; returned = λ c. refl }
 
 still_one : (m : receivers.Move) (r : Receiver) → IsStill m → Same r (receivers.moved m r)
-still_one (receivers.Ask c) r s = record { taken = λ k. refl; granted = λ k. refl; returned = λ k. refl }
-still_one (receivers.Open c) r s = record { taken = λ k. refl; granted = λ k. refl; returned = λ k. refl }
 still_one (receivers.Grant c m n) r s = absurd s
 still_one (receivers.AskBack c m n) r s = same r
-still_one (receivers.Close c) r s = record { taken = λ k. refl; granted = λ k. refl; returned = λ k. refl }
-still_one (receivers.Free c) r s = record { taken = λ k. refl; granted = λ k. refl; returned = λ k. refl }
 still_one (receivers.Take z bits) r s = absurd s
 still_one (receivers.Hear (words.Rts c)) r s = same r
 still_one (receivers.Hear (words.Str c z)) r s = record { taken = λ k. refl; granted = λ k. refl; returned = λ k. refl }
@@ -65,6 +61,7 @@ still_one (receivers.Hear (words.All c m n)) r s = same r
 still_one (receivers.Hear (words.Gvb c m n)) r s = same r
 still_one (receivers.Hear (words.Ret c m n)) r s = absurd s
 still_one (receivers.Hear (words.Cls c)) r s = record { taken = λ k. refl; granted = λ k. refl; returned = λ k. refl }
+still_one m r s = record { taken = λ k. refl; granted = λ k. refl; returned = λ k. refl }
 
 still_all : (ms : List receivers.Move) (r : Receiver) → AreStill ms → Same r (all_received ms r)
 still_all [] r s = same r
@@ -82,13 +79,10 @@ IsPlain (deeds.Returns e m n) = ⊥
 IsPlain d = Unit {0}
 
 plain_by : (name : ℕ → ℕ → ℕ) (link : ℕ) (d : Deed) (r t : Receiver) → IsPlain d → Same r t → Receives name link d r t
-plain_by name link deeds.Nothing r t p s = record { taken = s.taken; granted = s.granted; returned = s.returned }
-plain_by name link (deeds.Opens e u v) r t p s = record { taken = s.taken; granted = s.granted; returned = s.returned }
-plain_by name link (deeds.Ends es) r t p s = record { taken = s.taken; granted = s.granted; returned = s.returned }
-plain_by name link (deeds.Leaves e bits) r t p s = record { taken = s.taken; granted = s.granted; returned = s.returned }
 plain_by name link (deeds.Arrives e bits) r t p s = absurd p
 plain_by name link (deeds.Grants e m n) r t p s = absurd p
 plain_by name link (deeds.Returns e m n) r t p s = absurd p
+plain_by name link d r t p s = record { taken = s.taken; granted = s.granted; returned = s.returned }
 
 plain_if : (v : Bool) (d e : Deed) → IsPlain d → IsPlain e → IsPlain (if v then d else e)
 plain_if true d e p q = p
@@ -126,10 +120,8 @@ module _ (name : ℕ → ℕ → ℕ) (link : ℕ) where
   gone_still false c = tt
 
   close_still : (k : Closing) (c : ℕ) → AreStill (received_close k c)
-  close_still closing.No c = (tt, tt)
-  close_still closing.Due c = (tt, tt)
   close_still closing.Queued c = tt
-  close_still closing.Sent c = (tt, tt)
+  close_still k c = (tt, tt)
 
   answers_still : (c : ℕ) (l : Option Listener) (free : Option ℕ) → AreStill (answers_str link c l free)
   answers_still c None free = tt
@@ -156,33 +148,12 @@ module _ (name : ℕ → ℕ → ℕ) (link : ℕ) where
   out_still (command.Rts receive send l) es = asked_still (entry_at receive send es)
   out_still (command.Str send receive size) es = asked_still (entry_at send receive es)
   out_still (command.Cls own foreign) es = closed_still (entry_at own foreign es)
-  out_still (command.All l m n) es = tt
-  out_still (command.Gvb l m n) es = tt
-  out_still (command.Ret l m n) es = tt
-  out_still (command.Inr l) es = tt
-  out_still (command.Ins l) es = tt
-  out_still (command.Eco octet) es = tt
-  out_still (command.Erp octet) es = tt
-  out_still (command.Err code detail) es = tt
-  out_still command.Nop es = tt
-  out_still command.Rst es = tt
-  out_still command.Rrp es = tt
+  out_still c es = tt
 
   plain_says : (stamp : ℕ) (c : Command) (q : PairState) → IsPlain (says stamp c q)
   plain_says stamp (command.Rts receive send l) q = plain_opens (entry_at receive send (changed_at receive send (asked_at stamp) q.entries))
   plain_says stamp (command.Str send receive size) q = plain_opens (entry_at send receive (changed_at send receive (asked_at stamp) q.entries))
-  plain_says stamp (command.Cls own foreign) q = tt
-  plain_says stamp (command.All l m n) q = tt
-  plain_says stamp (command.Gvb l m n) q = tt
-  plain_says stamp (command.Ret l m n) q = tt
-  plain_says stamp (command.Inr l) q = tt
-  plain_says stamp (command.Ins l) q = tt
-  plain_says stamp (command.Eco octet) q = tt
-  plain_says stamp (command.Erp octet) q = tt
-  plain_says stamp (command.Err code detail) q = tt
-  plain_says stamp command.Nop q = tt
-  plain_says stamp command.Rst q = tt
-  plain_says stamp command.Rrp q = tt
+  plain_says stamp c q = tt
 
   asks_still : (c : ℕ) (free : Option ℕ) → AreStill (asks_for link c free)
   asks_still c None = tt
@@ -201,13 +172,10 @@ module _ (name : ℕ → ℕ → ℕ) (link : ℕ) where
   IsOff d = Unit {0}
 
   off_by : (d : Deed) (r : Receiver) → IsOff d → Receives name link d r r
-  off_by deeds.Nothing r o = record { taken = λ c. refl; granted = λ c. refl; returned = λ c. refl }
-  off_by (deeds.Opens e u v) r o = record { taken = λ c. refl; granted = λ c. refl; returned = λ c. refl }
-  off_by (deeds.Ends es) r o = record { taken = λ c. refl; granted = λ c. refl; returned = λ c. refl }
-  off_by (deeds.Leaves e bits) r o = record { taken = λ c. refl; granted = λ c. refl; returned = λ c. refl }
   off_by (deeds.Arrives e bits) r o = record { taken = λ c. rw o refl; granted = λ c. refl; returned = λ c. refl }
   off_by (deeds.Grants e m n) r o = record { taken = λ c. refl; granted = λ c. rw o refl; returned = λ c. refl }
   off_by (deeds.Returns e m n) r o = record { taken = λ c. refl; granted = λ c. refl; returned = λ c. rw o refl }
+  off_by d r o = record { taken = λ c. refl; granted = λ c. refl; returned = λ c. refl }
 
   off_if : (v : Bool) (d e : Deed) → IsOff d → IsOff e → IsOff (if v then d else e)
   off_if true d e p q = p
@@ -298,16 +266,7 @@ module _ (name : ℕ → ℕ → ℕ) (link : ℕ) where
   hear_by stamp said (command.Cls foreign own) q listening r has =
       by_moves (hears stamp (command.Cls foreign own) q) (cls_received link (name own foreign) (entry_at own foreign q.entries)) r (plain_closings q.busy own foreign q.entries (entry_at own foreign q.entries)) (cls_still (name own foreign) (entry_at own foreign q.entries))
   hear_by stamp said (command.Ret l m n) q listening r has = ret_by l m n said q.entries r has
-  hear_by stamp said (command.All l m n) q listening r has = off_by deeds.Nothing r tt
-  hear_by stamp said (command.Gvb l m n) q listening r has = off_by deeds.Nothing r tt
-  hear_by stamp said (command.Inr l) q listening r has = off_by deeds.Nothing r tt
-  hear_by stamp said (command.Ins l) q listening r has = off_by deeds.Nothing r tt
-  hear_by stamp said (command.Eco octet) q listening r has = off_by deeds.Nothing r tt
-  hear_by stamp said (command.Erp octet) q listening r has = off_by deeds.Nothing r tt
-  hear_by stamp said (command.Err code detail) q listening r has = off_by deeds.Nothing r tt
-  hear_by stamp said command.Nop q listening r has = off_by deeds.Nothing r tt
-  hear_by stamp said command.Rst q listening r has = off_by deeds.Nothing r tt
-  hear_by stamp said command.Rrp q listening r has = off_by deeds.Nothing r tt
+  hear_by stamp said c q listening r has = off_by deeds.Nothing r tt
 
   on_still : (e : Entry) (m : receivers.Move) → IsStill m → AreStill (on_link link e (m ∷ []))
   on_still e m s = still_if (receives_on link e) (m ∷ []) [] (s, tt) tt
@@ -317,10 +276,8 @@ module _ (name : ℕ → ℕ → ℕ) (link : ℕ) where
   receiver_by (Takes l text) q listening r has = data_by l text q.entries r has (header_of text) refl
   receiver_by (Says stamp c) q listening r has = by_moves (says stamp c q) (received_out name link c q.entries) r (plain_says stamp c q) (out_still c q.entries)
   receiver_by (Sends stamp e size count) q listening r has = off_by (deeds.Leaves e (take (size * count) e.bits)) r tt
-  receiver_by (Answered l) q listening r has = off_by deeds.Nothing r tt
   receiver_by (OpensReceiver own foreign) q listening r has = by_moves deeds.Nothing (asks_for link (name own foreign) (free_link q.entries)) r tt (asks_still (name own foreign) (free_link q.entries))
-  receiver_by (OpensSender own foreign size) q listening r has = off_by deeds.Nothing r tt
   receiver_by (Grants socket m n e) q listening r has = grant_by m n e r
   receiver_by (AsksBack socket m n e) q listening r has = by_moves deeds.Nothing (on_link link e (receivers.AskBack (named name e) m n ∷ [])) r tt (on_still e (receivers.AskBack (named name e) m n) tt)
-  receiver_by (Gives socket bits e) q listening r has = off_by deeds.Nothing r tt
   receiver_by (Closes socket e) q listening r has = by_moves deeds.Nothing (on_link link e (receivers.Close (named name e) ∷ [])) r tt (on_still e (receivers.Close (named name e)) tt)
+  receiver_by c q listening r has = off_by deeds.Nothing r tt

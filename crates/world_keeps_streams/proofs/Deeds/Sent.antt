@@ -23,7 +23,7 @@ use Rattle.host_pairs.specs.Turn.{freed}
 use Rattle.host_pairs.specs.declared.entry.Entry.{Entry}
 use Rattle.host_pairs.specs.declared.listener.Listener.{Listener}
 use Rattle.host_keeps_streams.specs.Closings.{all_sent, sent_open}
-use Rattle.host_keeps_streams.specs.Histories.{Call, Hears, Takes, Says, Sends, Answered, OpensReceiver, OpensSender, Grants, AsksBack, Gives, Closes, sent_at}
+use Rattle.host_keeps_streams.specs.Histories.{Call, Hears, Takes, Says, Sends, Answered, OpensSender, Grants, Closes, sent_at}
 use Rattle.host_keeps_streams.specs.Moves.{asked_sent, bytes_sent, closes, cls_sent as cls_heard, hears_rts, of_end, rts_sent, sent_by, sent_out, told_on}
 use Rattle.host_keeps_streams.specs.Names.{named}
 use Rattle.world_keeps_streams.proofs.Deeds.Effects as deeds
@@ -59,17 +59,14 @@ mute_shuts c (Some own) s k =
     (mute_if (s.closed c) (record s { end = None }) (record s { shut = true }) s k refl refl) refl
 
 mute_one : (m : senders.Move) (s : Sender) (k : ℕ) → IsMute m → (senders.moved m s).sent k ≡ s.sent k
-mute_one (senders.Ask c z) s k i = refl
-mute_one (senders.Open c) s k i = refl
 mute_one (senders.Send c z bits) s k i = absurd i
-mute_one (senders.Close c) s k i = refl
 mute_one (senders.Hear (words.Rts c)) s k i = mute_begins c s.end s k
 mute_one (senders.Hear (words.Str c z)) s k i = refl
 mute_one (senders.Hear (words.All c m n)) s k i = mute_counts s.end (λ a. counters.granted a m n) s k
 mute_one (senders.Hear (words.Gvb c m n)) s k i = mute_counts s.end (λ a. counters.given_back a m n) s k
 mute_one (senders.Hear (words.Ret c m n)) s k i = refl
 mute_one (senders.Hear (words.Cls c)) s k i = mute_shuts c s.end s k
-mute_one senders.Told s k i = refl
+mute_one m s k i = refl
 
 mute_all : (ms : List senders.Move) (s : Sender) (k : ℕ) → AreMute ms → (all_sent ms s).sent k ≡ s.sent k
 mute_all [] s k i = refl
@@ -121,32 +118,12 @@ quiet_hears stamp (command.Str send receive size) q = quiet_matches receive send
 quiet_hears stamp (command.Cls foreign own) q = quiet_closings q.busy own foreign q.entries (entry_at own foreign q.entries)
 quiet_hears stamp (command.Ret l m n) q =
     quiet_found (returns m n) (find (receives_on l) q.entries) tt tt (λ e. quiet_if (nat_le m e.allocation.messages && nat_le n e.allocation.bits) (deeds.Returns e m n) deeds.Nothing tt tt)
-quiet_hears stamp (command.All l m n) q = tt
-quiet_hears stamp (command.Gvb l m n) q = tt
-quiet_hears stamp (command.Inr l) q = tt
-quiet_hears stamp (command.Ins l) q = tt
-quiet_hears stamp (command.Eco octet) q = tt
-quiet_hears stamp (command.Erp octet) q = tt
-quiet_hears stamp (command.Err code detail) q = tt
-quiet_hears stamp command.Nop q = tt
-quiet_hears stamp command.Rst q = tt
-quiet_hears stamp command.Rrp q = tt
+quiet_hears stamp c q = tt
 
 quiet_says : (stamp : ℕ) (c : Command) (q : PairState) → IsQuiet (says stamp c q)
 quiet_says stamp (command.Rts receive send l) q = quiet_opens (entry_at receive send (changed_at receive send (asked_at stamp) q.entries))
 quiet_says stamp (command.Str send receive size) q = quiet_opens (entry_at send receive (changed_at send receive (asked_at stamp) q.entries))
-quiet_says stamp (command.Cls own foreign) q = tt
-quiet_says stamp (command.All l m n) q = tt
-quiet_says stamp (command.Gvb l m n) q = tt
-quiet_says stamp (command.Ret l m n) q = tt
-quiet_says stamp (command.Inr l) q = tt
-quiet_says stamp (command.Ins l) q = tt
-quiet_says stamp (command.Eco octet) q = tt
-quiet_says stamp (command.Erp octet) q = tt
-quiet_says stamp (command.Err code detail) q = tt
-quiet_says stamp command.Nop q = tt
-quiet_says stamp command.Rst q = tt
-quiet_says stamp command.Rrp q = tt
+quiet_says stamp c q = tt
 
 -- ---- a sender
 
@@ -195,16 +172,7 @@ module _ (name : ℕ → ℕ → ℕ) (link : ℕ) where
   hear_mute said (command.Cls foreign own) q listening s = cls_mute q.busy own foreign q.entries s (entry_at own foreign q.entries)
   hear_mute said (command.All l m n) q listening s = choose (l == link) (senders.Hear (words.All said m n) ∷ []) [] (tt, tt) tt
   hear_mute said (command.Gvb l m n) q listening s = choose (l == link) (senders.Hear (words.Gvb said m n) ∷ []) [] (tt, tt) tt
-  hear_mute said (command.Str send receive size) q listening s = tt
-  hear_mute said (command.Ret l m n) q listening s = tt
-  hear_mute said (command.Inr l) q listening s = tt
-  hear_mute said (command.Ins l) q listening s = tt
-  hear_mute said (command.Eco octet) q listening s = tt
-  hear_mute said (command.Erp octet) q listening s = tt
-  hear_mute said (command.Err code detail) q listening s = tt
-  hear_mute said command.Nop q listening s = tt
-  hear_mute said command.Rst q listening s = tt
-  hear_mute said command.Rrp q listening s = tt
+  hear_mute said c q listening s = tt
 
   asked_mute : (s : Sender) (o : Option Entry) → AreMute (asked_sent name link s o)
   asked_mute s None = tt
@@ -213,27 +181,11 @@ module _ (name : ℕ → ℕ → ℕ) (link : ℕ) where
   out_mute : (c : Command) (es : List Entry) (s : Sender) → AreMute (sent_out name link c es s)
   out_mute (command.Rts receive send l) es s = asked_mute s (entry_at receive send es)
   out_mute (command.Str send receive size) es s = asked_mute s (entry_at send receive es)
-  out_mute (command.Cls own foreign) es s = tt
-  out_mute (command.All l m n) es s = tt
-  out_mute (command.Gvb l m n) es s = tt
-  out_mute (command.Ret l m n) es s = tt
-  out_mute (command.Inr l) es s = tt
-  out_mute (command.Ins l) es s = tt
-  out_mute (command.Eco octet) es s = tt
-  out_mute (command.Erp octet) es s = tt
-  out_mute (command.Err code detail) es s = tt
-  out_mute command.Nop es s = tt
-  out_mute command.Rst es s = tt
-  out_mute command.Rrp es s = tt
+  out_mute c es s = tt
 
   quiet_by : (d : Deed) (ms : List senders.Move) (s : Sender) → IsQuiet d → AreMute ms → deeds.Sends name link d s (all_sent ms s)
-  quiet_by deeds.Nothing ms s q i k = mute_all ms s k i
-  quiet_by (deeds.Opens e u v) ms s q i k = mute_all ms s k i
-  quiet_by (deeds.Ends es) ms s q i k = mute_all ms s k i
-  quiet_by (deeds.Arrives e bits) ms s q i k = mute_all ms s k i
   quiet_by (deeds.Leaves e bits) ms s q i k = absurd q
-  quiet_by (deeds.Grants e m n) ms s q i k = mute_all ms s k i
-  quiet_by (deeds.Returns e m n) ms s q i k = mute_all ms s k i
+  quiet_by d ms s q i k = mute_all ms s k i
 
   told_mute : (l : ℕ) → AreMute (told_on link l)
   told_mute l = choose (l == link) (senders.Told ∷ []) [] (tt, tt) tt
@@ -253,9 +205,7 @@ module _ (name : ℕ → ℕ → ℕ) (link : ℕ) where
   sender_by (Says stamp c) q listening s = quiet_by (says stamp c q) (sent_out name link c q.entries s) s (quiet_says stamp c q) (out_mute c q.entries s)
   sender_by (Sends stamp e size count) q listening s = send_by e size count s
   sender_by (Answered l) q listening s = quiet_by deeds.Nothing (told_on link l ++ closes name (freed l q).busy q.entries) s tt (mute_append (told_on link l) (closes name (freed l q).busy q.entries) (told_mute l) (closes_mute (freed l q).busy q.entries))
-  sender_by (OpensReceiver own foreign) q listening s = quiet_by deeds.Nothing [] s tt tt
   sender_by (OpensSender own foreign size) q listening s = quiet_by deeds.Nothing (senders.Ask (name own foreign) size ∷ []) s tt (tt, tt)
   sender_by (Grants socket m n e) q listening s = quiet_by (deeds.Grants e m n) [] s tt tt
-  sender_by (AsksBack socket m n e) q listening s = quiet_by deeds.Nothing [] s tt tt
-  sender_by (Gives socket bits e) q listening s = quiet_by deeds.Nothing [] s tt tt
   sender_by (Closes socket e) q listening s = quiet_by deeds.Nothing (closes name q.busy (with_end socket called_off q).entries) s tt (closes_mute q.busy (with_end socket called_off q).entries)
+  sender_by c q listening s = quiet_by deeds.Nothing [] s tt tt

@@ -17,7 +17,7 @@ use Rattle.host_pairs.specs.declared.entry.Entry.{Entry}
 use Rattle.host_pairs.specs.declared.listener.Listener.{Listener}
 use Rattle.host_pairs.specs.declared.notice.Notice.{Notice}
 use Rattle.host_pairs.specs.declared.notice.Notice.TheVariants as notice
-use Rattle.host_keeps_streams.specs.Histories.{Call, Hears, Takes, Says, Sends, Answered, OpensReceiver, OpensSender, Grants, AsksBack, Gives, Closes}
+use Rattle.host_keeps_streams.specs.Histories.{Call, Hears, Takes, Says, Sends, Grants}
 use Rattle.promise.specs.declared.life.Life.{Life}
 use Rattle.net_sim.specs.Book.{changed_when, life_ended, lives_between, lives_told}
 use Rattle.world_keeps_streams.proofs.Deeds.Effects as deeds
@@ -161,7 +161,6 @@ module _ (a p : Host) where
       by (Some h) = tells_if (is_acceptable e h) _ _ (deeds.Arrives e (data_of (data_bits h) text)) deeds.Nothing (arrived_told e (data_of (data_bits h) text)) none_told
 
     hear_told : (stamp : ℕ) (c : Command) → Tells (desk_taken p q.busy stamp c (desk_of q listening)).notices (hears stamp c q)
-    hear_told stamp command.Nop = none_told
     hear_told stamp (command.Rts receive send link) =
         tells_if (list_any (sends_on link) q.entries) _ _ deeds.Nothing (matches send receive (asked_on_link stamp link) q.entries (entry_at send receive q.entries)) none_told (rts_told send receive link stamp (entry_at send receive q.entries))
     hear_told stamp (command.Str send receive size) = str_told receive send size stamp (entry_at receive send q.entries)
@@ -171,27 +170,15 @@ module _ (a p : Host) where
     hear_told stamp (command.Ret link m n) = at_told (command.Ret link m n) (ret_taken link m n) (returns m n) refl refl (ret_told link m n) (find (receives_on link) q.entries)
     hear_told stamp (command.Inr link) = at_quiet (command.Inr link) interrupted (λ e. plain (notice.Interrupt e.own) (λ ls. refl)) (find (sends_on link) q.entries)
     hear_told stamp (command.Ins link) = at_quiet (command.Ins link) interrupted (λ e. plain (notice.Interrupt e.own) (λ ls. refl)) (find (receives_on link) q.entries)
-    hear_told stamp (command.Eco octet) = none_told
     hear_told stamp (command.Erp octet) = plain (notice.Echoed p octet) (λ ls. refl)
     hear_told stamp (command.Err code detail) = plain (notice.RemoteError p code detail) (λ ls. refl)
-    hear_told stamp command.Rst = none_told
-    hear_told stamp command.Rrp = none_told
+    hear_told stamp c = none_told
 
     out_told : (stamp : ℕ) (c : Command) → Tells (command_gone p stamp c (desk_of q listening)).notices (says stamp c q)
     out_told stamp (command.Rts receive send link) = tells_opens (entry_at receive send (changed_at receive send (asked_at stamp) q.entries))
     out_told stamp (command.Str send receive size) = tells_opens (entry_at send receive (changed_at send receive (asked_at stamp) q.entries))
     out_told stamp (command.Cls own foreign) = tells_ends (filter is_over (changed_at own foreign cls_sent q.entries))
-    out_told stamp command.Nop = none_told
-    out_told stamp (command.All link m n) = none_told
-    out_told stamp (command.Gvb link m n) = none_told
-    out_told stamp (command.Ret link m n) = none_told
-    out_told stamp (command.Inr link) = none_told
-    out_told stamp (command.Ins link) = none_told
-    out_told stamp (command.Eco octet) = none_told
-    out_told stamp (command.Erp octet) = none_told
-    out_told stamp (command.Err code detail) = none_told
-    out_told stamp command.Rst = none_told
-    out_told stamp command.Rrp = none_told
+    out_told stamp c = none_told
 
     -- what is reported of a call
     pub call_told : (c : Call) → IsTold c → (ls : List Life) → all_lives a (notices_of p c q listening) ls ≡ After (deed_of c q) ls
@@ -199,10 +186,5 @@ module _ (a p : Host) where
     call_told (Takes link text) t = data_told link text (found_in (find (receives_on link) q.entries))
     call_told (Says stamp c) t = out_told stamp c
     call_told (Sends stamp e size count) t = sent_told e (take (size * count) e.bits)
-    call_told (Answered link) t = none_told
-    call_told (OpensReceiver own foreign) t = none_told
-    call_told (OpensSender own foreign size) t = none_told
     call_told (Grants socket m n e) t = absurd t
-    call_told (AsksBack socket m n e) t = none_told
-    call_told (Gives socket bits e) t = none_told
-    call_told (Closes socket e) t = none_told
+    call_told c t = none_told

@@ -82,17 +82,7 @@ module _ (o : ℕ → ℕ) (foreign own : ℕ) where
   mark_upon place (command.Rts a b c) w = one_upon (a == foreign && b == own) (Ask place) w
   mark_upon place (command.Str a b c) w = one_upon (a == foreign && b == own) (Ask place) w
   mark_upon place (command.Cls a b) w = one_upon (a == foreign && b == own) Close w
-  mark_upon place (command.All a b c) w = refl
-  mark_upon place (command.Gvb a b c) w = refl
-  mark_upon place (command.Ret a b c) w = refl
-  mark_upon place (command.Inr a) w = refl
-  mark_upon place (command.Ins a) w = refl
-  mark_upon place (command.Eco a) w = refl
-  mark_upon place (command.Erp a) w = refl
-  mark_upon place (command.Err a b) w = refl
-  mark_upon place command.Nop w = refl
-  mark_upon place command.Rst w = refl
-  mark_upon place command.Rrp w = refl
+  mark_upon place c w = refl
 
   -- the orders of a message, one after another
   orders_list : (peer : Host) (stamp : ℕ) (os : List Order) (t : TurnState) (older : List calls.Moment)
@@ -110,10 +100,8 @@ module _ (o : ℕ → ℕ) (foreign own : ℕ) where
   said_list peer stamp (c ∷ cs) q listening older = said_list peer stamp cs (with_connections q (command_gone peer stamp c (desk_of q listening))) listening (called (Says stamp c) q listening ∷ older)
 
   parcel_list : (peer : Host) (stamp : ℕ) (x : Parcel) (q : PairState) (listening : List Listener) → heard_list o foreign own (parcel_calls peer stamp x q listening) ≡ []
-  parcel_list peer stamp parcel.Reset q listening = refl
-  parcel_list peer stamp parcel.Reply q listening = refl
   parcel_list peer stamp (parcel.Commands count) q listening = said_list peer stamp (take count q.queue) q listening []
-  parcel_list peer stamp (parcel.Bytes e size count) q listening = refl
+  parcel_list peer stamp x q listening = refl
 
   next_list : (peer : Host) (stamp : ℕ) (listening : List Listener) (x : Option (Peer × Parcel)) → heard_list o foreign own (next_calls peer stamp listening x) ≡ []
   next_list peer stamp listening None = refl
@@ -145,24 +133,12 @@ module _ (o : ℕ → ℕ) (foreign own : ℕ) where
   request_list peer s (request.AskBack socket m n) = owner_list peer (AsksBack socket m n) (pair_with peer s.peers) s.listening (owner_of socket s.peers) (λ e. refl)
   request_list peer s (request.Close socket) =
       none_else (listens_on socket s.listening) (owner_calls peer (Closes socket) (pair_with peer s.peers) s.listening (owner_of socket s.peers)) (owner_list peer (Closes socket) (pair_with peer s.peers) s.listening (owner_of socket s.peers) (λ e. refl))
-  request_list peer s (request.Contact host) = refl
-  request_list peer s (request.Listen socket size) = refl
-  request_list peer s (request.Interrupt socket) = refl
-  request_list peer s (request.Echo host octet) = refl
+  request_list peer s r = refl
 
   -- calls of a host that hasn't met its peer yet hear nothing of connections
   asking_none : (k : Call) → IsAsking k → mark_heard o foreign own k ≡ []
   asking_none (Hears stamp said c) a = absurd a
-  asking_none (Takes l text) a = refl
-  asking_none (Says stamp c) a = refl
-  asking_none (Sends stamp e size count) a = refl
-  asking_none (Answered l) a = refl
-  asking_none (OpensReceiver mine theirs) a = refl
-  asking_none (OpensSender mine theirs size) a = refl
-  asking_none (Grants socket m n e) a = refl
-  asking_none (AsksBack socket m n e) a = refl
-  asking_none (Gives socket bits e) a = refl
-  asking_none (Closes socket e) a = refl
+  asking_none k a = refl
 
   quiet_none : (k : Call) (q : PairState) → Quiet k q → mark_heard o foreign own k ≡ []
   quiet_none k q (Asks is may paired) = asking_none k is

@@ -33,45 +33,15 @@ closes_in foreign own (m ∷ ms) = closes_by m.call foreign own (closes_in forei
 
 more_heard : (stamp said : ℕ) (c : Command) (n : ℕ → ℕ → ℕ) (x y : ℕ) → with_closing c n x y ≡ closes_by (Hears stamp said c) x y (n x y)
 more_heard stamp said (command.Cls a b) n x y = refl
-more_heard stamp said (command.Rts a b c) n x y = refl
-more_heard stamp said (command.Str a b c) n x y = refl
-more_heard stamp said (command.All a b c) n x y = refl
-more_heard stamp said (command.Gvb a b c) n x y = refl
-more_heard stamp said (command.Ret a b c) n x y = refl
-more_heard stamp said (command.Inr a) n x y = refl
-more_heard stamp said (command.Ins a) n x y = refl
-more_heard stamp said (command.Eco a) n x y = refl
-more_heard stamp said (command.Erp a) n x y = refl
-more_heard stamp said (command.Err a b) n x y = refl
-more_heard stamp said command.Nop n x y = refl
-more_heard stamp said command.Rst n x y = refl
-more_heard stamp said command.Rrp n x y = refl
+more_heard stamp said c n x y = refl
 
 more_by : (k : Call) (n : ℕ → ℕ → ℕ) (x y : ℕ) → heard_more k n x y ≡ closes_by k x y (n x y)
 more_by (Hears stamp said c) n x y = more_heard stamp said c n x y
-more_by (Takes l text) n x y = refl
-more_by (Says stamp c) n x y = refl
-more_by (Sends stamp e size count) n x y = refl
-more_by (Answered l) n x y = refl
-more_by (OpensReceiver own foreign) n x y = refl
-more_by (OpensSender own foreign size) n x y = refl
-more_by (Grants socket messages bits e) n x y = refl
-more_by (AsksBack socket messages bits e) n x y = refl
-more_by (Gives socket bits e) n x y = refl
-more_by (Closes socket e) n x y = refl
+more_by k n x y = refl
 
 first_of : (k : Call) (q : PairState) → MayCall k q → IsFirstCall k q.entries
 first_of (Hears stamp said c) q m = m.2
-first_of (Takes l text) q m = tt
-first_of (Says stamp c) q m = tt
-first_of (Sends stamp e size count) q m = tt
-first_of (Answered l) q m = tt
-first_of (OpensReceiver own foreign) q m = tt
-first_of (OpensSender own foreign size) q m = tt
-first_of (Grants socket messages bits e) q m = tt
-first_of (AsksBack socket messages bits e) q m = tt
-first_of (Gives socket bits e) q m = tt
-first_of (Closes socket e) q m = tt
+first_of k q m = tt
 
 module _ (number : ℕ → ℕ → ℕ → ℕ) (tells : IsTelling number) (peer : Host) (link : ℕ) (foreign own : ℕ) where
   pub history_heard : (ms : List calls.Moment) → IsHistory peer ms → AreAllowed number peer link ms → AllMay ms → closes_in foreign own ms ≡ heard_from (gone_now peer ms) (ends_now peer ms) foreign own

@@ -34,30 +34,11 @@ asks_of : (k p place foreign own : ℕ) (c : Command) (word : List Mark) → Ask
 asks_of k p place foreign own (command.Rts a b l) word t = asks_if k p place word (a == foreign && b == own) t
 asks_of k p place foreign own (command.Str a b l) word t = asks_if k p place word (a == foreign && b == own) t
 asks_of k p place foreign own (command.Cls a b) word t = asks_closed k p word (a == foreign && b == own) t
-asks_of k p place foreign own (command.All a b l) word t = t
-asks_of k p place foreign own (command.Gvb a b l) word t = t
-asks_of k p place foreign own (command.Ret a b l) word t = t
-asks_of k p place foreign own (command.Inr a) word t = t
-asks_of k p place foreign own (command.Ins a) word t = t
-asks_of k p place foreign own (command.Eco a) word t = t
-asks_of k p place foreign own (command.Erp a) word t = t
-asks_of k p place foreign own (command.Err a b) word t = t
-asks_of k p place foreign own command.Nop word t = t
-asks_of k p place foreign own command.Rst word t = t
-asks_of k p place foreign own command.Rrp word t = t
+asks_of k p place foreign own c word t = t
 
 asks_by : (origin : ℕ → ℕ) (n p foreign own : ℕ) (k : Call) (word : List Mark) → Asks n p word → Asks n p (mark_heard origin foreign own k ++ word)
 asks_by origin n p foreign own (Hears stamp said c) word t = asks_of n p (origin stamp) foreign own c word t
-asks_by origin n p foreign own (Takes l text) word t = t
-asks_by origin n p foreign own (Says stamp c) word t = t
-asks_by origin n p foreign own (Sends stamp e size count) word t = t
-asks_by origin n p foreign own (Answered l) word t = t
-asks_by origin n p foreign own (OpensReceiver o f) word t = t
-asks_by origin n p foreign own (OpensSender o f size) word t = t
-asks_by origin n p foreign own (Grants socket messages bits e) word t = t
-asks_by origin n p foreign own (AsksBack socket messages bits e) word t = t
-asks_by origin n p foreign own (Gives socket bits e) word t = t
-asks_by origin n p foreign own (Closes socket e) word t = t
+asks_by origin n p foreign own k word t = t
 
 closes_asked : (place : ℕ) (word : List Mark) (b : Bool) → closes ((if b then Ask place ∷ [] else []) ++ word) ≡ closes word
 closes_asked place word true = refl
@@ -76,30 +57,11 @@ closes_of stamp said place foreign own (command.Str a b l) word = closes_asked p
 closes_of stamp said place foreign own (command.Cls a b) word = closes_closed word (a == foreign && b == own) ∙ turned (eqb-sym a foreign) (eqb-sym b own) where
   turned : (a == foreign) ≡ (foreign == a) → (b == own) ≡ (own == b) → (if a == foreign && b == own then suc (closes word) else closes word) ≡ (if foreign == a && own == b then suc (closes word) else closes word)
   turned e f = ap (λ (t : Bool). if t && b == own then suc (closes word) else closes word) e ∙ ap (λ (t : Bool). if foreign == a && t then suc (closes word) else closes word) f
-closes_of stamp said place foreign own (command.All a b l) word = refl
-closes_of stamp said place foreign own (command.Gvb a b l) word = refl
-closes_of stamp said place foreign own (command.Ret a b l) word = refl
-closes_of stamp said place foreign own (command.Inr a) word = refl
-closes_of stamp said place foreign own (command.Ins a) word = refl
-closes_of stamp said place foreign own (command.Eco a) word = refl
-closes_of stamp said place foreign own (command.Erp a) word = refl
-closes_of stamp said place foreign own (command.Err a b) word = refl
-closes_of stamp said place foreign own command.Nop word = refl
-closes_of stamp said place foreign own command.Rst word = refl
-closes_of stamp said place foreign own command.Rrp word = refl
+closes_of stamp said place foreign own c word = refl
 
 closes_call : (origin : ℕ → ℕ) (foreign own : ℕ) (k : Call) (word : List Mark) → closes (mark_heard origin foreign own k ++ word) ≡ closes_by k foreign own (closes word)
 closes_call origin foreign own (Hears stamp said c) word = closes_of stamp said (origin stamp) foreign own c word
-closes_call origin foreign own (Takes l text) word = refl
-closes_call origin foreign own (Says stamp c) word = refl
-closes_call origin foreign own (Sends stamp e size count) word = refl
-closes_call origin foreign own (Answered l) word = refl
-closes_call origin foreign own (OpensReceiver o f) word = refl
-closes_call origin foreign own (OpensSender o f size) word = refl
-closes_call origin foreign own (Grants socket messages bits e) word = refl
-closes_call origin foreign own (AsksBack socket messages bits e) word = refl
-closes_call origin foreign own (Gives socket bits e) word = refl
-closes_call origin foreign own (Closes socket e) word = refl
+closes_call origin foreign own k word = refl
 
 -- as many CLS are in the list as are counted
 closes_heard : (origin : ℕ → ℕ) (foreign own : ℕ) (ms : List calls.Moment) → closes (heard_list origin foreign own ms) ≡ closes_in foreign own ms
@@ -139,31 +101,11 @@ module _ (origin : ℕ → ℕ) (es : List Entry) (gone : ℕ → ℕ → ℕ) (
       let t : (send == foreign) ≡ true = eq-eqb send foreign (sym b.1) in
       let u : (receive == own) ≡ true = eq-eqb receive own (sym b.0) in
       rw (t, u) (inl (ap origin b.2, first_of receive send b.0 b.1 f))
-  brought_of stamp (command.Cls a c) f b = absurd b
-  brought_of stamp (command.All a c l) f b = absurd b
-  brought_of stamp (command.Gvb a c l) f b = absurd b
-  brought_of stamp (command.Ret a c l) f b = absurd b
-  brought_of stamp (command.Inr a) f b = absurd b
-  brought_of stamp (command.Ins a) f b = absurd b
-  brought_of stamp (command.Eco a) f b = absurd b
-  brought_of stamp (command.Erp a) f b = absurd b
-  brought_of stamp (command.Err a c) f b = absurd b
-  brought_of stamp command.Nop f b = absurd b
-  brought_of stamp command.Rst f b = absurd b
-  brought_of stamp command.Rrp f b = absurd b
+  brought_of stamp c f b = absurd b
 
 brought : (origin : ℕ → ℕ) (gone : ℕ → ℕ → ℕ) (own foreign v : ℕ) (word : List Mark) (k : Call) (q : PairState) → closes word ≡ heard_from gone q.entries foreign own → MayCall k q → BringsBy k own foreign v → Asks (gone own foreign) (origin v) (mark_heard origin foreign own k ++ word)
 brought origin gone own foreign v word (Hears stamp said c) q count m b = brought_of origin q.entries gone own foreign v word count stamp c m.2 b
-brought origin gone own foreign v word (Takes l text) q count m b = absurd b
-brought origin gone own foreign v word (Says stamp c) q count m b = absurd b
-brought origin gone own foreign v word (Sends stamp e size n) q count m b = absurd b
-brought origin gone own foreign v word (Answered l) q count m b = absurd b
-brought origin gone own foreign v word (OpensReceiver o f) q count m b = absurd b
-brought origin gone own foreign v word (OpensSender o f size) q count m b = absurd b
-brought origin gone own foreign v word (Grants socket messages bits e) q count m b = absurd b
-brought origin gone own foreign v word (AsksBack socket messages bits e) q count m b = absurd b
-brought origin gone own foreign v word (Gives socket bits e) q count m b = absurd b
-brought origin gone own foreign v word (Closes socket e) q count m b = absurd b
+brought origin gone own foreign v word k q count m b = absurd b
 
 module _ (origin : ℕ → ℕ) (number : ℕ → ℕ → ℕ → ℕ) (tells : IsTelling number) (peer : Host) (link : ℕ) where
   abbrev IsTold : List calls.Moment → ℕ → ℕ → ℕ → Type 0

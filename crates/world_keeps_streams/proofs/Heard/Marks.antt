@@ -76,17 +76,7 @@ module _ (foreign own : ℕ) where
   order_adds place stamp said (command.Cls theirs mine) n = cls_same theirs mine n
   order_adds place stamp said (command.Rts a b c) n = ask_same (a == foreign && b == own) place n
   order_adds place stamp said (command.Str a b c) n = ask_same (a == foreign && b == own) place n
-  order_adds place stamp said (command.All a b c) n = refl
-  order_adds place stamp said (command.Gvb a b c) n = refl
-  order_adds place stamp said (command.Ret a b c) n = refl
-  order_adds place stamp said (command.Inr a) n = refl
-  order_adds place stamp said (command.Ins a) n = refl
-  order_adds place stamp said (command.Eco a) n = refl
-  order_adds place stamp said (command.Erp a) n = refl
-  order_adds place stamp said (command.Err a b) n = refl
-  order_adds place stamp said command.Nop n = refl
-  order_adds place stamp said command.Rst n = refl
-  order_adds place stamp said command.Rrp n = refl
+  order_adds place stamp said c n = refl
 
   pub orders_add : (place : ℕ) (peer : Host) (stamp : ℕ) (orders : List Order) (t : TurnState) (older : List calls.Moment) (n : ℕ)
       → closes_on (orders_heard peer stamp orders t older) n ≡ adds (marks_in place foreign own orders) (closes_on older n)
@@ -144,7 +134,4 @@ none_asked peer s (request.Close socket) = by (listens_on socket s.listening) wh
   by : (v : Bool) → NoneHeard (if v then [] else owner_calls peer (Closes socket) (pair_with peer s.peers) s.listening (owner_of socket s.peers))
   by true = tt
   by false = none_owner peer (Closes socket) (λ e f o n. refl) (pair_with peer s.peers) s.listening (owner_of socket s.peers)
-none_asked peer s (request.Contact g) = tt
-none_asked peer s (request.Listen socket size) = tt
-none_asked peer s (request.Interrupt socket) = tt
-none_asked peer s (request.Echo g octet) = tt
+none_asked peer s r = tt

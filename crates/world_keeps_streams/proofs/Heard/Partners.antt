@@ -210,17 +210,7 @@ module _ (peer : Host) (busy : List ℕ) (stamp : ℕ) (d : DeskState) where
     out_old (command.Cls own foreign) = swept_old d.entries (changed_first (is_at own foreign) cls_sent d.entries)
         (separate name (changed_first (is_at own foreign) cls_sent d.entries) (apart_changed name (is_at own foreign) cls_sent d.entries (λ x. refl) apart))
         (kept (is_at own foreign) cls_sent (record { own = λ x. refl; foreign = λ x. refl }) (λ x. refl))
-    out_old command.Nop = still d.entries (same_self d.entries)
-    out_old (command.All l m n) = still d.entries (same_self d.entries)
-    out_old (command.Gvb l m n) = still d.entries (same_self d.entries)
-    out_old (command.Ret l m n) = still d.entries (same_self d.entries)
-    out_old (command.Inr l) = still d.entries (same_self d.entries)
-    out_old (command.Ins l) = still d.entries (same_self d.entries)
-    out_old (command.Eco octet) = still d.entries (same_self d.entries)
-    out_old (command.Erp octet) = still d.entries (same_self d.entries)
-    out_old (command.Err code detail) = still d.entries (same_self d.entries)
-    out_old command.Rst = still d.entries (same_self d.entries)
-    out_old command.Rrp = still d.entries (same_self d.entries)
+    out_old c = still d.entries (same_self d.entries)
 
     cls_by : (own foreign : ℕ) (o : Option Entry) → AreOld d.entries (cls_taken_by peer busy own foreign o d).entries
     cls_by own foreign None = still d.entries (same_self d.entries)
@@ -264,12 +254,7 @@ module _ (peer : Host) (busy : List ℕ) (stamp : ℕ) (d : DeskState) (name : �
   taken_partners (command.Ret l m n) = plainly (command.Ret l m n) (at_end_same peer busy stamp d (command.Ret l m n) (ret_taken l m n) (receiver_on l d) (ret_same peer busy stamp d l m n))
   taken_partners (command.Inr l) = plainly (command.Inr l) (at_end_same peer busy stamp d (command.Inr l) interrupted (sender_on l d) (λ e. same_self d.entries))
   taken_partners (command.Ins l) = plainly (command.Ins l) (at_end_same peer busy stamp d (command.Ins l) interrupted (receiver_on l d) (λ e. same_self d.entries))
-  taken_partners command.Nop = plainly command.Nop (same_self d.entries)
-  taken_partners (command.Eco octet) = plainly (command.Eco octet) (same_self d.entries)
-  taken_partners (command.Erp octet) = plainly (command.Erp octet) (same_self d.entries)
-  taken_partners (command.Err code detail) = plainly (command.Err code detail) (same_self d.entries)
-  taken_partners command.Rst = plainly command.Rst (same_self d.entries)
-  taken_partners command.Rrp = plainly command.Rrp (same_self d.entries)
+  taken_partners c = plainly c (same_self d.entries)
 
 module _ (number : ℕ → ℕ → ℕ → ℕ) (tells : IsTelling number) (link : ℕ) (gone : ℕ → ℕ → ℕ) (peer : Host) (q : PairState) (listening : List Listener) (r : Receiver) (s : Sender) (h : Holds number tells link gone q.entries r s) where
   abbrev IsStepOf : Call → Type 0

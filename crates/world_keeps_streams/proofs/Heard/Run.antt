@@ -45,16 +45,7 @@ use Rattle.world_keeps_streams.proofs.Stays.Quiet.{IsSolo, Asks, Quiet, Replied,
 
 quiet_call : (k : Call) → IsAsking k → (foreign own n : ℕ) → closes_by k foreign own n ≡ n
 quiet_call (Hears stamp said c) h foreign own n = absurd h
-quiet_call (Takes l text) h foreign own n = refl
-quiet_call (Says stamp c) h foreign own n = refl
-quiet_call (Sends stamp e size count) h foreign own n = refl
-quiet_call (Answered l) h foreign own n = refl
-quiet_call (OpensReceiver a b) h foreign own n = refl
-quiet_call (OpensSender a b z) h foreign own n = refl
-quiet_call (Grants socket m b e) h foreign own n = refl
-quiet_call (AsksBack socket m b e) h foreign own n = refl
-quiet_call (Gives socket bits e) h foreign own n = refl
-quiet_call (Closes socket e) h foreign own n = refl
+quiet_call k h foreign own n = refl
 
 quiet_none : (k : Call) (q : PairState) → Quiet k q → (foreign own n : ℕ) → closes_by k foreign own n ≡ n
 quiet_none k q (Asks is may paired) foreign own n = quiet_call k is foreign own n

@@ -155,15 +155,7 @@ module _ (hosts : List Host) (p : Host) where
 
   asked_here : (calm : Bool) (h : Host) (r : Request) (ms : List Moment) → stay.stays h p (events_of (Asked h r ∷ ms)) ≡ false → stay.stays h p (events_of ms) ≡ calm → IsFineBy calm (Asked h r)
   asked_here calm h (request.Grant socket messages bits) ms left before = grant_here calm h (events_of ms) left before
-  asked_here calm h (request.Contact peer) ms left before = tt
-  asked_here calm h (request.Listen socket size) ms left before = tt
-  asked_here calm h (request.OpenSend peer mine yours size) ms left before = tt
-  asked_here calm h (request.OpenReceive peer mine yours) ms left before = tt
-  asked_here calm h (request.Send socket bits) ms left before = tt
-  asked_here calm h (request.AskBack socket messages bits) ms left before = tt
-  asked_here calm h (request.Interrupt socket) ms left before = tt
-  asked_here calm h (request.Close socket) ms left before = tt
-  asked_here calm h (request.Echo peer octet) ms left before = tt
+  asked_here calm h r ms left before = tt
 
   fine_here : (calm : Bool) (y : Moment) (ms : List Moment) → Lawful hosts (y ∷ ms) → stay.stays (host_in y) p (events_of (y ∷ ms)) ≡ false → stay.stays (host_in y) p (events_of ms) ≡ calm → IsFine calm y ms
   fine_here calm (Crossed (crossing.Out m)) ms l left before = out_here calm m ms l left before

@@ -24,13 +24,7 @@ module _ (calm : Bool) (p : Host) where
   Fine (notice.Sent socket bits) = calm ≡ false
   Fine (notice.Arrived socket bits) = calm ≡ false
   Fine (notice.Returned socket messages bits) = calm ≡ false
-  Fine (notice.Ended socket peer foreign) = Unit {0}
-  Fine (notice.PairReset peer) = Unit {0}
-  Fine (notice.Ready peer) = Unit {0}
-  Fine (notice.ContactFailed peer) = Unit {0}
-  Fine (notice.Interrupt socket) = Unit {0}
-  Fine (notice.Echoed peer octet) = Unit {0}
-  Fine (notice.RemoteError peer code detail) = Unit {0}
+  Fine c = Unit {0}
 
   abbrev pub AllFine : List Notice → Type 0
   AllFine [] = Unit {0}
@@ -160,11 +154,7 @@ module _ (calm : Bool) (h p : Host) where
     elsewhere_told (notice.Sent socket bits) xs = bare_where (lives_at g socket) (carried bits) xs (λ x. (refl, refl)) (λ c x e f. inl (at_off socket x e))
     elsewhere_told (notice.Arrived socket bits) xs = bare_where (lives_at g socket) (carried bits) xs (λ x. (refl, refl)) (λ c x e f. inl (at_off socket x e))
     elsewhere_told (notice.Returned socket messages bits) xs = bare_where (lives_at g socket) (returned messages bits) xs (λ x. (refl, refl)) (λ c x e f. inl (at_off socket x e))
-    elsewhere_told (notice.Ready peer) xs = bare_none xs
-    elsewhere_told (notice.ContactFailed peer) xs = bare_none xs
-    elsewhere_told (notice.Interrupt socket) xs = bare_none xs
-    elsewhere_told (notice.Echoed peer octet) xs = bare_none xs
-    elsewhere_told (notice.RemoteError peer code detail) xs = bare_none xs
+    elsewhere_told n xs = bare_none xs
 
     elsewhere_all : (ns : List Notice) (k : Kept) → Bare calm h p k.book.lives (all_told g ns k).book.lives
     elsewhere_all [] k = bare_none k.book.lives
@@ -172,15 +162,7 @@ module _ (calm : Bool) (h p : Host) where
 
     elsewhere_asked : (r : Request) (xs : List Life) → Bare calm h p xs (lives_asked g r xs)
     elsewhere_asked (request.Grant socket messages bits) xs = bare_where (lives_at g socket) (granted messages bits) xs (λ x. (refl, refl)) (λ c x e f. inl (at_off socket x e))
-    elsewhere_asked (request.Contact peer) xs = bare_none xs
-    elsewhere_asked (request.Listen socket size) xs = bare_none xs
-    elsewhere_asked (request.OpenSend peer mine yours size) xs = bare_none xs
-    elsewhere_asked (request.OpenReceive peer mine yours) xs = bare_none xs
-    elsewhere_asked (request.Send socket bits) xs = bare_none xs
-    elsewhere_asked (request.AskBack socket messages bits) xs = bare_none xs
-    elsewhere_asked (request.Interrupt socket) xs = bare_none xs
-    elsewhere_asked (request.Close socket) xs = bare_none xs
-    elsewhere_asked (request.Echo peer octet) xs = bare_none xs
+    elsewhere_asked r xs = bare_none xs
 
   -- ---- a notice of the host
 
@@ -194,11 +176,7 @@ module _ (calm : Bool) (h p : Host) where
   fine_told g (notice.Sent socket bits) xs t = bare_where (lives_at g socket) (carried bits) xs (λ x. (refl, refl)) (loud (carried bits) (lives_at g socket) t)
   fine_told g (notice.Arrived socket bits) xs t = bare_where (lives_at g socket) (carried bits) xs (λ x. (refl, refl)) (loud (carried bits) (lives_at g socket) t)
   fine_told g (notice.Returned socket messages bits) xs t = bare_where (lives_at g socket) (returned messages bits) xs (λ x. (refl, refl)) (loud (returned messages bits) (lives_at g socket) t)
-  fine_told g (notice.Ready peer) xs t = bare_none xs
-  fine_told g (notice.ContactFailed peer) xs t = bare_none xs
-  fine_told g (notice.Interrupt socket) xs t = bare_none xs
-  fine_told g (notice.Echoed peer octet) xs t = bare_none xs
-  fine_told g (notice.RemoteError peer code detail) xs t = bare_none xs
+  fine_told g n xs t = bare_none xs
 
   fine_all : (g : Host) (ns : List Notice) (k : Kept) → AllFine calm p ns → Bare calm h p k.book.lives (all_told g ns k).book.lives
   fine_all g [] k t = bare_none k.book.lives
@@ -206,32 +184,18 @@ module _ (calm : Bool) (h p : Host) where
 
   fine_asked : (g : Host) (r : Request) (xs : List Life) → IsFineAsked calm r → Bare calm h p xs (lives_asked g r xs)
   fine_asked g (request.Grant socket messages bits) xs t = bare_where (lives_at g socket) (granted messages bits) xs (λ x. (refl, refl)) (loud (granted messages bits) (lives_at g socket) t)
-  fine_asked g (request.Contact peer) xs t = bare_none xs
-  fine_asked g (request.Listen socket size) xs t = bare_none xs
-  fine_asked g (request.OpenSend peer mine yours size) xs t = bare_none xs
-  fine_asked g (request.OpenReceive peer mine yours) xs t = bare_none xs
-  fine_asked g (request.Send socket bits) xs t = bare_none xs
-  fine_asked g (request.AskBack socket messages bits) xs t = bare_none xs
-  fine_asked g (request.Interrupt socket) xs t = bare_none xs
-  fine_asked g (request.Close socket) xs t = bare_none xs
-  fine_asked g (request.Echo peer octet) xs t = bare_none xs
+  fine_asked g r xs t = bare_none xs
 
   -- ---- a moment
 
   by_elsewhere : (y : Moment) (k : Kept) → same_host (host_in y) h ≡ false → Bare calm h p k.book.lives (kept_by y k).book.lives
   by_elsewhere (Crossed (crossing.Down g)) k away = bare_where (lives_on g) life_ended k.book.lives (λ x. (refl, refl)) (λ c x e f. inr refl)
-  by_elsewhere (Crossed (crossing.Up g)) k away = bare_none k.book.lives
-  by_elsewhere (Crossed (crossing.Out m)) k away = bare_none k.book.lives
-  by_elsewhere (Crossed (crossing.In m)) k away = bare_none k.book.lives
-  by_elsewhere (Crossed (crossing.Answer kind f)) k away = bare_none k.book.lives
+  by_elsewhere (Crossed c) k away = bare_none k.book.lives
   by_elsewhere (Asked g r) k away = elsewhere_asked g away r k.book.lives
 
   by_fine : (y : Moment) (k : Kept) → IsFineBy calm y → Bare calm h p k.book.lives (kept_by y k).book.lives
   by_fine (Crossed (crossing.Down g)) k fine = bare_where (lives_on g) life_ended k.book.lives (λ x. (refl, refl)) (λ c x e f. inr refl)
-  by_fine (Crossed (crossing.Up g)) k fine = bare_none k.book.lives
-  by_fine (Crossed (crossing.Out m)) k fine = bare_none k.book.lives
-  by_fine (Crossed (crossing.In m)) k fine = bare_none k.book.lives
-  by_fine (Crossed (crossing.Answer kind f)) k fine = bare_none k.book.lives
+  by_fine (Crossed c) k fine = bare_none k.book.lives
   by_fine (Asked g r) k fine = fine_asked g r k.book.lives fine
 
   pub bare_elsewhere : (y : Moment) (ms : List Moment) → same_host (host_in y) h ≡ false → Bare calm h p (kept_in ms).book.lives (kept_in (y ∷ ms)).book.lives

@@ -93,17 +93,7 @@ module _ (calm : Bool) (p : Host) where
   desk_gone peer stamp (command.Rts receive send link) d h = desk_asked peer stamp receive send d h
   desk_gone peer stamp (command.Str send receive size) d h = desk_asked peer stamp send receive d h
   desk_gone peer stamp (command.Cls own foreign) d h = desk_closed peer own foreign d h
-  desk_gone peer stamp (command.All link messages bits) d h = h
-  desk_gone peer stamp (command.Gvb link messages bits) d h = h
-  desk_gone peer stamp (command.Ret link messages bits) d h = h
-  desk_gone peer stamp (command.Inr link) d h = h
-  desk_gone peer stamp (command.Ins link) d h = h
-  desk_gone peer stamp (command.Eco octet) d h = h
-  desk_gone peer stamp (command.Erp octet) d h = h
-  desk_gone peer stamp (command.Err code detail) d h = h
-  desk_gone peer stamp command.Nop d h = h
-  desk_gone peer stamp command.Rst d h = h
-  desk_gone peer stamp command.Rrp d h = h
+  desk_gone peer stamp c d h = h
 
   desk_all : (peer : Host) (stamp : ℕ) (cs : List Command) (d : DeskState) → Desk d → Desk (commands_gone peer stamp cs d)
   desk_all peer stamp [] d h = h
@@ -122,13 +112,7 @@ module _ (calm : Bool) (p : Host) where
   away_fine loud g away (notice.Sent socket bits) about = loud
   away_fine loud g away (notice.Arrived socket bits) about = loud
   away_fine loud g away (notice.Returned socket messages bits) about = loud
-  away_fine loud g away (notice.Ended socket peer foreign) about = tt
-  away_fine loud g away (notice.PairReset peer) about = tt
-  away_fine loud g away (notice.Ready peer) about = tt
-  away_fine loud g away (notice.ContactFailed peer) about = tt
-  away_fine loud g away (notice.Interrupt socket) about = tt
-  away_fine loud g away (notice.Echoed peer octet) about = tt
-  away_fine loud g away (notice.RemoteError peer code detail) about = tt
+  away_fine loud g away n about = tt
 
   pub all_away : calm ≡ false → (g : Host) → same_host g p ≡ false → (ns : List Notice) → AreAbout g ns → AllFine calm p ns
   all_away loud g away [] about = tt
@@ -172,9 +156,7 @@ module _ (calm : Bool) (p : Host) where
 
       answer_turn : (kind : Answer) → AllFine calm p (answered_turn peer kind link t).notices
       answer_turn answer.Rfnm = no_more
-      answer_turn answer.Incomplete = lost (is_gone t.pair.phase || not t.pair.owed)
-      answer_turn answer.Dead = lost (is_gone t.pair.phase || not t.pair.owed)
-      answer_turn answer.NotTaken = lost (is_gone t.pair.phase || not t.pair.owed)
+      answer_turn kind = lost (is_gone t.pair.phase || not t.pair.owed)
 
     if_fine : (v : Bool) (x y : NcpState × List Notice) → AllFine calm p x.1 → AllFine calm p y.1 → AllFine calm p (if v then x else y).1
     if_fine true x y a b = a
@@ -196,16 +178,11 @@ module _ (calm : Bool) (p : Host) where
     reset_told : (peer : Host) (ph : Phase) → AllFine calm p (reset_notices peer ph)
     reset_told peer phase.Closed = (tt, tt)
     reset_told peer phase.Ready = (tt, tt)
-    reset_told peer phase.Want = tt
-    reset_told peer (phase.Gone early) = tt
-    reset_told peer phase.Heard = tt
+    reset_told peer ph = tt
 
     reply_told : (peer : Host) (ph : Phase) → AllFine calm p (reply_notices peer ph)
-    reply_told peer phase.Closed = tt
-    reply_told peer phase.Ready = tt
-    reply_told peer phase.Want = tt
-    reply_told peer (phase.Gone early) = tt
     reply_told peer phase.Heard = (tt, tt)
+    reply_told peer ph = tt
 
     -- an RST is taken
     pub reset_fine : (m : HostMessage) → (m.flow.link.0 == 0) ≡ true → orders_of m.text ≡ Legal command.Rst ∷ [] → AllFine calm p (accepted s (inbound.Message m) stamp).1
@@ -220,18 +197,7 @@ module _ (calm : Bool) (p : Host) where
     order_idle peer (Wrong code octets) t plain idle = rw idle refl
     order_idle peer (Legal command.Rst) t plain idle = absurd (let no : true ≡ false = plain.0 in cc)
     order_idle peer (Legal command.Rrp) t plain idle = absurd (let no : true ≡ false = plain.1 in cc)
-    order_idle peer (Legal command.Nop) t plain idle = rw idle refl
-    order_idle peer (Legal (command.Rts a b c)) t plain idle = rw idle refl
-    order_idle peer (Legal (command.Str a b c)) t plain idle = rw idle refl
-    order_idle peer (Legal (command.Cls a b)) t plain idle = rw idle refl
-    order_idle peer (Legal (command.All a b c)) t plain idle = rw idle refl
-    order_idle peer (Legal (command.Gvb a b c)) t plain idle = rw idle refl
-    order_idle peer (Legal (command.Ret a b c)) t plain idle = rw idle refl
-    order_idle peer (Legal (command.Inr a)) t plain idle = rw idle refl
-    order_idle peer (Legal (command.Ins a)) t plain idle = rw idle refl
-    order_idle peer (Legal (command.Eco a)) t plain idle = rw idle refl
-    order_idle peer (Legal (command.Erp a)) t plain idle = rw idle refl
-    order_idle peer (Legal (command.Err a b)) t plain idle = rw idle refl
+    order_idle peer (Legal c) t plain idle = rw idle refl
 
     orders_idle : (peer : Host) (os : List Order) (t : TurnState) → AllPlain os → is_ready t.pair.phase ≡ false → orders_taken peer stamp os t ≡ t
     orders_idle peer [] t plain idle = refl
@@ -260,12 +226,4 @@ module _ (calm : Bool) (p : Host) where
     pub request_fine : (r : Request) → AllFine calm p (served_notices s r)
     unfolding served_notices
     request_fine (request.Contact peer) = contact_told peer (is_ready (pair_with peer s.peers).phase)
-    request_fine (request.Listen socket size) = tt
-    request_fine (request.OpenSend peer own foreign size) = tt
-    request_fine (request.OpenReceive peer own foreign) = tt
-    request_fine (request.Send socket bits) = tt
-    request_fine (request.Grant socket messages bits) = tt
-    request_fine (request.AskBack socket messages bits) = tt
-    request_fine (request.Interrupt socket) = tt
-    request_fine (request.Close socket) = tt
-    request_fine (request.Echo peer octet) = tt
+    request_fine r = tt

@@ -233,11 +233,7 @@ grown_told h (notice.PairReset peer) xs = grown_where (lives_with h peer) life_e
 grown_told h (notice.Sent socket bits) xs = grown_where (lives_at h socket) (carried bits) xs (λ x. record { host = refl; socket = refl; peer = refl; foreign = refl; own = refl; partner = refl }) (at_off h socket)
 grown_told h (notice.Arrived socket bits) xs = grown_where (lives_at h socket) (carried bits) xs (λ x. record { host = refl; socket = refl; peer = refl; foreign = refl; own = refl; partner = refl }) (at_off h socket)
 grown_told h (notice.Returned socket messages bits) xs = grown_where (lives_at h socket) (returned messages bits) xs (λ x. record { host = refl; socket = refl; peer = refl; foreign = refl; own = refl; partner = refl }) (at_off h socket)
-grown_told h (notice.Ready peer) xs = grown_none xs
-grown_told h (notice.ContactFailed peer) xs = grown_none xs
-grown_told h (notice.Interrupt socket) xs = grown_none xs
-grown_told h (notice.Echoed peer octet) xs = grown_none xs
-grown_told h (notice.RemoteError peer code detail) xs = grown_none xs
+grown_told h n xs = grown_none xs
 
 grown_all_told : (h : Host) (ns : List Notice) (k : Kept) → Grown k.book.lives (all_told h ns k).book.lives
 grown_all_told h [] k = grown_none k.book.lives
@@ -245,22 +241,11 @@ grown_all_told h (n ∷ ns) k = grown_on k.book.lives (lives_told h n k.book.liv
 
 grown_crossed : (c : Crossing) (xs : List Life) → Grown xs (lives_crossed c xs)
 grown_crossed (crossing.Down h) xs = grown_where (lives_on h) life_ended xs (λ x. record { host = refl; socket = refl; peer = refl; foreign = refl; own = refl; partner = refl }) (on_off h)
-grown_crossed (crossing.Up h) xs = grown_none xs
-grown_crossed (crossing.Out m) xs = grown_none xs
-grown_crossed (crossing.In m) xs = grown_none xs
-grown_crossed (crossing.Answer kind f) xs = grown_none xs
+grown_crossed c xs = grown_none xs
 
 grown_asked : (h : Host) (r : Request) (xs : List Life) → Grown xs (lives_asked h r xs)
 grown_asked h (request.Grant socket messages bits) xs = grown_where (lives_at h socket) (granted messages bits) xs (λ x. record { host = refl; socket = refl; peer = refl; foreign = refl; own = refl; partner = refl }) (at_off h socket)
-grown_asked h (request.Contact peer) xs = grown_none xs
-grown_asked h (request.Listen socket size) xs = grown_none xs
-grown_asked h (request.OpenSend peer mine yours size) xs = grown_none xs
-grown_asked h (request.OpenReceive peer mine yours) xs = grown_none xs
-grown_asked h (request.Send socket bits) xs = grown_none xs
-grown_asked h (request.AskBack socket messages bits) xs = grown_none xs
-grown_asked h (request.Interrupt socket) xs = grown_none xs
-grown_asked h (request.Close socket) xs = grown_none xs
-grown_asked h (request.Echo peer octet) xs = grown_none xs
+grown_asked h r xs = grown_none xs
 
 grown_by : (y : Moment) (k : Kept) → Grown k.book.lives (kept_by y k).book.lives
 grown_by (Crossed c) k = grown_crossed c k.book.lives

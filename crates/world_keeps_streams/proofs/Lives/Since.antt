@@ -3,7 +3,7 @@ use Rattle.std.proofs.Common.{◌≡◌, inl, inr, ℕ, zero, suc, ◌≤◌, �
 use Rattle.interface.specs.Host.{Host}
 use Rattle.host_pairs.proofs.lemmas.{both}
 use Rattle.pairing_law.proofs.lemmas.{Fresh, begins_fresh}
-use Rattle.reset_law.specs.Events.{Contact, Down, Event, Idle, In, Other, Out, Reply, Reset, Told, Up}
+use Rattle.reset_law.specs.Events.{Contact, Event, In, Other, Reply, Reset}
 use Rattle.reset_law.specs.Pairs.{pair}
 use Rattle.reset_law.specs.Runs.{IsRun}
 use Rattle.reset_law.specs.Stays as stay
@@ -25,14 +25,10 @@ use Rattle.world_keeps_streams.proofs.Stays.Resets.{goes_on}
 -- who takes an RST has a peer that waits for the RRP
 reset_alone : (hosts : List Host) (e : Event) (events : List Event) → IsRun hosts (e ∷ events) → (a b : Host) → stay.takes_reset a b e ≡ true → stay.ready b a (e ∷ events) ≡ true → ⊥
 reset_alone hosts (Contact x y) events r a b takes ready = absurd (cc)
-reset_alone hosts (Out x y l m) events r a b takes ready = absurd (cc)
 reset_alone hosts (In x y l Reset) events r a b takes ready = reset_unready hosts events x y l r a b takes (ready_phase (pair b a (In x y l Reset ∷ events)).phase ready)
 reset_alone hosts (In x y l Reply) events r a b takes ready = absurd (cc)
 reset_alone hosts (In x y l (Other text)) events r a b takes ready = absurd (cc)
-reset_alone hosts (Told x y l k) events r a b takes ready = absurd (cc)
-reset_alone hosts (Down x) events r a b takes ready = absurd (cc)
-reset_alone hosts (Up x) events r a b takes ready = absurd (cc)
-reset_alone hosts Idle events r a b takes ready = absurd (cc)
+reset_alone hosts e events r a b takes ready = absurd (cc)
 
 begins_keeps : (hosts : List Host) (e : Event) (events : List Event) → IsRun hosts (e ∷ events) → (a b : Host) → stay.begins a b e events ≡ true → keeps a b e events ≡ true
 begins_keeps hosts e events r a b begun = by (stay.takes_reset a b e) refl where

@@ -46,9 +46,7 @@ use Rattle.world_keeps_streams.proofs.Moments.Out.{allowed_at, both_same, histor
 failed_unready : (p : Host) (ph : Phase) (t : TurnState) → t.pair.phase ≡ ph → program_phases.is_ready (failed_by p ph t).pair.phase ≡ false
 failed_unready p phase.Closed t e = ap program_phases.is_ready e
 failed_unready p phase.Want t e = ap program_phases.is_ready e
-failed_unready p (phase.Gone early) t e = refl
-failed_unready p phase.Heard t e = refl
-failed_unready p phase.Ready t e = refl
+failed_unready p ph t e = refl
 
 failed_quiet : (p : Host) (t : TurnState) → t.notices ≡ [] → program_phases.is_ready (failed p t).pair.phase ≡ true → (failed p t).notices ≡ []
 failed_quiet p t none ready = by (is_gone t.pair.phase || not t.pair.owed) ready where
@@ -59,9 +57,7 @@ failed_quiet p t none ready = by (is_gone t.pair.phase || not t.pair.owed) ready
 -- nothing is reported of it
 answered_quiet : (p : Host) (kind : Answer) (l : ℕ) (t : TurnState) → t.notices ≡ [] → program_phases.is_ready (answered_turn p kind l t).pair.phase ≡ true → (answered_turn p kind l t).notices ≡ []
 answered_quiet p answer.Rfnm l t none ready = ap (λ (ns : List Notice). ns ++ []) none
-answered_quiet p answer.Dead l t none ready = failed_quiet p (record t { pair = freed l t.pair }) none ready
-answered_quiet p answer.Incomplete l t none ready = failed_quiet p (record t { pair = freed l t.pair }) none ready
-answered_quiet p answer.NotTaken l t none ready = failed_quiet p (record t { pair = freed l t.pair }) none ready
+answered_quiet p kind l t none ready = failed_quiet p (record t { pair = freed l t.pair }) none ready
 
 -- what is accepted
 accepted_pair : (s : NcpState) (kind : Answer) (f : Flow) (stamp : ℕ) → same_host s.own f.source ≡ true → is_busy (pair_with f.destination s.peers).busy f.link.0 ≡ true

@@ -56,11 +56,7 @@ fits_asked (Grants socket messages bits e) q is may = (may.0, may.2)
 fits_asked (AsksBack socket messages bits e) q is may = tt
 fits_asked (Gives socket bits e) q is may = tt
 fits_asked (Closes socket e) q is may = tt
-fits_asked (calls.Hears stamp said c) q is may = absurd is
-fits_asked (calls.Takes l text) q is may = absurd is
-fits_asked (calls.Says stamp c) q is may = absurd is
-fits_asked (calls.Sends stamp e size count) q is may = absurd is
-fits_asked (calls.Answered l) q is may = absurd is
+fits_asked k q is may = absurd is
 
 -- an end that is found is among those that pass
 none_found : (test : Entry → Bool) (es : List Entry) (e : Entry) → find test es ≡ Some e → filter test es ≡ [] → ⊥
@@ -193,7 +189,6 @@ module _ (number : ℕ → ℕ → ℕ → ℕ) (tells : IsTelling number) (host
   keeps_asked (request.Contact g) ms run time on c =
       contact_kept (request.Contact g) ms run time on c g (no_contact a b a (request.Contact g) (events_of ms) on (same_host-refl a) g refl) (is_ready (pair_with g (program a ms).peers).phase) refl
       (told (request.Contact g) ms run time on c (contact_notices g (pair_with g (program a ms).peers).phase) refl)
-  keeps_asked (request.Listen socket size) ms run time on c = none (request.Listen socket size) ms run time on c refl refl
   keeps_asked (request.OpenSend g own foreign size) ms run time on c =
       peer_kept (request.OpenSend g own foreign size) ms run time on c g (OpensSender own foreign size) tt refl refl (same_host b g) refl
   keeps_asked (request.OpenReceive g own foreign) ms run time on c =
@@ -203,9 +198,8 @@ module _ (number : ℕ → ℕ → ℕ → ℕ) (tells : IsTelling number) (host
   keeps_asked (request.Grant socket messages bits) ms run time on c = grants_kept ms socket messages bits run time on c refl (owner_of socket (program a ms).peers) refl
   keeps_asked (request.AskBack socket messages bits) ms run time on c =
       owner_kept (request.AskBack socket messages bits) ms run time on c (AsksBack socket messages bits) (λ e. tt) (λ e. refl) refl (owner_of socket (program a ms).peers) refl
-  keeps_asked (request.Interrupt socket) ms run time on c = none (request.Interrupt socket) ms run time on c refl refl
   keeps_asked (request.Close socket) ms run time on c = close_kept (request.Close socket) ms run time on c socket refl (listens_on socket (program a ms).listening) refl
-  keeps_asked (request.Echo g octet) ms run time on c = none (request.Echo g octet) ms run time on c refl refl
+  keeps_asked r ms run time on c = none r ms run time on c refl refl
 
   -- the same of a host that is the same
   pub keeps_asked_by : (h : Host) (r : Request) (ms : List Moment) → same_host a h ≡ true → mail.IsRun hosts (crossings_of (Asked h r ∷ ms)) → IsTimeline hosts (Asked h r ∷ ms) → keeps a b (event_in (Asked h r)) (events_of ms) ≡ true → Carries number a b ms → Carries number a b (Asked h r ∷ ms)

@@ -57,10 +57,7 @@ notices_there s m stamp own = rw own refl
 -- an RRP that is heard reports nothing of the lives
 reply_lives : (a b : Host) (p : Phase) (ls : List Life) → all_lives a (reply_notices b p) ls ≡ ls
 reply_lives a b phase.Closed ls = refl
-reply_lives a b phase.Want ls = refl
-reply_lives a b (phase.Gone early) ls = refl
-reply_lives a b phase.Heard ls = refl
-reply_lives a b phase.Ready ls = refl
+reply_lives a b p ls = refl
 
 both_true : (d e : Bool) → (d && e) ≡ true → (d ≡ true) × (e ≡ true)
 both_true true true t = (refl, refl)
@@ -73,18 +70,7 @@ module _ (number : ℕ → ℕ → ℕ → ℕ) (tells : IsTelling number) (host
   one_ordinary (Wrong code octets) j = tt
   one_ordinary (Legal command.Rst) j = absurd (let no : true ≡ false = j in cc)
   one_ordinary (Legal command.Rrp) j = absurd (let no : true ≡ false = j in cc)
-  one_ordinary (Legal command.Nop) j = tt
-  one_ordinary (Legal (command.Rts x y l)) j = tt
-  one_ordinary (Legal (command.Str x y l)) j = tt
-  one_ordinary (Legal (command.Cls x y)) j = tt
-  one_ordinary (Legal (command.All l x y)) j = tt
-  one_ordinary (Legal (command.Gvb l x y)) j = tt
-  one_ordinary (Legal (command.Ret l x y)) j = tt
-  one_ordinary (Legal (command.Inr l)) j = tt
-  one_ordinary (Legal (command.Ins l)) j = tt
-  one_ordinary (Legal (command.Eco octet)) j = tt
-  one_ordinary (Legal (command.Erp octet)) j = tt
-  one_ordinary (Legal (command.Err code detail)) j = tt
+  one_ordinary (Legal c) j = tt
 
   all_ordinary : (os : List Order) → AreJoint os → AreOrdinary number tells a b os
   all_ordinary [] j = tt

@@ -132,11 +132,7 @@ module _ (a b : Host) where
     away_told (notice.Sent socket bits) ls = alike_at_other socket (book.carried bits) ls (λ x. refl) (λ x. refl)
     away_told (notice.Arrived socket bits) ls = alike_at_other socket (book.carried bits) ls (λ x. refl) (λ x. refl)
     away_told (notice.Returned socket messages bits) ls = alike_at_other socket (book.returned messages bits) ls (λ x. refl) (λ x. refl)
-    away_told (notice.Ready peer) ls = alike_same ls
-    away_told (notice.ContactFailed peer) ls = alike_same ls
-    away_told (notice.Interrupt socket) ls = alike_same ls
-    away_told (notice.Echoed peer octet) ls = alike_same ls
-    away_told (notice.RemoteError peer code detail) ls = alike_same ls
+    away_told n ls = alike_same ls
 
     pub away_alike : (ns : List Notice) (ls : List Life) → AreAlike ls (all_lives h ns ls)
     away_alike [] ls = alike_same ls
@@ -187,11 +183,7 @@ module _ (a b : Host) where
     named_told (notice.Sent socket bits) is ls = absurd is
     named_told (notice.Arrived socket bits) is ls = absurd is
     named_told (notice.Returned socket messages bits) is ls = absurd is
-    named_told (notice.Ready peer) is ls = alike_same ls
-    named_told (notice.ContactFailed peer) is ls = alike_same ls
-    named_told (notice.Interrupt socket) is ls = alike_same ls
-    named_told (notice.Echoed peer octet) is ls = alike_same ls
-    named_told (notice.RemoteError peer code detail) is ls = alike_same ls
+    named_told n is ls = alike_same ls
 
     pub named_alike : (ns : List Notice) → AreNamed p ns → (ls : List Life) → AreAlike ls (all_lives a ns ls)
     named_alike [] is ls = alike_same ls

@@ -114,17 +114,7 @@ module _ (a b p : Host) where
   named_gone stamp (command.Str send receive size) d is =
       named_append a b p d.notices (opening_notices p (entry_at send receive (changed_at send receive (asked_at stamp) d.entries))) is (named_opening (entry_at send receive (changed_at send receive (asked_at stamp) d.entries)))
   named_gone stamp (command.Cls own foreign) d is = named_append a b p d.notices (flat_map (ending p) (filter is_over (changed_at own foreign cls_sent d.entries))) is (named_ending (filter is_over (changed_at own foreign cls_sent d.entries)))
-  named_gone stamp command.Nop d is = is
-  named_gone stamp (command.All link m n) d is = is
-  named_gone stamp (command.Gvb link m n) d is = is
-  named_gone stamp (command.Ret link m n) d is = is
-  named_gone stamp (command.Inr link) d is = is
-  named_gone stamp (command.Ins link) d is = is
-  named_gone stamp (command.Eco octet) d is = is
-  named_gone stamp (command.Erp octet) d is = is
-  named_gone stamp (command.Err code detail) d is = is
-  named_gone stamp command.Rst d is = is
-  named_gone stamp command.Rrp d is = is
+  named_gone stamp c d is = is
 
   named_all : (stamp : ℕ) (cs : List Command) (d : DeskState) → AreNamed a b p d.notices → AreNamed a b p (commands_gone p stamp cs d).notices
   named_all stamp [] d is = is
@@ -218,14 +208,7 @@ module _ (a b : Host) (s : NcpState) (κ : Kept) (holds : (k : ℕ) → Holds a 
   unfolding served_notices
   asked_alike (request.Contact p) may off = contact_alike p (pair_with p s.peers).phase off
   asked_alike (request.Grant socket messages bits) may off = grant_alike socket messages bits may off
-  asked_alike (request.Listen socket size) may off = alike_same a b κ.book.lives
-  asked_alike (request.OpenSend p own foreign size) may off = alike_same a b κ.book.lives
-  asked_alike (request.OpenReceive p own foreign) may off = alike_same a b κ.book.lives
-  asked_alike (request.Send socket bits) may off = alike_same a b κ.book.lives
-  asked_alike (request.AskBack socket messages bits) may off = alike_same a b κ.book.lives
-  asked_alike (request.Interrupt socket) may off = alike_same a b κ.book.lives
-  asked_alike (request.Close socket) may off = alike_same a b κ.book.lives
-  asked_alike (request.Echo p octet) may off = alike_same a b κ.book.lives
+  asked_alike r may off = alike_same a b κ.book.lives
 
 -- ---- all moments
 
@@ -233,15 +216,7 @@ module _ (a b : Host) where
   -- what another host's user asks for
   asked_away : (h : Host) → same_host h a ≡ false → (r : Request) (ls : List Life) → AreAlike a b ls (lives_asked h r ls)
   asked_away h off (request.Grant socket messages bits) ls = alike_at_other a b h off socket (book.granted messages bits) ls (λ x. refl) (λ x. refl)
-  asked_away h off (request.Contact p) ls = alike_same a b ls
-  asked_away h off (request.Listen socket size) ls = alike_same a b ls
-  asked_away h off (request.OpenSend p own foreign size) ls = alike_same a b ls
-  asked_away h off (request.OpenReceive p own foreign) ls = alike_same a b ls
-  asked_away h off (request.Send socket bits) ls = alike_same a b ls
-  asked_away h off (request.AskBack socket messages bits) ls = alike_same a b ls
-  asked_away h off (request.Interrupt socket) ls = alike_same a b ls
-  asked_away h off (request.Close socket) ls = alike_same a b ls
-  asked_away h off (request.Echo p octet) ls = alike_same a b ls
+  asked_away h off r ls = alike_same a b ls
 
   -- one host or another acts
   acts : (h : Host) (ns : Host → List Notice) (old : List Life) (next : Host → List Life) → (same_host a h ≡ true → AreAlike a b old (all_lives a (ns a) (next a))) → (same_host h a ≡ false → AreAlike a b old (next h))

@@ -67,7 +67,6 @@ module _ (q : PairState) (refusing : AreRefusing q.entries) where
   at_found test e f o = record { there = (found_among test q.entries e f).0; mine = open_mine e (refusing_found test q.entries e refusing f) o; opened = o }
 
   hits_hears : (stamp : ℕ) (c : Command) → Hits (hears stamp c q) q.entries
-  hits_hears stamp command.Nop = tt
   hits_hears stamp (command.Rts receive send link) =
       hits_if (list_any (sends_on link) q.entries) deeds.Nothing (matches send receive (asked_on_link stamp link) q.entries (entry_at send receive q.entries)) q.entries tt
       (hits_matches send receive (asked_on_link stamp link) q.entries (entry_at send receive q.entries))
@@ -76,18 +75,10 @@ module _ (q : PairState) (refusing : AreRefusing q.entries) where
     by : (o : Option Entry) → Hits (closings q.busy own foreign q.entries o) q.entries
     by None = tt
     by (Some e) = hits_if e.partner_closed deeds.Nothing (deeds.Ends _) q.entries tt tt
-  hits_hears stamp (command.All link m n) = tt
-  hits_hears stamp (command.Gvb link m n) = tt
   hits_hears stamp (command.Ret link m n) =
       found_cases (find (receives_on link) q.entries) (λ w. Hits (returns m n w) q.entries) tt tt
       (λ e f o. hits_if (nat_le m e.allocation.messages && nat_le n e.allocation.bits) (deeds.Returns e m n) deeds.Nothing q.entries (at_found (receives_on link) e f o) tt)
-  hits_hears stamp (command.Inr link) = tt
-  hits_hears stamp (command.Ins link) = tt
-  hits_hears stamp (command.Eco octet) = tt
-  hits_hears stamp (command.Erp octet) = tt
-  hits_hears stamp (command.Err code detail) = tt
-  hits_hears stamp command.Rst = tt
-  hits_hears stamp command.Rrp = tt
+  hits_hears stamp c = tt
 
   hits_arrives : (text : List Bool) (e : Entry) → IsAt e q.entries → (h : Option DataHeader) → Hits (arrives_if e text h) q.entries
   hits_arrives text e at None = tt
@@ -128,13 +119,11 @@ module _ (a b p : Host) (off : same_host p b ≡ false) where
           own = let s : (e.own == e.own) ≡ true = eq-eqb e.own e.own refl in rw (mine, s) refl
 
     clear_deed : (t : TurnState) → Placed t → (d : Deed) → Hits d t.pair.entries → IsClearOf a b p off d (Lives t.notices)
-    clear_deed t placed deeds.Nothing h = tt
-    clear_deed t placed (deeds.Opens e u v) h = tt
-    clear_deed t placed (deeds.Ends es) h = tt
     clear_deed t placed (deeds.Arrives e bits) h = clear_end t placed e h.there h.mine
     clear_deed t placed (deeds.Leaves e bits) h = clear_end t placed e h.there h.mine
     clear_deed t placed (deeds.Grants e m n) h = clear_end t placed e h.there h.mine
     clear_deed t placed (deeds.Returns e m n) h = clear_end t placed e h.there h.mine
+    clear_deed t placed d h = tt
 
     -- a call
     call_alike : (t : TurnState) → Placed t → (c : Call) → IsTold c → Hits (deed_of c t.pair) t.pair.entries → AreAlike a b (Lives t.notices) (all_lives a (notices_of p c t.pair t.listening) (Lives t.notices))
@@ -181,10 +170,8 @@ module _ (a b p : Host) (off : same_host p b ≡ false) where
 
     reset_named : (ph : Phase) → AreNamed a b p (reset_notices p ph)
     reset_named phase.Closed = (tt, tt)
-    reset_named phase.Want = tt
-    reset_named (phase.Gone early) = tt
-    reset_named phase.Heard = tt
     reset_named phase.Ready = (refl, tt)
+    reset_named ph = tt
 
     reset_step : (t : TurnState) → Step t (reset_taken p t)
     reset_step t placed = (
@@ -193,18 +180,12 @@ module _ (a b p : Host) (off : same_host p b ≡ false) where
     )
 
     reply_aside : (k : ℕ) (ph : Phase) → AreAside a k (reply_notices p ph)
-    reply_aside k phase.Closed = tt
-    reply_aside k phase.Want = tt
-    reply_aside k (phase.Gone early) = tt
     reply_aside k phase.Heard = (tt, tt)
-    reply_aside k phase.Ready = tt
+    reply_aside k ph = tt
 
     reply_named : (ph : Phase) → AreNamed a b p (reply_notices p ph)
-    reply_named phase.Closed = tt
-    reply_named phase.Want = tt
-    reply_named (phase.Gone early) = tt
     reply_named phase.Heard = (tt, tt)
-    reply_named phase.Ready = tt
+    reply_named ph = tt
 
     reply_good : (k : ℕ) (m : Place) (t : TurnState) → GoodTurn a k m p κ t → GoodTurn a k m p κ (reply_taken p t)
     reply_good k m t h = record {
@@ -223,20 +204,9 @@ module _ (a b p : Host) (off : same_host p b ≡ false) where
     -- ---- a message
 
     legal_step : (stamp : ℕ) (c : Command) (t : TurnState) → Step t (command_taken p stamp c t)
-    legal_step stamp command.Nop t = hear_step stamp command.Nop t
-    legal_step stamp (command.Rts receive send link) t = hear_step stamp (command.Rts receive send link) t
-    legal_step stamp (command.Str send receive size) t = hear_step stamp (command.Str send receive size) t
-    legal_step stamp (command.Cls own foreign) t = hear_step stamp (command.Cls own foreign) t
-    legal_step stamp (command.All link m n) t = hear_step stamp (command.All link m n) t
-    legal_step stamp (command.Gvb link m n) t = hear_step stamp (command.Gvb link m n) t
-    legal_step stamp (command.Ret link m n) t = hear_step stamp (command.Ret link m n) t
-    legal_step stamp (command.Inr link) t = hear_step stamp (command.Inr link) t
-    legal_step stamp (command.Ins link) t = hear_step stamp (command.Ins link) t
-    legal_step stamp (command.Eco octet) t = hear_step stamp (command.Eco octet) t
-    legal_step stamp (command.Erp octet) t = hear_step stamp (command.Erp octet) t
-    legal_step stamp (command.Err code detail) t = hear_step stamp (command.Err code detail) t
     legal_step stamp command.Rst t = reset_step t
     legal_step stamp command.Rrp t = reply_step t
+    legal_step stamp c t = hear_step stamp c t
 
     order_step : (stamp : ℕ) (o : Order) (t : TurnState) → Step t (order_taken p stamp o t)
     order_step stamp (Legal c) t = legal_step stamp c t
@@ -269,6 +239,4 @@ module _ (a b p : Host) (off : same_host p b ≡ false) where
 
     pub answer_alike : (kind : Answer) (link : ℕ) (t : TurnState) → AreAlike a b (Lives t.notices) (Lives (answered_turn p kind link t).notices)
     answer_alike answer.Rfnm link t = told_more t.notices [] (alike_same a b (Lives t.notices))
-    answer_alike answer.Incomplete link t = fails_alike (record t { pair = freed link t.pair })
-    answer_alike answer.Dead link t = fails_alike (record t { pair = freed link t.pair })
-    answer_alike answer.NotTaken link t = fails_alike (record t { pair = freed link t.pair })
+    answer_alike kind link t = fails_alike (record t { pair = freed link t.pair })

@@ -51,11 +51,7 @@ ask_may (Grants socket messages bits e) q is may = Asks is (λ link s. may) tt
 ask_may (AsksBack socket messages bits e) q is may = Asks is (λ link s. (may.0, may.1)) may.2
 ask_may (Gives socket bits e) q is may = Asks is (λ link s. may) tt
 ask_may (Closes socket e) q is may = Asks is (λ link s. may) tt
-ask_may (Hears stamp said c) q is may = absurd is
-ask_may (Takes l text) q is may = absurd is
-ask_may (Says stamp c) q is may = absurd is
-ask_may (Sends stamp e size count) q is may = absurd is
-ask_may (Answered l) q is may = absurd is
+ask_may k q is may = absurd is
 
 -- nothing is done, or one such call is made
 pub data Calm (peer : Host) (q next : PairState) (cs : List calls.Moment) : Type 0 where
@@ -88,9 +84,7 @@ module _ (peer : Host) (link : ℕ) (t : TurnState) where
   fails : (ph : Phase) → t.pair.phase ≡ ph → Answers (failed_by peer ph cleared)
   fails phase.Closed e = λ r. clash _ (is_ready t.pair.phase) r (ap is_ready e)
   fails phase.Want e = λ r. clash _ (is_ready t.pair.phase) r (ap is_ready e)
-  fails (phase.Gone early) e = λ r. clash _ true refl (sym r)
-  fails phase.Heard e = λ r. clash _ true refl (sym r)
-  fails phase.Ready e = λ r. clash _ true refl (sym r)
+  fails ph e = λ r. clash _ true refl (sym r)
 
   settles : (ph : Phase) → Answers (settled_turn (record t { pair = record (freed link t.pair) { phase = ph } }))
   settles ph = λ r. one_call peer (Answered link) t.pair t.listening _ (λ m. Told link refl) refl
@@ -101,9 +95,7 @@ module _ (peer : Host) (link : ℕ) (t : TurnState) where
 
   answer_turn : (kind : Answer) → Answers (answered_turn peer kind link t)
   answer_turn answer.Rfnm = settles (rfnm_phase link t.pair.phase)
-  answer_turn answer.Incomplete = lost (is_gone t.pair.phase || not t.pair.owed)
-  answer_turn answer.Dead = lost (is_gone t.pair.phase || not t.pair.owed)
-  answer_turn answer.NotTaken = lost (is_gone t.pair.phase || not t.pair.owed)
+  answer_turn kind = lost (is_gone t.pair.phase || not t.pair.owed)
 
 module _ (s : NcpState) (stamp : ℕ) where
   pub answer_calm : (kind : Answer) (f : Flow) → same_host s.own f.source ≡ true

@@ -52,11 +52,8 @@ in_drops a b m moments (AText is) takes =
     absurd (let no : false ≡ true = subst (λ (n : Message). takes_reset a b (In m.flow.source m.flow.destination m.flow.link.0 n) ≡ true) is takes in cc)
 
 drops : (a b : Host) (x : Moment) (moments : List Moment) → takes_reset a b (event_in x) ≡ true → (pair_with b (program a (x ∷ moments)).peers).queue ≡ []
-drops a b (Crossed (crossing.Out m)) moments takes = absurd (let no : false ≡ true = takes in cc)
 drops a b (Crossed (crossing.In m)) moments takes = in_drops a b m moments (sort_of m.flow.link.0 m.text) takes
-drops a b (Crossed (crossing.Answer kind f)) moments takes = absurd (let no : false ≡ true = takes in cc)
-drops a b (Crossed (crossing.Down h)) moments takes = absurd (let no : false ≡ true = takes in cc)
-drops a b (Crossed (crossing.Up h)) moments takes = absurd (let no : false ≡ true = takes in cc)
+drops a b (Crossed c) moments takes = absurd (let no : false ≡ true = takes in cc)
 drops a b (Asked h r) moments takes =
     absurd (contradicts (takes_reset a b (event_in (Asked h r))) takes (by_request (λ e. takes_reset a b e ≡ false) h r (λ peer. refl) refl))
 

@@ -67,9 +67,7 @@ fits_none kind (Waiting place (Other text)) f plain = absurd (subst (λ (k : Ans
 
 not_empty : (kind : Answer) → Fits kind Empty → ⊥
 not_empty answer.Rfnm f = f
-not_empty answer.Dead f = f
-not_empty answer.Incomplete f = f
-not_empty answer.NotTaken f = f
+not_empty kind f = f
 
 fits_fetched : (kind : Answer) (z : Box) → Fits kind z → (kind_in z ≡ Some Plain → kind ≡ answer.Rfnm) → is_signal (kind_in z) ≡ false → post_in z ≡ Fetched
 fits_fetched kind Empty f plain none = absurd (not_empty kind f)
@@ -93,10 +91,7 @@ answered_settles p answer.Dead k t e r =
     let cleared : TurnState = record t { pair = freed k t.pair } in
     let is : failed p (record t { pair = freed k t.pair }) ≡ settled_turn (record t { pair = freed k t.pair }) = failed_settles p (record t { pair = freed k t.pair }) e t.pair.owed refl r in
     (sym (ap (λ (u : TurnState). u.pair.entries) is), sym (ap (λ (u : TurnState). u.pair.queue) is))
-answered_settles p answer.Incomplete k t e r =
-    let is : failed p (record t { pair = freed k t.pair }) ≡ settled_turn (record t { pair = freed k t.pair }) = failed_settles p (record t { pair = freed k t.pair }) e t.pair.owed refl r in
-    (sym (ap (λ (u : TurnState). u.pair.entries) is), sym (ap (λ (u : TurnState). u.pair.queue) is))
-answered_settles p answer.NotTaken k t e r =
+answered_settles p kind k t e r =
     let is : failed p (record t { pair = freed k t.pair }) ≡ settled_turn (record t { pair = freed k t.pair }) = failed_settles p (record t { pair = freed k t.pair }) e t.pair.owed refl r in
     (sym (ap (λ (u : TurnState). u.pair.entries) is), sym (ap (λ (u : TurnState). u.pair.queue) is))
 

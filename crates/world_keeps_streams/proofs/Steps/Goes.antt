@@ -88,19 +88,13 @@ out_run hosts h p m events text same is run =
 
 alone_first : (hosts : List Host) (a b : Host) (x : Moment) (moments : List Moment) → IsRun hosts (events_of (x ∷ moments)) → AloneFor a b (stay.stays b a (events_of moments)) x moments
 alone_first hosts a b (Crossed (crossing.Out m)) moments run = λ same text is left. out_alone hosts a b m.flow.link.0 text (events_of moments) (out_run hosts a b m (events_of moments) text same is run) left
-alone_first hosts a b (Crossed (crossing.In m)) moments run = tt
-alone_first hosts a b (Crossed (crossing.Answer kind f)) moments run = tt
-alone_first hosts a b (Crossed (crossing.Down g)) moments run = tt
-alone_first hosts a b (Crossed (crossing.Up g)) moments run = tt
+alone_first hosts a b (Crossed c) moments run = tt
 alone_first hosts a b (Asked g r) moments run = tt
 
 alone_second : (hosts : List Host) (a b : Host) (x : Moment) (moments : List Moment) → IsRun hosts (events_of (x ∷ moments)) → stay.begins a b (event_in x) (events_of moments) ≡ false → AloneFor b a (stay.stays a b (events_of (x ∷ moments))) x moments
 alone_second hosts a b (Crossed (crossing.Out m)) moments run old = λ same text is left.
     stays_out a b (event_in (Crossed (crossing.Out m))) (events_of moments) (out_alone hosts b a m.flow.link.0 text (events_of moments) (out_run hosts b a m (events_of moments) text same is run) left) old
-alone_second hosts a b (Crossed (crossing.In m)) moments run old = tt
-alone_second hosts a b (Crossed (crossing.Answer kind f)) moments run old = tt
-alone_second hosts a b (Crossed (crossing.Down g)) moments run old = tt
-alone_second hosts a b (Crossed (crossing.Up g)) moments run old = tt
+alone_second hosts a b (Crossed c) moments run old = tt
 alone_second hosts a b (Asked g r) moments run old = tt
 
 module _ (link : ℕ) (off : (link == 0) ≡ false) (steps : Steps numbered numbered_by_peer numbered_tells turned_tells link) (back : Steps numbered_by_peer numbered turned_tells numbered_tells link) (mirrors : Mirrors link) (hosts : List Host) (a b : Host) where
@@ -129,11 +123,8 @@ module _ (link : ℕ) (off : (link == 0) ≡ false) (steps : Steps numbered numb
 
     -- a moment in which no stay begins
     pub goes : (x : Moment) → IsStory (x ∷ moments) → IsRun hosts (events_of (x ∷ moments)) → ((h p : Host) → MayCalls (calls_by h p x moments)) → stay.begins a b (event_in x) (events_of moments) ≡ false → Goes a b link x moments old
-    goes (Crossed (crossing.Out m)) now law may none = own_goes (Crossed (crossing.Out m)) tt now law may none
     goes (Crossed (crossing.In m)) now law may none = in_goes m now law may none
-    goes (Crossed (crossing.Answer kind f)) now law may none = own_goes (Crossed (crossing.Answer kind f)) tt now law may none
-    goes (Crossed (crossing.Down g)) now law may none = own_goes (Crossed (crossing.Down g)) tt now law may none
-    goes (Crossed (crossing.Up g)) now law may none = own_goes (Crossed (crossing.Up g)) tt now law may none
+    goes (Crossed c) now law may none = own_goes (Crossed c) tt now law may none
     goes (Asked g r) now law may none = own_goes (Asked g r) tt now law may none
 
   -- ---- all lawful moments

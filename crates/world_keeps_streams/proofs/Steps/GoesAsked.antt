@@ -35,17 +35,12 @@ peer_changed s g p change false e =
     pair_changed g p (change (pair_with g s.peers)) s.peers ∙ ap (λ (t : Bool). cond t (change (pair_with g s.peers)) (pair_with p s.peers)) e
 
 busy_as : (link : ℕ) (k : Call) (q : PairState) → IsAsking k → is_out link k q ≡ is_busy q.busy link
-busy_as link (OpensReceiver own foreign) q is = refl
-busy_as link (OpensSender own foreign size) q is = refl
-busy_as link (Grants socket messages bits e) q is = refl
-busy_as link (AsksBack socket messages bits e) q is = refl
-busy_as link (Gives socket bits e) q is = refl
-busy_as link (Closes socket e) q is = refl
 busy_as link (Hears stamp said c) q is = absurd is
 busy_as link (Takes l text) q is = absurd is
 busy_as link (Says stamp c) q is = absurd is
 busy_as link (Sends stamp e size count) q is = absurd is
 busy_as link (Answered l) q is = absurd is
+busy_as link k q is = refl
 
 interrupts : (e : Entry) → IsWordless (interrupt_of e)
 interrupts e = by (is_receiving e) where
@@ -94,11 +89,7 @@ module _ (number other : ℕ → ℕ → ℕ → ℕ) (tells : IsTelling number)
   asks_may (AsksBack socket messages bits e) m is = m.0
   asks_may (Gives socket bits e) m is = m.0
   asks_may (Closes socket e) m is = m.0
-  asks_may (Hears stamp said c) m is = absurd is
-  asks_may (Takes l text) m is = absurd is
-  asks_may (Says stamp c) m is = absurd is
-  asks_may (Sends stamp e size count) m is = absurd is
-  asks_may (Answered l) m is = absurd is
+  asks_may k m is = absurd is
 
   opens_goes : (g : Host) (k : Call) (change : PairState → PairState) → IsAsking k → ends_by p k q s.listening ≡ (change q).entries → queue_by p k q s.listening ≡ (change q).queue
       → (t : Bool) → same_host p g ≡ t → MayCalls (if t then called k q s.listening ∷ [] else []) → Went (if t then called k q s.listening ∷ [] else []) (pair_with p (with_peer s g change).peers)

@@ -31,10 +31,7 @@ ready_as h p moments story =
 
 pub ready_phase : (ph : host.Phase) → program_phases.is_ready ph ≡ true → ph ≡ phase.Ready
 ready_phase phase.Ready e = refl
-ready_phase phase.Closed e = absurd (let no : false ≡ true = e in cc)
-ready_phase phase.Want e = absurd (let no : false ≡ true = e in cc)
-ready_phase (phase.Gone early) e = absurd (let no : false ≡ true = e in cc)
-ready_phase phase.Heard e = absurd (let no : false ≡ true = e in cc)
+ready_phase ph e = absurd (let no : false ≡ true = e in cc)
 
 and_first : (s t : Bool) → (s && t) ≡ true → s ≡ true
 and_first true t e = refl

@@ -37,19 +37,7 @@ use Rattle.world_keeps_streams.proofs.Calls.MayCalls.{MayCalls}
 module _ (peer : Host) (stamp : ℕ) where
   gone_queue : (c : Command) (d : DeskState) → (command_gone peer stamp c d).queue ≡ d.queue
   gone_queue command.Nop d = refl
-  gone_queue (command.Rts receive send link) d = refl
-  gone_queue (command.Str send receive size) d = refl
-  gone_queue (command.Cls own foreign) d = refl
-  gone_queue (command.All link messages bits) d = refl
-  gone_queue (command.Gvb link messages bits) d = refl
-  gone_queue (command.Ret link messages bits) d = refl
-  gone_queue (command.Inr link) d = refl
-  gone_queue (command.Ins link) d = refl
-  gone_queue (command.Eco octet) d = refl
-  gone_queue (command.Erp octet) d = refl
-  gone_queue (command.Err code detail) d = refl
-  gone_queue command.Rst d = refl
-  gone_queue command.Rrp d = refl
+  gone_queue c d = refl
 
   all_queue : (cs : List Command) (d : DeskState) → (commands_gone peer stamp cs d).queue ≡ d.queue
   all_queue [] d = refl

@@ -49,12 +49,6 @@ taken_over z bits (Some k) r = by (receivers.is_open k r && is_size z (r.size k)
   by false t = rw t refl
 
 moved_over : (m : receivers.Move) → NoCls m → (r : Receiver) → (receivers.moved m r).over ≡ r.over
-moved_over (receivers.Ask k) n r = refl
-moved_over (receivers.Open k) n r = refl
-moved_over (receivers.Grant k x y) n r = refl
-moved_over (receivers.AskBack k x y) n r = refl
-moved_over (receivers.Close k) n r = refl
-moved_over (receivers.Free k) n r = refl
 moved_over (receivers.Take z bits) n r = taken_over z bits r.end r
 moved_over (receivers.Hear (Rts k)) n r = refl
 moved_over (receivers.Hear (Str k z)) n r = refl
@@ -62,6 +56,7 @@ moved_over (receivers.Hear (All k x y)) n r = refl
 moved_over (receivers.Hear (Gvb k x y)) n r = refl
 moved_over (receivers.Hear (Ret k x y)) n r = back_over x y r.end r
 moved_over (receivers.Hear (Cls k)) n r = absurd n
+moved_over m n r = refl
 
 all_over : (ms : List receivers.Move) → NoneCls ms → (r : Receiver) → (all_received ms r).over ≡ r.over
 all_over [] n r = refl
@@ -86,10 +81,8 @@ none_gone true c = (tt, tt)
 none_gone false c = tt
 
 none_close : (x : Closing) (c : ℕ) → NoneCls (received_close x c)
-none_close closing.No c = (tt, tt)
-none_close closing.Due c = (tt, tt)
 none_close closing.Queued c = tt
-none_close closing.Sent c = (tt, tt)
+none_close x c = (tt, tt)
 
 none_answers : (link c : ℕ) (l : Option Listener) (free : Option ℕ) → NoneCls (answers_str link c l free)
 none_answers link c None free = tt
@@ -112,17 +105,7 @@ none_out : (name : ℕ → ℕ → ℕ) (link : ℕ) (c : Command) (es : List En
 none_out name link (command.Rts receive send l) es = none_asked name link (entry_at receive send es)
 none_out name link (command.Str send receive size) es = none_asked name link (entry_at send receive es)
 none_out name link (command.Cls own foreign) es = none_closed name link (entry_at own foreign es)
-none_out name link (command.All l m n) es = tt
-none_out name link (command.Gvb l m n) es = tt
-none_out name link (command.Ret l m n) es = tt
-none_out name link (command.Inr l) es = tt
-none_out name link (command.Ins l) es = tt
-none_out name link (command.Eco octet) es = tt
-none_out name link (command.Erp octet) es = tt
-none_out name link (command.Err code detail) es = tt
-none_out name link command.Nop es = tt
-none_out name link command.Rst es = tt
-none_out name link command.Rrp es = tt
+none_out name link c es = tt
 
 none_data : (link l : ℕ) (text : List Bool) (h : Option DataHeader) → NoneCls (data_received link l text h)
 none_data link l text None = tt
@@ -174,17 +157,7 @@ module _ (name : ℕ → ℕ → ℕ) (link other : ℕ) where
   hear_alike said (command.Ret l m n) d r t e =
       both_none (if l == link then receivers.Hear (Ret said m n) ∷ [] else []) (if l == other then receivers.Hear (Ret said m n) ∷ [] else [])
       (none_if (l == link) (receivers.Hear (Ret said m n) ∷ []) (tt, tt)) (none_if (l == other) (receivers.Hear (Ret said m n) ∷ []) (tt, tt)) r t e
-  hear_alike said (command.Rts receive send l) d r t e = e
-  hear_alike said (command.All l m n) d r t e = e
-  hear_alike said (command.Gvb l m n) d r t e = e
-  hear_alike said (command.Inr l) d r t e = e
-  hear_alike said (command.Ins l) d r t e = e
-  hear_alike said (command.Eco octet) d r t e = e
-  hear_alike said (command.Erp octet) d r t e = e
-  hear_alike said (command.Err code detail) d r t e = e
-  hear_alike said command.Nop d r t e = e
-  hear_alike said command.Rst d r t e = e
-  hear_alike said command.Rrp d r t e = e
+  hear_alike said c d r t e = e
 
   call_alike : (k : Call) (q : PairState) (listening : List Listener) (r t : Receiver) → r.over ≡ t.over → (all_received (received_at name link k q listening) r).over ≡ (all_received (received_at name other k q listening) t).over
   call_alike (Hears stamp said c) q listening r t e = hear_alike said c (desk_of q listening) r t e
@@ -199,10 +172,7 @@ module _ (name : ℕ → ℕ → ℕ) (link other : ℕ) where
       both_none (on_link link x (receivers.AskBack (named name x) m n ∷ [])) (on_link other x (receivers.AskBack (named name x) m n ∷ [])) (none_on link x (receivers.AskBack (named name x) m n) tt) (none_on other x (receivers.AskBack (named name x) m n) tt) r t e
   call_alike (Closes socket x) q listening r t e =
       both_none (on_link link x (receivers.Close (named name x) ∷ [])) (on_link other x (receivers.Close (named name x) ∷ [])) (none_on link x (receivers.Close (named name x)) tt) (none_on other x (receivers.Close (named name x)) tt) r t e
-  call_alike (Sends stamp x size count) q listening r t e = e
-  call_alike (Answered l) q listening r t e = e
-  call_alike (OpensSender own foreign size) q listening r t e = e
-  call_alike (Gives socket bits x) q listening r t e = e
+  call_alike k q listening r t e = e
 
 pub over_alike : (number : ℕ → ℕ → ℕ → ℕ) (peer : Host) (link other : ℕ) (own : List calls.Moment) → (receiver_now number peer link own).over ≡ (receiver_now number peer other own).over
 over_alike number peer link other [] = refl
@@ -271,12 +241,10 @@ module _ (r : Receiver) (c : ℕ) (o : r.over c ≡ true) where
   kept_move (receivers.Close k) may = record { over = o; first = kept_close k (r.over k) refl; granted = refl }
   kept_move (receivers.Free k) may = record { over = o; first = refl; granted = refl }
   kept_move (receivers.Take z bits) may = kept_taken z bits r.end
-  kept_move (receivers.Hear (Rts k)) may = itself
   kept_move (receivers.Hear (Str k z)) may = record { over = o; first = refl; granted = refl }
-  kept_move (receivers.Hear (All k m n)) may = itself
-  kept_move (receivers.Hear (Gvb k m n)) may = itself
   kept_move (receivers.Hear (Ret k m n)) may = kept_back m n r.end
   kept_move (receivers.Hear (Cls k)) may = record { over = kept_cls k; first = refl; granted = refl }
+  kept_move (receivers.Hear c) may = itself
 
 kept_then : (r s t : Receiver) (c : ℕ) → Kept r s c → Kept s t c → Kept r t c
 kept_then r s t c k l = record { over = l.over; first = l.first ∙ k.first; granted = l.granted ∙ k.granted }

@@ -30,16 +30,7 @@ use Rattle.world_keeps_streams.proofs.law.worked_closes.Goals as goal
 -- calls of which none closes an end
 is_other : calls.Call → Bool
 is_other (Closes socket e) = false
-is_other (Hears stamp said c) = true
-is_other (Takes link text) = true
-is_other (Says stamp c) = true
-is_other (Sends stamp e size count) = true
-is_other (Answered link) = true
-is_other (OpensReceiver own foreign) = true
-is_other (OpensSender own foreign size) = true
-is_other (Grants socket messages bits e) = true
-is_other (AsksBack socket messages bits e) = true
-is_other (Gives socket bits e) = true
+is_other c = true
 
 are_others : List calls.Moment → Bool
 are_others [] = true
@@ -48,16 +39,7 @@ are_others (m ∷ ms) = if is_other m.call then are_others ms else false
 not_closing : (name : ℕ → ℕ → ℕ) (link c : ℕ) (k : calls.Call) → is_other k ≡ true → calls.IsClosing name link c k → ⊥
 unfolding is_other
 not_closing name link c (Closes socket e) o i = absurd (let no : false ≡ true = o in cc)
-not_closing name link c (Hears stamp said w) o i = i
-not_closing name link c (Takes l text) o i = i
-not_closing name link c (Says stamp w) o i = i
-not_closing name link c (Sends stamp e size count) o i = i
-not_closing name link c (Answered l) o i = i
-not_closing name link c (OpensReceiver own foreign) o i = i
-not_closing name link c (OpensSender own foreign size) o i = i
-not_closing name link c (Grants socket messages bits e) o i = i
-not_closing name link c (AsksBack socket messages bits e) o i = i
-not_closing name link c (Gives socket bits e) o i = i
+not_closing name link c k o i = i
 
 closes_at : (peer : Host) (link c : ℕ) (m : calls.Moment) (ms : List calls.Moment) (v : Bool) → is_other m.call ≡ v → (if v then are_others ms else false) ≡ true → (are_others ms ≡ true → HasClosed numbered peer link c ms → ⊥) → HasClosed numbered peer link c (m ∷ ms) → ⊥
 closes_at peer link c m ms true e f rest (inl i) = not_closing (name_now numbered peer ms) link c m.call e i
