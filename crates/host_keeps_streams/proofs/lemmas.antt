@@ -2,6 +2,7 @@
 pub use Rattle.host_keeps_streams.proofs.Chain.{Holds, IsAhead, holds_now, is_there, name_of, numbered_tells, same_numbers, step_box, step_holds, step_received, step_sent}
 pub use Rattle.host_keeps_streams.proofs.Ending.{not_called, shut_one, stays}
 pub use Rattle.host_keeps_streams.proofs.Firsts.{closed_first}
+pub use Rattle.host_keeps_streams.proofs.Known.{known_found}
 pub use Rattle.host_keeps_streams.proofs.Leaving.{due_open}
 pub use Rattle.host_keeps_streams.proofs.Lists.{away, find_passes, first_is, none_is, not_received, other_receives, received_is, unlike}
 pub use Rattle.host_keeps_streams.proofs.Names.{apart_changed, found_among, numbers_changed, numbers_mapped, or_right}

@@ -16,6 +16,7 @@ use Rattle.host_keeps_streams.specs.Closings.{all_received, all_sent}
 use Rattle.host_keeps_streams.specs.Histories.{Call, IsTelling, IsAllowed, KeepBox, is_out, ends_by, gone_by, received_at, sent_at}
 use Rattle.host_keeps_streams.proofs.lemmas.{Holds, name_of, step_box, step_holds, step_received, step_sent}
 use Rattle.pair_keeps_streams.specs.Words.{plain, received_words, sent_words, closings_in, said_of, heard_from, receiver_words, sender_words}
+use Rattle.pair_keeps_streams.proofs.Granted.{AreKept, exact_receives, exact_sends}
 use Rattle.pair_keeps_streams.proofs.Joint.{queue_by, AreLinked, Speaks, Party, Post, Half, Line, IsBox, Joint, receives, sends, heard_by, said_by}
 use Rattle.pair_keeps_streams.proofs.Spoken.{AskedSame, closings_append, closings_same, receiver_append, receiver_same, sender_append, sender_same}
 use Rattle.pair_keeps_streams.proofs.Streams.{Receiving, Sending, kept_receives, kept_sends, receives_receiver, receives_said, receives_sender, sends_receiver, sends_said, sends_sender}
@@ -98,13 +99,15 @@ module _ (number other : ℕ → ℕ → ℕ → ℕ) (tells : IsTelling number)
 
     -- the other host is as it was, but for what is heard of it, and its message. `news`: nothing is asked for of which a CLS was said
     pub core : IsAllowed link k q y.sender → AreLinked (name_of number over) link left (all_received rm x.receiver) → AskedSame number link x.receiver.asked (all_received rm x.receiver).asked (said_of gone q.entries)
-        → (rest_x rest_y : List Word) (box_x box_y : Box) → Receiving rm x rest_x box_x → Sending sm y rest_y box_y
+        → (rest_x rest_y : List Word) (box_x box_y : Box) → Receiving rm x rest_x box_x → Sending sm y rest_y box_y → (b.stays ≡ true → AreKept sm y)
         → (waits : List Command) → Line other link (heard_from over left) waits y.receiver.asked rest_y rest_x → (b.stays ≡ true → (own foreign : ℕ) → said_by b own foreign ≡ closings_in waits (heard_from over left) own foreign)
         → (mine theirs : Post) → IsBox (record b { pending = waits; post = theirs }) (staying over left (pending ++ speaks.new) mine) box_x → IsBox (staying over left (pending ++ speaks.new) mine) (record b { pending = waits; post = theirs }) box_y
         → Joint number other tells others link (receives rm x) (sends sm y) (staying over left (pending ++ speaks.new) mine) (record b { pending = waits; post = theirs })
-    core allowed linked news rest_x rest_y box_x box_y rx sy waits line told mine theirs bx by = record {
+    core allowed linked news rest_x rest_y box_x box_y rx sy ready waits line told mine theirs bx by = record {
       inv_x = kept_receives rm x (step_received number tells peer link gone k q listening x.receiver y.sender allowed holds_here).0 rx.may j.inv_x;
       inv_y = kept_sends sm y (step_sent number tells peer link gone k q listening x.receiver y.sender allowed holds_here).may sy.may j.inv_y;
+      exact_x = λ e f. exact_receives rm x (step_received number tells peer link gone k q listening x.receiver y.sender allowed holds_here).0 rx.may j.inv_x (j.exact_x refl f);
+      exact_y = λ e f. exact_sends sm y (step_sent number tells peer link gone k q listening x.receiver y.sender allowed holds_here).may sy.may (ready f) j.inv_y (j.exact_y refl f);
       mine = λ e. subst (λ (r : Receiver). Half number tells link r (sends sm y).sender (staying over left (pending ++ speaks.new) mine)) (sym (receives_receiver rm x))
           (subst (λ (s : Sender). Half number tells link (all_received rm x.receiver) s (staying over left (pending ++ speaks.new) mine)) (sym (sends_sender sm y)) half);
       theirs = λ e. subst (λ (r : Receiver). Half other others link r (receives rm x).sender (record b { pending = waits; post = theirs })) (sym (sends_receiver sm y))

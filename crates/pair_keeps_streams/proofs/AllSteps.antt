@@ -18,8 +18,10 @@ use Rattle.host_pairs.specs.declared.listener.Listener.{Listener}
 use Rattle.host_keeps_streams.specs.Closings.{all_received, all_sent}
 use Rattle.host_keeps_streams.specs.Formed.{HasSaid}
 use Rattle.host_keeps_streams.specs.Histories.{Call, Hears, Takes, Says, Sends, Answered, IsTelling, IsAllowed, is_out, ends_by, gone_by, received_at, sent_at}
+use Rattle.host_keeps_streams.proofs.lemmas.{name_of}
 use Rattle.pair_keeps_streams.proofs.Joint.{IsPaired, IsPairedCall, IsFirst, Party, Post, Free, Lies, Fetched, Joint}
 use Rattle.pair_keeps_streams.proofs.After.{Stepped, x_after, y_after}
+use Rattle.pair_keeps_streams.proofs.Granted.{IsRequest, NotTaken}
 use Rattle.pair_keeps_streams.proofs.StepAsks.{IsAsking}
 use Rattle.pair_keeps_streams.proofs.StepHears.{IsHeard}
 use Rattle.pair_keeps_streams.proofs.Joint.{receives}
@@ -40,7 +42,7 @@ pub record Steps (number other : ℕ → ℕ → ℕ → ℕ) (tells : IsTelling
   pub hears : (x y : Stream) (a b : Party) → Joint number other tells others link x y a b → a.stays ≡ true → (peer : Host) (q : PairState) → q.entries ≡ a.entries → (listening : List Listener) → (stamp : ℕ) (c : Command) (more : List Command) → b.pending ≡ c ∷ more
       → IsCommand c → IsPaired c → IsFirst c a.entries → IsHeard c a.entries → (is_busy q.busy link ≡ false → a.post ≡ Free)
       → (said : ℕ) × Stepped number other tells others link x y a peer (Hears stamp said c) q listening a.post (record b { pending = more })
-  pub says : (x y : Stream) (a b : Party) → Joint number other tells others link x y a b → a.stays ≡ true → (peer : Host) (q : PairState) → q.entries ≡ a.entries → (listening : List Listener) → (stamp : ℕ) (c : Command) → HasSaid c a.entries
+  pub says : (x y : Stream) (a b : Party) → Joint number other tells others link x y a b → a.stays ≡ true → (peer : Host) (q : PairState) → q.entries ≡ a.entries → (listening : List Listener) → (stamp : ℕ) (c : Command) → HasSaid c a.entries → (b.stays ≡ true → IsRequest c → NotTaken (name_of number a.gone) (name_of other b.gone) a.entries b.entries)
       → Joint number other tells others link (x_after number link (Says stamp c) q listening a x) (y_after number link (Says stamp c) q listening a y)
       (record a { gone = gone_by a.entries (ends_by peer (Says stamp c) q listening) a.gone; entries = ends_by peer (Says stamp c) q listening }) b
   pub bytes : (x y : Stream) (a b : Party) → Joint number other tells others link x y a b → a.stays ≡ true → (peer : Host) (q : PairState) → q.entries ≡ a.entries → (listening : List Listener) → (stamp : ℕ) (e : Entry) (size count : ℕ) → next_of q ≡ Some (Bytes e size count)
@@ -75,7 +77,7 @@ all_steps number other tells others same link off = record {
   says = λ x y a b j stays peer q here listening. step_says number other tells others same link off x y a b j stays peer q here listening;
   bytes = λ x y a b j stays peer q here listening. step_bytes number other tells others same link off x y a b j stays peer q here listening;
   no_bytes = λ x y a b j stays peer q here listening. step_no_bytes number other tells others same link off x y a b j stays peer q here listening;
-  replied = λ x y a b j stays peer q here listening stamp. step_says number other tells others same link off x y a b j stays peer q here listening stamp command.Nop tt;
+  replied = λ x y a b j stays peer q here listening stamp. step_says number other tells others same link off x y a b j stays peer q here listening stamp command.Nop tt (λ s n. absurd n);
   wordless = λ x y a b j. wordless number other tells others link x y a b j;
   leaves = λ x y a b j. leaves number other tells others link x y a b j;
   ghost = λ x y a b j. ghost number other tells others link x y a b j;

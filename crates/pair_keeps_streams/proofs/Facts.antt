@@ -16,6 +16,7 @@ use Rattle.host_keeps_streams.proofs.lemmas.{Holds, name_of}
 use Rattle.pair_keeps_streams.specs.Words.{received_words, sent_words, with_closing, closings_in, heard_of, heard_from}
 use Rattle.pair_keeps_streams.proofs.Joint.{IsPairedCall, AreLinked, Speaks, IsFirst, Party, Post, Free, Lies, Fetched, Line, IsPosted, IsBox, Joint, receives, sends, heard_by, said_by}
 use Rattle.pair_keeps_streams.proofs.After.{staying, core}
+use Rattle.pair_keeps_streams.proofs.Granted.{AreKept}
 use Rattle.pair_keeps_streams.proofs.News.{news}
 use Rattle.pair_keeps_streams.proofs.Spoken.{closings_same, receiver_same, sender_same}
 use Rattle.pair_keeps_streams.proofs.Streams.{Receiving, Sending}
@@ -65,21 +66,21 @@ module _ (number other : ℕ → ℕ → ℕ → ℕ) (tells : IsTelling number)
   abbrev pub later : Post → Party
   later mine = staying (gone_by q.entries (ends_by peer k q listening) gone) (ends_by peer k q listening) (pending ++ said.new) mine
 
-  pub any : (rest_x rest_y : List Word) (box_x box_y : Box) → Receiving rms x rest_x box_x → Sending sms y rest_y box_y
+  pub any : (rest_x rest_y : List Word) (box_x box_y : Box) → Receiving rms x rest_x box_x → Sending sms y rest_y box_y → (b.stays ≡ true → AreKept sms y)
       → (waits : List Command) → Line other link (heard_by (later post)) waits y.receiver.asked rest_y rest_x → (b.stays ≡ true → (own foreign : ℕ) → said_by b own foreign ≡ closings_in waits (heard_by (later post)) own foreign)
       → (mine theirs : Post) → IsBox (record b { pending = waits; post = theirs }) (later mine) box_x → IsBox (later mine) (record b { pending = waits; post = theirs }) box_y
       → Joint number other tells others link (receives rms x) (sends sms y) (later mine) (record b { pending = waits; post = theirs })
-  any rest_x rest_y box_x box_y rx sy waits line told mine theirs bx by =
+  any rest_x rest_y box_x box_y rx sy ready waits line told mine theirs bx by =
       core number other tells others link x y gone pending post b q j peer listening k said allowed
       (facts.linked link gone peer q listening x.receiver y.sender k allowed paired (j.mine refl).holds (j.mine refl).linked)
-      (news number tells link gone q listening k y.sender allowed x.receiver) rest_x rest_y box_x box_y rx sy waits line told mine theirs bx by
+      (news number tells link gone q listening k y.sender allowed x.receiver) rest_x rest_y box_x box_y rx sy ready waits line told mine theirs bx by
 
   -- where nothing is heard
-  pub alone : IsNoHearing k → (box_x box_y : Box) → Receiving rms x x.to_receiver box_x → Sending sms y y.to_sender box_y
+  pub alone : IsNoHearing k → (box_x box_y : Box) → Receiving rms x x.to_receiver box_x → Sending sms y y.to_sender box_y → (b.stays ≡ true → AreKept sms y)
       → (mine theirs : Post) → IsBox (record b { post = theirs }) (later mine) box_x → IsBox (later mine) (record b { post = theirs }) box_y
       → Joint number other tells others link (receives rms x) (sends sms y) (later mine) (record b { post = theirs })
-  alone silent box_x box_y rx sy mine theirs bx by =
-      any x.to_receiver y.to_sender box_x box_y rx sy b.pending line told mine theirs bx by where
+  alone silent box_x box_y rx sy ready mine theirs bx by =
+      any x.to_receiver y.to_sender box_x box_y rx sy ready b.pending line told mine theirs bx by where
         same : (own foreign : ℕ) → heard_from gone q.entries own foreign ≡ heard_by (later post) own foreign
         same own foreign = sym (facts.unheard link gone peer q listening x.receiver y.sender k allowed (j.mine refl).holds silent foreign own)
 

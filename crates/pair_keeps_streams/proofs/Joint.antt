@@ -12,7 +12,7 @@ use Rattle.stream_law.specs.Receivers.{Receiver}
 use Rattle.stream_law.specs.Senders as senders
 use Rattle.stream_law.specs.Senders.{Sender}
 use Rattle.stream_law.specs.Streams.{Stream, Box, Empty, Waiting, Taken, Receives, Sends, happens}
-use Rattle.stream_law.proofs.lemmas.{Inv}
+use Rattle.stream_law.proofs.lemmas.{Exact, Inv}
 use Rattle.host_pairs.specs.Asked.{closed_end, receiver_requested, requested}
 use Rattle.host_pairs.specs.Commands.{desk_taken}
 use Rattle.host_pairs.specs.Data.{data_of, data_taken}
@@ -125,6 +125,9 @@ pub record IsBox (sender receiver : Party) (box : Box) : Type 0 where
 pub record Joint (number other : ℕ → ℕ → ℕ → ℕ) (tells : IsTelling number) (others : IsTelling other) (link : ℕ) (x y : Stream) (a b : Party) : Type 0 where
   pub inv_x : Inv x
   pub inv_y : Inv y
+  -- while both stay nothing that was granted is lost
+  pub exact_x : a.stays ≡ true → b.stays ≡ true → Exact true x
+  pub exact_y : a.stays ≡ true → b.stays ≡ true → Exact true y
   pub mine : a.stays ≡ true → Half number tells link x.receiver y.sender a
   pub theirs : b.stays ≡ true → Half other others link y.receiver x.sender b
   pub to_b : b.stays ≡ true → Line number link (heard_by b) a.pending x.receiver.asked x.to_sender y.to_receiver

@@ -13,6 +13,8 @@ pub mod Asked
 pub mod Links
 pub mod Linked
 pub mod Streams
+pub mod Granted
+pub mod Agree
 pub mod Spoken
 pub mod After
 pub mod News

@@ -7,7 +7,7 @@ use Rattle.stream_law.specs.Receivers as receivers
 use Rattle.stream_law.specs.Receivers.{Receiver}
 use Rattle.stream_law.specs.Senders as senders
 use Rattle.stream_law.specs.Streams.{Stream, Box, Empty, Waiting, Taken, opening_stream}
-use Rattle.stream_law.proofs.lemmas.{inv_opening}
+use Rattle.stream_law.proofs.lemmas.{exact_opening, inv_opening}
 use Rattle.host_pairs.specs.declared.entry.Entry.{Entry}
 use Rattle.host_keeps_streams.specs.Histories.{IsTelling}
 use Rattle.host_keeps_streams.proofs.lemmas.{Holds, name_of}
@@ -49,6 +49,8 @@ module _ (number other : ℕ → ℕ → ℕ → ℕ) (tells : IsTelling number)
   mirror x y a b j = record {
     inv_x = j.inv_y;
     inv_y = j.inv_x;
+    exact_x = λ e f. j.exact_y f e;
+    exact_y = λ e f. j.exact_x f e;
     mine = j.theirs;
     theirs = j.mine;
     to_b = j.to_a;
@@ -65,6 +67,8 @@ module _ (number other : ℕ → ℕ → ℕ → ℕ) (tells : IsTelling number)
   wordless c w = record {
     inv_x = j.inv_x;
     inv_y = j.inv_y;
+    exact_x = j.exact_x;
+    exact_y = j.exact_y;
     mine = λ e. record { holds = (j.mine e).holds; linked = (j.mine e).linked };
     theirs = j.theirs;
     to_b = λ e. record {
@@ -90,6 +94,8 @@ module _ (number other : ℕ → ℕ → ℕ → ℕ) (tells : IsTelling number)
   leaves c gone pending post = record {
     inv_x = j.inv_x;
     inv_y = j.inv_y;
+    exact_x = λ e f. never e;
+    exact_y = λ e f. never e;
     mine = λ e. never e;
     theirs = j.theirs;
     to_b = λ e. subst (λ (cs : List Command). Line number link (heard_by b) cs x.receiver.asked x.to_sender y.to_receiver) (sym pending) (j.to_b e);
@@ -113,6 +119,8 @@ module _ (number other : ℕ → ℕ → ℕ → ℕ) (tells : IsTelling number)
   gone_post gone post none = record {
     inv_x = j.inv_x;
     inv_y = j.inv_y;
+    exact_x = λ e f. never e;
+    exact_y = λ e f. never e;
     mine = λ e. record { holds = (j.mine e).holds; linked = (j.mine e).linked };
     theirs = j.theirs;
     to_b = j.to_b;
@@ -130,6 +138,8 @@ module _ (number other : ℕ → ℕ → ℕ → ℕ) (tells : IsTelling number)
   gone_pending gone pending = record {
     inv_x = j.inv_x;
     inv_y = j.inv_y;
+    exact_x = λ e f. never f;
+    exact_y = λ e f. never f;
     mine = λ e. record { holds = (j.mine e).holds; linked = (j.mine e).linked };
     theirs = j.theirs;
     to_b = λ e. never e;
@@ -147,6 +157,8 @@ module _ (number other : ℕ → ℕ → ℕ → ℕ) (tells : IsTelling number)
   ghost_by c z bits gone e = record {
     inv_x = kept_receives (receivers.Take z bits ∷ []) x (tt, tt) ((c, e), tt) j.inv_x;
     inv_y = j.inv_y;
+    exact_x = λ e f. never e;
+    exact_y = λ e f. never e;
     mine = λ e. never e;
     theirs = λ e. record { holds = (j.theirs e).holds; linked = (j.theirs e).linked };
     to_b = λ e. record {
@@ -218,6 +230,8 @@ opened_fresh : (number other : ℕ → ℕ → ℕ → ℕ) (tells : IsTelling n
 opened_fresh number other tells others link a b f g = record {
   inv_x = inv_opening;
   inv_y = inv_opening;
+  exact_x = λ e h. exact_opening true;
+  exact_y = λ e h. exact_opening true;
   mine = λ e. fresh_half number tells link a f;
   theirs = λ e. fresh_half other others link b g;
   to_b = λ e. fresh_line number link (heard_by b) receivers.opening_receiver.asked a.pending f.pending;

@@ -24,6 +24,7 @@ use Rattle.host_keeps_streams.proofs.lemmas.{name_of}
 use Rattle.pair_keeps_streams.proofs.Joint.{queue_by, IsPairedCall, Party, Post, Free, Lies, Fetched, IsPosted, IsBox, Joint, receives, sends}
 use Rattle.pair_keeps_streams.proofs.After.{Stepped, staying, keep_box}
 use Rattle.pair_keeps_streams.proofs.Facts.{IsNoHearing, Facts, free_empty, said, later, alone}
+use Rattle.pair_keeps_streams.proofs.Granted.{AreKept, IsRequest, IsUnasked, NoOpens, closes_none, none_kept, out_kept}
 use Rattle.pair_keeps_streams.proofs.Streams.{AreQuiet, AreQuietSent, Sending, quiet_received, quiet_sent, told_sent}
 
 -- ---- what a user asks for
@@ -146,12 +147,12 @@ module _ (number other : ℕ → ℕ → ℕ → ℕ) (tells : IsTelling number)
 
   -- quiet moves
   pub calm : (k : Call) (allowed : IsAllowed link k q y.sender) (paired : IsPairedCall k) → IsNoHearing k → AreQuiet (received_at (name_of number gone) link k q listening) → AreQuietSent (sent_at (name_of number gone) link k q listening y.sender)
-      → (out : Bool) → KeepBox out (sent_at (name_of number gone) link k q listening y.sender) y.sender → (out ≡ false → y.box ≡ Empty) → Stepped number other tells others link x y (staying gone q.entries pending post) peer k q listening post b
-  calm k allowed paired silent quiet quiet_s out keep room =
+      → (b.stays ≡ true → AreKept (sent_at (name_of number gone) link k q listening y.sender) y) → (out : Bool) → KeepBox out (sent_at (name_of number gone) link k q listening y.sender) y.sender → (out ≡ false → y.box ≡ Empty) → Stepped number other tells others link x y (staying gone q.entries pending post) peer k q listening post b
+  calm k allowed paired silent quiet quiet_s ready out keep room =
       stepped k allowed paired post b
       (alone number other tells others facts link off x y gone pending post b q j peer listening k allowed paired silent x.box y.box
       (quiet_received (received_at (name_of number gone) link k q listening) x quiet)
-      (quiet_sent out (sent_at (name_of number gone) link k q listening y.sender) y quiet_s keep room)
+      (quiet_sent out (sent_at (name_of number gone) link k q listening y.sender) y quiet_s keep room) ready
       post b.post (same_box post (later number other tells others facts link off x y gone pending post b q j peer listening k allowed paired post) refl)
       (own_box k post (ends_by peer k q listening) (gone_by q.entries (ends_by peer k q listening) gone) (pending ++ (said number other tells others facts link off x y gone pending post b q j peer listening k allowed paired).new) y.box (j.box_y.whole refl)))
 
@@ -167,15 +168,24 @@ module _ (number other : ℕ → ℕ → ℕ → ℕ) (tells : IsTelling number)
   asks_calm (Closes socket e) i = (if_quiet (receives_on link e) (receivers.Close (named (name_of number gone) e) ∷ []) (tt, tt), closes_quiet (name_of number gone) q.busy (with_end socket called_off q).entries, tt)
   asks_calm k i = absurd (i)
 
+  asks_none : (k : Call) → IsAsking k → NoOpens (sent_at (name_of number gone) link k q listening y.sender)
+  asks_none (OpensReceiver own foreign) i = tt
+  asks_none (OpensSender own foreign z) i = tt
+  asks_none (Grants socket m n e) i = tt
+  asks_none (AsksBack socket m n e) i = tt
+  asks_none (Gives socket bits e) i = tt
+  asks_none (Closes socket e) i = closes_none (name_of number gone) q.busy (with_end socket called_off q).entries
+  asks_none k i = absurd (i)
+
   -- a user asks
   pub asks : (k : Call) → IsAsking k → IsAllowed link k q y.sender → IsPairedCall k → (is_out link k q ≡ false → post ≡ Free) → Stepped number other tells others link x y (staying gone q.entries pending post) peer k q listening post b
   asks k i allowed paired room =
-      calm k allowed paired (asks_calm k i).2 (asks_calm k i).0 (asks_calm k i).1 (is_out link k q) (keeps k allowed) (room_here k room)
+      calm k allowed paired (asks_calm k i).2 (asks_calm k i).0 (asks_calm k i).1 (λ s. none_kept (sent_at (name_of number gone) link k q listening y.sender) y (asks_none k i)) (is_out link k q) (keeps k allowed) (room_here k room)
 
   -- what was sent on another link is answered
   pub elsewhere : (l : ℕ) → (l == link) ≡ false → (is_out link (Answered l) q ≡ false → post ≡ Free) → Stepped number other tells others link x y (staying gone q.entries pending post) peer (Answered l) q listening post b
   elsewhere l e room =
-      calm (Answered l) tt tt tt tt (rw e (closes_quiet (name_of number gone) (freed l q).busy q.entries)) (is_out link (Answered l) q) (keeps (Answered l) tt) (room_here (Answered l) room)
+      calm (Answered l) tt tt tt tt (rw e (closes_quiet (name_of number gone) (freed l q).busy q.entries)) (λ s. none_kept (sent_at (name_of number gone) link (Answered l) q listening y.sender) y (rw e (closes_none (name_of number gone) (freed l q).busy q.entries))) (is_out link (Answered l) q) (keeps (Answered l) tt) (room_here (Answered l) room)
 
   -- and on this one
   pub answered : (l : ℕ) → (l == link) ≡ true → post ≡ Fetched → Stepped number other tells others link x y (staying gone q.entries pending post) peer (Answered l) q listening Free b
@@ -184,6 +194,7 @@ module _ (number other : ℕ → ℕ → ℕ → ℕ) (tells : IsTelling number)
       (alone number other tells others facts link off x y gone pending post b q j peer listening (Answered l) tt tt tt x.box Empty
       (quiet_received [] x tt)
       told
+      (λ s. none_kept (sent_at (name_of number gone) link (Answered l) q listening y.sender) y (rw e (closes_none (name_of number gone) (freed l q).busy q.entries)))
       Free b.post (same_box Free (later number other tells others facts link off x y gone pending post b q j peer listening (Answered l) tt tt Free) refl)
       (own_box (Answered l) Free (ends_by peer (Answered l) q listening) (gone_by q.entries (ends_by peer (Answered l) q listening) gone) (pending ++ (said number other tells others facts link off x y gone pending post b q j peer listening (Answered l) tt tt).new) Empty tt)) where
         taken : (p : Post) (box : Box) → IsPosted p box → p ≡ Fetched → box ≡ Taken
@@ -201,13 +212,14 @@ module _ (number other : ℕ → ℕ → ℕ → ℕ) (tells : IsTelling number)
 
   -- data come on another link
   pub passes : (l : ℕ) (text : List Bool) → (l == link) ≡ false → Stepped number other tells others link x y (staying gone q.entries pending post) peer (Takes l text) q listening post b
-  passes l text e = calm (Takes l text) tt tt tt (passes_quiet link l text (header_of text) e) tt true tt (λ f. absurd (cc))
+  passes l text e = calm (Takes l text) tt tt tt (passes_quiet link l text (header_of text) e) tt (λ s. tt) true tt (λ f. absurd (cc))
 
   -- a command goes out
-  said_out : (stamp : ℕ) (c : Command) → HasSaid c q.entries → Stepped number other tells others link x y (staying gone q.entries pending post) peer (Says stamp c) q listening post b
-  said_out stamp c has =
+  said_out : (stamp : ℕ) (c : Command) → HasSaid c q.entries → (b.stays ≡ true → IsRequest c → IsUnasked (name_of number gone) q.entries y.receiver) → Stepped number other tells others link x y (staying gone q.entries pending post) peer (Says stamp c) q listening post b
+  said_out stamp c has unasked =
       let calmly : AreQuietSent (sent_out (name_of number gone) link c q.entries y.sender) × KeepBox true (sent_out (name_of number gone) link c q.entries y.sender) y.sender = out_calm (name_of number gone) link c q.entries y.sender in
-      calm (Says stamp c) has tt tt (out_quiet (name_of number gone) link c q.entries) calmly.0 true calmly.1 (λ f. absurd (cc))
+      calm (Says stamp c) has tt tt (out_quiet (name_of number gone) link c q.entries) calmly.0
+      (λ s. out_kept number tells link gone q.entries x.receiver y (j.mine refl).holds j.inv_y c (unasked s)) true calmly.1 (λ f. absurd (cc))
 
   -- nothing more waits where the queue is as it was
   pub nothing_new : (k : Call) (mine : Post) (b' : Party) → queue_by peer k q listening ≡ q.queue → Stepped number other tells others link x y (staying gone q.entries pending post) peer k q listening mine b'
@@ -218,7 +230,7 @@ module _ (number other : ℕ → ℕ → ℕ → ℕ) (tells : IsTelling number)
       (staying (gone_by q.entries (ends_by peer k q listening) gone) (ends_by peer k q listening) cs mine) b')
       (ap (λ (cs : List Command). pending ++ cs) (no_more q.queue s.new (sym same ∙ s.queue)) ∙ append-nil pending) s.joint
 
-  pub says : (stamp : ℕ) (c : Command) → HasSaid c q.entries
+  pub says : (stamp : ℕ) (c : Command) → HasSaid c q.entries → (b.stays ≡ true → IsRequest c → IsUnasked (name_of number gone) q.entries y.receiver)
       → Joint number other tells others link (receives (received_at (name_of number gone) link (Says stamp c) q listening) x) (sends (sent_at (name_of number gone) link (Says stamp c) q listening y.sender) y)
       (staying (gone_by q.entries (ends_by peer (Says stamp c) q listening) gone) (ends_by peer (Says stamp c) q listening) pending post) b
-  says stamp c has = nothing_new (Says stamp c) post b refl (said_out stamp c has)
+  says stamp c has unasked = nothing_new (Says stamp c) post b refl (said_out stamp c has unasked)

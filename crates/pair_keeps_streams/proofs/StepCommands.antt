@@ -8,7 +8,8 @@ use Rattle.stream_law.specs.Receivers as receivers
 use Rattle.stream_law.specs.Senders as senders
 use Rattle.stream_law.specs.Senders.{Sender}
 use Rattle.stream_law.specs.Streams.{Stream}
-use Rattle.host_pairs.specs.Entries.{is_busy}
+use Rattle.stream_law.specs.Words.{All, Gvb}
+use Rattle.host_pairs.specs.Entries.{entry_at, is_busy}
 use Rattle.host_pairs.specs.Pair.{PairState}
 use Rattle.host_pairs.specs.declared.listener.Listener.{Listener}
 use Rattle.host_keeps_streams.specs.Formed.{FindsFree}
@@ -18,9 +19,10 @@ use Rattle.pair_keeps_streams.specs.Words.{plain, with_closing, closings_in, hea
 use Rattle.pair_keeps_streams.proofs.Joint.{IsPaired, IsFirst, Party, Post, Free, Line, Joint, heard_by, said_by}
 use Rattle.pair_keeps_streams.proofs.After.{Stepped, staying, keep_box}
 use Rattle.pair_keeps_streams.proofs.Facts.{Facts, later, any}
+use Rattle.pair_keeps_streams.proofs.Granted.{AreKept, cls_none, if_none, none_kept}
 use Rattle.pair_keeps_streams.proofs.Spoken.{closings_same, receiver_same, sender_same}
 use Rattle.pair_keeps_streams.proofs.Streams.{Receiving, Sending, quiet_received, quiet_sent}
-use Rattle.pair_keeps_streams.proofs.StepHears.{IsHeard, Found, rts_free, rts_found, str_found, all_found, gvb_found, ret_found, cls_found}
+use Rattle.pair_keeps_streams.proofs.StepHears.{IsHeard, Found, rts_free, rts_found, rts_kept, str_found, all_found, gvb_found, ret_found, cls_found}
 use Rattle.pair_keeps_streams.proofs.StepAsks.{stepped}
 
 module _ (number other : ℕ → ℕ → ℕ → ℕ) (tells : IsTelling number) (others : IsTelling other) (facts : Facts number tells) (same : (own foreign g : ℕ) → other own foreign g ≡ number foreign own g) (link : ℕ) (off : (link == 0) ≡ false)
@@ -58,12 +60,21 @@ module _ (number other : ℕ → ℕ → ℕ → ℕ) (tells : IsTelling number)
     found (command.Cls foreign own) e first good keep = cls_found number other tells others facts same link off x y gone pending post b q j peer listening stamp room more foreign own e first.0 first.1 first.2 good keep
     found c e first good keep = none_found c (λ i. refl) (λ i. refl) (line_at c e).received (line_at c e).sent
 
+    -- nothing is lost by it
+    ready : (d : Command) → b.pending ≡ d ∷ more → IsFirst d q.entries → (told : ℕ) → b.stays ≡ true → AreKept (sent_at (name_of number gone) link (Hears stamp told d) q listening y.sender) y
+    ready (command.Rts receive send l) i f told s = rts_kept number other tells others facts same link off x y gone pending post b q j peer listening stamp room more receive send l i f (j.exact_y refl s)
+    ready (command.All l m n) i f told s = none_kept (sent_at (name_of number gone) link (Hears stamp told (command.All l m n)) q listening y.sender) y (if_none (l == link) (senders.Hear (All told m n) ∷ []) tt)
+    ready (command.Gvb l m n) i f told s = none_kept (sent_at (name_of number gone) link (Hears stamp told (command.Gvb l m n)) q listening y.sender) y (if_none (l == link) (senders.Hear (Gvb told m n) ∷ []) tt)
+    ready (command.Cls foreign own) i f told s =
+        none_kept (sent_at (name_of number gone) link (Hears stamp told (command.Cls foreign own)) q listening y.sender) y (cls_none (name_of number gone) q.busy own foreign q.entries y.sender (entry_at own foreign q.entries))
+    ready d i f told s = tt
+
     pub hears : (c : Command) → b.pending ≡ c ∷ more → IsCommand c → IsPaired c → IsFirst c q.entries → IsHeard c q.entries
         → (told : ℕ) × Stepped number other tells others link x y (staying gone q.entries pending post) peer (Hears stamp told c) q listening post (record b { pending = more })
     hears c e command paired first good = (
       f.told,
       stepped number other tells others facts link off x y gone pending post b q j peer listening (Hears stamp f.told c) allowed paired post (record b { pending = more })
-          (any number other tells others facts link off x y gone pending post b q j peer listening (Hears stamp f.told c) allowed paired f.rest_x f.rest_y x.box y.box f.rx f.sy more line told post b.post
+          (any number other tells others facts link off x y gone pending post b q j peer listening (Hears stamp f.told c) allowed paired f.rest_x f.rest_y x.box y.box f.rx f.sy (λ s. ready c e first f.told s) more line told post b.post
           (record { whole = j.box_x.whole; left = λ s t. j.box_x.left s refl })
           (record { whole = λ s. j.box_y.whole refl; left = λ s t text l. absurd (cc) })),
     ) where

@@ -10,7 +10,7 @@ use Rattle.stream_law.specs.Receivers as receivers
 use Rattle.stream_law.specs.Senders as senders
 use Rattle.stream_law.specs.Senders.{Sender}
 use Rattle.stream_law.specs.Streams.{Stream, Empty}
-use Rattle.stream_law.proofs.lemmas.{Down, link_free, unless_some}
+use Rattle.stream_law.proofs.lemmas.{Down, Exact, claims_asked, link_free, unless_some}
 use Rattle.host_pairs.specs.Entries.{changed_at, is_busy, closed_by_partner, entry_at, free_link, is_receiving, sends_on}
 use Rattle.host_pairs.specs.Desk.{listener_on}
 use Rattle.host_pairs.specs.Pair.{PairState}
@@ -26,6 +26,7 @@ use Rattle.pair_keeps_streams.proofs.After.{staying}
 use Rattle.pair_keeps_streams.proofs.Facts.{Facts, free_empty}
 use Rattle.pair_keeps_streams.proofs.Streams.{AreQuietSent, HearOne, HearOneSent, Receiving, Sending, one_received, one_sent, quiet_received, quiet_sent}
 use Rattle.pair_keeps_streams.proofs.FirstWords.{Split, split, plain_rts, plain_str, plain_cls, plain_all, plain_gvb, plain_ret, none_heard, rts_hears, rts_quiet, str_hears, cls_hears, cls_deaf, sent_own, sent_here, sent_away}
+use Rattle.pair_keeps_streams.proofs.Granted.{AreKept, heard_kept}
 use Rattle.pair_keeps_streams.proofs.StepAsks.{closes_quiet}
 
 -- a request names a link that no sending end has; and the two sockets of a CLS are of two kinds
@@ -117,6 +118,15 @@ module _ (number other : ℕ → ℕ → ℕ → ℕ) (tells : IsTelling number)
         received = subst (λ (v : Bool). map plain y.to_sender ≡ (if v then Rts (name send receive) ∷ [] else []) ++ receiver_words other link y.receiver.asked heard more) away (rts_line receive send l e first).0;
         sent = (rts_line receive send l e first).1;
       }
+
+    -- nothing was lost where an end opens by it
+    pub rts_kept : (receive send l : ℕ) → b.pending ≡ command.Rts receive send l ∷ more → IsFirst (command.Rts receive send l) q.entries → Exact true y → AreKept (sent_at name link (Hears stamp 0 (command.Rts receive send l)) q listening y.sender) y
+    rts_kept receive send l e first exact = by (list_any (sends_on l) q.entries) where
+      by : (v : Bool) → AreKept (if v then [] else rts_sent (l == link) (name send receive) (listener_on send listening) (entry_at send receive q.entries)) y
+      by true = tt
+      by false =
+          heard_kept (l == link) (name send receive) (listener_on send listening) (entry_at send receive q.entries) y
+          (λ on. claims_asked y (name send receive) (name send receive) (rts_split receive send l e first on).rest (rts_there receive send l e first on) j.inv_y exact)
 
     -- ---- and of a sender
 

@@ -70,6 +70,7 @@ module _ (number other : ℕ → ℕ → ℕ → ℕ) (tells : IsTelling number)
       (alone number other tells others facts link off x y gone pending post b q j peer listening (Takes l text) tt tt tt Taken y.box
       (subst (λ (ms : List receivers.Move). Receiving ms x x.to_receiver Taken) (sym move.4) (take_received move.2 move.0 move.1 x move.3))
       (record { may = tt; heard = refl; box = refl })
+      (λ s. tt)
       post Fetched (record { whole = λ s. tt; left = λ s t u f. absurd (cc) })
       (record { whole = λ s. j.box_y.whole refl; left = λ s t u f. absurd (cc) })) where
         move : (z : ℕ) × (bits : List Bool) × (c : ℕ) × (x.box ≡ Waiting c z bits) × (data_received link l text (header_of text) ≡ receivers.Take z bits ∷ [])
@@ -83,6 +84,7 @@ module _ (number other : ℕ → ℕ → ℕ → ℕ) (tells : IsTelling number)
       (alone number other tells others facts link off x y gone pending post b q j peer listening (Sends stamp e size count) next tt tt x.box (Waiting (named (name_of number gone) e) size (take (size * count) e.bits))
       (record { may = tt; heard = refl; box = refl })
       (rw on (send_sent (named (name_of number gone) e) size (take (size * count) e.bits) y empty))
+      (λ s. rw on (tt, tt))
       (Lies (data_text size count (take (size * count) e.bits))) b.post
       (record { whole = j.box_x.whole; left = λ s t. j.box_x.left s refl })
       (record { whole = λ s. text_posted (named (name_of number gone) e) size count (take (size * count) e.bits) header (length-take-le (size * count) e.bits may.waits); left = λ s t u f. absurd (cc) })) where
@@ -107,4 +109,4 @@ module _ (number other : ℕ → ℕ → ℕ → ℕ) (tells : IsTelling number)
       (staying (gone_by q.entries (ends_by peer (Sends stamp e size count) q listening) gone) (ends_by peer (Sends stamp e size count) q listening) pending post) b
   no_bytes stamp e size count next away =
       nothing_new number other tells others facts link off x y gone pending post b q j peer listening (Sends stamp e size count) post b refl
-      (calm number other tells others facts link off x y gone pending post b q j peer listening (Sends stamp e size count) next tt tt tt (rw away tt) true (rw away tt) (λ f. absurd (cc)))
+      (calm number other tells others facts link off x y gone pending post b q j peer listening (Sends stamp e size count) next tt tt tt (rw away tt) (λ s. rw away tt) true (rw away tt) (λ f. absurd (cc)))

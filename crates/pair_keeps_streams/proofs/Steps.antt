@@ -20,11 +20,12 @@ use Rattle.host_pairs.specs.declared.listener.Listener.{Listener}
 use Rattle.host_keeps_streams.specs.Closings.{all_received, all_sent}
 use Rattle.host_keeps_streams.specs.Formed.{HasSaid}
 use Rattle.host_keeps_streams.specs.Histories.{Call, Hears, Takes, Says, Sends, Answered, IsTelling, IsAllowed, is_out, ends_by, gone_by, received_at, sent_at}
-use Rattle.host_keeps_streams.proofs.lemmas.{Holds}
+use Rattle.host_keeps_streams.proofs.lemmas.{Holds, name_of}
 use Rattle.pair_keeps_streams.specs.Words.{heard_of}
 use Rattle.pair_keeps_streams.proofs.Joint.{IsPaired, IsPairedCall, IsFirst, Party, Post, Free, Lies, Fetched, Joint}
 use Rattle.pair_keeps_streams.proofs.After.{Stepped, staying, staying_is, x_after, y_after}
 use Rattle.pair_keeps_streams.proofs.Facts.{Facts, IsNoHearing}
+use Rattle.pair_keeps_streams.proofs.Granted.{IsRequest, IsUnasked, NotTaken, not_open}
 use Rattle.pair_keeps_streams.proofs.Heard.{heard_step, heard_one}
 use Rattle.pair_keeps_streams.proofs.Linked.{linked_step}
 use Rattle.pair_keeps_streams.proofs.Queued.{queued}
@@ -94,9 +95,11 @@ module _ (number other : ℕ → ℕ → ℕ → ℕ) (tells : IsTelling number)
       subst (λ (p : Party). Joint number other tells others link (x_after number link k q listening a x) (y_after number link k q listening a y)
       (record p { gone = gone_by p.entries (ends_by peer k q listening) p.gone; entries = ends_by peer k q listening; post = mine }) b) (staying_is a q stays here) s
 
-  pub step_says : (stamp : ℕ) (c : Command) → HasSaid c a.entries → Quietly (Says stamp c) a.post
-  step_says stamp c has =
-      quietly (Says stamp c) a.post (says number other tells others (facts number tells) link off x y a.gone a.pending a.post b q joint_here peer listening stamp c (subst (λ (es : List Entry). HasSaid c es) (sym here) has))
+  pub step_says : (stamp : ℕ) (c : Command) → HasSaid c a.entries → (b.stays ≡ true → IsRequest c → NotTaken (name_of number a.gone) (name_of other b.gone) a.entries b.entries) → Quietly (Says stamp c) a.post
+  step_says stamp c has unasked =
+      quietly (Says stamp c) a.post (says number other tells others (facts number tells) link off x y a.gone a.pending a.post b q joint_here peer listening stamp c (subst (λ (es : List Entry). HasSaid c es) (sym here) has)
+      (λ s i. subst (λ (es : List Entry). IsUnasked (name_of number a.gone) es y.receiver) (sym here)
+      (not_open number other tells others same link a.gone b.gone a.entries b.entries y.receiver x.sender (j.theirs s).holds (unasked s i))))
 
   pub step_bytes : (stamp : ℕ) (e : Entry) (size count : ℕ) → next_of q ≡ Some (Bytes e size count) → IsHeader (record { size = size; count = count }) → sends_on link e ≡ true → (is_out link (Sends stamp e size count) q ≡ false → a.post ≡ Free)
       → Quietly (Sends stamp e size count) (Lies (data_text size count (take (size * count) e.bits)))
