@@ -22,7 +22,8 @@ use net_sim::{Book, World};
 /// receiving end was closing or gone. And a receiving life whose end its partner has
 /// closed, and no user of its host, took all that its partner sent (`closes`), also once it is over. It took all that was handed over in the life that it
 /// matches, if that had begun when the CLS was taken (`handed`), since a sender that closes first has sent all of that (`drained`). A receiving life whose
-/// end is open has all that was sent while nothing waits for it and its partner continues (`rests`).
+/// end is open has all that was sent while nothing waits for it and its partner continues (`rests`). While no command is on its way between their hosts
+/// either, both have the same counters: what was granted and neither used nor returned (`agree`).
 /// The crossings determine the bits of all lives (`firsts`): a life's messages are the first on its link after both of its requests, and each message
 /// that went out is one of a sending life.
 pub fn book_of<C: Carrier>(world: &World<C>) -> &Book

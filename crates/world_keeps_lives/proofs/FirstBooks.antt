@@ -45,8 +45,9 @@ use Rattle.world_keeps_lives.specs.Firsts.{AreAfter, AreApart, FirstBook, Linked
 use Rattle.world_keeps_lives.proofs.Facts.{no}
 use Rattle.world_keeps_lives.proofs.Calms.{Calm, calm_moment}
 use Rattle.world_keeps_lives.proofs.DataTold.{TakesIf, answer_told, asking_told, bytes_told, control_told, message_takes, offer_told}
-use Rattle.world_keeps_lives.proofs.FirstEnds.{Apart, AtEnd, Together, Good, Lawful, Tracked, all_due, at_end, ends_in, flow_link, lives_in}
-use Rattle.world_keeps_lives.proofs.FirstLists.{After, Pairwise}
+use Rattle.world_keeps_lives.proofs.FirstEnds.{Apart, AtEnd, Together, Good, Lawful, Tracked, all_due, at_end, ends_in, flow_link, is_end, lives_in}
+use Rattle.world_keeps_lives.specs.Lives.{HasOpenEnd}
+use Rattle.world_keeps_lives.proofs.FirstLists.{After, From, Pairwise, from_map, life_of}
 use Rattle.world_keeps_lives.proofs.Firsts.{good_calm, good_data}
 use Rattle.world_keeps_lives.proofs.Formed.{flow_two}
 use Rattle.world_keeps_lives.proofs.Grounds.{Going, Tells, goes_of, going_rules}
@@ -339,6 +340,20 @@ module _ (hosts : List Host) (given : Together hosts) where
   firsts ms l =
       let g : Good ms = good ms l in
       record { links = g.links; all = g.all; first = λ p there. (each_in (Tracked ms) g.links p there g.tracked).first; apart = all_apart (crossings_of ms) g.links g.apart; sent = g.sent }
+
+  -- the end of a life that isn't over has a link
+  abbrev HasLink : List Moment → Life → Type 0
+  HasLink ms x = x.ended ≡ false → (o : HasOpenEnd (program x.host ms) x) → (link : ℕ) × (o.end.link ≡ Some link) × ((link == 0) ≡ false)
+
+  pub linked_end : (ms : List Moment) → Lawful hosts ms → (x : Life) → Contains (lives_in ms) x → x.ended ≡ false → (o : HasOpenEnd (program x.host ms) x) → (link : ℕ) × (o.end.link ≡ Some link) × ((link == 0) ≡ false)
+  linked_end ms l x there =
+      let g : Good ms = good ms l in
+      let f : From life_of g.links x = from_map life_of g.links x (subst (λ (ls : List Life). Contains ls x) (sym g.all) there) in
+      let t : Tracked ms f.one = each_in (Tracked ms) g.links f.one f.there g.tracked in
+      subst (HasLink ms) f.is (λ goes o.
+      (let i : AtEnd ms f.one = at_end hosts given ms l f.one (subst (λ (z : Life). Contains (lives_in ms) z) (sym f.is) there) t goes in
+      let same : i.end ≡ o.end = is_end hosts given ms l f.one.life o i.end i.there i.mine i.own in
+      (f.one.link, ap (λ (e : Entry). e.link) (sym same) ∙ i.link, t.other)))
 
   -- ---- worlds
 

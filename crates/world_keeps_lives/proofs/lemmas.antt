@@ -3,7 +3,7 @@ pub use Rattle.world_keeps_lives.proofs.Books.{all_told_append}
 pub use Rattle.world_keeps_lives.proofs.Desks.{AreAside, At, Elsewhere, IsLess, Near, Place, at_aside, clash, open_mine, open_parts}
 pub use Rattle.world_keeps_lives.proofs.Drained.{drained, world_drained}
 pub use Rattle.world_keeps_lives.proofs.Ends.{IsRefusing, found_changed, none_changed, refusing_found}
-pub use Rattle.world_keeps_lives.proofs.FirstBooks.{firsts, world_firsts}
+pub use Rattle.world_keeps_lives.proofs.FirstBooks.{firsts, linked_end, world_firsts}
 pub use Rattle.world_keeps_lives.proofs.FirstEnds.{HasOwner, Together}
 pub use Rattle.world_keeps_lives.proofs.Formed.{world_formed}
 pub use Rattle.world_keeps_lives.proofs.Goes.{IsOfTwo, Waits, all_go, unasked_by}

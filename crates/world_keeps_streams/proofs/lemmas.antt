@@ -1,4 +1,5 @@
 -- The lemmas of this crate that others may use: the proofs of headline do. All others in proofs/ are its own.
+pub use Rattle.world_keeps_streams.proofs.Books.Agree.{world_agrees}
 pub use Rattle.world_keeps_streams.proofs.Books.All.{world_sent, world_source}
 pub use Rattle.world_keeps_streams.proofs.Books.Answered.{world_answered}
 pub use Rattle.world_keeps_streams.proofs.Books.Arrives.{world_arrives}

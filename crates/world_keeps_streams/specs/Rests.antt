@@ -1,16 +1,19 @@
 -- What two lives have in common while nothing waits between them (BBN Report 1822, RFNM; NIC 8246, messages of data).
-use Rattle.std.specs.Prelude.{◌≡◌, ℕ, Bool, false, true, List, ◌++◌, Some}
+use Rattle.std.specs.Prelude.{◌≡◌, ℕ, Bool, false, true, List, [], ◌++◌, Some}
 use Rattle.std.specs.List.{Contains}
+use Rattle.interface.specs.Host.{Host}
 use Rattle.interface.specs.Mailboxes.{Waiting, box_of}
 use Rattle.interface.specs.declared.address.Flow.{Flow}
 use Rattle.interface.specs.declared.crossing.Crossing.{Crossing}
 use Rattle.host_pairs.specs.Entries.{is_open}
-use Rattle.promise.specs.Safe.{Match}
+use Rattle.host_pairs.specs.declared.entry.Entry.{Entry}
+use Rattle.sockets.specs.Pairs.{pair_with}
+use Rattle.promise.specs.Safe.{Match, control_flow}
 use Rattle.net_sim.specs.Story.{Moment, program}
 use Rattle.net_sim.specs.Timeline.{crossings_of}
 use Rattle.net_sim.specs.Told.{kept_in}
 use Rattle.promise.specs.declared.life.Life.{Life}
-use Rattle.world_keeps_lives.specs.Lives.{HasOpenEnd}
+use Rattle.world_keeps_lives.specs.Lives.{AddsUp, HasOpenEnd}
 
 -- no message of a flow waits to be taken
 abbrev pub NoneWaits : Flow → List Crossing → Type 0
@@ -34,3 +37,29 @@ abbrev pub AllRest : List Moment → Type 0
 AllRest moments =
     (later earlier : List Moment) → moments ≡ later ++ earlier → (receiver sender : Life) → AreAtRest earlier receiver sender
     → (receiver.bits ≡ sender.bits) × (receiver.messages ≡ sender.messages)
+
+-- ---- what the ends may still carry
+
+-- no command of either of two hosts waits to be taken by the other, or to go out to it
+pub record AreSilent (a b : Host) (moments : List Moment) : Type 0 where
+  pub there : NoneWaits (control_flow a b) (crossings_of moments)
+  pub back : NoneWaits (control_flow b a) (crossings_of moments)
+  pub queue : (pair_with b (program a moments).peers).queue ≡ []
+  pub queue_back : (pair_with a (program b moments).peers).queue ≡ []
+
+-- lives at rest, and no command is on its way between their hosts
+pub record AreSettled (moments : List Moment) (receiver sender : Life) : Type 0 where
+  pub rest : AreAtRest moments receiver sender
+  pub giver : HasOpenEnd (program sender.host moments) sender
+  pub silent : AreSilent receiver.host sender.host moments
+
+-- the sender's counters are the receiver's, which are what was granted and neither used nor returned
+pub record Agree (receiver : Life) (taker giver : Entry) : Type 0 where
+  pub counters : giver.allocation ≡ taker.allocation
+  pub left : AddsUp receiver giver.allocation
+
+-- so it is at every moment
+abbrev pub AllAgree : List Moment → Type 0
+AllAgree moments =
+    (later earlier : List Moment) → moments ≡ later ++ earlier → (receiver sender : Life) → (settled : AreSettled earlier receiver sender)
+    → Agree receiver settled.rest.end.end settled.giver.end

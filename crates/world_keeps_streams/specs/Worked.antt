@@ -1,8 +1,10 @@
 -- A receiving life, and how its connection ends: words for worked examples. All moments are read newest first.
-use Rattle.std.specs.Prelude.{true, List, [], ◌∷◌}
+use Rattle.std.specs.Prelude.{ℕ, true, List, [], ◌∷◌}
 use Rattle.interface.specs.declared.crossing.Answer.TheVariants as answer
 use Rattle.interface.specs.declared.crossing.Crossing.TheVariants as crossing
 use Rattle.interface.specs.declared.message.HostMessage.{HostMessage}
+use Rattle.host_pairs.specs.Entries.{receiving_end, sending_end}
+use Rattle.host_pairs.specs.declared.entry.Entry.{Entry}
 use Rattle.sockets.specs.Worked.{control, first, on_link, second}
 use Rattle.sockets.specs.declared.request.Request.TheVariants as request
 use Rattle.net_sim.specs.Story.{Asked, Crossed, Moment}
@@ -23,6 +25,40 @@ took_eight = record took { bits = eight; messages = 1 }
 -- the same, over
 abbrev pub over_eight : Life
 over_eight = record took_eight { ended = true }
+
+-- ---- what is on its way
+
+-- one message and eight bits more are granted: it waits to go out, and to be taken
+abbrev pub granted_more : Life
+granted_more = record took_eight { granted = record { messages = 3; bits = 108 } }
+
+abbrev pub granting_moments : List Moment
+granting_moments = Asked first (request.Grant 16 1 8) ∷ sent_moments
+
+abbrev pub granted_moments : List Moment
+granted_moments = Crossed (crossing.Out (control first second (4 ∷ 2 ∷ 0 ∷ 1 ∷ 0 ∷ 0 ∷ 0 ∷ 8 ∷ []))) ∷ granting_moments
+
+-- half of what is left is asked back: 46 bits and no message. The RET waits to go out, and to be taken
+abbrev pub half_asked : HostMessage
+half_asked = control first second (5 ∷ 2 ∷ 64 ∷ 64 ∷ [])
+
+abbrev pub returning_moments : List Moment
+returning_moments = Crossed (crossing.In half_asked) ∷ Crossed (crossing.Out half_asked) ∷ Asked first (request.AskBack 16 64 64) ∷ sent_moments
+
+abbrev pub returned_moments : List Moment
+returned_moments = Crossed (crossing.Out (control second first (6 ∷ 2 ∷ 0 ∷ 0 ∷ 0 ∷ 0 ∷ 0 ∷ 46 ∷ []))) ∷ returning_moments
+
+-- the two ends, with these counters
+abbrev pub taking_end : Entry
+taking_end = receiving_end 16 33 2
+
+abbrev pub giving_end : Entry
+giving_end = sending_end 33 16 8
+
+abbrev pub left_at : ℕ → ℕ → Entry → Entry
+left_at messages bits e = record e { allocation = record { messages = messages; bits = bits } }
+
+-- ---- closing
 
 -- the sending user closes, and the CLS is taken
 abbrev pub close_sent : HostMessage

@@ -16,15 +16,16 @@ ghost use Rattle.net_sim.specs.Worked.{eight};
 ghost use Rattle.net_sim.specs.WorkedMoments.{bits_sent, connected, eight_sent, sent_moments};
 ghost use Rattle.world_keeps_lives.specs.Firsts.{FirstBook};
 ghost use Rattle.world_keeps_streams.specs.Worked.{close_back, ended_moments, over_eight, over_gave, quit_moments, stopped_moments, took, took_eight};
+ghost use Rattle.world_keeps_streams.specs.Worked.{giving_end, granted_moments, granted_more, granting_moments, left_at, returned_moments, returning_moments, taking_end};
 ghost use Rattle.world_keeps_streams.specs.Answered.{AllAnswered, HasArrived};
 ghost use Rattle.world_keeps_streams.specs.Arrivals.{AllArrive, Arrives, ComesFor};
 ghost use Rattle.world_keeps_streams.specs.Calls.{own_calls, numbered_by_peer};
-ghost use Rattle.world_keeps_streams.specs.Rests.{AllRest, AreAtRest};
+ghost use Rattle.world_keeps_streams.specs.Rests.{Agree, AllAgree, AllRest, AreAtRest, AreSettled};
 ghost use Rattle.world_keeps_lives.specs.WorkedFormed.{gave};
 ghost use Rattle.world_keeps_streams.specs.Closes.{AllClose, AllHanded, EachHanded, IsClosedByPartner, TookHanded, WasClosedBy, WasClosedByPartner};
 ghost use Rattle.world_keeps_streams.specs.Laws.Programs.{ProgramsCalls, ProgramsAllowed, ProgramsReceiver, ProgramsSender};
 ghost use Rattle.world_keeps_streams.specs.Laws.Streams.{StreamsFront, StreamsWhole, StreamsTaken, StreamsSent};
-ghost use Rattle.world_keeps_streams.specs.Laws.Lives.{LivesSource, LivesCloses, LivesFirsts, LivesArrives, LivesAnswered, LivesRests, LivesSent};
+ghost use Rattle.world_keeps_streams.specs.Laws.Lives.{LivesSource, LivesCloses, LivesFirsts, LivesArrives, LivesAgree, LivesAnswered, LivesRests, LivesSent};
 ghost use Rattle.world_keeps_streams.specs.Laws.Worlds.{WorldsSource, WorldsSent};
 ghost use Rattle.world_keeps_streams.specs.Laws.WorkedCalls.{WorkedCallsFirst};
 
@@ -81,6 +82,10 @@ pub fn lives()
     // a receiving life at rest, whose end is open and for which nothing waits, took all that its partner sent
     ensures rests { LivesRests }
 
+    // and if no command is on its way between the hosts, what its partner may still send is what it may still take: what was granted and neither used nor
+    // returned
+    ensures agree { LivesAgree }
+
     // what a sending life sent that it matches, with what was returned, is within what it granted
     ensures sent { LivesSent }
 {}
@@ -94,6 +99,7 @@ pub fn worlds<C: Carrier>()
     ensures arrives { (hosts : List Host) (w : WorldState C) → (lawful : IsLawful C.calls.seen hosts w) → AllArrive lawful.whole.moments }
     ensures answered { (hosts : List Host) (w : WorldState C) → (lawful : IsLawful C.calls.seen hosts w) → AllAnswered lawful.whole.moments }
     ensures rests { (hosts : List Host) (w : WorldState C) → (lawful : IsLawful C.calls.seen hosts w) → AllRest lawful.whole.moments }
+    ensures agree { (hosts : List Host) (w : WorldState C) → (lawful : IsLawful C.calls.seen hosts w) → AllAgree lawful.whole.moments }
     ensures sent { WorldsSent C.calls.seen }
 {}
 
@@ -121,6 +127,25 @@ pub fn worked_rests()
     ensures rests { AreAtRest sent_moments took_eight gave }
     ensures waits { AreAtRest bits_sent took gave → ⊥ }
     ensures closing { AreAtRest (Asked dialogue.first (request.Close 16) ∷ sent_moments) took_eight gave → ⊥ }
+{}
+
+/// Lives at rest that agree on one message and 92 bits more; and while a grant, or what is returned, is on its way.
+pub fn worked_settled()
+    ensures settled { AreSettled sent_moments took_eight gave }
+    ensures agree { Agree took_eight (left_at 1 92 taking_end) (left_at 1 92 giving_end) }
+
+    // a sender that may send less, and two that may have lost a grant
+    ensures less { Agree took_eight (left_at 1 92 taking_end) (left_at 1 91 giving_end) → ⊥ }
+    ensures lost { Agree took_eight (left_at 1 91 taking_end) (left_at 1 91 giving_end) → ⊥ }
+    ensures message { Agree took_eight (left_at 0 92 taking_end) (left_at 0 92 giving_end) → ⊥ }
+
+    // a grant is queued, and waits to be taken
+    ensures granting { AreSettled granting_moments granted_more gave → ⊥ }
+    ensures granted { AreSettled granted_moments granted_more gave → ⊥ }
+
+    // what the receiver asked back is queued at the sender, and waits to be taken
+    ensures returning { AreSettled returning_moments took_eight gave → ⊥ }
+    ensures returned { AreSettled returned_moments took_eight gave → ⊥ }
 {}
 
 /// A connection that its partner closes: after all was taken, and after the receiving user had closed it and eight bits were dropped.

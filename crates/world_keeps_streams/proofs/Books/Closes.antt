@@ -88,13 +88,13 @@ module _ (hosts : List Host) (ms : List Moment) (l : Lawful hosts ms) (x : Life)
 
   -- ---- its end and its connection
 
-  at_it : Among f.end.end (pair_with x.peer (program x.host ms).peers).entries × (is_mine_on x.socket f.end.end ≡ true)
+  pub at_it : Among f.end.end (pair_with x.peer (program x.host ms).peers).entries × (is_mine_on x.socket f.end.end ≡ true)
   at_it = end_at x (program x.host ms) f.end
 
   parts : (f.end.end.mine ≡ true) × ((f.end.end.own == x.socket) ≡ true)
   parts = both f.end.end.mine (f.end.end.own == x.socket) at_it.1
 
-  own : f.end.end.own ≡ x.socket
+  pub own : f.end.end.own ≡ x.socket
   own = eqb-true f.end.end.own x.socket parts.1
 
   -- the life's own connection on its link, by whatever way it is known
@@ -111,13 +111,13 @@ module _ (hosts : List Host) (ms : List Moment) (l : Lawful hosts ms) (x : Life)
   abbrev pub c : ℕ
   c = numbered x.socket x.foreign (w.receiving x late refl refl f.receiving).g
 
-  going : GoesOn x.host x.peer (Own x.host x.peer) (Heard x.host x.peer) ms w.j n (w.receiving x late refl refl f.receiving).g x
+  pub going : GoesOn x.host x.peer (Own x.host x.peer) (Heard x.host x.peer) ms w.j n (w.receiving x late refl refl f.receiving).g x
   going = (w.receiving x late refl refl f.receiving).going f.goes
 
   pub place : (f.link ≡ suc n) × (c ≡ name_now numbered x.peer (own_calls x.host x.peer ms) x.socket x.foreign)
   place = is_here n (w.receiving x late refl refl f.receiving).g going
 
-  place_is : f.link ≡ suc n
+  pub place_is : f.link ≡ suc n
   place_is = place.0
 
   off : (suc n == 0) ≡ false
@@ -141,7 +141,7 @@ module _ (hosts : List Host) (ms : List Moment) (l : Lawful hosts ms) (x : Life)
   abbrev sent : List (List Bool)
   sent = (w.j n).x.sender.sent c
 
-  same : (w.j n).x.receiver ≡ receiver_now numbered x.peer (suc n) (own_calls x.host x.peer ms)
+  pub same : (w.j n).x.receiver ≡ receiver_now numbered x.peer (suc n) (own_calls x.host x.peer ms)
   same = (w.j n).received_a stays
 
   module _ (all : (w.j n).x.receiver.taken c ≡ (w.j n).x.sender.sent c) where
@@ -234,7 +234,7 @@ module _ (hosts : List Host) (ms : List Moment) (l : Lawful hosts ms) (x : Life)
 -- ---- a receiving life at rest
 
 module _ (hosts : List Host) (ms : List Moment) (l : Lawful hosts ms) (x s : Life) (f : AreAtRest ms x s) where
-  abbrev at_rest : AtLink ms x
+  abbrev pub at_rest : AtLink ms x
   at_rest = record { there = f.there; receiving = f.matches.receiving; goes = f.goes; end = f.end; link = f.link; linked = f.linked }
 
   abbrev link_here : ℕ
@@ -243,7 +243,7 @@ module _ (hosts : List Host) (ms : List Moment) (l : Lawful hosts ms) (x s : Lif
   abbrev number : ℕ
   number = c hosts ms l x at_rest
 
-  sender_stays : stay.stays x.peer x.host (events_of ms) ≡ true
+  pub sender_stays : stay.stays x.peer x.host (events_of ms) ≡ true
   sender_stays =
       subst (λ (g : Host). stay.stays g x.host (events_of ms) ≡ true) (sym f.matches.peers.0)
       (subst (λ (g : Host). stay.stays s.host g (events_of ms) ≡ true) f.matches.peers.1 (stays_of hosts ms l s f.sender_there f.sender_goes))
@@ -254,7 +254,7 @@ module _ (hosts : List Host) (ms : List Moment) (l : Lawful hosts ms) (x s : Lif
   box_is : boxes x.peer x.host (events_of ms) (suc link_here) ≡ seen_box (suc link_here) (box_of (flow_of x.peer x.host (suc link_here)) (crossings_of ms))
   box_is = box_same x.peer x.host ms (suc link_here)
 
-  empty : waiting_in ((w hosts ms l x at_rest).j link_here).x.box ≡ []
+  pub empty : waiting_in ((w hosts ms l x at_rest).j link_here).x.box ≡ []
   empty = by (box_of (flow_of x.peer x.host (suc link_here)) (crossings_of ms)) refl where
     by : (b : mail.Box) → box_of (flow_of x.peer x.host (suc link_here)) (crossings_of ms) ≡ b → waiting_in ((w hosts ms l x at_rest).j link_here).x.box ≡ []
     by mail.Empty e = free_box ((w hosts ms l x at_rest).j link_here).x.box (subst (λ (b : reset.Box). IsPosted (post_in b) ((w hosts ms l x at_rest).j link_here).x.box) (box_is ∙ ap (seen_box (suc link_here)) e) posted)
@@ -262,7 +262,7 @@ module _ (hosts : List Host) (ms : List Moment) (l : Lawful hosts ms) (x s : Lif
     by (mail.Waiting there text) e =
         absurd (f.silent there text (subst (λ (k : ℕ). box_of (flow_of x.peer x.host k) (crossings_of ms) ≡ mail.Waiting there text) (sym (place_is hosts ms l x at_rest)) e))
 
-  is_law : IsReceiver (c hosts ms l x at_rest) f.end.end (receiver_now numbered x.peer (suc link_here) (own_calls x.host x.peer ms))
+  pub is_law : IsReceiver (c hosts ms l x at_rest) f.end.end (receiver_now numbered x.peer (suc link_here) (own_calls x.host x.peer ms))
   is_law = subst (λ (k : ℕ). IsReceiver k f.end.end (receiver_now numbered x.peer (suc link_here) (own_calls x.host x.peer ms))) (name_is hosts ms l x at_rest) (law hosts ms l x at_rest)
 
   caught_up : ((w hosts ms l x at_rest).j link_here).x.sender.sent number ≡ ((w hosts ms l x at_rest).j link_here).x.receiver.taken number ++ waiting_in ((w hosts ms l x at_rest).j link_here).x.box

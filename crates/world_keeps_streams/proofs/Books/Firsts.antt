@@ -63,7 +63,7 @@ module _ (hosts : List Host) where
         socket = w.socket;
       }
 
-  together : Together hosts
+  pub together : Together hosts
   together = record {
     one_sender = one_sender;
     owner = owner;

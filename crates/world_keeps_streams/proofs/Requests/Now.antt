@@ -1,5 +1,5 @@
 -- The requests of an end that is there, in a host that stays: those of the connection that its sockets' gone ones count.
-use Rattle.std.proofs.Common.{◌≡◌, ℕ, ◌+◌, ◌==◌, ◌&&◌, ◌||◌, Bool, true, false, List, [], ◌∷◌, Option, Some, refl, ap, sym, subst, ◌∙◌, arith}
+use Rattle.std.proofs.Common.{◌≡◌, ℕ, ◌+◌, ◌==◌, ◌&&◌, ◌||◌, Bool, true, false, List, [], ◌∷◌, Option, Some, None, refl, ap, sym, subst, ◌∙◌, arith}
 use Rattle.std.proofs.lemmas.Bool.{eqb-true}
 use Rattle.interface.specs.Host.{Host}
 use Rattle.host_pairs.specs.Entries.{entry_at, is_at}
@@ -71,6 +71,7 @@ now_gone c now gone false e f = omega (arith, e, f)
 record Now (said heard : List Mark) (x : End) (g : ℕ) : Type 0 where
   asked : (n : ℕ) → x.asked ≡ Some n → Asks g n said
   partner : (n : ℕ) → x.partner ≡ Some n → Asks g n heard
+  unasked : x.asked ≡ None → (n : ℕ) → Asks g n said → ⊥
 
 now_at : (said heard : List Mark) (kept x : End) (g : ℕ) (partner_closed : Bool) → Balanced said heard kept → kept ≡ x → x.taken ≡ partner_closed → closes heard ≡ counted partner_closed g → Now said heard x g
 now_at said heard kept x g pc b same taken counts =
@@ -79,6 +80,7 @@ now_at said heard kept x g pc b same taken counts =
     record {
       asked = λ n e. subst (λ (k : ℕ). Asks k n said) is (b.asked_at n (ap (λ (v : End). v.asked) same ∙ e));
       partner = λ n e. subst (λ (k : ℕ). Asks k n heard) is (b.partner_at n (ap (λ (v : End). v.partner) same ∙ e));
+      unasked = λ none n a. (let there : kept.asked ≡ Some n = b.asked_is n (subst (λ (k : ℕ). Asks k n said) (sym is) a) in let both : None ≡ Some n = sym none ∙ sym (ap (λ (v : End). v.asked) same) ∙ there in absurd (cc));
     }
 
 -- ---- of a program
@@ -117,9 +119,12 @@ module _ (hosts : List Host) (ms : List Moment) (l : Lawful hosts ms) (s : Socke
   asked_here : (n : ℕ) → e.asked ≡ Some n → Asks (gone_now p (own_calls h p ms) (own_of who s) (foreign_of who s)) n (half h p (at_texts s who) (at_texts s (other who)) (law_events ms)).said
   asked_here n asked = now.asked n (ap (λ (x : End). x.asked) end_is.0 ∙ (let live : is_past (standing e) ≡ false = end_is.1 in rw live asked))
 
-  partner_here : (t : ℕ) → e.partner ≡ Some t → Asks (gone_now p (own_calls h p ms) (own_of who s) (foreign_of who s)) (origin_in (crossings_of ms) h p t) (half h p (at_texts s who) (at_texts s (other who)) (law_events ms)).heard
+  pub partner_here : (t : ℕ) → e.partner ≡ Some t → Asks (gone_now p (own_calls h p ms) (own_of who s) (foreign_of who s)) (origin_in (crossings_of ms) h p t) (half h p (at_texts s who) (at_texts s (other who)) (law_events ms)).heard
   partner_here t partner =
       now.partner (origin_in (crossings_of ms) h p t) (ap (λ (x : End). x.partner) end_is.0 ∙ (let live : is_past (standing e) ≡ false = end_is.1 in rw (live, partner) refl))
+
+  unasked_here : e.asked ≡ None → (n : ℕ) → Asks (gone_now p (own_calls h p ms) (own_of who s) (foreign_of who s)) n (half h p (at_texts s who) (at_texts s (other who)) (law_events ms)).said → ⊥
+  unasked_here none = now.unasked (ap (λ (x : End). x.asked) end_is.0 ∙ (let live : is_past (standing e) ≡ false = end_is.1 in rw live none))
 
 -- ---- both hosts
 
@@ -128,6 +133,26 @@ module _ (hosts : List Host) (ms : List Moment) (l : Lawful hosts ms) (a b : Hos
   joined_halves =
       subst (λ (x : Side). Joined x (half b a (at_texts s Sender) (at_texts s Receiver) (law_events ms))) (receiver_half s a b (law_events ms))
       (subst (λ (y : Side). Joined (receiver s (steps a b (law_events ms))) y) (sender_half s a b (law_events ms)) (law_joined hosts ms l a b s))
+
+  -- the receiver heard the request that one of its ends has
+  pub heard_there : Counts a b ms → stay.stays a b (events_of ms) ≡ true → (f : Entry) → entry_at s.receive s.send (pair_with b (program a ms).peers).entries ≡ Some f → (t : ℕ) → f.partner ≡ Some t
+      → Asks (gone_now b (own_calls a b ms) s.receive s.send) (origin_in (crossings_of ms) a b t) (half a b (at_texts s Receiver) (at_texts s Sender) (law_events ms)).heard
+  heard_there counts stays f found t partner =
+      let c : Coupled hosts ms = coupled_in hosts ms l in
+      let j : Joined (half a b (at_texts s Receiver) (at_texts s Sender) (law_events ms)) (half b a (at_texts s Sender) (at_texts s Receiver) (law_events ms)) = joined_halves in
+      partner_here hosts ms l s q Receiver a b counts stays
+      (((all_tied hosts (origin_in (crossings_of ms)) ms (are_origins 0 (crossings_of ms) [] ms refl) c.story c.run (served_in hosts ms l.2)).tied a b).receiver s q)
+      (half b a (at_texts s Sender) (at_texts s Receiver) (law_events ms)) j.floor j.other j.here f found t partner
+
+  -- and the sender hasn't said that of an end which has none
+  pub unsaid_there : Counts b a ms → stay.stays b a (events_of ms) ≡ true → (e : Entry) → entry_at s.send s.receive (pair_with a (program b ms).peers).entries ≡ Some e → e.asked ≡ None
+      → (n : ℕ) → Asks (gone_now a (own_calls b a ms) s.send s.receive) n (half b a (at_texts s Sender) (at_texts s Receiver) (law_events ms)).said → ⊥
+  unsaid_there counts stays e found none =
+      let c : Coupled hosts ms = coupled_in hosts ms l in
+      let j : Joined (half a b (at_texts s Receiver) (at_texts s Sender) (law_events ms)) (half b a (at_texts s Sender) (at_texts s Receiver) (law_events ms)) = joined_halves in
+      unasked_here hosts ms l s q Sender b a counts stays
+      (((all_tied hosts (origin_in (crossings_of ms)) ms (are_origins 0 (crossings_of ms) [] ms refl) c.story c.run (served_in hosts ms l.2)).tied a b).sender s q)
+      (half a b (at_texts s Receiver) (at_texts s Sender) (law_events ms)) j.other j.floor j.there e found none
 
   pub heard_now : Counts b a ms → stay.stays b a (events_of ms) ≡ true → (e : Entry) → entry_at s.send s.receive (pair_with a (program b ms).peers).entries ≡ Some e → (t : ℕ) → e.partner ≡ Some t
       → Heard a b ms s.receive s.send t (gone_now a (own_calls b a ms) s.send s.receive)

@@ -119,6 +119,8 @@ module _ (number other : ℕ → ℕ → ℕ → ℕ) (tells : IsTelling number)
   as_fetched x y a b j stays free = record {
     inv_x = j.inv_x;
     inv_y = fetched_inv y free j.inv_y;
+    exact_x = j.exact_x;
+    exact_y = λ s t. record { holds = (j.exact_y s t).holds; fits = (j.exact_y s t).fits; all = (j.exact_y s t).all };
     mine = λ s. record { holds = (j.mine s).holds; linked = (j.mine s).linked };
     theirs = j.theirs;
     to_b = j.to_b;

@@ -14,8 +14,9 @@ use Rattle.ncp_control.specs.declared.phase.Phase.TheVariants as phase
 use Rattle.host_keeps_pairing.proofs.lemmas.{eqb-sym}
 use Rattle.host_keeps_ranges.specs.Ranges.{IsRanged, IsReadBack}
 use Rattle.host_keeps_ranges.proofs.lemmas.{offer_read}
-use Rattle.host_keeps_streams.specs.Histories.{IsTelling}
-use Rattle.pair_keeps_streams.proofs.lemmas.{Joint, Party, Steps}
+use Rattle.host_keeps_streams.specs.Histories.{IsTelling, gone_now}
+use Rattle.host_keeps_streams.proofs.lemmas.{name_of}
+use Rattle.pair_keeps_streams.proofs.lemmas.{Joint, NotTaken, Party, Steps}
 use Rattle.reset_law.specs.Boxes.{Box, Empty, Waiting, Put, posted, boxes}
 use Rattle.reset_law.specs.Events.{Message, Reset, Reply, Other, Out, Send, are, place, when}
 use Rattle.reset_law.specs.Pairs.{Pair, pair_moved, pair}
@@ -44,6 +45,11 @@ clash : (P : Type 0) (t : Bool) → t ≡ true → t ≡ false → P
 clash P true e f = absurd (let no : true ≡ false = f in cc)
 clash P false e f = absurd (let no : false ≡ true = e in cc)
 
+-- where a request of the one hasn't gone out, the other hasn't taken it
+abbrev pub FindsNone : (ℕ → ℕ → ℕ → ℕ) → (ℕ → ℕ → ℕ → ℕ) → Host → Host → List Moment → Party → Type 0
+FindsNone number other h p moments b =
+    stay.stays h p (events_of moments) ≡ true → b.stays ≡ true → NotTaken (name_of number (gone_now p (own_calls h p moments))) (name_of other b.gone) (pair_with p (program h moments).peers).entries b.entries
+
 kept_text : (t : Bool) (k : ℕ) (text : List Bool) (q : Pair) → phases.is_ready q.phase ≡ true → (phases.is_ready (pair_moved (when t (Send k (Other text))) q).phase && not false) ≡ true
 kept_text true k text q e = rw e refl
 kept_text false k text q e = rw e refl
@@ -54,6 +60,8 @@ module _ (number other : ℕ → ℕ → ℕ → ℕ) (tells : IsTelling number)
   both_gone x y a c b j e f g = record {
     inv_x = j.inv_x;
     inv_y = j.inv_y;
+    exact_x = λ s t. clash _ c.stays s f;
+    exact_y = λ s t. clash _ c.stays s f;
     mine = λ s. clash _ c.stays s f;
     theirs = λ s. clash _ b.stays s g;
     to_b = λ s. clash _ b.stays s g;
@@ -132,11 +140,11 @@ module _ (number other : ℕ → ℕ → ℕ → ℕ) (tells : IsTelling number)
       out_by_sort (AText is) left j = text_out m.text is left j
 
       -- where it stays
-      stay_goes : (next : IsNext (program h moments) m) → stay.stays h p (events_of moments) ≡ true → HereIn number other tells others link h p moments (commands_in (X 0)) (post_in (X link)) b x y
+      stay_goes : (next : IsNext (program h moments) m) → stay.stays h p (events_of moments) ≡ true → FindsNone number other h p moments b → HereIn number other tells others link h p moments (commands_in (X 0)) (post_in (X link)) b x y
           → MayCalls (next_calls p (places moments) (program h moments).listening (next_in (program h moments).peers))
           → Goes number other tells others link p (next_calls p (places moments) (program h moments).listening (next_in (program h moments).peers) ++ own_calls h p moments) (pair_with p (offered (program h moments) (places moments)).0.peers)
           (commands_in (Sent true 0)) (post_in (Sent true link)) b x y
-      stay_goes n e here may =
+      stay_goes n e none here may =
           rw n.next
           (rw to_peer
           (subst (λ (k : PairState). Goes number other tells others link p (parcel_calls p (places moments) n.parcel n.peer.pair (program h moments).listening ++ own_calls h p moments) k (commands_in (Sent true 0)) (post_in (Sent true link)) b x y) (sym now)
@@ -146,7 +154,7 @@ module _ (number other : ℕ → ℕ → ℕ → ℕ) (tells : IsTelling number)
           (subst (λ (t : List Bool). Goes number other tells others link p (parcel_calls p (places moments) n.parcel q (program h moments).listening ++ own_calls h p moments) (gone q)
           (commands_in (if 0 == link_for n.parcel then Waiting (place (events_of moments)) (message_on (link_for n.parcel) t) else X 0)) (post_in (if link == link_for n.parcel then Waiting (place (events_of moments)) (message_on (link_for n.parcel) t) else X link)) b x y) (sym text_is)
           (parcel_goes number other tells others link off steps p (places moments) (place (events_of moments)) (own_calls h p moments) (program h moments).listening b q x y (X 0) (X link) here (pair h p (events_of moments), story_agrees moments h p story.1)
-          ready n.parcel goes_next back (λ z. zero_empty (ap (λ (l : ℕ). 0 == l) link_is ∙ z)) (λ f. ap post_in (box_is_free hosts h p moments run.2 story.1 e link f)) may_parcel)))))) where
+          ready (none e) n.parcel goes_next back (λ z. zero_empty (ap (λ (l : ℕ). 0 == l) link_is ∙ z)) (λ f. ap post_in (box_is_free hosts h p moments run.2 story.1 e link f)) may_parcel)))))) where
             q : PairState
             q = pair_with p (program h moments).peers
 
@@ -191,10 +199,10 @@ module _ (number other : ℕ → ℕ → ℕ → ℕ) (tells : IsTelling number)
     next_here : same_host h m.flow.source ≡ true → IsNext (program h moments) m
     next_here e = subst (λ (g : Host). IsNext (program g moments) m) (sym (same_host-true h m.flow.source e)) story.0
 
-    pub act_out : stay.begins h p (event_in (Crossed (crossing.Out m))) (events_of moments) ≡ false
+    pub act_out : stay.begins h p (event_in (Crossed (crossing.Out m))) (events_of moments) ≡ false → FindsNone number other h p moments b
         → (keeps h p (event_in (Crossed (crossing.Out m))) (events_of moments) ≡ true → stay.stays h p (events_of moments) ≡ true → MayCalls (if same_host h m.flow.source then next_calls p (places moments) (program h moments).listening (next_in (program h moments).peers) else []))
         → Acted number other tells others link h p (Crossed (crossing.Out m) ∷ moments) (commands_in (boxes h p (events_of (Crossed (crossing.Out m) ∷ moments)) 0)) (post_in (boxes h p (events_of (Crossed (crossing.Out m) ∷ moments)) link)) b x y
-    act_out old may =
+    act_out old none may =
         act_by number other tells others link steps h p (Crossed (crossing.Out m)) moments (commands_in (X 0)) rest (post_in (X link)) b x y
         (commands_in (boxes h p (events_of (Crossed (crossing.Out m) ∷ moments)) 0)) (post_in (boxes h p (events_of (Crossed (crossing.Out m) ∷ moments)) link)) b old held
         (λ k e still here. goes (same_host h m.flow.source) (same_host p m.flow.destination) refl refl e here (may k e))
@@ -203,7 +211,7 @@ module _ (number other : ℕ → ℕ → ℕ → ℕ) (tells : IsTelling number)
               → MayCalls (if t then next_calls p (places moments) (program h moments).listening (next_in (program h moments).peers) else [])
               → Goes number other tells others link p ((if t then next_calls p (places moments) (program h moments).listening (next_in (program h moments).peers) else []) ++ own_calls h p moments)
               (pair_with p (if t then (offered (program h moments) (places moments)).0 else program h moments).peers) (commands_in (Sent (t && u) 0)) (post_in (Sent (t && u) link)) b x y
-          goes true true mine theirs e here calls = stay_goes mine theirs (next_here mine) e here calls
+          goes true true mine theirs e here calls = stay_goes mine theirs (next_here mine) e none here calls
           goes true false mine theirs e here calls =
               let n : IsNext (program h moments) m = next_here mine in
               let next : next_in (program h moments).peers ≡ Some (n.peer, n.parcel) = n.next in

@@ -8,14 +8,15 @@ use Rattle.interface.specs.declared.message.HostMessage.{HostMessage}
 use Rattle.ncp_control.specs.declared.command.Command.{Command}
 use Rattle.stream_law.specs.Streams.{Stream, opening_stream}
 use Rattle.host_keeps_ranges.specs.Ranges.{IsRanged}
-use Rattle.host_keeps_streams.specs.Histories.{IsTelling, numbered}
-use Rattle.host_keeps_streams.proofs.lemmas.{numbered_tells}
-use Rattle.pair_keeps_streams.proofs.lemmas.{Joint, Party, Steps}
+use Rattle.host_keeps_streams.specs.Histories.{AreAllowed, IsTelling, gone_now, numbered}
+use Rattle.host_keeps_streams.proofs.lemmas.{name_of, numbered_tells}
+use Rattle.pair_keeps_streams.proofs.lemmas.{Joint, NotTaken, Party, Steps}
 use Rattle.reset_law.specs.Boxes.{Box, Empty, Fetch, fetched, posted, boxes}
 use Rattle.reset_law.specs.Events.{Event, Message, Other, Out, are, place, when}
 use Rattle.reset_law.specs.Runs.{IsRun}
 use Rattle.reset_law.specs.Stays as stay
 use Rattle.reset_law.proofs.lemmas.{begins_either, carry}
+use Rattle.sockets.specs.Pairs.{pair_with}
 use Rattle.sockets.specs.declared.request.Request.{Request}
 use Rattle.net_sim.specs.Clean.{HaveAddresses}
 use Rattle.net_sim.specs.Projection.{event_by, message_on}
@@ -23,11 +24,11 @@ use Rattle.net_sim.specs.Story.{Moment, Crossed, Asked, IsStory, event_in, event
 use Rattle.net_sim.specs.Timeline.{IsTimeline, crossings_of}
 use Rattle.net_sim.proofs.lemmas.{Coupled, by_request, coupled}
 use Rattle.world_keeps_pairing.proofs.lemmas.{mail_below, programs_ranged, served_in}
-use Rattle.world_keeps_streams.specs.Calls.{calls_by}
+use Rattle.world_keeps_streams.specs.Calls.{calls_by, own_calls}
 use Rattle.world_keeps_streams.proofs.Steps.ActsAnswer.{act_answer, act_up}
 use Rattle.world_keeps_streams.proofs.Steps.ActsAsked.{act_asked, act_down}
 use Rattle.world_keeps_streams.proofs.Steps.ActsIn.{act_in}
-use Rattle.world_keeps_streams.proofs.Steps.ActsOut.{act_out}
+use Rattle.world_keeps_streams.proofs.Steps.ActsOut.{FindsNone, act_out}
 use Rattle.world_keeps_streams.proofs.Steps.GoesOut.{box_is_free}
 use Rattle.world_keeps_streams.proofs.Steps.Held.{Acted, Held, side}
 use Rattle.world_keeps_streams.proofs.Steps.Joined.{Joined, commands_in, party, post_in, numbered_by_peer, turned_tells}
@@ -48,6 +49,27 @@ fetched_free : (t : Bool) (here k : ℕ) (Y : ℕ → Box) (l : ℕ) → Y l ≡
 fetched_free true here k Y l e = fetched_if (l == k) (Y k) (Y l) (λ f. ap Y (sym (eqb-true l k f))) e
 fetched_free false here k Y l e = e
 
+-- what is asked of a message that goes out
+abbrev pub OfOut : Moment → Type 0 → Type 0
+OfOut (Crossed (crossing.Out m)) P = P
+OfOut x P = Unit {0}
+
+-- where the request of a host hasn't gone out before, its peer hasn't taken it: `ns` is up to which moment the peer's ends are seen
+abbrev pub Untaken : (ℕ → ℕ → ℕ → ℕ) → (ℕ → ℕ → ℕ → ℕ) → Host → Host → List Moment → List Moment → Type 0
+Untaken number other h p moments ns =
+    stay.stays h p (events_of moments) ≡ true → stay.stays p h (events_of ns) ≡ true
+    → NotTaken (name_of number (gone_now p (own_calls h p moments))) (name_of other (gone_now h (own_calls p h ns))) (pair_with p (program h moments).peers).entries (pair_with h (program p ns).peers).entries
+
+pub record Finds (link : ℕ) (a b : Host) (x : Moment) (moments : List Moment) : Type 0 where
+  pub first : OfOut x (Untaken numbered numbered_by_peer a b moments moments)
+  pub second : (stay.stays a b (events_of (x ∷ moments)) ≡ true → AreAllowed numbered b link (own_calls a b (x ∷ moments))) → OfOut x (Untaken numbered_by_peer numbered b a moments (x ∷ moments))
+
+-- what goes out finds that its requests weren't taken before
+abbrev pub AllFind : ℕ → List Host → Host → Host → Type 0
+AllFind link hosts a b =
+    (x : Moment) (moments : List Moment) → mail.IsRun hosts (crossings_of (x ∷ moments)) → IsTimeline hosts (x ∷ moments) → stay.begins a b (event_in x) (events_of moments) ≡ false → Joined a b link moments
+    → Finds link a b x moments
+
 abbrev pub NotIn : Moment → Type 0
 NotIn (Crossed (crossing.In m)) = ⊥
 NotIn x = Unit {0}
@@ -63,17 +85,18 @@ AloneFor h p stays x moments = Unit {0}
 module _ (number other : ℕ → ℕ → ℕ → ℕ) (tells : IsTelling number) (others : IsTelling other) (link : ℕ) (off : (link == 0) ≡ false) (steps : Steps number other tells others link) (hosts : List Host) (h p : Host) (moments : List Moment) (rest : List Command) (b : Party) (x y : Stream)
     (held : Held number other tells others link h p moments (commands_in (boxes h p (events_of moments) 0)) rest (post_in (boxes h p (events_of moments) link)) b x y)
     (ranged : IsRanged (program h moments)) (story : IsStory moments) (run : IsRun hosts (events_of moments)) where
-  half : (m : Moment) → NotIn m → IsStory (m ∷ moments) → IsRun hosts (events_of (m ∷ moments)) → AloneFor h p b.stays m moments → stay.begins h p (event_in m) (events_of moments) ≡ false → MayCalls (calls_by h p m moments)
+  half : (m : Moment) → NotIn m → IsStory (m ∷ moments) → IsRun hosts (events_of (m ∷ moments)) → AloneFor h p b.stays m moments → stay.begins h p (event_in m) (events_of moments) ≡ false → OfOut m (FindsNone number other h p moments b)
+      → MayCalls (calls_by h p m moments)
       → Acted number other tells others link h p (m ∷ moments) (commands_in (boxes h p (events_of (m ∷ moments)) 0)) (post_in (boxes h p (events_of (m ∷ moments)) link)) b x y
-  half (Crossed (crossing.Out m)) other_kind now law alone old may =
-      act_out number other tells others link off steps hosts h p moments rest b x y held m now law ranged alone old (λ k s. may)
-  half (Crossed (crossing.In m)) other_kind now law alone old may = absurd other_kind
-  half (Crossed (crossing.Answer kind f)) other_kind now law alone old may =
+  half (Crossed (crossing.Out m)) other_kind now law alone old none may =
+      act_out number other tells others link off steps hosts h p moments rest b x y held m now law ranged alone old none (λ k s. may)
+  half (Crossed (crossing.In m)) other_kind now law alone old none may = absurd other_kind
+  half (Crossed (crossing.Answer kind f)) other_kind now law alone old none may =
       act_answer number other tells others link off steps hosts h p moments rest b x y held kind f now law old
-  half (Crossed (crossing.Down g)) other_kind now law alone old may =
+  half (Crossed (crossing.Down g)) other_kind now law alone old none may =
       act_down number other tells others link steps h p moments (commands_in (boxes h p (events_of moments) 0)) rest (post_in (boxes h p (events_of moments) link)) b x y held g old
-  half (Crossed (crossing.Up g)) other_kind now law alone old may = act_up number other tells others link off steps hosts h p moments rest b x y held g old
-  half (Asked g r) other_kind now law alone old may =
+  half (Crossed (crossing.Up g)) other_kind now law alone old none may = act_up number other tells others link off steps hosts h p moments rest b x y held g old
+  half (Asked g r) other_kind now law alone old none may =
       subst (λ (Z : ℕ → Box). Acted number other tells others link h p (Asked g r ∷ moments) (commands_in (Z 0)) (post_in (Z link)) b x y) (sym (box_still h p g r (events_of moments)))
       (act_asked number other tells others link steps h p moments (commands_in (boxes h p (events_of moments) 0)) rest (post_in (boxes h p (events_of moments) link)) b x y held g r old
       (λ s free. ap post_in (box_is_free hosts h p moments run story s link free)) (λ k s. may))
@@ -99,14 +122,14 @@ alone_second hosts a b (Asked g r) moments run old = tt
 
 module _ (link : ℕ) (off : (link == 0) ≡ false) (steps : Steps numbered numbered_by_peer numbered_tells turned_tells link) (back : Steps numbered_by_peer numbered turned_tells numbered_tells link) (mirrors : Mirrors link) (hosts : List Host) (a b : Host) where
   module _ (moments : List Moment) (ranged : (h : Host) → IsRanged (program h moments)) (story : IsStory moments) (run : IsRun hosts (events_of moments)) (old : Joined a b link moments) where
-    own_goes : (x : Moment) → NotIn x → IsStory (x ∷ moments) → IsRun hosts (events_of (x ∷ moments)) → ((h p : Host) → MayCalls (calls_by h p x moments)) → stay.begins a b (event_in x) (events_of moments) ≡ false → Goes a b link x moments old
-    own_goes x other_kind now law may none =
+    own_goes : (x : Moment) → NotIn x → IsStory (x ∷ moments) → IsRun hosts (events_of (x ∷ moments)) → ((h p : Host) → MayCalls (calls_by h p x moments)) → stay.begins a b (event_in x) (events_of moments) ≡ false → Finds link a b x moments → Goes a b link x moments old
+    own_goes x other_kind now law may none finds =
         both_act link mirrors a b x moments old (boxes a b (events_of (x ∷ moments))) (boxes b a (events_of moments))
         (half numbered numbered_by_peer numbered_tells turned_tells link off steps hosts a b moments old.rest_a (party b a link old.rest_b moments) old.x old.y (old_held link mirrors a b x moments old (boxes a b (events_of (x ∷ moments))) (boxes b a (events_of moments)))
-        (ranged a) story run x other_kind now law (alone_first hosts a b x moments law) none (may a b))
-        (λ rest first second held. half numbered_by_peer numbered turned_tells numbered_tells link off back hosts b a moments old.rest_b
+        (ranged a) story run x other_kind now law (alone_first hosts a b x moments law) none finds.first (may a b))
+        (λ rest first second held allowed. half numbered_by_peer numbered turned_tells numbered_tells link off back hosts b a moments old.rest_b
         (side a b (x ∷ moments) (commands_in (boxes a b (events_of (x ∷ moments)) 0) ++ rest) (post_in (boxes a b (events_of (x ∷ moments)) link))) second first held
-        (ranged b) story run x other_kind now law (alone_second hosts a b x moments law none) (sym (begins_either a b (event_in x) (events_of moments)) ∙ none) (may b a))
+        (ranged b) story run x other_kind now law (alone_second hosts a b x moments law none) (sym (begins_either a b (event_in x) (events_of moments)) ∙ none) (finds.second allowed) (may b a))
 
     in_goes : (m : HostMessage) → IsStory (Crossed (crossing.In m) ∷ moments) → IsRun hosts (events_of (Crossed (crossing.In m) ∷ moments)) → ((h p : Host) → MayCalls (calls_by h p (Crossed (crossing.In m)) moments))
         → stay.begins a b (event_in (Crossed (crossing.In m))) (events_of moments) ≡ false → Goes a b link (Crossed (crossing.In m)) moments old
@@ -115,17 +138,17 @@ module _ (link : ℕ) (off : (link == 0) ≡ false) (steps : Steps numbered numb
         (act_in numbered numbered_by_peer numbered_tells turned_tells link off steps hosts a b moments (commands_in (boxes a b (events_of moments) 0)) old.rest_a (post_in (boxes a b (events_of moments) link)) (party b a link old.rest_b moments) old.rest_b old.x old.y
         (old_held link mirrors a b (Crossed (crossing.In m)) moments old (boxes a b (events_of moments)) (boxes b a (events_of (Crossed (crossing.In m) ∷ moments)))) m now law
         (λ s free. ap post_in (box_is_free hosts a b moments run story s link free)) none (λ k s. may a b))
-        (λ rest first second held. act_in numbered_by_peer numbered turned_tells numbered_tells link off back hosts b a moments (commands_in (boxes b a (events_of (Crossed (crossing.In m) ∷ moments)) 0)) old.rest_b
+        (λ rest first second held allowed. act_in numbered_by_peer numbered turned_tells numbered_tells link off back hosts b a moments (commands_in (boxes b a (events_of (Crossed (crossing.In m) ∷ moments)) 0)) old.rest_b
         (post_in (boxes b a (events_of (Crossed (crossing.In m) ∷ moments)) link))
         (side a b (Crossed (crossing.In m) ∷ moments) (commands_in (boxes a b (events_of moments) 0) ++ rest) (post_in (boxes a b (events_of moments) link))) rest second first held m now law
         (λ s free. ap post_in (fetched_free (are b a m.flow.source m.flow.destination) (place (events_of moments)) m.flow.link.0 (boxes b a (events_of moments)) link (box_is_free hosts b a moments run story s link free)))
         (sym (begins_either a b (event_in (Crossed (crossing.In m))) (events_of moments)) ∙ none) (λ k s. may b a))
 
     -- a moment in which no stay begins
-    pub goes : (x : Moment) → IsStory (x ∷ moments) → IsRun hosts (events_of (x ∷ moments)) → ((h p : Host) → MayCalls (calls_by h p x moments)) → stay.begins a b (event_in x) (events_of moments) ≡ false → Goes a b link x moments old
-    goes (Crossed (crossing.In m)) now law may none = in_goes m now law may none
-    goes (Crossed c) now law may none = own_goes (Crossed c) tt now law may none
-    goes (Asked g r) now law may none = own_goes (Asked g r) tt now law may none
+    pub goes : (x : Moment) → IsStory (x ∷ moments) → IsRun hosts (events_of (x ∷ moments)) → ((h p : Host) → MayCalls (calls_by h p x moments)) → stay.begins a b (event_in x) (events_of moments) ≡ false → Finds link a b x moments → Goes a b link x moments old
+    goes (Crossed (crossing.In m)) now law may none finds = in_goes m now law may none
+    goes (Crossed c) now law may none finds = own_goes (Crossed c) tt now law may none finds
+    goes (Asked g r) now law may none finds = own_goes (Asked g r) tt now law may none finds
 
   -- ---- all lawful moments
 
@@ -136,17 +159,17 @@ module _ (link : ℕ) (off : (link == 0) ≡ false) (steps : Steps numbered numb
   HaveMet = (x : Moment) (moments : List Moment) → mail.IsRun hosts (crossings_of (x ∷ moments)) → IsTimeline hosts (x ∷ moments) → stay.begins a b (event_in x) (events_of moments) ≡ true → Joined a b link (x ∷ moments)
 
   -- one more
-  pub next_goes : HaveAddresses hosts → CallsMay → (x : Moment) (moments : List Moment) → mail.IsRun hosts (crossings_of (x ∷ moments)) → IsTimeline hosts (x ∷ moments) → (old : Joined a b link moments) → stay.begins a b (event_in x) (events_of moments) ≡ false
+  pub next_goes : HaveAddresses hosts → CallsMay → AllFind link hosts a b → (x : Moment) (moments : List Moment) → mail.IsRun hosts (crossings_of (x ∷ moments)) → IsTimeline hosts (x ∷ moments) → (old : Joined a b link moments) → stay.begins a b (event_in x) (events_of moments) ≡ false
       → Goes a b link x moments old
-  next_goes addresses may x moments run time old none =
+  next_goes addresses may finds x moments run time old none =
       let below : mail.IsRun hosts (crossings_of moments) = mail_below hosts x moments run in
       let now : Coupled hosts (x ∷ moments) = coupled hosts addresses (x ∷ moments) run time in
       let before : Coupled hosts moments = coupled hosts addresses moments below time.1 in
-      goes moments (programs_ranged moments (served_in hosts moments time.1)) before.story before.run old x now.story now.run (may x moments run time) none
+      goes moments (programs_ranged moments (served_in hosts moments time.1)) before.story before.run old x now.story now.run (may x moments run time) none (finds x moments run time none old)
 
-  pub joined : HaveAddresses hosts → CallsMay → HaveMet → Joint numbered numbered_by_peer numbered_tells turned_tells link opening_stream opening_stream (party a b link [] []) (party b a link [] [])
+  pub joined : HaveAddresses hosts → CallsMay → AllFind link hosts a b → HaveMet → Joint numbered numbered_by_peer numbered_tells turned_tells link opening_stream opening_stream (party a b link [] []) (party b a link [] [])
       → (moments : List Moment) → mail.IsRun hosts (crossings_of moments) → IsTimeline hosts moments → Joined a b link moments
-  joined addresses may met start [] run time = record {
+  joined addresses may finds met start [] run time = record {
     x = opening_stream;
     y = opening_stream;
     rest_a = [];
@@ -161,7 +184,7 @@ module _ (link : ℕ) (off : (link == 0) ≡ false) (steps : Steps numbered numb
     allowed_a = λ s. tt;
     allowed_b = λ s. tt;
   }
-  joined addresses may met start (x ∷ moments) run time = by (stay.begins a b (event_in x) (events_of moments)) refl (joined addresses may met start moments (mail_below hosts x moments run) time.1) where
+  joined addresses may finds met start (x ∷ moments) run time = by (stay.begins a b (event_in x) (events_of moments)) refl (joined addresses may finds met start moments (mail_below hosts x moments run) time.1) where
     by : (t : Bool) → stay.begins a b (event_in x) (events_of moments) ≡ t → Joined a b link moments → Joined a b link (x ∷ moments)
     by true e old = met x moments run time e
-    by false e old = (next_goes addresses may x moments run time old e).joined
+    by false e old = (next_goes addresses may finds x moments run time old e).joined

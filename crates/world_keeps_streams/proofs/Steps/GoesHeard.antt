@@ -33,6 +33,8 @@ module _ (number other : ℕ → ℕ → ℕ → ℕ) (tells : IsTelling number)
   deaf x y a b j left pending = record {
     inv_x = j.inv_x;
     inv_y = j.inv_y;
+    exact_x = λ s t. clash _ a.stays s left;
+    exact_y = λ s t. clash _ a.stays s left;
     mine = j.mine;
     theirs = λ s. record { holds = (j.theirs s).holds; linked = (j.theirs s).linked };
     to_b = j.to_b;
@@ -48,6 +50,8 @@ module _ (number other : ℕ → ℕ → ℕ → ℕ) (tells : IsTelling number)
   blind x y a b j left gone post = record {
     inv_x = j.inv_x;
     inv_y = j.inv_y;
+    exact_x = λ s t. clash _ a.stays s left;
+    exact_y = λ s t. clash _ a.stays s left;
     mine = j.mine;
     theirs = λ s. clash _ b.stays s gone;
     to_b = j.to_b;
@@ -63,6 +67,8 @@ module _ (number other : ℕ → ℕ → ℕ → ℕ) (tells : IsTelling number)
   reply_first x y a b j = record {
     inv_x = j.inv_x;
     inv_y = j.inv_y;
+    exact_x = j.exact_x;
+    exact_y = j.exact_y;
     mine = j.mine;
     theirs = λ s. record { holds = (j.theirs s).holds; linked = (j.theirs s).linked };
     to_b = j.to_b;

@@ -18,8 +18,9 @@ use Rattle.ncp_control.specs.declared.phase.Phase.TheVariants as phase
 use Rattle.host_pairs.proofs.lemmas.{what_goes}
 use Rattle.host_keeps_ranges.specs.Ranges.{IsReadBack}
 use Rattle.host_keeps_streams.specs.Histories as calls
-use Rattle.host_keeps_streams.specs.Histories.{IsTelling, Says}
-use Rattle.pair_keeps_streams.proofs.lemmas.{Free, Party, Post, Steps}
+use Rattle.host_keeps_streams.specs.Histories.{IsTelling, Says, gone_now}
+use Rattle.host_keeps_streams.proofs.lemmas.{name_of}
+use Rattle.pair_keeps_streams.proofs.lemmas.{Free, NotTaken, Party, Post, Steps, taken_gone}
 use Rattle.reset_law.specs.Boxes.{Box, Empty, Waiting}
 use Rattle.reset_law.specs.Events.{Other}
 use Rattle.reset_law.specs.Pairs.{Pair}
@@ -86,20 +87,23 @@ never_ready : (P : Type 0) (ph : Phase) → ph ≡ phase.Want → ph ≡ phase.R
 never_ready P ph e f = absurd (let no : phase.Want ≡ phase.Ready = sym e ∙ f in cc)
 
 module _ (number other : ℕ → ℕ → ℕ → ℕ) (tells : IsTelling number) (others : IsTelling other) (link : ℕ) (off : (link == 0) ≡ false) (steps : Steps number other tells others link) (p : Host) (stamp here : ℕ) (own : List calls.Moment) (listening : List Listener) (b : Party) where
-  said_run : (post : Post) (cs : List Command) (q : PairState) (older : List calls.Moment) (front : List Command) (x y : Stream) → MayCalls (commands_said p stamp cs q listening older) → Here number other tells others link p (older ++ own) q front post b x y
+  said_run : (post : Post) (cs : List Command) (q : PairState) (older : List calls.Moment) (front : List Command) (x y : Stream) → MayCalls (commands_said p stamp cs q listening older)
+      → (b.stays ≡ true → NotTaken (name_of number (gone_now p (older ++ own))) (name_of other b.gone) q.entries b.entries) → Here number other tells others link p (older ++ own) q front post b x y
       → Goes number other tells others link p (commands_said p stamp cs q listening older ++ own) (said_pair p stamp cs q listening) front post b x y
-  said_run post [] q older front x y may h = stays_as number other tells others link p (older ++ own) q front post b x y h
-  said_run post (c ∷ cs) q older front x y may h =
+  said_run post [] q older front x y may none h = stays_as number other tells others link p (older ++ own) q front post b x y h
+  said_run post (c ∷ cs) q older front x y may none h =
       let next : PairState = with_connections q (command_gone p stamp c (desk_of q listening)) in
       let one : Goes number other tells others link p (called (Says stamp c) q listening ∷ (older ++ own)) (with_connections q (command_gone p stamp c (desk_of q listening))) front post b x y =
       says_here number other tells others link p (older ++ own) q front post b x y h steps listening stamp c
-      (said_under p stamp cs (with_connections q (command_gone p stamp c (desk_of q listening))) listening (called (Says stamp c) q listening ∷ older) may).0
+      (said_under p stamp cs (with_connections q (command_gone p stamp c (desk_of q listening))) listening (called (Says stamp c) q listening ∷ older) may).0 (λ s r. none s)
       (with_connections q (command_gone p stamp c (desk_of q listening))) refl (sym (gone_queue p stamp c (desk_of q listening))) in
       then_goes number other tells others link p (called (Says stamp c) q listening ∷ (older ++ own)) (commands_said p stamp (c ∷ cs) q listening older ++ own) (with_connections q (command_gone p stamp c (desk_of q listening)))
       (said_pair p stamp cs (with_connections q (command_gone p stamp c (desk_of q listening))) listening) front front post post b b x y one
-      (λ first second g. said_run post cs (with_connections q (command_gone p stamp c (desk_of q listening))) (called (Says stamp c) q listening ∷ older) front first second may g)
+      (λ first second g. said_run post cs (with_connections q (command_gone p stamp c (desk_of q listening))) (called (Says stamp c) q listening ∷ older) front first second may
+      (λ s. taken_gone number (name_of other b.gone) (gone_now p (older ++ own)) p stamp q listening b.entries (h.joint.mine refl).holds.sound.apart c (none s)) g)
 
-  module _ (q : PairState) (x y : Stream) (control at : Box) (h : Here number other tells others link p own q (commands_in control) (post_in at) b x y) (agrees : (law : Pair) × Agrees q law) (ready : q.phase ≡ phase.Ready) where
+  module _ (q : PairState) (x y : Stream) (control at : Box) (h : Here number other tells others link p own q (commands_in control) (post_in at) b x y) (agrees : (law : Pair) × Agrees q law) (ready : q.phase ≡ phase.Ready)
+      (none : b.stays ≡ true → NotTaken (name_of number (gone_now p own)) (name_of other b.gone) q.entries b.entries) where
     abbrev After : Parcel → Type 0
     After g =
         Goes number other tells others link p (parcel_calls p stamp g q listening ++ own) (pair_after g q (parcel_gone p stamp q.busy g (desk_of q listening)))
@@ -119,7 +123,7 @@ module _ (number other : ℕ → ℕ → ℕ → ℕ) (tells : IsTelling number)
         ap (λ (os : List Order). control_message (text_for q (parcel.Commands count)) os) back ∙ plain_message (text_for q (parcel.Commands count)) (take count q.queue) (plain_take count q.queue agrees.1.plain) in
         let said : commands_of_message (message_on 0 (text_for q (parcel.Commands count))) ≡ take count q.queue = ap commands_of_message is ∙ ap legal_in back ∙ legal_all (take count q.queue) in
         let run : Goes number other tells others link p (commands_said p stamp (take count q.queue) q listening [] ++ own) (said_pair p stamp (take count q.queue) q listening) (commands_in control) (post_in at) b x y =
-        said_run (post_in at) (take count q.queue) q [] (commands_in control) x y may h in
+        said_run (post_in at) (take count q.queue) q [] (commands_in control) x y may none h in
         let ends : (said_pair p stamp (take count q.queue) q listening).entries ≡ (pair_after (parcel.Commands count) q (parcel_gone p stamp q.busy (parcel.Commands count) (desk_of q listening))).entries = said_ends p stamp (take count q.queue) q listening (desk_of q listening) refl in
         let queue : commands_in control ++ (said_pair p stamp (take count q.queue) q listening).queue ≡ commands_of_message (message_on 0 (text_for q (parcel.Commands count))) ++ (pair_after (parcel.Commands count) q (parcel_gone p stamp q.busy (parcel.Commands count) (desk_of q listening))).queue =
         ap (λ (z : Box). commands_in z ++ (said_pair p stamp (take count q.queue) q listening).queue) empty ∙ said_queue p stamp (take count q.queue) q listening ∙ take_drop count q.queue

@@ -21,7 +21,7 @@ use Rattle.host_keeps_streams.specs.Formed.{FindsFree, HasSaid}
 use Rattle.host_keeps_streams.specs.Histories as calls
 use Rattle.host_keeps_streams.specs.Histories.{Call, Hears, Takes, Says, Answered, AreAllowed, IsAllowed, IsTelling, ends_by, gone_by, gone_now, is_out, received_at, receiver_now, sender_now, sent_at}
 use Rattle.host_keeps_streams.proofs.lemmas.{name_of}
-use Rattle.pair_keeps_streams.proofs.lemmas.{Fetched, Free, IsAsking, IsFirst, IsHeard, IsPaired, IsPairedCall, IsWordless, Joint, Lies, Party, Post, Stepped, Steps, finds_free, queue_by, receives, receives_receiver, receives_sender, sends, sends_receiver, sends_sender, x_after, y_after}
+use Rattle.pair_keeps_streams.proofs.lemmas.{Fetched, Free, IsAsking, IsFirst, IsHeard, IsPaired, IsPairedCall, IsRequest, IsWordless, Joint, Lies, NotTaken, Party, Post, Stepped, Steps, finds_free, queue_by, receives, receives_receiver, receives_sender, sends, sends_receiver, sends_sender, x_after, y_after}
 use Rattle.world_keeps_streams.specs.Calls.{called}
 
 -- a host that stays with a peer: what waits to be taken of it, and after that what waits in its program
@@ -139,11 +139,11 @@ module _ (number other : ℕ → ℕ → ℕ → ℕ) (tells : IsTelling number)
           (λ r. steps.any_received (name_of number (gone_now p own)) stamp s.0 0 c q listening r) (λ u. steps.any_sent (name_of number (gone_now p own)) stamp s.0 0 c q listening u)
           next ((front ++ q.queue) ++ s.1.new) front post (record b { pending = more }) same (more_waits s.1.new (Hears stamp 0 c) listening next s.1.queue waits) s.1.joint
 
-      pub says_here : (stamp : ℕ) (c : Command) → HasSaid c q.entries → (next : PairState) → ends_by p (Says stamp c) q listening ≡ next.entries → q.queue ≡ next.queue
+      pub says_here : (stamp : ℕ) (c : Command) → HasSaid c q.entries → (b.stays ≡ true → IsRequest c → NotTaken (name_of number (gone_now p own)) (name_of other b.gone) q.entries b.entries) → (next : PairState) → ends_by p (Says stamp c) q listening ≡ next.entries → q.queue ≡ next.queue
           → Goes p (called (Says stamp c) q listening ∷ own) next front post b x y
-      says_here stamp c said next same waits =
+      says_here stamp c said none next same waits =
           went (Says stamp c) (Says stamp c) listening said refl (λ r. refl) (λ u. refl) next (front ++ q.queue) front post b same (ap (λ (cs : List Command). front ++ cs) waits)
-          (steps.says x y me b h.joint refl p q refl listening stamp c said)
+          (steps.says x y me b h.joint refl p q refl listening stamp c said none)
 
       pub bytes_here : (stamp : ℕ) (e : Entry) (size count : ℕ) → next_of q ≡ Some (Bytes e size count) → IsHeader (record { size = size; count = count }) → sends_on link e ≡ true → (is_busy q.busy link ≡ false → post ≡ Free)
           → (next : PairState) → ends_by p (calls.Sends stamp e size count) q listening ≡ next.entries → q.queue ≡ next.queue

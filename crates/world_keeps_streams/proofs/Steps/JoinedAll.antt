@@ -14,6 +14,7 @@ use Rattle.world_keeps_streams.proofs.Steps.Goes as going
 use Rattle.world_keeps_streams.proofs.Steps.Joined.{Joined, party, numbered_by_peer, turned_tells}
 use Rattle.world_keeps_streams.proofs.Steps.Joining.{Goes, Mirrors}
 use Rattle.world_keeps_streams.proofs.Calls.MayLaw.{law_calls}
+use Rattle.world_keeps_streams.proofs.Requests.Untaken.{finds}
 use Rattle.world_keeps_streams.proofs.Stays.Meets.{meets}
 
 module _ (link : ℕ) (off : (link == 0) ≡ false) where
@@ -35,9 +36,9 @@ module _ (link : ℕ) (off : (link == 0) ≡ false) where
   module _ (hosts : List Host) (addresses : HaveAddresses hosts) (a b : Host) where
     -- one moment more, in which no stay begins
     pub goes : (x : Moment) (moments : List Moment) → mail.IsRun hosts (crossings_of (x ∷ moments)) → IsTimeline hosts (x ∷ moments) → (old : Joined a b link moments) → stay.begins a b (event_in x) (events_of moments) ≡ false → Goes a b link x moments old
-    goes x moments run time old none = going.next_goes link off steps back mirrors hosts a b addresses (law_calls hosts addresses) x moments run time old none
+    goes x moments run time old none = going.next_goes link off steps back mirrors hosts a b addresses (law_calls hosts addresses) (finds link hosts addresses a b) x moments run time old none
 
     -- a lawful list of moments
     pub joined : (moments : List Moment) → mail.IsRun hosts (crossings_of moments) → IsTimeline hosts moments → Joined a b link moments
     joined moments run time =
-        going.joined link off steps back mirrors hosts a b addresses (law_calls hosts addresses) (meets link off hosts addresses a b) (start a b) moments run time
+        going.joined link off steps back mirrors hosts a b addresses (law_calls hosts addresses) (finds link hosts addresses a b) (meets link off hosts addresses a b) (start a b) moments run time

@@ -1,17 +1,18 @@
 -- The two halves of a moment, one after the other: what each of two hosts does by it.
-use Rattle.std.proofs.Common.{ℕ, List, ◌∷◌, ◌++◌, ap, sym, subst, ◌∙◌}
+use Rattle.std.proofs.Common.{◌≡◌, ℕ, true, List, ◌∷◌, ◌++◌, ap, sym, subst, ◌∙◌}
 use Rattle.interface.specs.Host.{Host}
 use Rattle.ncp_control.specs.declared.command.Command.{Command}
 use Rattle.stream_law.specs.Receivers.{Receiver}
 use Rattle.stream_law.specs.Senders.{Sender}
 use Rattle.stream_law.specs.Streams.{Stream}
 use Rattle.stream_law.specs.Within.{IsPrefix}
-use Rattle.host_keeps_streams.specs.Histories.{numbered}
+use Rattle.host_keeps_streams.specs.Histories.{AreAllowed, numbered}
 use Rattle.host_keeps_streams.proofs.lemmas.{numbered_tells}
 use Rattle.pair_keeps_streams.proofs.lemmas.{Joint, Party}
 use Rattle.reset_law.specs.Boxes.{Box, boxes}
 use Rattle.reset_law.specs.Stays as stay
 use Rattle.net_sim.specs.Story.{Moment, events_of}
+use Rattle.world_keeps_streams.specs.Calls.{own_calls}
 use Rattle.world_keeps_streams.proofs.Steps.Held.{Acted, Held, side}
 use Rattle.world_keeps_streams.proofs.Steps.Joined.{IsSettled, Joined, Keeps, commands_in, party, post_in, numbered_by_peer, turned_tells}
 
@@ -36,6 +37,7 @@ module _ (link : ℕ) (mirrors : Mirrors link) (a b : Host) (x : Moment) (moment
   abbrev pub SecondActs : Type 0
   SecondActs =
       (rest : List Command) (first second : Stream) → Held numbered_by_peer numbered turned_tells numbered_tells link b a moments (commands_in (zb 0)) old.rest_b (post_in (zb link)) (side a b (x ∷ moments) (commands_in (za 0) ++ rest) (post_in (za link))) second first
+      → (stay.stays a b (events_of (x ∷ moments)) ≡ true → AreAllowed numbered b link (own_calls a b (x ∷ moments)))
       → Acted numbered_by_peer numbered turned_tells numbered_tells link b a (x ∷ moments) (commands_in (boxes b a (events_of (x ∷ moments)) 0)) (post_in (boxes b a (events_of (x ∷ moments)) link))
       (side a b (x ∷ moments) (commands_in (boxes a b (events_of (x ∷ moments)) 0) ++ rest) (post_in (boxes a b (events_of (x ∷ moments)) link))) second first
 
@@ -52,7 +54,7 @@ module _ (link : ℕ) (mirrors : Mirrors link) (a b : Host) (x : Moment) (moment
         received = λ s. one.receiver ∙ old.received_b s;
         sent = λ s. one.sender ∙ old.sent_b s;
         allowed = old.allowed_b;
-      }) in
+      }) one.held.allowed in
       record {
         joined = record {
           x = two.second;

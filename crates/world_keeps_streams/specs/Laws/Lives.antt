@@ -16,7 +16,7 @@ use Rattle.net_sim.specs.Told.{kept_in}
 use Rattle.world_keeps_lives.specs.Firsts.{FirstBook}
 use Rattle.world_keeps_streams.specs.Answered.{HasArrived}
 use Rattle.world_keeps_streams.specs.Arrivals.{Arrives, ComesFor}
-use Rattle.world_keeps_streams.specs.Rests.{AreAtRest}
+use Rattle.world_keeps_streams.specs.Rests.{Agree, AreAtRest, AreSettled}
 use Rattle.world_keeps_streams.specs.Closes.{TookAll, WasClosedByPartner}
 
 -- what a receiving life took is a prefix of what its one partner sent: where it took any bit there is one
@@ -65,3 +65,10 @@ LivesSent =
     (hosts : List Host) (moments : List Moment) → HaveAddresses hosts → mail.IsRun hosts (crossings_of moments) → IsTimeline hosts moments →
     (receiver sender : Life) → Contains (kept_in moments).book.lives receiver → Contains (kept_in moments).book.lives sender →
     Match (crossings_of moments) receiver sender → IsGranted receiver sender.messages (length sender.bits)
+
+-- where no command is on its way between the hosts of two lives at rest, what may still be sent is what may still be taken: what was granted and neither
+-- used nor returned
+abbrev pub LivesAgree : Type 0
+LivesAgree =
+    (hosts : List Host) (moments : List Moment) → HaveAddresses hosts → mail.IsRun hosts (crossings_of moments) → IsTimeline hosts moments →
+    (receiver sender : Life) → (settled : AreSettled moments receiver sender) → Agree receiver settled.rest.end.end settled.giver.end

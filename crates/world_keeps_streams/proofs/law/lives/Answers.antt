@@ -1,3 +1,4 @@
+use Rattle.world_keeps_streams.proofs.Books.Agree.{settled}
 use Rattle.world_keeps_streams.proofs.Books.All.{sent, source}
 use Rattle.world_keeps_streams.proofs.Books.Answered.{answered}
 use Rattle.world_keeps_streams.proofs.Books.Arrives.{arrives}
@@ -24,6 +25,9 @@ returns-clause-firsts c hosts moments addresses run time = firsts hosts moments 
 
 pub returns-clause-rests : goal.returns-clause-rests
 returns-clause-rests c hosts moments addresses run time receiver sender quiet = rests hosts moments (addresses, run, time) receiver sender quiet
+
+pub returns-clause-agree : goal.returns-clause-agree
+returns-clause-agree c hosts moments addresses run time receiver sender quiet = settled hosts moments (addresses, run, time) receiver sender quiet
 
 pub returns-clause-handed : goal.returns-clause-handed
 returns-clause-handed c hosts moments addresses run time receiver = took_handed hosts moments (addresses, run, time) receiver

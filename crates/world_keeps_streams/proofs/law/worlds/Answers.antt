@@ -1,3 +1,4 @@
+use Rattle.world_keeps_streams.proofs.Books.Agree.{world_agrees}
 use Rattle.world_keeps_streams.proofs.Books.All.{world_sent, world_source}
 use Rattle.world_keeps_streams.proofs.Books.Answered.{world_answered}
 use Rattle.world_keeps_streams.proofs.Books.Arrives.{world_arrives}
@@ -24,6 +25,9 @@ returns-clause-firsts g c hosts w lawful = world_firsts g.C.Carrier.calls.seen h
 
 pub returns-clause-rests : goal.returns-clause-rests
 returns-clause-rests g c hosts w lawful = world_rests g.C.Carrier.calls.seen hosts w lawful
+
+pub returns-clause-agree : goal.returns-clause-agree
+returns-clause-agree g c hosts w lawful = world_agrees g.C.Carrier.calls.seen hosts w lawful
 
 pub returns-clause-handed : goal.returns-clause-handed
 returns-clause-handed g c hosts w lawful = world_handed_over g.C.Carrier.calls.seen hosts w lawful
