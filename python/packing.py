@@ -49,7 +49,7 @@ def build_wheel(wheel_directory: str, config_settings: Any = None, metadata_dire
     files = {str(it.relative_to(HERE)): it.read_bytes() for it in sources()}
     files[f"{info}/METADATA"] = metadata().encode()
     files[f"{info}/WHEEL"] = f"Wheel-Version: 1.0\nGenerator: packing\nRoot-Is-Purelib: true\nTag: {TAG}\n".encode()
-    files[f"{info}/entry_points.txt"] = b"[console_scripts]\ndorydate-explore = dorydate.explore.command:main\ndorydate-export = dorydate.export.command:run\n"
+    files[f"{info}/entry_points.txt"] = b"[console_scripts]\ndorydate-explore = dorydate.explore.command:run\ndorydate-export = dorydate.export.command:run\n"
     record = "".join(recorded(*it) for it in files.items()) + f"{info}/RECORD,,\n"
     name = f"{stem}-{TAG}.whl"
     with zipfile.ZipFile(Path(wheel_directory) / name, "w", zipfile.ZIP_DEFLATED) as wheel:

@@ -26,6 +26,20 @@ def quiet_output() -> None:
     os.dup2(nowhere, 1)
 
 
+def hand_on() -> None:
+    """Writes what was printed, where the system lets it."""
+    try:
+        sys.stdout.flush()
+    except OSError:
+        quiet_output()
+
+
+def in_words(fault: OSError) -> str:
+    """What the system refused, in a line."""
+    what = f"{os.fsdecode(fault.filename)}: " if fault.filename is not None else ""
+    return f"{what}{fault.strerror or fault}"
+
+
 def broken_pipe() -> int:
     """Ends as a program does whose reader went away: by SIGPIPE."""
     quiet_output()
@@ -50,8 +64,7 @@ def run(name: str, main: Callable[[], int | None]) -> int:
     except BrokenPipeError:
         return broken_pipe()
     except OSError as fault:
-        what = f"{os.fsdecode(fault.filename)}: " if fault.filename is not None else ""
-        print(f"{name}: {what}{fault.strerror or fault}", file=sys.stderr)
+        print(f"{name}: {in_words(fault)}", file=sys.stderr)
     except KeyboardInterrupt:
         print(f"{name}: stopped", file=sys.stderr)
     quiet_output()

@@ -11,7 +11,7 @@ from dataclasses import dataclass
 from pathlib import Path
 
 from dorydate.network import BadNetwork
-from dorydate.program import NoProgram, Program
+from dorydate.program import NoProgram, Program, TookTooLong
 from dorydate.deeds import Stopped
 from dorydate.replay import Replay
 from dorydate.script import BadLine, Entry, Script
@@ -57,12 +57,12 @@ def command(paths: Sequence[str]) -> int:
 def judged(path: str) -> int:
     """The status of a file, which is printed."""
     try:
-        script = Script.read(Path(path).read_text(encoding="latin-1"))
+        script = Script.of_octets(Path(path).read_bytes())
         found = differences(script)
     except OSError as fault:
         print(f"explain: {path}: {fault.strerror}", file=sys.stderr)
         return 1
-    except (BadLine, BadNetwork, Stopped, NoProgram) as why:
+    except (BadLine, BadNetwork, Stopped, NoProgram, TookTooLong) as why:
         print(f"explain: {path}: {why}", file=sys.stderr)
         return 1
     if found:

@@ -14,6 +14,8 @@ from collections.abc import Iterable, Iterator
 from dataclasses import dataclass, field
 from typing import Any
 
+from dorydate import ending
+
 Event = dict[str, Any]
 CROSSINGS = "put", "got", "answer"
 
@@ -86,5 +88,23 @@ def spelled(octets: str) -> str:
     return f"{4 * len(octets)} {octets or '-'}"
 
 
+def main() -> int:
+    """Prints the log of the trace on standard input. The exit status."""
+    read = 0
+
+    def events() -> Iterator[Event]:
+        nonlocal read
+        for read, line in enumerate(sys.stdin.buffer, 1):
+            yield json.loads(line)
+
+    try:
+        lines = [*log_of(events())]
+    except (ArithmeticError, AttributeError, LookupError, RecursionError, TypeError, ValueError):
+        print(f"foreign: line {read} is no event of such a trace, or one before it is missing", file=sys.stderr)
+        return 1
+    print(*lines, sep="\n")
+    return 0
+
+
 if __name__ == "__main__":
-    print(*log_of(json.loads(line) for line in sys.stdin), sep="\n")
+    sys.exit(ending.run("foreign", main))

@@ -21,7 +21,7 @@ def state_of(program: Program, network: Network, events: Sequence[Event]) -> Sta
 
 def trace_of(program: Program, network: Network, events: Sequence[Event]) -> str:
     """The trace of events; of a network with host programs it has a line for each event and each round of a calm."""
-    ran = program.run(Script.of(network, events).text().encode("latin-1"), "--trace")
+    ran = program.run(Script.of(network, events).octets(), "--trace")
     if ran.status:
         raise CannotFollow(ran.said.strip())
     return ran.output

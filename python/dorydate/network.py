@@ -10,6 +10,7 @@ from typing import Union
 MOST_IMPS = 63
 MOST_HOSTS = 4
 MOST_LINES = 5  # of one IMP
+MOST_SHOWN = 72  # characters of a line in an error
 
 
 class BadNetwork(ValueError):
@@ -179,8 +180,8 @@ def check(network: Network) -> None:
             raise BadNetwork(f"{imp} has a number from 1 to {MOST_IMPS} and 0 to {MOST_HOSTS} hosts")
         if numbers.count(imp.number) > 1:
             raise BadNetwork(f"two IMPs have the number {imp.number}")
-        if "\n" in imp.name:
-            raise BadNetwork("a site's name has one line")
+        if not imp.name.isprintable():
+            raise BadNetwork("a site's name has one line of characters that can be printed")
     check_lines(network.lines, numbers)
 
 
@@ -204,10 +205,15 @@ TABLE = re.compile(r"[ \t]*\[\[[ \t]*(imp|line)[ \t]*\]\][ \t]*(?:#.*)?")
 KEYS = {"": {"carrier", "raw"}, "imp": {"id", "hosts"}, "line": {"a", "b"}}
 
 
+def short(line: str) -> str:
+    """A line as an error quotes it: its middle left out where it is long."""
+    return line if len(line) <= MOST_SHOWN else f"{line[: MOST_SHOWN - 12]} .. {line[-8:]}"
+
+
 def read(text: str) -> Network:
     """The network of a topology in the plain spelling."""
     tables: list[tuple[str, dict[str, str], str]] = [("", {}, "")]
-    for number, line in enumerate(text.split("\n"), 1):
+    for number, line in enumerate(text.removeprefix("\ufeff").split("\n"), 1):
         line = line.removesuffix("\r")
         if not line.split("#")[0].strip():
             continue
@@ -217,7 +223,7 @@ def read(text: str) -> Network:
         pair = PAIR.fullmatch(line)
         name, values, comment = tables[-1]
         if not pair or pair[1] not in KEYS[name] or pair[1] in values:
-            raise BadNetwork(f"line {number} of the topology, `{line.strip()}`, is not read here: one key with its value a line, each once in its table")
+            raise BadNetwork(f"line {number} of the topology, `{short(line.strip())}`, is not read here: one key with its value a line, each once in its table")
         values[pair[1]] = pair[2] or pair[3] or pair[4]
         tables[-1] = name, values, (pair[5] or "").strip() if pair[1] == "id" else comment
     for name, values, _ in tables[1:]:

@@ -16,7 +16,7 @@ from dorydate.marks import Marked, Unmarked, each_printed, mark_for
 from dorydate.network import Host, HostName, ImpName, Network
 from dorydate.printed import flow_of, kind_of, matches, without_text
 from dorydate.program import Program, found
-from dorydate.script import Entry, Event, Flow, Script
+from dorydate.script import Entry, Event, Flow, Script, octets_of
 from dorydate.state import Frame, State
 
 MOST_ROUNDS = 200  # of one `settle`, `run_until` or `restart` where nothing else is said
@@ -33,7 +33,7 @@ def output_of(program: Program, octets: bytes) -> str:
 def attributed(program: Program, network: Network, happened: Sequence[Event]) -> list[list[str]]:
     """The lines that each event prints, with the octets of messages."""
     lines = [str(it).encode("latin-1") for it in happened]
-    marked = Marked(network.toml().encode("latin-1"), lines, mark_for(map(str, network.hosts()), lines))
+    marked = Marked(octets_of(network.toml()), lines, mark_for(map(str, network.hosts()), lines))
     parts = [*marked.parts()]
     try:
         return each_printed(parts, (output_of(program, marked.input(it)) for it in parts))
@@ -88,7 +88,7 @@ class Replay:
 
     def _printed(self, happened: Sequence[Event]) -> list[str]:
         """All lines that these events print, with the octets of messages."""
-        return output_of(self.program, Script.of(self.network, happened).text().encode("latin-1")).splitlines()[:-1]
+        return output_of(self.program, Script.of(self.network, happened).octets()).splitlines()[:-1]
 
     def _perform(self, wanted: Iterable[Event], why: str) -> tuple[list[Step], list[Step]]:
         """Lets those of some events happen that are not refused: these, and the others."""
@@ -331,13 +331,13 @@ class Replay:
     @property
     def lives(self) -> list[str]:
         """The lives of the book."""
-        ran = self.program.run(self.text.encode("latin-1"), "--book")
+        ran = self.program.run(octets_of(self.text), "--book")
         return [it for it in ran.output.splitlines() if it.startswith("life ")]
 
     @property
     def log(self) -> str:
         """The log of the book."""
-        return self.program.run(self.text.encode("latin-1"), "--log").output
+        return self.program.run(octets_of(self.text), "--log").output
 
     def audit(self) -> str:
         """What the proved audit says of the log."""

@@ -3,6 +3,7 @@
 from __future__ import annotations
 
 import random
+import re
 import unittest
 from collections.abc import Callable
 from itertools import islice
@@ -78,6 +79,26 @@ class Scripts(unittest.TestCase):
         for line in rows:
             with self.subTest(line), self.assertRaises((BadLine, BadNetwork)):
                 read_event(line, raw=True)
+
+    def test_bad_inputs_are_named_by_their_lines(self) -> None:
+        good = Network.joined("A-B", raw=True).toml()
+        rows = [("x = 1\n" + good + "%\n", "line 1 of the topology, `x = 1`"), (good + "%\njump\n", "line 13, `jump`"), (good + "%\n" + "j" * 200, f"line 13, `{'j' * 60} .. {'j' * 8}`")]
+        for text, words in rows:
+            with self.subTest(words), self.assertRaisesRegex((BadLine, BadNetwork), re.escape(words)):
+                Script.read(text)
+
+    def test_inputs_of_any_octets(self) -> None:
+        text = Network.joined("Łódź-Zürich", raw=True).toml()
+        script = Script.of_octets(b"\xef\xbb\xbf" + text.encode() + b"%\n# \xff\r\ncalm 1")
+        self.assertEqual([it.name for it in script.network.imps], ["Łódź", "Zürich"])
+        self.assertIn(b"# Z\xc3\xbcrich\n", script.octets())
+        self.assertIn(b"\n# \xff\ncalm 1\n", script.octets())
+        self.assertEqual(Script.of_octets(text.encode() + b"%").events, ())
+
+    def test_names_that_no_topology_can_have(self) -> None:
+        for name in ("A\nB", "A\rB", "\0A", "A\x85B", "A\u2028B", "\udcffA"):
+            with self.subTest(name), self.assertRaises(BadNetwork):
+                Network.joined(f"{name}-C")
 
     def test_typed_text_keeps_its_spaces(self) -> None:
         self.assertEqual(read_event("type 0/1  a b", raw=False), events.Type(Host(0, 1), " a b"))

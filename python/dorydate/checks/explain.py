@@ -207,15 +207,21 @@ def seconds_of_children() -> float:
     return spent.children_user + spent.children_system
 
 
+# what becomes of a stream, and what a command says of it
+ENDINGS = [(">&-", "standard output is closed"), ("<&-", "standard input is closed"), ("< /", "standard input is a directory"), ("> /dev/full", "No space left on device")]
+
+
 def check_ends() -> None:
     """Where a stream is closed or full, or a name is not UTF-8, a command says so in one line and ends with status 1; long blanks take no time."""
     name = os.fsencode(f"{ROOT}/examples/none-") + b"\xff"
+    for words in ("explain", "check", "measure", "export --shiviz", "explore --list"):
+        for ending, said in ENDINGS:
+            command = words.split(" ")[0]
+            if (command, ending) == ("check", "> /dev/full") or (command in ("check", "measure") and ending == "< /"):
+                continue  # the check runs the whole gate before it has written what its buffer holds; neither reads an input
+            ran = subprocess.run(["bash", "-c", f"./{words} < examples/first-message {ending}"], cwd=ROOT, capture_output=True, text=True, stdin=subprocess.DEVNULL)
+            same((ran.returncode in (1, 2), f"{command}: {said}" in ran.stderr, "Traceback" in ran.stderr), (True, True, False), f"{words} {ending}: {ran.stderr}")
     for command in ("explain", "check", "measure"):
-        for ending, said in ((">&-", f"{command}: standard output is closed"), ("<&-", f"{command}: standard input is closed"), ("> /dev/full", f"{command}: No space left on device")):
-            if (command, ending) == ("check", "> /dev/full"):
-                continue  # it runs the whole gate before it has written what its buffer holds
-            ran = subprocess.run(["bash", "-c", f"./{command} < examples/first-message {ending}"], cwd=ROOT, capture_output=True, text=True, stdin=subprocess.DEVNULL)
-            same((ran.returncode, said in ran.stderr, "Traceback" in ran.stderr), (1, True, False), f"{command} {ending}: {ran.stderr}")
         ran = subprocess.run([f"{ROOT}/{command}".encode(), *([b"--page"] if command == "explain" else []), name], capture_output=True, text=True, input="")
         same((ran.returncode, ran.stderr.count("\n"), "Traceback" in ran.stderr), (1, 1, False), f"{command} and a name that is not UTF-8: {ran.stderr}")
     before = seconds_of_children()

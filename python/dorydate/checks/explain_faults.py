@@ -102,6 +102,10 @@ BAD_TOPOLOGIES = [
     (GOOD + b"".join(b"[[imp]]\nid = %d\nhosts = 1\n[[line]]\na = 1\nb = %d\n" % (it, it) for it in range(2, 8)) + b"%\n", "more than five lines"),
     (b"#" * 1_048_600, "at most 1048576 octets are read"),
     (b'carrier = "plain"\n[[imp]]\nid = 1\nhosts = 1\nraw = true\n%\n', "Line 5 of the file:\n  raw = true\n`raw` comes after `[[imp]]`, so it is a key of that table. Put it before the first `[[`."),
+    (GOOD + b"imp = " + b"[" * 10_000 + b"\n%\n", "brackets within brackets, hundreds deep"),
+    (GOOD + b"a." * 100_000 + b"a = 1\n%\n", "It has more than 100 dots"),
+    (GOOD + b"x = " + b"7" * 5_000 + b"\n%\n", "It has a number of 1000 digits or more"),
+    (GOOD + b"[[imp]]\nid = 2\nhosts = 1\n" + b"[[line]]\na = 1\nb = 2\n" * 30_000 + b"%\n", "Line 12 of the file:\n  [[line]]\nTwo lines join the IMPs 1 and 2."),
     (b"out 0/1 0/2 5 8 FF\nin 0/1 0/2 5 8 FF\nend\n", "This is a log and not an input. `./explain --audit < FILE`"),
     (b"down 0/1\nend\n", "This is a log and not an input."),
 ]
@@ -112,6 +116,7 @@ BAD_LOG_LINES = [
     (7, b"out 0/2 0/1 5 56 0008000200484", "56 bits fill 7 octets, which are 14 hexadecimal digits. This line has 13, for 52 bits. The form is `out S D N BITS OCTETS`."),
     (7, b"out 0/2 0/1 5 56 00080002004849\r", "carriage return at its end"),
     (1, b"# my network", "A log has no comments"),
+    (1, b"# my network\nraw = true\n%", "This is an input and not a log, since a line is `%`. `./arpasim --log < FILE` prints the log of its replay."),
     (1, b"", "A log has no empty lines"),
     (1, b"OUT 0/1 0/2 0 0 -", "begins no line of a log. They begin with out, in, answer, down, up, life, handed, end, in lower case. Is `out` meant?"),
     (1, b"out 0/1 0/2 0 0", "It has 4 words after `out`, and 5 are needed"),

@@ -47,6 +47,9 @@ MANY = Topology("plain", False, [(imp, 4) for imp in range(1, 64)], [])
 CONNECTED = ["contact 0/1 0/2", "calm 3", "openrecv 0/1 0/2 16 33", "opensend 0/2 0/1 33 16 8", "calm 3"]
 SHORT = ["contact 0/1 0/2", "calm 3", "server 0/1 7 100", "openrecv 0/1 0/2 2 1", "opensend 0/2 0/1 1 2 8", "calm 3", "grant 0/1 2 65000 1000000"]
 SERVED = ["contact 0/1 0/2", "calm 3", "server 0/1 7 100", "user 0/2 0/1 7 16", "calm 40"]
+# two echo services, each connected with the other: both servers have met a user, of which the other has the sockets
+JOINED = ["contact 0/1 0/2", "calm 3", "server 0/1 7 100", "server 0/2 9 200", "openrecv 0/2 0/1 198 7", "openrecv 0/1 0/2 98 9", "calm 3", "grant 0/2 198 1 32", "grant 0/1 98 1 32", "calm 9"]
+JOINED += ["close 0/2 200", "close 0/2 201", "openrecv 0/2 0/1 200 101", "opensend 0/2 0/1 201 100 8", "calm 5"]
 
 
 class Limit(NamedTuple):
@@ -67,6 +70,7 @@ LIMITS: dict[str, Limit] = {
     "bits of a life": Limit(["--book"], PAIR, [*CONNECTED, "grant 0/1 16 200 2000000", f"send 0/2 33 1048584 {'5A' * 131073}", "calm 300"]),
     "bits that wait": Limit(["--book"], PAIR, [*CONNECTED, f"send 0/2 33 2000000 {'5A' * 250000}", "calm 4"]),
     "crossings, notices and changes of lives": Limit([], PAIR, [*SHORT, *["send 0/2 1 8 5A", "calm 1"] * 34_000]),
+    "notices that services hear": Limit([], PAIR, [*JOINED, "send 0/1 101 8 5A", "calm 70000"]),
     "peers": Limit([], MANY, [*[f"contact 0/1 {host}/{imp}" for imp in range(2, 64) for host in range(4)], "calm 6"]),
     "requests in a row": Limit([], MANY, [*[f"contact {host}/{imp} 0/1" for imp in range(2, 64) for host in range(4)], "calm 12"]),
     "ends": Limit(["--book"], PAIR, ["contact 0/1 0/2", "calm 3", *[f"openrecv 0/1 0/2 {2 * at} {2 * at + 1}" for at in range(1, 250)], "calm 20", *[f"opensend 0/1 0/2 {2 * at + 1} {2 * at} 8" for at in range(1, 400)], "calm 20"]),

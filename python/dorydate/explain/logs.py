@@ -108,6 +108,8 @@ def why_bad(octets: bytes, number: int) -> str:
             return f"Line {number} is:\n  {shown(rest)}\nIt isn't ended by a line feed."
         return f"The log ends after line {len(lines)}. Its last line has to be `end`."
     line = lines[number - 1]
+    if number == 1 and b"%" in lines:
+        return f"Line {number} is:\n  {shown(line)}\nThis is an input and not a log, since a line is `%`. `./arpasim --log < FILE` prints the log of its replay."
     before = [part for part in map(part_of, lines[: number - 1]) if part is not None]
     why = wrong_with_entry(line) or out_of_order(line, before) or "No cause was found. docs/program.md has the forms of a log's lines."
     return f"Line {number} is:\n  {shown(line)}\n{why}"

@@ -32,13 +32,13 @@ def main(octets: bytes, words: list[str]) -> int:
 
 def written(given: list[tuple[str, bytes]]) -> int:
     """Writes the page of these inputs, the first of which it shows. The exit status."""
-    made = subprocess.run([f"{ROOT}/tools/keep-wasm"], stdout=subprocess.PIPE, text=True)
-    if made.returncode:
-        return 4
     try:
         inputs = [{"name": name or "script", "title": name or "The script", "text": octets.decode()} for name, octets in given]
     except UnicodeDecodeError:
         print("explain: the input is not UTF-8, and a page shows no other", file=sys.stderr)
+        return 4
+    made = subprocess.run([f"{ROOT}/tools/keep-wasm"], stdout=subprocess.PIPE, text=True)
+    if made.returncode:
         return 4
     with open(f"{made.stdout.strip().removesuffix('.html')}.wasm", "rb") as module:
         sys.stdout.buffer.write(pack.page(f"{ROOT}/web/workbench", module.read(), inputs).encode())

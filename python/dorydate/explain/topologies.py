@@ -16,6 +16,9 @@ from dorydate.sentences.table import filled, sentences
 TOPOLOGIES = sentences("topologies")
 EVENTS = {*sentences("forms"), *sentences("forms of programs")}
 KEYS = ("carrier", "raw", "imp", "line")
+MOST_DOTS = 100  # in a line that is given to Python's reader of TOML
+MOST_DIGITS = 1000  # of a number in it
+STRING = re.compile(r""""[^"]*"|'[^']*'""")
 Table = Mapping[str, Any]
 
 
@@ -24,6 +27,14 @@ class Fault(NamedTuple):
 
     line: int | None
     why: str
+
+
+class Beyond(ValueError):
+    """A document that Python's reader of TOML doesn't read, or not soon, and no topology."""
+
+    def __init__(self, fault: Fault) -> None:
+        super().__init__(fault.why)
+        self.fault = fault
 
 
 def wrong_with_topology(given: Input) -> str | None:
@@ -45,10 +56,23 @@ def found_in(given: Input) -> Fault | None:
         return Fault(octets[: fault.start].count(10) + 1, "The topology is not UTF-8: see the octet after the backslash.")
     try:
         document = document_of(text)
+    except Beyond as beyond:
+        return beyond.fault
     except ValueError as fault:
-        found = re.search(r"at line (\d+)", str(fault))
-        return Fault(int(found[1]) if found else given.marker, f"The topology is not a TOML document: {fault}.")
+        line = re.search(r"at line (\d+)", str(fault))
+        return Fault(int(line[1]) if line else given.marker, f"The topology is not a TOML document: {fault}.")
     return wrong_with_network(document, text.split("\n"))
+
+
+def beyond_reading(lines: Sequence[str]) -> Fault | None:
+    """The first line that Python's reader of TOML wouldn't read, or not soon, and that no topology has."""
+    for number, line in enumerate(lines, 1):
+        written = STRING.sub("", line).partition("#")[0]
+        if written.count(".") > MOST_DOTS:
+            return Fault(number, f"It has more than {MOST_DOTS} dots, and nothing in a topology has any.")
+        if re.search(f"[0-9_]{{{MOST_DIGITS}}}", written):
+            return Fault(number, f"It has a number of {MOST_DIGITS} digits or more, and those of a topology are at most {MOST_IMPS}.")
+    return None
 
 
 def at_line(given: Input, fault: Fault) -> str:
@@ -87,11 +111,16 @@ PAIR = re.compile(r'\s*(\w+)\s*=\s*("[^"\\]*"|true|false|-?[0-9]+(?:\.[0-9]+)?|\
 
 def document_of(text: str) -> dict[str, Any]:
     """A TOML document. Python before 3.11 has no reader of TOML: there it is read in the plain spelling, one key a line."""
+    if fault := beyond_reading(text.split("\n")):
+        raise Beyond(fault)
     try:
         toml = importlib.import_module("tomllib")
     except ImportError:
         return by_hand(text)
-    found: dict[str, Any] = toml.loads(text)
+    try:
+        found: dict[str, Any] = toml.loads(text)
+    except RecursionError:
+        raise Beyond(Fault(None, "The topology has brackets within brackets, hundreds deep. Those of a topology are two deep.")) from None
     return found
 
 
@@ -135,6 +164,12 @@ def line_of_key(lines: Sequence[str], key: str, after: int = 0) -> int | None:
         if after and TABLE.fullmatch(line):
             return None
     return None
+
+
+def line_in_table(lines: Sequence[str], name: str, place: int, key: str) -> int | None:
+    """The number of the line with this key in the table of this name at this place, None where it is spelled in another way."""
+    opened = line_of_table(lines, name, place)
+    return opened and line_of_key(lines, key, opened)
 
 
 # ---- networks
@@ -199,12 +234,12 @@ def is_tables(value: object) -> bool:
 
 def wrong_with_table(name: str, place: int, table: Table, ranges: Mapping[str, tuple[int, int]], lines: Sequence[str]) -> Fault | None:
     """Why a table has not exactly these keys with whole numbers in these ranges; None where it has."""
-    opened = line_of_table(lines, name, place)
     if displaced := [it for it in ("raw", "carrier") if it in table]:
-        return Fault(opened and line_of_key(lines, displaced[0], opened), filled(TOPOLOGIES["displaced"], key=displaced[0], table=name))
+        return Fault(line_in_table(lines, name, place, displaced[0]), filled(TOPOLOGIES["displaced"], key=displaced[0], table=name))
     if {*table} != {*ranges}:
-        return Fault(opened, filled(TOPOLOGIES["keys"], table=name, keys=" and ".join(ranges), found=", ".join(sorted(table)) or "none"))
+        found = ", ".join(sorted(table)) or "none"
+        return Fault(line_of_table(lines, name, place), filled(TOPOLOGIES["keys"], table=name, keys=" and ".join(ranges), found=found))
     for key, (least, most) in ranges.items():
         if type(table[key]) is not int or not least <= table[key] <= most:
-            return Fault(opened and line_of_key(lines, key, opened), filled(TOPOLOGIES["number"], key=key, table=name, least=least, most=most))
+            return Fault(line_in_table(lines, name, place, key), filled(TOPOLOGIES["number"], key=key, table=name, least=least, most=most))
     return None

@@ -23,7 +23,7 @@ from dorydate.explore.seen import Seen
 from dorydate.explore.shrink import Script as Events
 from dorydate.network import Network
 from dorydate.program import Program
-from dorydate.script import Calm, Event, Script, read_event
+from dorydate.script import Calm, Event, Script, octets_of, read_event
 from dorydate.trace import records
 
 NUMBERS = re.compile(r'([0-3])/(\d+)|"(imp|line) (\d+)"|"(\d+)":')
@@ -108,7 +108,7 @@ class Walk:
         """The records of scripts side by side, with a calm of one round after them perhaps."""
         lines = [self.many.spelled(copy, event) for copy, script in enumerate(scripts) for event in script]
         text = self.many.head + "".join(f"{it}\n" for it in [*lines, *(["calm 1"] if calm else [])])
-        ran = self.many.program.run(text.encode("ascii"), "--trace")
+        ran = self.many.program.run(octets_of(text), "--trace")
         if ran.status:
             raise CannotRun(f"the program says: {ran.said.strip()} (status {ran.status})")
         return records(ran.output)

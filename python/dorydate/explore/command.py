@@ -12,6 +12,7 @@ from collections.abc import Sequence
 from dataclasses import replace
 from pathlib import Path
 
+from dorydate import ending
 from dorydate.expect import expected
 from dorydate.explore import breadth, lockup, without
 from dorydate.explore.cores import available
@@ -22,8 +23,8 @@ from dorydate.explore.pattern import BadPattern, Pattern, read
 from dorydate.explore.search import MATCHES, NotKept, Progress, Search
 from dorydate.explore.shrink import Script as Found
 from dorydate.network import BadNetwork, Network
-from dorydate.program import NoProgram, Program, found
-from dorydate.script import BadLine, Calm, Script
+from dorydate.program import NoProgram, Program, TookTooLong, found
+from dorydate.script import BadLine, Calm, Script, octets_of
 from dorydate.trace import BadTrace
 
 MOST_EXPECTED = 40  # lines of one event that are written as its expectation
@@ -67,7 +68,7 @@ def network_of(words: argparse.Namespace) -> Network:
     if words.name is None:
         raise Wrong("name a search, a file with a topology, or a --network; --list prints the searches")
     try:
-        text = Path(words.name).read_text(encoding="utf-8")
+        text = Path(words.name).read_text(encoding="utf-8", errors="surrogateescape")
     except OSError as fault:
         raise Wrong(f"{words.name} is no search with a name, and as a file: {fault.strerror}") from None
     return Network.read(text.split("\n%\n")[0])
@@ -118,7 +119,7 @@ def written(network: Network, pattern: Pattern, script: Found, program: Program)
 def saved(path: str, text: str, program: Program) -> None:
     """Writes a script as an example: the file, and beside it what it prints."""
     Path(path).write_text(text, encoding="utf-8")
-    Path(f"{path}.stdout").write_text(program.run(text.encode()).output, encoding="utf-8")
+    Path(f"{path}.stdout").write_text(program.run(octets_of(text)).output, encoding="utf-8")
     print(f"explore: {path} has the script, and {path}.stdout what it prints; ./explain --page < {path} makes a page of it", file=sys.stderr)
 
 
@@ -171,13 +172,17 @@ def main(options: Sequence[str] | None = None) -> int:
     words = parser().parse_args(options)
     try:
         return chose(words)
-    except NotKept as why:
+    except (NotKept, Wrong, BadPattern, BadNetwork, BadLine, BadTrace, CannotRun, NoProgram, TookTooLong) as why:
         print(f"explore: {why}", file=sys.stderr)
         return WRONG
-    except (OSError, Wrong, BadPattern, BadNetwork, BadLine, BadTrace, CannotRun, NoProgram) as why:
-        print(f"explore: {why}", file=sys.stderr)
+    except BrokenPipeError:
+        raise
+    except OSError as fault:
+        print(f"explore: {ending.in_words(fault)}", file=sys.stderr)
+        ending.hand_on()
         return WRONG
 
 
-if __name__ == "__main__":
-    sys.exit(main())
+def run() -> int:
+    """The command as `pip` installs it."""
+    return ending.run("explore", main)

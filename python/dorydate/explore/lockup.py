@@ -22,7 +22,7 @@ from dorydate.explore.shrink import Script as Events
 from dorydate.explore.shrink import Shrinker
 from dorydate.network import Host, Network
 from dorydate.program import Program
-from dorydate.script import Calm, Deliver, Event, Flow, Out, Script, Text
+from dorydate.script import Calm, Deliver, Event, Flow, Out, Script, Text, octets_of
 from dorydate.trace import opening
 
 WHAT = "eight messages hold all slots of an IMP, and their pieces can never come: by a measure from the trace"
@@ -112,7 +112,7 @@ class Climb:
         """The lines of a trace of scripts side by side, with a calm after all of them perhaps."""
         lines = [many.spelled(copy, it) for copy, script in enumerate(scripts) for it in script]
         text = [f"calm {OPENING.rounds}", *lines, *([f"calm {last}"] if last else [])]
-        ran = many.program.run((many.head + "".join(f"{it}\n" for it in text)).encode("ascii"), "--trace")
+        ran = many.program.run(octets_of(many.head + "".join(f"{it}\n" for it in text)), "--trace")
         if ran.status:
             raise CannotRun(f"the program says: {ran.said.strip()} (status {ran.status})")
         return ran.output.splitlines()

@@ -12,7 +12,7 @@ from typing import Any
 
 from dorydate.network import MOST_IMPS, Host, Imp, Line, Network
 from dorydate.program import Program
-from dorydate.script import Event, Flow
+from dorydate.script import Event, Flow, octets_of
 
 MARKER = 63  # the IMP of the marks
 MARKS = (f"hostdown 0/{MARKER}", f"hostup 0/{MARKER}")
@@ -109,7 +109,7 @@ class Many:
 
     def run(self, parts: Sequence[Sequence[Sequence[str]]], calms: Sequence[int], last: int = 0, book: bool = False) -> list[Result]:
         """What each copy printed."""
-        ran = self.program.run(self.text(parts, calms, last).encode("ascii"), *(["--book"] if book else []))
+        ran = self.program.run(octets_of(self.text(parts, calms, last)), *(["--book"] if book else []))
         if ran.status:
             raise CannotRun(f"the program says: {ran.said.strip()} (status {ran.status})")
         return self.apart(ran.output.splitlines()[:-1])

@@ -15,6 +15,7 @@ from dorydate.explore.seen import Seen
 from dorydate.explore.shrink import Script, Shrinker, cost
 from dorydate.network import Network
 from dorydate.program import Program
+from dorydate.script import octets_of
 from dorydate.trace import records
 
 MATCHES = 5  # matches that are shrunk; the best is taken
@@ -125,7 +126,7 @@ class Search:
 
     def judged(self, text: str) -> int:
         """How many networks side by side have a log that the proved audit calls kept: all of them. Raises NotKept where it doesn't."""
-        log = self.many.program.run(text.encode("ascii"), "--log")
+        log = self.many.program.run(octets_of(text), "--log")
         verdict = self.many.program.run(log.output.encode("ascii"), "--audit")
         if verdict.output != "kept\n":
             raise NotKept(f"the audit says {verdict.output or verdict.said!r} of the log of this input:\n{text}")
@@ -171,7 +172,7 @@ class Search:
 
 def traced(many: Many, parts: Sequence[Sequence[Sequence[str]]], calms: Sequence[int]) -> list[Result]:
     """The printed lines of raw networks with those of the trace."""
-    ran = many.program.run(many.text(parts, calms, 0).encode("ascii"), "--trace")
+    ran = many.program.run(octets_of(many.text(parts, calms, 0)), "--trace")
     if ran.status:
         raise CannotRun(f"the program says: {ran.said.strip()} (status {ran.status})")
     found: list[list[str]] = [[] for _ in range(many.copies)]

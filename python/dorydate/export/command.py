@@ -44,12 +44,12 @@ def written(format: str, script: Script, after: int | None) -> bytes:
     if format == "pcapng":
         return pcapng.capture(replayed(script, program))
     if format == "shiviz":
-        return shiviz.log(replayed(script, program)).encode("latin-1")
+        return shiviz.log(replayed(script, program)).encode("utf-8", "replace")
     if format == "perfetto":
-        return perfetto.trace(replayed(script, program, True)).encode("latin-1")
+        return perfetto.trace(replayed(script, program, True)).encode("utf-8", "replace")
     what = replayed(script, program)
     step = len(what.events) if after is None else max(0, min(after, len(what.events)))
-    return chart.slide(what, state_after(what, program, step), step).encode("utf-8")
+    return chart.slide(what, state_after(what, program, step), step).encode("utf-8", "replace")
 
 
 def state_after(what: Replayed, program: Program, step: int) -> State:
@@ -69,7 +69,7 @@ def main(words: Sequence[str] | None = None) -> int:
     if sys.stdin.isatty():
         print("export: reading from the terminal; Ctrl-D ends the input", file=sys.stderr)
     try:
-        octets = written(chosen.format, Script.read(sys.stdin.buffer.read(MOST_OCTETS + 1).decode("latin-1")), chosen.after)
+        octets = written(chosen.format, Script.of_octets(sys.stdin.buffer.read(MOST_OCTETS + 1)), chosen.after)
     except (BadLine, BadNetwork, BadTrace, Stopped, NoProgram, TookTooLong) as why:
         print(f"export: {why}", file=sys.stderr)
         return 1

@@ -35,18 +35,18 @@ def block(kind: int, fixed: bytes, options: Iterable[Option]) -> bytes:
 
 
 def section(application: str) -> bytes:
-    return block(SECTION, struct.pack("<IHHQ", ORDER, 1, 0, UNKNOWN_LENGTH), [(APPLICATION, application.encode())])
+    return block(SECTION, struct.pack("<IHHQ", ORDER, 1, 0, UNKNOWN_LENGTH), [(APPLICATION, application.encode("utf-8", "replace"))])
 
 
 def interface(link_type: int, name: str, description: str) -> bytes:
     """An interface, whose times are microseconds."""
-    return block(INTERFACE, struct.pack("<HHI", link_type, 0, 0), [(NAME, name.encode()), (DESCRIPTION, description.encode())])
+    return block(INTERFACE, struct.pack("<HHI", link_type, 0, 0), [(NAME, name.encode("utf-8", "replace")), (DESCRIPTION, description.encode("utf-8", "replace"))])
 
 
 def packet(place: int, time: int, octets: bytes, direction: int, comments: Iterable[str]) -> bytes:
     """A packet at the interface of this place."""
     fixed = struct.pack("<IIIII", place, time >> 32, time & 0xFFFF_FFFF, len(octets), len(octets)) + padded(octets)
-    return block(PACKET, fixed, [*((COMMENT, it.encode()) for it in comments), (FLAGS, struct.pack("<I", direction))])
+    return block(PACKET, fixed, [*((COMMENT, it.encode("utf-8", "replace")) for it in comments), (FLAGS, struct.pack("<I", direction))])
 
 
 def blocks(what: Replayed) -> Iterator[bytes]:

@@ -111,7 +111,7 @@ def replayed(script: Script, program: Program | None = None, with_trace: bool = 
 
 def traced(program: Program, script: Script) -> str:
     """The trace of a script, empty where the program has none of such a network."""
-    ran = program.run(script.text().encode("latin-1"), "--trace")
+    ran = program.run(script.octets(), "--trace")
     if ran.status and "no trace" not in ran.said:
         raise Stopped(f"the program says: {ran.said.strip()} (status {ran.status})")
     return ran.output
@@ -124,7 +124,7 @@ def as_printed(line: str) -> str:
 
 def output(program: Program, script: Script, option: str) -> list[str]:
     """The lines that the program prints for a script, without the last."""
-    ran = program.run(script.text().encode("latin-1"), option)
+    ran = program.run(script.octets(), option)
     if ran.status:
         raise Stopped(f"the program says: {ran.said.strip()} (status {ran.status})")
     return ran.output.splitlines()[:-1]

@@ -11,6 +11,8 @@ import sys
 from collections.abc import Sequence
 from pathlib import Path
 
+from dorydate import ending
+from dorydate.model.inputs import BAD_TOPOLOGY
 from dorydate.model.log import ends_log
 from dorydate.model.runs import End, expected, network_is_good
 from dorydate.model.topology import network_of
@@ -23,8 +25,13 @@ def ends(octets: bytes, options: Sequence[str]) -> End:
     if [*options] == ["--audit"]:
         return ends_audit(octets)
     lines = octets.decode("latin-1").split("\n")
+    if "%" not in lines:
+        return BAD_TOPOLOGY
     marker = lines.index("%")
-    network, script = network_of("\n".join(lines[:marker])), lines[marker + 1 :]
+    try:
+        network, script = network_of("\n".join(lines[:marker])), lines[marker + 1 :]
+    except (KeyError, ValueError):
+        sys.exit("model: the topology isn't read here: one key with its value a line")
     if [*options] == ["--log"] and network_is_good(network, ["worlds"]):
         return ends_log(network, script)
     if [*options] == ["--trace"] and network_is_good(network, ["worlds"]):
@@ -54,8 +61,9 @@ def check_cases(folder: str) -> int:
     return 1 if wrong else 0
 
 
-def main(words: Sequence[str]) -> int:
+def main() -> int:
     """The exit status."""
+    words = sys.argv[1:]
     if words[:1] == ["--cases"]:
         return max(check_cases(folder) for folder in words[1:])
     status, output, said = ends(sys.stdin.buffer.read(), words)
@@ -65,4 +73,4 @@ def main(words: Sequence[str]) -> int:
 
 
 if __name__ == "__main__":
-    sys.exit(main(sys.argv[1:]))
+    sys.exit(ending.run("model", main))

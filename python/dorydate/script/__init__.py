@@ -5,7 +5,7 @@ is spelled as its line; the one undoes the other.
 """
 
 from dorydate.script.event import EVENTS, Event
-from dorydate.script.file import EXPECTED, Entry, Script
+from dorydate.script.file import EXPECTED, Entry, Script, octets_of
 from dorydate.script.lines import IN_THE_NETWORK, RAW, WORLD, read_event
 from dorydate.script.of_network import Abandon, Ask, Calm, Deliver, Drop, EndDown, EndUp, Forget, GiveUp, HostDown, HostUp, ImpDown, ImpUp, Out, Resend, Route, Take
 from dorydate.script.of_programs import AskBack, Close, Contact, Echo, Grant, Interrupt, Listen, Offer, OpenReceive, OpenSend, Send, Server, Type, User
@@ -57,6 +57,7 @@ __all__ = [
     "User",
     "WORLD",
     "host_of",
+    "octets_of",
     "read_event",
     "whole",
 ]

@@ -5,7 +5,7 @@ from __future__ import annotations
 from collections.abc import Iterator, Sequence
 from dataclasses import dataclass
 
-from dorydate.network import BadNetwork, Network
+from dorydate.network import BadNetwork, Network, short
 from dorydate.script.event import Event
 from dorydate.script.lines import read_event
 from dorydate.script.values import BadLine
@@ -25,7 +25,7 @@ class Entry:
 
     def lines(self) -> Iterator[str]:
         for comment in self.comments:
-            yield f"# {comment}".rstrip()
+            yield from (f"# {it}".rstrip() for it in comment.split("\n"))
         yield str(self.event)
         if self.expected is not None:
             yield from (f"{EXPECTED} {it}".rstrip() for it in self.expected or ("",))
@@ -51,20 +51,29 @@ class Script:
         """The whole input, as the program reads it."""
         head = [f"# {it}".rstrip() for it in self.heading]
         lines = [line for entry in self.entries for line in entry.lines()]
-        return "\n".join([*head, *self.network.toml().splitlines(), "%", *lines]) + "\n"
+        return "\n".join([*head, self.network.toml() + "%", *lines]) + "\n"
+
+    def octets(self) -> bytes:
+        """The whole input as octets."""
+        return octets_of(self.text())
+
+    @staticmethod
+    def of_octets(octets: bytes) -> Script:
+        """The script of an input's octets, which in comments may be any."""
+        return Script.read(octets.decode("utf-8", "surrogateescape"))
 
     @staticmethod
     def read(text: str) -> Script:
         """The script of an input. A comment that begins with `#=` is what the event before it is expected to print."""
-        head, marker, rest = f"\n{text}".partition("\n%\n")
-        if not marker:
+        every = text.split("\n")
+        if "%" not in every:
             raise BadLine("no line is `%`, which separates the topology from the script")
-        network = Network.read(head)
-        first = head.count("\n") + 2
+        marker = every.index("%")
+        head, lines = every[:marker], every[marker + 1 :]
+        network = Network.read("\n".join(head))
         entries: list[Entry] = []
         comments: list[str] = []
-        lines = rest.split("\n")
-        for number, line in enumerate(lines[:-1] if lines[-1] == "" else lines, first):
+        for number, line in enumerate(lines[:-1] if lines[-1:] == [""] else lines, marker + 2):
             if line.startswith(EXPECTED):
                 expect(entries, line, number)
             elif line.startswith("#"):
@@ -73,17 +82,22 @@ class Script:
                 try:
                     entries.append(Entry(read_event(line, network.raw), tuple(comments), None, number))
                 except (BadLine, BadNetwork) as why:
-                    raise BadLine(f"line {number}, `{line}`: {why}") from None
+                    raise BadLine(f"line {number}, `{short(line)}`: {why}") from None
                 comments = []
-        heading = tuple(it[1:].strip() for it in head.strip("\n").split("\n") if it.startswith("#"))
+        heading = tuple(it[1:].strip() for it in head if it.startswith("#"))
         return Script(network, tuple(entries), heading)
+
+
+def octets_of(text: str) -> bytes:
+    """An input as octets: in UTF-8, and what `of_octets` found to be none as it was."""
+    return text.encode("utf-8", "surrogateescape")
 
 
 def expect(entries: list[Entry], line: str, number: int) -> None:
     """Adds a line to what the last event is expected to print; an empty one says that it prints nothing."""
     if not entries:
-        raise BadLine(f"line {number}, `{line}`: no event comes before it")
+        raise BadLine(f"line {number}, `{short(line)}`: no event comes before it")
     last, printed = entries[-1], line[len(EXPECTED) :].strip(" ")
     if last.expected == () or (last.expected and not printed):
-        raise BadLine(f"line {number}, `{line}`: the event of line {last.number} can't print nothing and something")
+        raise BadLine(f"line {number}, `{short(line)}`: the event of line {last.number} can't print nothing and something")
     entries[-1] = Entry(last.event, last.comments, (*(last.expected or ()), *([printed] if printed else [])), last.number)
