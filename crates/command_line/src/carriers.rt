@@ -158,10 +158,10 @@ fn write_lives<W: Output>(lives: &[Life], book: bool, writer: &mut W) -> Result<
     write_last(writer, b"end\n")
 }
 
-/// Returns the subnet of a topology's IMPs and lines, at its opening.
+/// Returns the subnet of a topology's IMPs and lines, at its opening. What `Subnet::new` requires a topology keeps by its type.
 ///
 /// Errors: `AllocError`.
-pub(crate) fn subnet_of(alloc: Global, network: &Topology) -> Result<Subnet, AllocError>
+pub fn subnet_of(alloc: Global, network: &Topology) -> Result<Subnet, AllocError>
     ensures { IfOk result (λ subnet. subnet ≡ subnet_of network.now) }
 {
     let hosts = network.hosts(alloc)?;

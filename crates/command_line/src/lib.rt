@@ -29,6 +29,7 @@ mod tracing;
 mod verdict;
 
 pub use auditing::{AuditFault, audit_status, run_audit};
+pub use carriers::subnet_of;
 pub use fault::ScriptFault;
 pub use logging::run_log;
 pub use net_sim::Finding;
