@@ -15,6 +15,7 @@ pub mod Reading
 pub mod Recorded
 pub mod Replayed
 pub mod Steps
+pub mod Stopping
 pub mod Traced
 pub mod Worked
 pub mod Laws

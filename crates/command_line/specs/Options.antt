@@ -1,5 +1,5 @@
 -- The options of the command line.
-use Rattle.std.specs.Prelude.{◌≡◌, ℕ, Bool, true, false, not, ◌&&◌, List, [], ◌∷◌, Option, Some, None, Result, Ok, Err, codes, if◌then◌else◌, option_and_then}
+use Rattle.std.specs.Prelude.{◌≡◌, ℕ, Bool, true, false, not, ◌&&◌, List, [], ◌∷◌, Option, Some, None, Result, Ok, Err, String, IfSome, codes, if◌then◌else◌, map, option_and_then, string_bytes}
 use Rattle.std.specs.Str.{bytes_eq}
 use Rattle.replay.specs.declared.print.Detail.{Detail}
 use Rattle.replay.specs.declared.print.Detail.TheVariants.{Sizes, Texts}
@@ -26,6 +26,10 @@ options_after options (word ∷ words) = option_and_then (λ more. options_after
 abbrev pub options_of : List (List ℕ) → Option Options
 options_of words = options_after (record { book = false; check = false; texts = false }) words
 
+-- the options that the words of a command line ask for
+abbrev pub options_in : {Z : Type 0} → List (String Z) → Option Options
+options_in words = options_of (map string_bytes words)
+
 -- what one word asks for that is the only one
 abbrev pub task_of : List (List ℕ) → Option Task
 task_of [] = None
@@ -40,6 +44,18 @@ task_of (word ∷ next ∷ words) = None
 abbrev pub detail_of : Bool → Detail
 detail_of true = Texts
 detail_of false = Sizes
+
+-- what is said of the options that words ask for
+abbrev pub IfOptions : {Z : Type 0} → List (String Z) → (Options → Type 0) → Type 0
+IfOptions words Said = IfSome (options_in words) Said
+
+-- what is said of how much of a message they have printed
+abbrev pub IfDetail : {Z : Type 0} → List (String Z) → (Detail → Type 0) → Type 0
+IfDetail words Said = IfOptions words (λ options. Said (detail_of options.texts))
+
+-- where they ask for a replay: what is said of whether the book is printed, and of how much of a message
+abbrev pub IfReplayed : {Z : Type 0} → List (String Z) → (Bool → Detail → Type 0) → Type 0
+IfReplayed words Said = IfOptions words (λ options. options.check ≡ false → Said options.book (detail_of options.texts))
 
 -- the options that the words ask for are given, or it is informed that they ask for none; memory may run out at any words
 abbrev pub Asked : Option Options → Result Options OptionsFault → Type 0

@@ -50,6 +50,9 @@ pub record Sides : Type 0 where
   pub before : Option (List ℕ)
   pub after : Option (List ℕ)
 
+abbrev pub sides : Option (List ℕ) → Option (List ℕ) → Bool → Option (List ℕ) → Option (List ℕ) → Sides
+sides input left unread before after = record { input = input; left = left; unread = unread; before = before; after = after }
+
 -- of an input that is only read, and of one that is replayed
 abbrev pub Replayed : Bool → Options → Sides → Type 0
 Replayed true options s = Appends s.before s.after (codes "ok\n")

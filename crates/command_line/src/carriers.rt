@@ -1,7 +1,7 @@
 //! Over which carrier a script is replayed, without host programs or with them.
 
-ghost use Rattle.std.specs.Prelude.{◌≡◌, ◌⊎◌, ◌++◌, ◌↔◌, [], codes, Err, IfErr, IfOk, OnOk, false, true};
-ghost use Rattle.std.specs.Io.KnownBytes.{Appends, Keeps};
+ghost use Rattle.std.specs.Prelude.{◌≡◌, ◌++◌, ◌↔◌, [], codes, Err, IfErr, IfOk, OnOk, false, true};
+ghost use Rattle.std.specs.Io.KnownBytes.{Appends};
 ghost use Rattle.replay.specs.Failing.{TellsFailure};
 ghost use Rattle.replay.specs.Output.{Writes};
 ghost use Rattle.world_replay.specs.Output as lines;
@@ -9,6 +9,7 @@ ghost use Rattle.command_line.specs.Carriers.{ends_of, subnet_of};
 ghost use Rattle.command_line.specs.Events.{asked_of};
 ghost use Rattle.command_line.specs.Replayed.{EndsFrom, EndsOn, ReplaysFrom, ReplaysOn, ShowsFrom, StopsFrom, book_text, WorldShowsFrom, WorldStopsFrom, WritesAll, WritesWorld};
 ghost use Rattle.command_line.specs.Steps.{IsReplayFault};
+ghost use Rattle.command_line.specs.Stopping.{NothingOr};
 
 use crate::fault::ScriptFault;
 use crate::input::Events;
@@ -39,7 +40,7 @@ pub(crate) fn replay_on<W: Output>(
 ) -> Result<(), ScriptFault>
     requires { W.failed writer.old ≡ false }
     ensures replayed { OnOk result (ReplaysOn network.now book detail (asked_of events) (W.contents writer.old) (W.contents writer.new)) }
-    ensures stopped { result ≡ Err ScriptFault.OutOfMemory → Keeps (W.contents writer.old) (W.contents writer.new) ⊎ EndsOn network.now detail (asked_of events) (W.contents writer.old) (W.contents writer.new) }
+    ensures stopped { result ≡ Err ScriptFault.OutOfMemory → NothingOr (EndsOn network.now detail (asked_of events)) (W.contents writer.old) (W.contents writer.new) }
     ensures fault { IfErr result IsReplayFault }
     ensures failed { (result ≡ Err ScriptFault.CannotWrite) ↔ (W.failed writer.new ≡ true) }
     ensures flushed { OnOk result (W.flushed writer.new ≡ true) }
@@ -78,7 +79,7 @@ fn replay_over<C: Carrier, W: Output>(
     requires whole { W.failed writer.old ≡ false }
     requires running { (C.calls.seen carrier).stopped ≡ false }
     ensures replayed { OnOk result (ReplaysFrom C.calls carrier book detail (asked_of events) (W.contents writer.old) (W.contents writer.new)) }
-    ensures stopped { result ≡ Err ScriptFault.OutOfMemory → Keeps (W.contents writer.old) (W.contents writer.new) ⊎ EndsFrom C.calls carrier detail (asked_of events) (W.contents writer.old) (W.contents writer.new) }
+    ensures stopped { result ≡ Err ScriptFault.OutOfMemory → NothingOr (EndsFrom C.calls carrier detail (asked_of events)) (W.contents writer.old) (W.contents writer.new) }
     ensures fault { IfErr result IsReplayFault }
     ensures failed { (result ≡ Err ScriptFault.CannotWrite) ↔ (W.failed writer.new ≡ true) }
     ensures flushed { OnOk result (W.flushed writer.new ≡ true) }
@@ -128,7 +129,7 @@ fn replay_world<C: Carrier, W: Output>(
     requires whole { W.failed writer.old ≡ false }
     requires running { (C.calls.seen carrier).stopped ≡ false }
     ensures replayed { OnOk result (WritesWorld book detail (WorldShowsFrom C.calls carrier events.items) (W.contents writer.old) (W.contents writer.new)) }
-    ensures stopped { result ≡ Err ScriptFault.OutOfMemory → Keeps (W.contents writer.old) (W.contents writer.new) ⊎ lines.Writes detail (WorldStopsFrom C.calls carrier events.items) (W.contents writer.old) (W.contents writer.new) }
+    ensures stopped { result ≡ Err ScriptFault.OutOfMemory → NothingOr (lines.Writes detail (WorldStopsFrom C.calls carrier events.items)) (W.contents writer.old) (W.contents writer.new) }
     ensures fault { IfErr result IsReplayFault }
     ensures failed { (result ≡ Err ScriptFault.CannotWrite) ↔ (W.failed writer.new ≡ true) }
     ensures flushed { OnOk result (W.flushed writer.new ≡ true) }

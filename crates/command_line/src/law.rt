@@ -33,6 +33,8 @@ ghost use Rattle.command_line.specs.Replayed.{Ran, RanInPart, ReplaysInput, Stop
 ghost use Rattle.command_line.specs.Traced.{TraceStops, TracesInput};
 ghost use Rattle.command_line.specs.Worked.{here, life_one, there, told_one, took_one};
 ghost use Rattle.command_line.specs.declared.verdict.Verdict.{Verdict};
+ghost use Rattle.command_line.specs.Laws.FirstPart.{FirstPart};
+ghost use Rattle.command_line.specs.Laws.OneOutput.{OneOutput};
 ghost use Rattle.command_line.specs.Laws.OneReplay.{OneReplayLog, OneReplayOptions};
 ghost use Rattle.command_line.specs.Laws.OneBook.{OneBookJoined};
 ghost use Rattle.command_line.specs.Laws.WorkedLines.{WorkedLinesNoLife, WorkedLinesNotPrinted, WorkedLinesNothingIn};
@@ -41,12 +43,12 @@ ghost use Rattle.command_line.specs.Laws.WorkedLives.{WorkedLivesWithoutTheLast}
 /// The input determines the output, with the book and without it, with texts and without them. It asks for one list of events over the carrier of one
 /// topology, and neither plain mailboxes nor a subnet leave their replay a choice, without host programs or with them.
 pub fn one_output()
-    ensures { (book : Bool) (detail : Detail) (input before after other : List ℕ) → ReplaysInput book detail input (Some before) (Some after) → ReplaysInput book detail input (Some before) (Some other) → after ≡ other }
+    ensures { OneOutput }
 {}
 
 /// What was written before memory ran out is a prefix of what the whole replay writes.
 pub fn first_part()
-    ensures { (book : Bool) (detail : Detail) (input before part whole : List ℕ) → StopsInput detail input (Some before) (Some part) → ReplaysInput book detail input (Some before) (Some whole) → (rest : List ℕ) × (whole ≡ part ++ rest) }
+    ensures { FirstPart }
 {}
 
 /// The input determines its trace, too; and what was written before memory ran out is a prefix of the whole trace.

@@ -1,8 +1,8 @@
 //! The whole program: what the words of its command line have it do, and how it ends.
 
 ghost use Rattle.std.specs.Prelude.{◌≡◌, ◌≢◌, ◌⊎◌, None, Err, false, true, map, string_bytes};
-ghost use Rattle.command_line.specs.Options.{options_of, task_of};
-ghost use Rattle.command_line.specs.Program.{Closes, EndsProgram, EndsTask, Handed, HandsOn, Sides, audited_as, exit_status, finished_as};
+ghost use Rattle.command_line.specs.Options.{options_in, task_of};
+ghost use Rattle.command_line.specs.Program.{Closes, EndsProgram, EndsTask, Handed, HandsOn, Sides, audited_as, exit_status, finished_as, sides};
 
 use crate::auditing::{AuditFault, audit_status, run_audit};
 use crate::fault::ScriptFault;
@@ -79,10 +79,10 @@ pub fn run_program<R: Source, W: Output>(
     requires writes { W.failed writer.old ≡ false }
 
     // it does what the words ask for, reads and writes what that does, and ends as that ends
-    ensures ends { EndsProgram (map string_bytes words.now) (record { input = R.remaining reader.old; left = R.remaining reader.new; unread = R.failed reader.new; before = W.contents writer.old; after = W.contents writer.new }) result }
+    ensures ends { EndsProgram (map string_bytes words.now) (sides (R.remaining reader.old) (R.remaining reader.new) (R.failed reader.new) (W.contents writer.old) (W.contents writer.new)) result }
 
     // words that ask for nothing are refused: nothing is read, and nothing is written
-    ensures refused { task_of (map string_bytes words.now) ≡ None → options_of (map string_bytes words.now) ≡ None → (reader.new ≡ reader.old) × (writer.new ≡ writer.old) }
+    ensures refused { task_of (map string_bytes words.now) ≡ None → options_in words.now ≡ None → (reader.new ≡ reader.old) × (writer.new ≡ writer.old) }
 
     // where a read or a write fails it is reported, and nowhere else; and what was written is handed on
     ensures closes { Closes result (R.failed reader.new) (W.failed writer.new) (W.flushed writer.new) (writer.new ≡ writer.old) }
@@ -109,8 +109,8 @@ fn replay_words<R: Source, W: Output>(
 ) -> Result<Done, ProgramFault>
     requires reads { R.failed reader.old ≡ false }
     requires writes { W.failed writer.old ≡ false }
-    ensures ends { EndsTask None (options_of (map string_bytes words.now)) (record { input = R.remaining reader.old; left = R.remaining reader.new; unread = R.failed reader.new; before = W.contents writer.old; after = W.contents writer.new }) result }
-    ensures refused { options_of (map string_bytes words.now) ≡ None → (reader.new ≡ reader.old) × (writer.new ≡ writer.old) }
+    ensures ends { EndsTask None (options_in words.now) (sides (R.remaining reader.old) (R.remaining reader.new) (R.failed reader.new) (W.contents writer.old) (W.contents writer.new)) result }
+    ensures refused { options_in words.now ≡ None → (reader.new ≡ reader.old) × (writer.new ≡ writer.old) }
     ensures closes { Closes result (R.failed reader.new) (W.failed writer.new) (W.flushed writer.new) (writer.new ≡ writer.old) }
 {
     match Options::read(alloc, words) {

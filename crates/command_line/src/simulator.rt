@@ -1,11 +1,12 @@
 //! The whole simulator, as a function of the words of its command line, a reader and a writer.
 
-ghost use Rattle.std.specs.Prelude.{◌≡◌, ◌≢◌, ◌⊎◌, ◌↔◌, None, Err, true, false, codes, map, string_bytes, IfSome, IfErr, MatchResult, OnOk};
-ghost use Rattle.std.specs.Io.KnownBytes.{Appends, Keeps};
+ghost use Rattle.std.specs.Prelude.{◌≡◌, ◌≢◌, ◌⊎◌, ◌↔◌, None, Err, true, false, codes, IfSome, IfErr, MatchResult, OnOk};
+ghost use Rattle.std.specs.Io.KnownBytes.{Appends};
 ghost use Rattle.command_line.specs.Input.{IsInputFault, IsSomeInput};
-ghost use Rattle.command_line.specs.Options.{detail_of, options_of};
+ghost use Rattle.command_line.specs.Options.{IfDetail, IfOptions, IfReplayed, options_in};
 ghost use Rattle.command_line.specs.Reading.{ReadsAll, ReadsFirst};
-ghost use Rattle.command_line.specs.Replayed.{Ran, RanInPart, ReplaysInput, StopsInput};
+ghost use Rattle.command_line.specs.Replayed.{Ran, RanInPart, ReplaysInput, StopsKnown};
+ghost use Rattle.command_line.specs.Stopping.{NothingOr};
 
 use crate::carriers::{replay_on, write_last};
 use crate::fault::ScriptFault;
@@ -31,28 +32,28 @@ pub fn run<R: Source, W: Output>(
     requires writes { W.failed writer.old ≡ false }
 
     // words that are no options are refused: nothing is read, and nothing is written
-    ensures refused { options_of (map string_bytes words.now) ≡ None → ((result ≡ Err ScriptFault.BadOptions) ⊎ (result ≡ Err ScriptFault.OutOfMemory)) × (reader.new ≡ reader.old) × (writer.new ≡ writer.old) }
+    ensures refused { options_in words.now ≡ None → ((result ≡ Err ScriptFault.BadOptions) ⊎ (result ≡ Err ScriptFault.OutOfMemory)) × (reader.new ≡ reader.old) × (writer.new ≡ writer.old) }
 
     // no other words are refused
-    ensures options { IfSome (options_of (map string_bytes words.now)) (λ options. IfErr result (λ f. f ≢ ScriptFault.BadOptions)) }
+    ensures options { IfOptions words.now (λ options. IfErr result (λ f. f ≢ ScriptFault.BadOptions)) }
 
     // with `--check` the input is only read
-    ensures checked { IfSome (options_of (map string_bytes words.now)) (λ options. options.check ≡ true → OnOk result (Appends (W.contents writer.old) (W.contents writer.new) (codes "ok\n"))) }
+    ensures checked { IfOptions words.now (λ options. options.check ≡ true → OnOk result (Appends (W.contents writer.old) (W.contents writer.new) (codes "ok\n"))) }
 
     // without it a script is replayed over the carrier of a topology, whatever the reader: in a world whose book keeps its promise and of which
     // all is written, or without host programs, where what crosses is a log that every host may rely on
-    ensures ran { IfSome (options_of (map string_bytes words.now)) (λ options. options.check ≡ false → OnOk result (Ran options.book (detail_of options.texts) (W.contents writer.old) (W.contents writer.new))) }
+    ensures ran { IfReplayed words.now (λ book detail. OnOk result (Ran book detail (W.contents writer.old) (W.contents writer.new))) }
 
     // and of a reader whose octets are known these are the script and the topology that were read
-    ensures replayed { IfSome (options_of (map string_bytes words.now)) (λ options. options.check ≡ false → OnOk result (IfSome (R.remaining reader.old) (λ octets. ReplaysInput options.book (detail_of options.texts) octets (W.contents writer.old) (W.contents writer.new)))) }
+    ensures replayed { IfReplayed words.now (λ book detail. OnOk result (IfSome (R.remaining reader.old) (λ octets. ReplaysInput book detail octets (W.contents writer.old) (W.contents writer.new)))) }
 
     // the reader is asked for the first octets only, and for an octet more than an input may have at most; unless a read fails or memory runs out, it is
     // asked for all of them
     ensures reads { ReadsFirst (R.remaining reader.old) (R.remaining reader.new) }
-    ensures reads_all { IfSome (options_of (map string_bytes words.now)) (λ options. result ≢ Err ScriptFault.CannotRead → result ≢ Err ScriptFault.OutOfMemory → ReadsAll (R.remaining reader.old) (R.remaining reader.new)) }
+    ensures reads_all { IfOptions words.now (λ options. result ≢ Err ScriptFault.CannotRead → result ≢ Err ScriptFault.OutOfMemory → ReadsAll (R.remaining reader.old) (R.remaining reader.new)) }
 
     // what is read is an input, or the first fault is given
-    ensures read { IfSome (options_of (map string_bytes words.now)) (λ options. R.failed reader.new ≡ false → IfSome (R.remaining reader.old) (λ octets. MatchResult result (λ _. IsSomeInput octets) (IsInputFault octets))) }
+    ensures read { IfOptions words.now (λ options. R.failed reader.new ≡ false → IfSome (R.remaining reader.old) (λ octets. MatchResult result (λ _. IsSomeInput octets) (IsInputFault octets))) }
 
     // where a read or a write fails it is reported, and nowhere else; by each call's `requires`, no more is asked of what failed
     ensures cannot_read { (result ≡ Err ScriptFault.CannotRead) ↔ (R.failed reader.new ≡ true) }
@@ -65,8 +66,8 @@ pub fn run<R: Source, W: Output>(
     ensures untouched { IfErr result (λ f. f ≢ ScriptFault.CannotWrite → f ≢ ScriptFault.OutOfMemory → writer.new ≡ writer.old) }
 
     // after memory has run out the output is a prefix of what the replay would write
-    ensures ran_in_part { result ≡ Err ScriptFault.OutOfMemory → IfSome (options_of (map string_bytes words.now)) (λ options. Keeps (W.contents writer.old) (W.contents writer.new) ⊎ RanInPart (detail_of options.texts) (W.contents writer.old) (W.contents writer.new)) }
-    ensures first_part { result ≡ Err ScriptFault.OutOfMemory → IfSome (options_of (map string_bytes words.now)) (λ options. IfSome (R.remaining reader.old) (λ octets. Keeps (W.contents writer.old) (W.contents writer.new) ⊎ StopsInput (detail_of options.texts) octets (W.contents writer.old) (W.contents writer.new))) }
+    ensures ran_in_part { result ≡ Err ScriptFault.OutOfMemory → IfDetail words.now (λ detail. NothingOr (RanInPart detail) (W.contents writer.old) (W.contents writer.new)) }
+    ensures first_part { result ≡ Err ScriptFault.OutOfMemory → IfDetail words.now (λ detail. StopsKnown detail (R.remaining reader.old) (W.contents writer.old) (W.contents writer.new)) }
 {
     match Options::read(alloc, words) {
         Ok(options) => run_script(
@@ -138,8 +139,8 @@ pub fn run_script<R: Source, W: Output>(
     ensures untouched { IfErr result (λ f. f ≢ ScriptFault.CannotWrite → f ≢ ScriptFault.OutOfMemory → writer.new ≡ writer.old) }
 
     // after memory has run out the output is a prefix of what the replay would write
-    ensures ran_in_part { result ≡ Err ScriptFault.OutOfMemory → Keeps (W.contents writer.old) (W.contents writer.new) ⊎ RanInPart detail (W.contents writer.old) (W.contents writer.new) }
-    ensures first_part { result ≡ Err ScriptFault.OutOfMemory → IfSome (R.remaining reader.old) (λ octets. Keeps (W.contents writer.old) (W.contents writer.new) ⊎ StopsInput detail octets (W.contents writer.old) (W.contents writer.new)) }
+    ensures ran_in_part { result ≡ Err ScriptFault.OutOfMemory → NothingOr (RanInPart detail) (W.contents writer.old) (W.contents writer.new) }
+    ensures first_part { result ≡ Err ScriptFault.OutOfMemory → StopsKnown detail (R.remaining reader.old) (W.contents writer.old) (W.contents writer.new) }
 
     // with `check` nothing is written when memory runs out
     ensures check_memory { check ≡ true → result ≡ Err ScriptFault.OutOfMemory → writer.new ≡ writer.old }

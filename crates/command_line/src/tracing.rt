@@ -1,12 +1,12 @@
 //! The trace of a replay, in place of what it shows.
 
-ghost use Rattle.std.specs.Prelude.{◌≡◌, ◌≢◌, ◌⊎◌, ◌↔◌, ◌≤◌, [], Err, IfErr, IfOk, IfSome, MatchResult, OnOk, false, length, true};
-ghost use Rattle.std.specs.Io.KnownBytes.{Keeps};
+ghost use Rattle.std.specs.Prelude.{◌≡◌, ◌≢◌, ◌↔◌, ◌≤◌, [], Err, IfErr, IfOk, IfSome, MatchResult, OnOk, false, length, true};
 ghost use Rattle.net_sim.specs.Carriers.{shown};
 ghost use Rattle.command_line.specs.Events.{asked_of};
 ghost use Rattle.command_line.specs.Input.{IsInputFault, IsSomeInput};
 ghost use Rattle.command_line.specs.Reading.{ReadsAll, ReadsFirst};
 ghost use Rattle.command_line.specs.Steps.{IsReplayFault};
+ghost use Rattle.command_line.specs.Stopping.{NothingOr};
 ghost use Rattle.command_line.specs.Traced.{EndsAll, EndsFrom, EndsOn, IsScripted, TraceStops, Traced, TracedInPart, TracesAll, TracesFrom, TracesInput, TracesOn, WorldEndsFrom, WorldTracesFrom};
 
 use crate::carriers::subnet_of;
@@ -67,8 +67,8 @@ pub fn run_trace<R: Source, W: Output>(
     ensures untouched { IfErr result (λ f. f ≢ ScriptFault.CannotWrite → f ≢ ScriptFault.OutOfMemory → writer.new ≡ writer.old) }
 
     // after memory has run out the output is a prefix of the trace
-    ensures ran_in_part { result ≡ Err ScriptFault.OutOfMemory → Keeps (W.contents writer.old) (W.contents writer.new) ⊎ TracedInPart (W.contents writer.old) (W.contents writer.new) }
-    ensures first_part { result ≡ Err ScriptFault.OutOfMemory → IfSome (R.remaining reader.old) (λ octets. Keeps (W.contents writer.old) (W.contents writer.new) ⊎ TraceStops octets (W.contents writer.old) (W.contents writer.new)) }
+    ensures ran_in_part { result ≡ Err ScriptFault.OutOfMemory → NothingOr TracedInPart (W.contents writer.old) (W.contents writer.new) }
+    ensures first_part { result ≡ Err ScriptFault.OutOfMemory → IfSome (R.remaining reader.old) (λ octets. NothingOr (TraceStops octets) (W.contents writer.old) (W.contents writer.new)) }
 {
     let octets = read_octets(alloc, reader)?;
     let Scripted {
@@ -128,7 +128,7 @@ fn trace_on<W: Output>(
 ) -> Result<(), ScriptFault>
     requires whole { W.failed writer.old ≡ false }
     ensures traced { OnOk result (TracesOn network.now lines.now (asked_of events) (W.contents writer.old) (W.contents writer.new)) }
-    ensures stopped { result ≡ Err ScriptFault.OutOfMemory → Keeps (W.contents writer.old) (W.contents writer.new) ⊎ EndsOn network.now lines.now (asked_of events) (W.contents writer.old) (W.contents writer.new) }
+    ensures stopped { result ≡ Err ScriptFault.OutOfMemory → NothingOr (EndsOn network.now lines.now (asked_of events)) (W.contents writer.old) (W.contents writer.new) }
     ensures fault { IfErr result IsReplayFault }
     ensures failed { (result ≡ Err ScriptFault.CannotWrite) ↔ (W.failed writer.new ≡ true) }
     ensures flushed { OnOk result (W.flushed writer.new ≡ true) }
@@ -161,7 +161,7 @@ fn trace_over<C: Inspect, W: Output>(
     requires running { (C.calls.seen carrier).stopped ≡ false }
     requires whole { W.failed writer.old ≡ false }
     ensures traced { OnOk result (TracesAll C.calls C.inside network.now carrier lines.now (asked_of events) (W.contents writer.old) (W.contents writer.new)) }
-    ensures stopped { result ≡ Err ScriptFault.OutOfMemory → Keeps (W.contents writer.old) (W.contents writer.new) ⊎ EndsAll C.calls C.inside network.now carrier lines.now (asked_of events) (W.contents writer.old) (W.contents writer.new) }
+    ensures stopped { result ≡ Err ScriptFault.OutOfMemory → NothingOr (EndsAll C.calls C.inside network.now carrier lines.now (asked_of events)) (W.contents writer.old) (W.contents writer.new) }
     ensures fault { IfErr result IsReplayFault }
     ensures failed { (result ≡ Err ScriptFault.CannotWrite) ↔ (W.failed writer.new ≡ true) }
     ensures flushed { OnOk result (W.flushed writer.new ≡ true) }
@@ -192,7 +192,7 @@ fn trace_hosts<C: Inspect, W: Output>(
     requires running { (C.calls.seen carrier).stopped ≡ false }
     requires whole { W.failed writer.old ≡ false }
     ensures traced { OnOk result (WorldTracesFrom (shown C.calls) C.inside.whole network.now carrier events.items (W.contents writer.old) (W.contents writer.new)) }
-    ensures stopped { result ≡ Err ScriptFault.OutOfMemory → Keeps (W.contents writer.old) (W.contents writer.new) ⊎ WorldEndsFrom (shown C.calls) C.inside.whole network.now carrier events.items (W.contents writer.old) (W.contents writer.new) }
+    ensures stopped { result ≡ Err ScriptFault.OutOfMemory → NothingOr (WorldEndsFrom (shown C.calls) C.inside.whole network.now carrier events.items) (W.contents writer.old) (W.contents writer.new) }
     ensures fault { IfErr result IsReplayFault }
     ensures failed { (result ≡ Err ScriptFault.CannotWrite) ↔ (W.failed writer.new ≡ true) }
     ensures flushed { OnOk result (W.flushed writer.new ≡ true) }

@@ -1,7 +1,8 @@
 -- What the contracts of private functions say. No public clause cites this file.
-use Rattle.std.specs.Prelude.{◌≡◌, ◌++◌, codes, ℕ, ◌==◌, ◌&&◌, ◌||◌, nat_lt, Bool, true, false, List, [], ◌∷◌, Option, Some, None, length}
+use Rattle.std.specs.Prelude.{◌≡◌, ◌≢◌, ◌++◌, codes, ℕ, ◌==◌, ◌&&◌, ◌||◌, nat_lt, Bool, true, false, List, [], ◌∷◌, Option, Some, None, Ok, length}
 use Rattle.std.specs.Fmt.{decimal}
 use Rattle.std.specs.List.{All}
+use Rattle.hex.specs.Hex.{encode_upper, decode_of, IsBytes}
 use Rattle.interface.specs.Printed.{host_text}
 use Rattle.interface.specs.declared.address.Flow.{Flow}
 use Rattle.interface.specs.declared.event.Direction.{Direction}
@@ -12,6 +13,22 @@ use Rattle.script.specs.Spelling.{IsHost, IsFlow, IsImp, IsIndex, direction_text
 -- octets without this one
 abbrev pub Lacks : ℕ → List ℕ → Type 0
 Lacks octet xs = All (λ x. (x == octet) ≡ false) xs
+
+-- words without two spaces
+abbrev pub AreTooFew : List ℕ → Type 0
+AreTooFew words = (a b c : List ℕ) → words ≢ a ++ 32 ∷ (b ++ 32 ∷ c)
+
+-- the first two of these words, and what follows them
+abbrev pub AreCutTwice : List ℕ → List ℕ → List ℕ → List ℕ → Type 0
+AreCutTwice words first second rest = (words ≡ first ++ 32 ∷ (second ++ 32 ∷ rest)) × Lacks 32 first × Lacks 32 second
+
+-- a word that spells no octets
+abbrev pub SpellsNone : List ℕ → Type 0
+SpellsNone word = (octets : List ℕ) → IsBytes octets → word ≢ encode_upper octets
+
+-- a word that spells these octets
+abbrev pub Spells : List ℕ → List ℕ → Type 0
+Spells word octets = (decode_of word ≡ Ok octets) × (word ≡ encode_upper octets)
 
 -- three words spell this flow, or no valid one
 abbrev pub ReadsFlow : List ℕ → List ℕ → List ℕ → Option Flow → Type 0

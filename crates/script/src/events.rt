@@ -1,10 +1,10 @@
 //! Scripts: one event a line.
 
-ghost use Rattle.std.specs.Prelude.{◌≡◌, ◌≢◌, ℕ, ◌==◌, ◌≤◌, false, List, ◌∷◌, ◌++◌, length, codes, MatchOption, MatchResult, IfOk, IfErr};
+ghost use Rattle.std.specs.Prelude.{◌≡◌, ◌≢◌, ◌==◌, ◌≤◌, false, ◌∷◌, ◌++◌, length, codes, MatchOption, MatchResult, IfOk, IfErr};
 ghost use Rattle.interface.specs.Printed.{flow_text};
 ghost use Rattle.script.specs.Script.{lines_of, is_passed_over, AskFor, IsLineFault};
 ghost use Rattle.script.specs.Spelling.{ReadsAs, IsFlow, IsMessage, IsEvent, IsTextRead, WantsMemory, message_text, spelling};
-ghost use Rattle.script.specs.Steps.{ReadsFlow, Lacks};
+ghost use Rattle.script.specs.Steps.{AreCutTwice, AreTooFew, Lacks, ReadsFlow};
 
 use crate::event::RawEvent;
 use crate::fault::LineFault;
@@ -85,7 +85,7 @@ fn read_plain(word: &[u8], rest: &[u8]) -> Option<RawEvent>
 /// Returns the first two words, and what follows them.
 #[inline]
 pub(crate) fn cut_twice(words: &[u8]) -> Option<(&[u8], &[u8], &[u8])>
-    ensures { MatchOption result ((a b c : List ℕ) → words.now ≢ a ++ 32 ∷ (b ++ 32 ∷ c)) (λ parts. (words.now ≡ parts.0.now ++ 32 ∷ (parts.1.now ++ 32 ∷ parts.2.now)) × Lacks 32 parts.0.now × Lacks 32 parts.1.now) }
+    ensures { MatchOption result (AreTooFew words.now) (λ parts. AreCutTwice words.now parts.0.now parts.1.now parts.2.now) }
 {
     let (first, rest) = cut(words, b' ')?;
     let (second, rest) = cut(rest, b' ')?;

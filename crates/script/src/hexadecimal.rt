@@ -3,10 +3,11 @@
 //! The digits of a text can't be foretold, so a branch for each of them would be costly. They are tested and
 //! read by arithmetic only.
 
-ghost use Rattle.std.specs.Prelude.{◌≡◌, ◌≢◌, ℕ, ◌<◌, ◌%◌, true, List, length, slice_index, Ok, MatchOption, IfOk, IfErr};
+ghost use Rattle.std.specs.Prelude.{◌≡◌, ◌<◌, ◌%◌, true, length, slice_index, MatchOption, IfOk, IfErr};
 ghost use Rattle.std.specs.List.{list_all};
-ghost use Rattle.hex.specs.Hex.{encode_upper, upper_digits, decode_of, IsBytes};
+ghost use Rattle.hex.specs.Hex.{encode_upper, upper_digits};
 ghost use Rattle.script.specs.Spelling.{IsHex, is_upper_digit};
+ghost use Rattle.script.specs.Steps.{Spells, SpellsNone};
 
 use std::alloc::{AllocError, Global};
 
@@ -15,7 +16,7 @@ use std::alloc::{AllocError, Global};
 ///
 /// Errors: `AllocError`, only for a word of hexadecimal octets.
 pub(crate) fn read_octets(alloc: Global, word: &[u8]) -> Result<Option<Vec<u8>>, AllocError>
-    ensures read { IfOk result (λ read. MatchOption read ((e : List ℕ) → IsBytes e → word.now ≢ encode_upper e) (λ octets. (decode_of word.now ≡ Ok octets.items) × (word.now ≡ encode_upper octets.items))) }
+    ensures read { IfOk result (λ read. MatchOption read (SpellsNone word.now) (λ octets. Spells word.now octets.items)) }
     ensures memory { IfErr result (λ _. IsHex word.now) }
 {
     if word.len() % 2 != 0 || !has_upper_digits(word) {

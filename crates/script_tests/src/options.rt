@@ -98,7 +98,13 @@ const WORLD: &[u8] =
 
 /// What it prints, with the lives of its book.
 const WORLD_PRINTED: &[u8] =
-    b"out 0/1 0/2 0 48\nin 0/1 0/2 0 48\nready 0/2 0/1\nout 0/2 0/1 0 48\nanswer rfnm 0/1 0/2 0\nin 0/2 0/1 0 48\nready 0/1 0/2\nanswer rfnm 0/2 0/1 0\nout 0/1 0/2 0 120\nin 0/1 0/2 0 120\nout 0/2 0/1 0 120\nopened 0/2 33 0/1 16\nanswer rfnm 0/1 0/2 0\nin 0/2 0/1 0 120\nopened 0/1 16 0/2 33\nanswer rfnm 0/2 0/1 0\nout 0/1 0/2 0 112\nin 0/1 0/2 0 112\nout 0/2 0/1 0 112\nended 0/2 33 0/1 16\nanswer rfnm 0/1 0/2 0\nin 0/2 0/1 0 112\nended 0/1 16 0/2 33\nanswer rfnm 0/2 0/1 0\nlife 0/2 33 0/1 16 8 7 send 0 0 0 0 0 0 ended\nlife 0/1 16 0/2 33 6 10 receive 0 0 0 0 0 0 ended\nend\n";
+    b"out 0/1 0/2 0 48\nin 0/1 0/2 0 48\nready 0/2 0/1\nout 0/2 0/1 0 48\nanswer rfnm 0/1 0/2 0\n\
+      in 0/2 0/1 0 48\nready 0/1 0/2\nanswer rfnm 0/2 0/1 0\nout 0/1 0/2 0 120\nin 0/1 0/2 0 120\n\
+      out 0/2 0/1 0 120\nopened 0/2 33 0/1 16\nanswer rfnm 0/1 0/2 0\nin 0/2 0/1 0 120\n\
+      opened 0/1 16 0/2 33\nanswer rfnm 0/2 0/1 0\nout 0/1 0/2 0 112\nin 0/1 0/2 0 112\n\
+      out 0/2 0/1 0 112\nended 0/2 33 0/1 16\nanswer rfnm 0/1 0/2 0\nin 0/2 0/1 0 112\n\
+      ended 0/1 16 0/2 33\nanswer rfnm 0/2 0/1 0\nlife 0/2 33 0/1 16 8 7 send 0 0 0 0 0 0 ended\n\
+      life 0/1 16 0/2 33 6 10 receive 0 0 0 0 0 0 ended\nend\n";
 
 /// How the simulator ends on these words and this input, and whether it wrote this.
 fn ended(

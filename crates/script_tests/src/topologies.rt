@@ -55,7 +55,8 @@ const DOCUMENTS: [(&str, &str); 29] = [
         "plain false imp 1 2 host 0/1 host 1/1",
     ),
     (
-        "imp = [{id = 1, hosts = 0}, {id = 2, hosts = 0}, {id = 3, hosts = 0}, {id = 4, hosts = 0}, {id = 5, hosts = 0}, {id = 6, hosts = 0}]\nline = [{a = 1, b = 2}, {a = 3, b = 1}, {a = 1, b = 4}, {a = 1, b = 5}, {a = 1, b = 6}]\n",
+        "imp = [{id = 1, hosts = 0}, {id = 2, hosts = 0}, {id = 3, hosts = 0}, {id = 4, hosts = 0}, {id = 5, hosts = 0}, {id = 6, hosts = 0}]\n\
+         line = [{a = 1, b = 2}, {a = 3, b = 1}, {a = 1, b = 4}, {a = 1, b = 5}, {a = 1, b = 6}]\n",
         "subnet false imp 1 0 imp 2 0 imp 3 0 imp 4 0 imp 5 0 imp 6 0 line 1 2 line 3 1 line 1 4 line 1 5 line 1 6",
     ),
     ("", ""),
@@ -90,7 +91,9 @@ const DOCUMENTS: [(&str, &str); 29] = [
         "",
     ),
     (
-        "imp = [{id = 1, hosts = 0}, {id = 2, hosts = 0}, {id = 3, hosts = 0}, {id = 4, hosts = 0}, {id = 5, hosts = 0}, {id = 6, hosts = 0}, {id = 7, hosts = 0}]\nline = [{a = 1, b = 2}, {a = 3, b = 1}, {a = 1, b = 4}, {a = 1, b = 5}, {a = 1, b = 6}, {a = 7, b = 1}]\n",
+        "imp = [{id = 1, hosts = 0}, {id = 2, hosts = 0}, {id = 3, hosts = 0}, {id = 4, hosts = 0}, \
+         {id = 5, hosts = 0}, {id = 6, hosts = 0}, {id = 7, hosts = 0}]\nline = [{a = 1, b = 2}, \
+         {a = 3, b = 1}, {a = 1, b = 4}, {a = 1, b = 5}, {a = 1, b = 6}, {a = 7, b = 1}]\n",
         "",
     ),
     (

@@ -11,7 +11,11 @@ use std::process::Abort;
 /// 0/1 receives on socket 16 what 0/2 sends from socket 33: 0/1 grants two messages and 100 bits, 104 bits are handed over, 96 of
 /// them go out and are taken, and one message and four bits are returned.
 const DATA: &str =
-    "contact 0/1 0/2\noffer 0/1\ntake 0/2\noffer 0/2\ntake 0/1\ntake 0/1\ntake 0/2\nlisten 0/2 33 8\nopenrecv 0/1 0/2 16 33\noffer 0/1\ntake 0/2\noffer 0/2\ntake 0/1\ntake 0/1\ntake 0/2\ngrant 0/1 16 2 100\noffer 0/1\ntake 0/2\nsend 0/2 33 104 0102030405060708090A0B0C0D\noffer 0/2\ntake 0/1\ntake 0/1\ntake 0/2\naskback 0/1 16 128 128\noffer 0/1\ntake 0/2\noffer 0/2\ntake 0/1\ntake 0/1\ntake 0/2\n";
+    "contact 0/1 0/2\noffer 0/1\ntake 0/2\noffer 0/2\ntake 0/1\ntake 0/1\ntake 0/2\nlisten 0/2 33 8\n\
+     openrecv 0/1 0/2 16 33\noffer 0/1\ntake 0/2\noffer 0/2\ntake 0/1\ntake 0/1\ntake 0/2\n\
+     grant 0/1 16 2 100\noffer 0/1\ntake 0/2\nsend 0/2 33 104 0102030405060708090A0B0C0D\noffer 0/2\n\
+     take 0/1\ntake 0/1\ntake 0/2\naskback 0/1 16 128 128\noffer 0/1\ntake 0/2\noffer 0/2\ntake 0/1\n\
+     take 0/1\ntake 0/2\n";
 
 /// The octets that are handed over.
 const HANDED: [u8; 13] = [1, 2, 3, 4, 5, 6, 7, 8, 9, 10, 11, 12, 13];

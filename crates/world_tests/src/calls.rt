@@ -36,13 +36,22 @@ fn world(alloc: Global) -> Result<World<PlainBoxes>, AllocError> {
 /// Two hosts are made ready, a connection is opened and asked for all that a user may ask for, and what 0/2 has said by then
 /// crosses before it stops.
 const CALLS: &str =
-    "contact 0/1 0/2\noffer 0/1\ntake 0/2\noffer 0/2\ntake 0/1\ntake 0/1\ntake 0/2\nlisten 0/2 33 8\nopenrecv 0/1 0/2 16 33\noffer 0/1\ntake 0/2\noffer 0/2\ntake 0/1\ntake 0/1\nopensend 0/1 0/2 17 18 8\nsend 0/2 33 16 4142\ngrant 0/1 16 65535 8\ngrant 0/1 16 1 0\naskback 0/1 16 128 128\necho 0/1 0/2 65\ninterrupt 0/1 16\nclose 0/1 16\nhostdown 0/2\ntake 0/2\n";
+    "contact 0/1 0/2\noffer 0/1\ntake 0/2\noffer 0/2\ntake 0/1\ntake 0/1\ntake 0/2\nlisten 0/2 33 8\n\
+     openrecv 0/1 0/2 16 33\noffer 0/1\ntake 0/2\noffer 0/2\ntake 0/1\ntake 0/1\n\
+     opensend 0/1 0/2 17 18 8\nsend 0/2 33 16 4142\ngrant 0/1 16 65535 8\ngrant 0/1 16 1 0\n\
+     askback 0/1 16 128 128\necho 0/1 0/2 65\ninterrupt 0/1 16\nclose 0/1 16\nhostdown 0/2\ntake 0/2\n";
 
 /// Services fail as they begin; then a line that is typed goes to a server and comes back. It is the stored input
 /// `cases/scenes_show_what_was_written_down/a_server_a_user_and_a_terminal`, whose calms are here the single events of which
 /// the output says there; and so do the counts, by its lines.
 const SERVICES: &str =
-    "type 0/1 A\nserver 0/2 8 100\nuser 0/1 0/2 7 16\nserver 0/3 7 100\nserver 0/2 7 100\ncontact 0/1 0/2\noffer 0/1\ntake 0/2\noffer 0/2\ntake 0/1\ntake 0/1\ntake 0/2\nuser 0/1 0/2 7 18\noffer 0/1\ntake 0/2\noffer 0/2\ntake 0/1\ntake 0/1\noffer 0/1\ntake 0/2\ntake 0/2\noffer 0/2\ntake 0/1\ntake 0/1\noffer 0/1\ntake 0/2\ntake 0/2\noffer 0/2\ntake 0/1\ntake 0/1\noffer 0/1\ntake 0/2\ntake 0/2\noffer 0/2\ntake 0/1\ntake 0/1\ntake 0/2\ntype 0/1 A ~\noffer 0/1\ntake 0/2\noffer 0/2\noffer 0/2\ntake 0/1\ntake 0/1\ntake 0/1\noffer 0/1\ntake 0/2\ntake 0/2\ntake 0/2\ntake 0/1\nhostdown 0/1\ntype 0/1 A\n";
+    "type 0/1 A\nserver 0/2 8 100\nuser 0/1 0/2 7 16\nserver 0/3 7 100\nserver 0/2 7 100\n\
+     contact 0/1 0/2\noffer 0/1\ntake 0/2\noffer 0/2\ntake 0/1\ntake 0/1\ntake 0/2\nuser 0/1 0/2 7 18\n\
+     offer 0/1\ntake 0/2\noffer 0/2\ntake 0/1\ntake 0/1\noffer 0/1\ntake 0/2\ntake 0/2\noffer 0/2\n\
+     take 0/1\ntake 0/1\noffer 0/1\ntake 0/2\ntake 0/2\noffer 0/2\ntake 0/1\ntake 0/1\noffer 0/1\n\
+     take 0/2\ntake 0/2\noffer 0/2\ntake 0/1\ntake 0/1\ntake 0/2\ntype 0/1 A ~\noffer 0/1\ntake 0/2\n\
+     offer 0/2\noffer 0/2\ntake 0/1\ntake 0/1\ntake 0/1\noffer 0/1\ntake 0/2\ntake 0/2\ntake 0/2\n\
+     take 0/1\nhostdown 0/1\ntype 0/1 A\n";
 
 /// The events of a script, without its calms, and a quiet round after them. `None` where the script is bad or memory runs
 /// out.
