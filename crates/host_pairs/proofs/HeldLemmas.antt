@@ -1,34 +1,25 @@
 -- Where the ends are that have a mark, as some of them change.
-use Rattle.std.proofs.Common.{◌≡◌, ℕ, ◌<◌, ◌≤◌, ◌+◌, ◌-◌, ◌++◌, Bool, true, false, not, ◌&&◌, ◌||◌, ◌==◌, if◌then◌else◌, List, [], ◌∷◌, length, take, drop, filter, map, Some, slice_set, slice_index_or, zero, suc, refl, sym, ap, ◌∙◌, arith}
-use Rattle.std.specs.List.{list_any, remove, position}
+use Rattle.std.proofs.Common.{◌≡◌, ℕ, ◌<◌, ◌≤◌, ◌+◌, ◌-◌, ◌++◌, Bool, true, false, not, ◌&&◌, ◌==◌, if◌then◌else◌, List, [], ◌∷◌, length, take, drop, filter, map, Option, Some, None, slice_set, slice_index_or, zero, suc, refl, sym, ap, ◌∙◌, arith}
+use Rattle.std.specs.List.{list_any, remove, position, position_from}
 use Rattle.std.proofs.lemmas.List.{drop-drop, length-append, length-take, length-drop, length-set, take-append-le, take_all, get_or_default}
 use Rattle.std.proofs.lemmas.List.Folds.{list_any-append}
 use Rattle.std.proofs.lemmas.Bool.{eqb-true}
+use Rattle.std.proofs.lemmas.Iterator.Adapters.{position_from-zero}
 use Rattle.std.proofs.Common.{Result, Ok, Err, OnOk, OnErr}
 use Rattle.host_pairs.specs.Entries.{called_off, changed_first, close_due, closed_when, is_over, is_sent, must_close}
 use Rattle.host_pairs.specs.declared.entry.Closing.{Closing}
 use Rattle.host_pairs.specs.declared.entry.Closing.TheVariants as closing
+use Rattle.host_pairs.specs.Inside.Index.{AreKept, end_key}
 use Rattle.host_pairs.specs.Inside.Held.{waits, has_bits, none_but, is_where, AreHeld}
 use Rattle.host_pairs.specs.declared.entry.Entry.{Entry}
+use Rattle.host_pairs.specs.declared.index.Index.{Index}
 use Rattle.host_pairs.specs.declared.held.Few.{Few}
 use Rattle.host_pairs.specs.declared.held.Few.TheVariants as few
 use Rattle.host_pairs.proofs.EntryLemmas.{one_changed}
-use Rattle.host_pairs.proofs.OpeningLemmas.{both}
+use Rattle.host_pairs.proofs.IndexLemmas.{KeepsKey, kept_changed, kept_mapped, kept_set}
+use Rattle.host_pairs.proofs.OpeningLemmas.{both, is_none, neither, not_is}
 use Rattle.host_pairs.proofs.ParcelLemmas.{no_turn}
 use Rattle.host_pairs.specs.Parcels.{bits_gone, may_send}
-
--- ---- tests
-
-pub is_false : (b : Bool) → not b ≡ true → b ≡ false
-is_false true h = absurd (cc)
-is_false false h = refl
-
-pub is_none : (b : Bool) → b ≡ false → not b ≡ true
-is_none b h = rw h refl
-
-neither : (a b : Bool) → (a || b) ≡ false → (a ≡ false) × (b ≡ false)
-neither true b h = absurd (cc)
-neither false b h = (refl, h)
 
 -- ---- a change that gives no end the mark
 
@@ -54,16 +45,16 @@ none_kept mark test change (e ∷ es) keeps h = none_by mark test change e es ke
 but_first : (mark test : Entry → Bool) (change : Entry → Entry) (e : Entry) (es : List Entry) → Keeps mark change → (b : Bool) → test e ≡ b
     → none_but mark zero (e ∷ es) ≡ true → none_but mark zero (changed_first test change (e ∷ es)) ≡ true
 but_first mark test change e es keeps true t h = rw t h
-but_first mark test change e es keeps false t h = rw t (is_none _ (none_kept mark test change es keeps (is_false _ h)))
+but_first mark test change e es keeps false t h = rw t (is_none _ (none_kept mark test change es keeps (not_is _ h)))
 
 but_later : (mark test : Entry → Bool) (change : Entry → Entry) (at : ℕ) (e : Entry) (es : List Entry) → Keeps mark change
     → (none_but mark at es ≡ true → none_but mark at (changed_first test change es) ≡ true) → (b : Bool) → test e ≡ b
     → none_but mark (suc at) (e ∷ es) ≡ true → none_but mark (suc at) (changed_first test change (e ∷ es)) ≡ true
 but_later mark test change at e es keeps rest true t h =
-    let without : mark e ≡ false = is_false _ (both _ _ h).0 in
+    let without : mark e ≡ false = not_is _ (both _ _ h).0 in
     rw (t, keeps e without) ((both _ _ h).1)
 but_later mark test change at e es keeps rest false t h =
-    let without : mark e ≡ false = is_false _ (both _ _ h).0 in
+    let without : mark e ≡ false = not_is _ (both _ _ h).0 in
     rw (t, without) (rest (both _ _ h).1)
 
 but_kept : (mark test : Entry → Bool) (change : Entry → Entry) (at : ℕ) (es : List Entry) → Keeps mark change
@@ -75,7 +66,7 @@ but_kept mark test change (suc at) (e ∷ es) keeps h = but_later mark test chan
 -- what is remembered stays true
 pub where_kept : (mark test : Entry → Bool) (change : Entry → Entry) (few : Few) (es : List Entry) → Keeps mark change
     → is_where mark few es ≡ true → is_where mark few (changed_first test change es) ≡ true
-where_kept mark test change few.Nowhere es keeps h = is_none _ (none_kept mark test change es keeps (is_false _ h))
+where_kept mark test change few.Nowhere es keeps h = is_none _ (none_kept mark test change es keeps (not_is _ h))
 where_kept mark test change (few.At at) es keeps h = but_kept mark test change at es keeps h
 where_kept mark test change few.Anywhere es keeps h = refl
 
@@ -92,7 +83,7 @@ pub same_set : (mark : Entry → Bool) (at : ℕ) (y : Entry) (es : List Entry) 
 same_set mark at y [] h = refl
 same_set mark zero y (e ∷ es) h = h
 same_set mark (suc at) y (e ∷ es) h =
-    let without : mark e ≡ false = is_false _ (both _ _ h).0 in
+    let without : mark e ≡ false = not_is _ (both _ _ h).0 in
     rw without (same_set mark at y es (both _ _ h).1)
 
 -- ---- the ends that may have the mark
@@ -118,8 +109,8 @@ take_one e es = refl
 pub only_passes : (one mark : Entry → Bool) (at : ℕ) (es : List Entry) → Within one mark → none_but mark at es ≡ true → filter one (part_at at es) ≡ filter one es
 only_passes one mark zero [] within h = refl
 only_passes one mark (suc at) [] within h = refl
-only_passes one mark zero (e ∷ es) within h = sym (first_passes one e es (none_pass one mark es within (is_false _ h)))
-only_passes one mark (suc at) (e ∷ es) within h = rw (within e (is_false _ (both _ _ h).0)) (only_passes one mark at es within (both _ _ h).1)
+only_passes one mark zero (e ∷ es) within h = sym (first_passes one e es (none_pass one mark es within (not_is _ h)))
+only_passes one mark (suc at) (e ∷ es) within h = rw (within e (not_is _ (both _ _ h).0)) (only_passes one mark at es within (both _ _ h).1)
 
 -- ---- those after the ones that have gone
 
@@ -166,16 +157,24 @@ pub kept_held : (mark : Entry → Bool) (few : Few) (test : Entry → Bool) (cha
 kept_held mark few test change gone at d y live ends view is changed keeps h =
     rw (changed_behind test change gone at d y live ends view is changed) (where_kept mark test change few live keeps (rw (← view) h))
 
+pub index_held : (index : Option Index) (test : Entry → Bool) (change : Entry → Entry) (gone at : ℕ) (d y : Entry) (live ends : List Entry)
+    → drop gone ends ≡ live → position test live ≡ Some at → y ≡ change (slice_index_or ends (gone + at) d) → KeepsKey change
+    → AreKept index (drop gone ends) → AreKept index (drop gone (slice_set ends (gone + at) y))
+index_held index test change gone at d y live ends view is changed keeps h =
+    rw (changed_behind test change gone at d y live ends view is changed) (kept_changed index test change live keeps (rw (← view) h))
+
 -- a change of the end at a place that was found gives no end a mark
 pub record KeepsAll (change : Entry → Entry) : Type 0 where
+  pub sockets : KeepsKey change
   pub closing : Keeps waits change
   pub ending : Keeps is_over change
   pub sending : Keeps has_bits change
 
-pub all_held : (test : Entry → Bool) (change : Entry → Entry) (gone at : ℕ) (due over bits : Few) (d y : Entry) (live ends : List Entry) → KeepsAll change
+pub all_held : (test : Entry → Bool) (change : Entry → Entry) (gone at : ℕ) (index : Option Index) (due over bits : Few) (d y : Entry) (live ends : List Entry) → KeepsAll change
     → drop gone ends ≡ live → position test live ≡ Some at → y ≡ change (slice_index_or ends (gone + at) d)
-    → AreHeld gone due over bits ends → AreHeld gone due over bits (slice_set ends (gone + at) y)
-all_held test change gone at due over bits d y live ends keeps view is changed held = record {
+    → AreHeld gone index due over bits ends → AreHeld gone index due over bits (slice_set ends (gone + at) y)
+all_held test change gone at index due over bits d y live ends keeps view is changed held = record {
+  indexed = index_held index test change gone at d y live ends view is changed keeps.sockets held.indexed;
   within = within_set gone (gone + at) y ends held.within;
   closing = kept_held waits due test change gone at d y live ends view is changed keeps.closing held.closing;
   ending = kept_held is_over over test change gone at d y live ends view is changed keeps.ending held.ending;
@@ -185,14 +184,14 @@ all_held test change gone at due over bits d y live ends keeps view is changed h
 -- ---- an end that joins the others
 
 pub none_more : (mark : Entry → Bool) (es : List Entry) (e : Entry) → mark e ≡ false → not (list_any mark es) ≡ true → not (list_any mark (es ++ e ∷ [])) ≡ true
-none_more mark es e without h = rw (list_any-append mark es (e ∷ []), is_false _ h, without) refl
+none_more mark es e without h = rw (list_any-append mark es (e ∷ []), not_is _ h, without) refl
 
 pub one_more : (mark : Entry → Bool) (es : List Entry) (e : Entry) (at : ℕ) → length es ≡ at → not (list_any mark es) ≡ true → none_but mark at (es ++ e ∷ []) ≡ true
 one_more mark [] e zero is h = refl
 one_more mark [] e (suc at) is h = absurd (cc)
 one_more mark (f ∷ es) e zero is h = absurd (omega (arith, is))
 one_more mark (f ∷ es) e (suc at) is h =
-    let two : (mark f ≡ false) × (list_any mark es ≡ false) = neither _ _ (is_false _ h) in
+    let two : (mark f ≡ false) × (list_any mark es ≡ false) = neither _ _ (not_is _ h) in
     let first : mark f ≡ false = two.0 in
     rw first (one_more mark es e at (omega (arith, is)) (is_none _ two.1))
 
@@ -201,7 +200,7 @@ same_more mark zero [] e without h = refl
 same_more mark (suc at) [] e without h = rw without refl
 same_more mark zero (f ∷ es) e without h = none_more mark es e without h
 same_more mark (suc at) (f ∷ es) e without h =
-    let first : mark f ≡ false = is_false _ (both _ _ h).0 in
+    let first : mark f ≡ false = not_is _ (both _ _ h).0 in
     rw first (same_more mark at es e without (both _ _ h).1)
 
 -- ---- an end that goes
@@ -209,9 +208,9 @@ same_more mark (suc at) (f ∷ es) e without h =
 pub none_removed : (mark : Entry → Bool) (at : ℕ) (es : List Entry) → not (list_any mark es) ≡ true → not (list_any mark (remove es at)) ≡ true
 none_removed mark zero [] h = h
 none_removed mark (suc at) [] h = h
-none_removed mark zero (e ∷ es) h = is_none _ (neither _ _ (is_false _ h)).1
+none_removed mark zero (e ∷ es) h = is_none _ (neither _ _ (not_is _ h)).1
 none_removed mark (suc at) (e ∷ es) h =
-    let two : (mark e ≡ false) × (list_any mark es ≡ false) = neither _ _ (is_false _ h) in
+    let two : (mark e ≡ false) × (list_any mark es ≡ false) = neither _ _ (not_is _ h) in
     let first : mark e ≡ false = two.0 in
     rw first (none_removed mark at es (is_none _ two.1))
 
@@ -220,7 +219,7 @@ same_removed mark zero [] h = refl
 same_removed mark (suc at) [] h = refl
 same_removed mark zero (e ∷ es) h = h
 same_removed mark (suc at) (e ∷ es) h =
-    let first : mark e ≡ false = is_false _ (both _ _ h).0 in
+    let first : mark e ≡ false = not_is _ (both _ _ h).0 in
     rw first (same_removed mark at es (both _ _ h).1)
 
 pub earlier_removed : (mark : Entry → Bool) (other at : ℕ) (es : List Entry) → other < at → none_but mark other es ≡ true → none_but mark other (remove es at) ≡ true
@@ -228,7 +227,7 @@ earlier_removed mark other zero es lt h = absurd (omega (arith, lt))
 earlier_removed mark other (suc at) [] lt h = refl
 earlier_removed mark zero (suc at) (e ∷ es) lt h = none_removed mark at es h
 earlier_removed mark (suc other) (suc at) (e ∷ es) lt h =
-    let first : mark e ≡ false = is_false _ (both _ _ h).0 in
+    let first : mark e ≡ false = not_is _ (both _ _ h).0 in
     rw first (earlier_removed mark other at es (omega (arith, lt)) (both _ _ h).1)
 
 later_by : (mark : Entry → Bool) (other at : ℕ) (es : List Entry) → at ≤ other → none_but mark (suc other) es ≡ true → none_but mark other (remove es at) ≡ true
@@ -237,7 +236,7 @@ later_by mark other (suc at) [] le h = refl
 later_by mark other zero (e ∷ es) le h = (both _ _ h).1
 later_by mark zero (suc at) (e ∷ es) le h = absurd (omega (arith, le))
 later_by mark (suc other) (suc at) (e ∷ es) le h =
-    let first : mark e ≡ false = is_false _ (both _ _ h).0 in
+    let first : mark e ≡ false = not_is _ (both _ _ h).0 in
     rw first (later_by mark other at es (omega (arith, le)) (both _ _ h).1)
 
 pub later_removed : (mark : Entry → Bool) (other at : ℕ) (es : List Entry) → at < other → none_but mark other es ≡ true → none_but mark (other - 1) (remove es at) ≡ true
@@ -255,7 +254,7 @@ none_left_of mark stays [] h = refl
 none_left_of mark stays (e ∷ es) h = left_by mark stays e es (neither _ _ h).0 (none_left_of mark stays es (neither _ _ h).1) (stays e) refl
 
 pub none_left : (mark stays : Entry → Bool) (es : List Entry) → not (list_any mark es) ≡ true → not (list_any mark (filter stays es)) ≡ true
-none_left mark stays es h = is_none _ (none_left_of mark stays es (is_false _ h))
+none_left mark stays es h = is_none _ (none_left_of mark stays es (not_is _ h))
 
 -- ---- the end of this host's own that its user closes isn't over by that
 
@@ -273,7 +272,7 @@ called_off_kept e h = over_by e.closing e.partner_closed h
 pub none_has : (one mark : Entry → Bool) (es : List Entry) → Within one mark → not (list_any mark es) ≡ true → list_any one es ≡ false
 none_has one mark [] within h = refl
 none_has one mark (e ∷ es) within h =
-    let two : (mark e ≡ false) × (list_any mark es ≡ false) = neither _ _ (is_false _ h) in
+    let two : (mark e ≡ false) × (list_any mark es ≡ false) = neither _ _ (not_is _ h) in
     let first : one e ≡ false = within e two.0 in
     rw first (none_has one mark es within (is_none _ two.1))
 
@@ -285,7 +284,7 @@ only_has one mark zero [] within h = refl
 only_has one mark (suc at) [] within h = refl
 only_has one mark zero (e ∷ es) within h = sym (first_has one e es (none_has one mark es within h))
 only_has one mark (suc at) (e ∷ es) within h =
-    let first : one e ≡ false = within e (is_false _ (both _ _ h).0) in
+    let first : one e ≡ false = within e (not_is _ (both _ _ h).0) in
     rw first (only_has one mark at es within (both _ _ h).1)
 
 pub has_among : (one mark : Entry → Bool) (at n : ℕ) (es : List Entry) → Within one mark → n ≡ 1 → none_but mark at es ≡ true → list_any one (take n (drop at es)) ≡ list_any one es
@@ -299,7 +298,7 @@ passes_among one mark at n es within is h = rw is (only_passes one mark at es wi
 pub map_none : (mark : Entry → Bool) (change : Entry → Entry) (es : List Entry) → Keeps mark change → not (list_any mark es) ≡ true → not (list_any mark (map change es)) ≡ true
 map_none mark change [] keeps h = refl
 map_none mark change (e ∷ es) keeps h =
-    let two : (mark e ≡ false) × (list_any mark es ≡ false) = neither _ _ (is_false _ h) in
+    let two : (mark e ≡ false) × (list_any mark es ≡ false) = neither _ _ (not_is _ h) in
     let first : mark (change e) ≡ false = keeps e two.0 in
     rw first (map_none mark change es keeps (is_none _ two.1))
 
@@ -307,7 +306,7 @@ map_but : (mark : Entry → Bool) (change : Entry → Entry) (at : ℕ) (es : Li
 map_but mark change at [] keeps h = refl
 map_but mark change zero (e ∷ es) keeps h = map_none mark change es keeps h
 map_but mark change (suc at) (e ∷ es) keeps h =
-    let first : mark (change e) ≡ false = keeps e (is_false _ (both _ _ h).0) in
+    let first : mark (change e) ≡ false = keeps e (not_is _ (both _ _ h).0) in
     rw first (map_but mark change at es keeps (both _ _ h).1)
 
 pub map_kept : (mark : Entry → Bool) (change : Entry → Entry) (few : Few) (es : List Entry) → Keeps mark change → is_where mark few es ≡ true → is_where mark few (map change es) ≡ true
@@ -321,7 +320,7 @@ none_there mark zero d [] h without = refl
 none_there mark (suc at) d [] h without = refl
 none_there mark zero d (e ∷ es) h without = rw without h
 none_there mark (suc at) d (e ∷ es) h without =
-    let first : mark e ≡ false = is_false _ (both _ _ h).0 in
+    let first : mark e ≡ false = not_is _ (both _ _ h).0 in
     rw first (none_there mark at d es (both _ _ h).1 without)
 
 pub none_set : (mark : Entry → Bool) (at : ℕ) (y : Entry) (es : List Entry) → none_but mark at es ≡ true → mark y ≡ false → not (list_any mark (slice_set es at y)) ≡ true
@@ -329,7 +328,7 @@ none_set mark zero y [] h without = refl
 none_set mark (suc at) y [] h without = refl
 none_set mark zero y (e ∷ es) h without = rw without h
 none_set mark (suc at) y (e ∷ es) h without =
-    let first : mark e ≡ false = is_false _ (both _ _ h).0 in
+    let first : mark e ≡ false = not_is _ (both _ _ h).0 in
     rw first (none_set mark at y es (both _ _ h).1 without)
 
 -- an end as the closing leaves it
@@ -348,7 +347,7 @@ never_waits busy e h = rw h refl
 pub closed_none : (busy : List ℕ) (es : List Entry) → not (list_any waits es) ≡ true → map (closed_by busy) es ≡ es
 closed_none busy [] h = refl
 closed_none busy (e ∷ es) h =
-    let two : (waits e ≡ false) × (list_any waits es ≡ false) = neither _ _ (is_false _ h) in
+    let two : (waits e ≡ false) × (list_any waits es ≡ false) = neither _ _ (not_is _ h) in
     let first : closed_by busy e ≡ e = stays_open busy e (never_waits busy e two.0) in
     ap (λ (x : Entry). x ∷ map (closed_by busy) es) first ∙ ap (λ (xs : List Entry). e ∷ xs) (closed_none busy es (is_none _ two.1))
 
@@ -358,7 +357,7 @@ pub closed_at : (busy : List ℕ) (at : ℕ) (d : Entry) (es : List Entry) → n
 closed_at busy at d [] h lt = absurd (omega (arith, lt))
 closed_at busy zero d (e ∷ es) h lt = ap (λ (xs : List Entry). closed_by busy e ∷ xs) (sym (closed_none busy es h))
 closed_at busy (suc at) d (e ∷ es) h lt =
-    let first : closed_by busy e ≡ e = stays_open busy e (never_waits busy e (is_false _ (both _ _ h).0)) in
+    let first : closed_by busy e ≡ e = stays_open busy e (never_waits busy e (not_is _ (both _ _ h).0)) in
     ap (λ (x : Entry). x ∷ slice_set es at (closed_by busy (slice_index_or es at d))) (sym first)
     ∙ ap (λ (xs : List Entry). closed_by busy e ∷ xs) (closed_at busy at d es (both _ _ h).1 (omega (arith, lt)))
 
@@ -377,14 +376,14 @@ keep_by e es h = rw h refl
 pub swept_none : (es : List Entry) → not (list_any is_over es) ≡ true → filter (λ e. not (is_over e)) es ≡ es
 swept_none [] h = refl
 swept_none (e ∷ es) h =
-    let two : (is_over e ≡ false) × (list_any is_over es ≡ false) = neither _ _ (is_false _ h) in
+    let two : (is_over e ≡ false) × (list_any is_over es ≡ false) = neither _ _ (not_is _ h) in
     keep_by e es two.0 ∙ ap (λ (xs : List Entry). e ∷ xs) (swept_none es (is_none _ two.1))
 
 pub swept_at : (at : ℕ) (d : Entry) (es : List Entry) → none_but is_over at es ≡ true → at < length es → is_over (slice_index_or es at d) ≡ true → remove es at ≡ filter (λ e. not (is_over e)) es
 swept_at at d [] h lt over = absurd (omega (arith, lt))
 swept_at zero d (e ∷ es) h lt over = sym (rw over (swept_none es h))
 swept_at (suc at) d (e ∷ es) h lt over =
-    let first : is_over e ≡ false = is_false _ (both _ _ h).0 in
+    let first : is_over e ≡ false = not_is _ (both _ _ h).0 in
     ap (λ (xs : List Entry). e ∷ xs) (swept_at at d es (both _ _ h).1 (omega (arith, lt)) over) ∙ sym (keep_by e es first)
 
 -- ---- the one at a place goes
@@ -401,11 +400,11 @@ first_behind gone ends = sym (drop-drop 1 gone ends)
 
 -- ---- what is remembered, changed in part
 
-pub with_due : (gone : ℕ) (due other over bits : Few) (ends : List Entry) → AreHeld gone due over bits ends → is_where waits other (drop gone ends) ≡ true → AreHeld gone other over bits ends
-with_due gone due other over bits ends held h = record { within = held.within; closing = h; ending = held.ending; sending = held.sending }
+pub with_due : (gone : ℕ) (index : Option Index) (due other over bits : Few) (ends : List Entry) → AreHeld gone index due over bits ends → is_where waits other (drop gone ends) ≡ true → AreHeld gone index other over bits ends
+with_due gone index due other over bits ends held h = record { within = held.within; indexed = held.indexed; closing = h; ending = held.ending; sending = held.sending }
 
-pub with_over : (gone : ℕ) (due over other bits : Few) (ends : List Entry) → AreHeld gone due over bits ends → is_where is_over other (drop gone ends) ≡ true → AreHeld gone due other bits ends
-with_over gone due over other bits ends held h = record { within = held.within; closing = held.closing; ending = h; sending = held.sending }
+pub with_over : (gone : ℕ) (index : Option Index) (due over other bits : Few) (ends : List Entry) → AreHeld gone index due over bits ends → is_where is_over other (drop gone ends) ≡ true → AreHeld gone index due other bits ends
+with_over gone index due over other bits ends held h = record { within = held.within; indexed = held.indexed; closing = held.closing; ending = h; sending = held.sending }
 
 -- no end has the mark, since the one that might hasn't
 pub none_waiting : (mark : Entry → Bool) (gone at : ℕ) (e : Entry) (live ends : List Entry) → drop gone ends ≡ live → e ≡ slice_index_or ends (gone + at) e → none_but mark at live ≡ true → mark e ≡ false
@@ -422,30 +421,36 @@ closed_view busy gone at e y live ends view is h lt by =
     set_behind gone at y ends ∙ ap (λ (es : List Entry). slice_set es at y) view
     ∙ ap (λ (x : Entry). slice_set live at x) (by ∙ ap (closed_by busy) (sym read)) ∙ closed_at busy at e live h lt
 
-pub closed_held : (busy : List ℕ) (gone at : ℕ) (due over bits : Few) (e y : Entry) (live ends : List Entry) → AreHeld gone due over bits ends → drop gone ends ≡ live → e ≡ slice_index_or ends (gone + at) e
-    → none_but waits at live ≡ true → at < length live → y ≡ closed_by busy e → waits y ≡ false → AreHeld gone few.Nowhere over bits (slice_set ends (gone + at) y)
-closed_held busy gone at due over bits e y live ends held view is h lt by without =
+pub closed_held : (busy : List ℕ) (gone at : ℕ) (index : Option Index) (due over bits : Few) (e y : Entry) (live ends : List Entry) → AreHeld gone index due over bits ends → drop gone ends ≡ live → e ≡ slice_index_or ends (gone + at) e
+    → none_but waits at live ≡ true → at < length live → y ≡ closed_by busy e → waits y ≡ false → AreHeld gone index few.Nowhere over bits (slice_set ends (gone + at) y)
+closed_held busy gone at index due over bits e y live ends held view is h lt by without =
     let all : drop gone (slice_set ends (gone + at) y) ≡ map (closed_by busy) live = closed_view busy gone at e y live ends view is h lt by in
     record {
       within = within_set gone (gone + at) y ends held.within;
+      indexed = rw all (kept_mapped index (closed_by busy) live (λ e. refl) (rw (← view) held.indexed));
       closing = rw (set_behind gone at y ends, view) (none_set waits at y live h without);
       ending = rw all (map_kept is_over (closed_by busy) over live (over_kept busy) (rw (← view) held.ending));
       sending = rw all (map_kept has_bits (closed_by busy) bits live (λ e h. h) (rw (← view) held.sending));
     }
 
-pub each_held : (busy : List ℕ) (gone : ℕ) (due other over bits : Few) (live ends all : List Entry) → AreHeld gone due over bits ends → all ≡ map (closed_by busy) (drop gone ends)
-    → is_where waits other all ≡ true → AreHeld 0 other over bits all
-each_held busy gone due other over bits live ends all held is h = record {
+pub each_held : (busy : List ℕ) (gone : ℕ) (index : Option Index) (due other over bits : Few) (live ends all : List Entry) → AreHeld gone index due over bits ends → all ≡ map (closed_by busy) (drop gone ends)
+    → is_where waits other all ≡ true → AreHeld 0 index other over bits all
+each_held busy gone index due other over bits live ends all held is h = record {
   within = omega arith;
+  indexed = rw is (kept_mapped index (closed_by busy) (drop gone ends) (λ e. refl) held.indexed);
   closing = h;
   ending = rw is (map_kept is_over (closed_by busy) over (drop gone ends) (over_kept busy) held.ending);
   sending = rw is (map_kept has_bits (closed_by busy) bits (drop gone ends) (λ e h. h) held.sending);
 }
 
-pub removed_held : (gone : ℕ) (due over bits : Few) (all live : List Entry) → gone ≤ length all → drop gone all ≡ live
-    → is_where waits due live ≡ true → is_where is_over over live ≡ true → is_where has_bits bits live ≡ true → AreHeld gone due over bits all
-removed_held gone due over bits all live within is closing ending sending =
-    record { within = within; closing = rw is closing; ending = rw is ending; sending = rw is sending }
+pub removed_held : (gone : ℕ) (index : Option Index) (due over bits : Few) (all live : List Entry) → gone ≤ length all → drop gone all ≡ live → AreKept index live
+    → is_where waits due live ≡ true → is_where is_over over live ≡ true → is_where has_bits bits live ≡ true → AreHeld gone index due over bits all
+removed_held gone index due over bits all live within is indexed closing ending sending =
+    record { within = within; indexed = rw is indexed; closing = rw is closing; ending = rw is ending; sending = rw is sending }
+
+-- the end that is read at a place, among those after the ones that have gone
+pub read_behind : (gone at : ℕ) (e : Entry) (ends : List Entry) → e ≡ slice_index_or ends (gone + at) e → e ≡ slice_index_or (drop gone ends) at e
+read_behind gone at e ends is = is ∙ sym (index_behind gone at e ends)
 
 pub first_within : (gone at : ℕ) (live ends : List Entry) → drop gone ends ≡ live → at < length live → gone + 1 ≤ length ends
 first_within gone at live ends view lt =
@@ -477,7 +482,7 @@ none_over_left [] = refl
 none_over_left (e ∷ es) = over_left e es (none_over_left es) (is_over e) refl
 
 pub none_passes : (one mark : Entry → Bool) (es : List Entry) → Within one mark → not (list_any mark es) ≡ true → filter one es ≡ []
-none_passes one mark es within h = none_pass one mark es within (is_false _ h)
+none_passes one mark es within h = none_pass one mark es within (not_is _ h)
 
 -- ---- bits that wait on one end more
 
@@ -485,11 +490,11 @@ set_none_where : (mark : Entry → Bool) (at : ℕ) (e y : Entry) (es : List Ent
 set_none_where mark zero e y [] read keeps h = refl
 set_none_where mark (suc at) e y [] read keeps h = refl
 set_none_where mark zero e y (f ∷ es) read keeps h =
-    let two : (mark f ≡ false) × (list_any mark es ≡ false) = neither _ _ (is_false _ h) in
+    let two : (mark f ≡ false) × (list_any mark es ≡ false) = neither _ _ (not_is _ h) in
     let first : mark y ≡ false = keeps (ap mark (sym read) ∙ two.0) in
     rw first (is_none _ two.1)
 set_none_where mark (suc at) e y (f ∷ es) read keeps h =
-    let two : (mark f ≡ false) × (list_any mark es ≡ false) = neither _ _ (is_false _ h) in
+    let two : (mark f ≡ false) × (list_any mark es ≡ false) = neither _ _ (not_is _ h) in
     let first : mark f ≡ false = two.0 in
     rw first (set_none_where mark at e y es read keeps (is_none _ two.1))
 
@@ -499,10 +504,10 @@ set_but_where mark other (suc at) e y [] read keeps h = refl
 set_but_where mark zero zero e y (f ∷ es) read keeps h = h
 set_but_where mark zero (suc at) e y (f ∷ es) read keeps h = set_none_where mark at e y es read keeps h
 set_but_where mark (suc other) zero e y (f ∷ es) read keeps h =
-    let first : mark y ≡ false = keeps (ap mark (sym read) ∙ is_false _ (both _ _ h).0) in
+    let first : mark y ≡ false = keeps (ap mark (sym read) ∙ not_is _ (both _ _ h).0) in
     rw first ((both _ _ h).1)
 set_but_where mark (suc other) (suc at) e y (f ∷ es) read keeps h =
-    let first : mark f ≡ false = is_false _ (both _ _ h).0 in
+    let first : mark f ≡ false = not_is _ (both _ _ h).0 in
     rw first (set_but_where mark other at e y es read keeps (both _ _ h).1)
 
 set_where : (mark : Entry → Bool) (at : ℕ) (e y : Entry) (es : List Entry) → slice_index_or es at e ≡ e → (mark e ≡ false → mark y ≡ false) → (few : Few) → is_where mark few es ≡ true → is_where mark few (slice_set es at y) ≡ true
@@ -516,11 +521,18 @@ set_as gone at e y ends is mark keeps few h =
     let read : slice_index_or (drop gone ends) at e ≡ e = index_behind gone at e ends ∙ sym is in
     rw (set_behind gone at y ends) (set_where mark at e y (drop gone ends) read keeps few h)
 
+same_index : (gone at : ℕ) (index : Option Index) (e y : Entry) (ends : List Entry) → e ≡ slice_index_or ends (gone + at) e → end_key y ≡ end_key e → AreKept index (drop gone ends)
+    → AreKept index (drop gone (slice_set ends (gone + at) y))
+same_index gone at index e y ends is same h =
+    let read : slice_index_or (drop gone ends) at e ≡ e = index_behind gone at e ends ∙ sym is in
+    rw (set_behind gone at y ends) (kept_set index at e y (drop gone ends) read same h)
+
 -- a change of bits only
-pub bits_held : (gone at : ℕ) (due over bits other : Few) (e : Entry) (waiting : List Bool) (ends : List Entry) → AreHeld gone due over bits ends → e ≡ slice_index_or ends (gone + at) e
-    → is_where has_bits other (slice_set (drop gone ends) at (record e { bits = waiting })) ≡ true → AreHeld gone due over other (slice_set ends (gone + at) (record e { bits = waiting }))
-bits_held gone at due over bits other e waiting ends held is h = record {
+pub bits_held : (gone at : ℕ) (index : Option Index) (due over bits other : Few) (e : Entry) (waiting : List Bool) (ends : List Entry) → AreHeld gone index due over bits ends → e ≡ slice_index_or ends (gone + at) e
+    → is_where has_bits other (slice_set (drop gone ends) at (record e { bits = waiting })) ≡ true → AreHeld gone index due over other (slice_set ends (gone + at) (record e { bits = waiting }))
+bits_held gone at index due over bits other e waiting ends held is h = record {
   within = within_set gone (gone + at) (record e { bits = waiting }) ends held.within;
+  indexed = same_index gone at index e (record e { bits = waiting }) ends is refl held.indexed;
   closing = set_as gone at e (record e { bits = waiting }) ends is waits (λ h. h) due held.closing;
   ending = set_as gone at e (record e { bits = waiting }) ends is is_over (λ h. h) over held.ending;
   sending = one_held has_bits other gone at (record e { bits = waiting }) ends h;
@@ -537,7 +549,7 @@ closed_same busy (suc at) d [] h stays = refl
 closed_same busy zero d (e ∷ es) h stays =
     ap (λ (x : Entry). x ∷ map (closed_by busy) es) (stays_open busy e stays) ∙ ap (λ (xs : List Entry). e ∷ xs) (closed_none busy es h)
 closed_same busy (suc at) d (e ∷ es) h stays =
-    let first : closed_by busy e ≡ e = stays_open busy e (never_waits busy e (is_false _ (both _ _ h).0)) in
+    let first : closed_by busy e ≡ e = stays_open busy e (never_waits busy e (not_is _ (both _ _ h).0)) in
     ap (λ (x : Entry). x ∷ map (closed_by busy) es) first ∙ ap (λ (xs : List Entry). e ∷ xs) (closed_same busy at d es (both _ _ h).1 stays)
 
 pub stays_same : (busy : List ℕ) (gone at : ℕ) (e : Entry) (live ends : List Entry) → drop gone ends ≡ live → e ≡ slice_index_or ends (gone + at) e → none_but waits at live ≡ true → must_close busy e ≡ false
@@ -548,10 +560,11 @@ pub swept_place : (gone at : ℕ) (e : Entry) (live ends : List Entry) → drop 
     → remove live at ≡ filter (λ e. not (is_over e)) live
 swept_place gone at e live ends view is h lt over = swept_at at e live h lt (ap is_over (read_at gone at e live ends view is) ∙ over)
 
-pub swept_held : (gone : ℕ) (due over bits due' bits' : Few) (ends all : List Entry) → AreHeld gone due over bits ends → all ≡ filter (λ e. not (is_over e)) (drop gone ends)
-    → is_where waits due' (filter (λ e. not (is_over e)) (drop gone ends)) ≡ true → is_where has_bits bits' (filter (λ e. not (is_over e)) (drop gone ends)) ≡ true → AreHeld 0 due' few.Nowhere bits' all
-swept_held gone due over bits due' bits' ends all held is closing sending = record {
+pub swept_held : (gone : ℕ) (index : Option Index) (due over bits due' bits' : Few) (ends all : List Entry) → AreHeld gone index due over bits ends → all ≡ filter (λ e. not (is_over e)) (drop gone ends)
+    → is_where waits due' (filter (λ e. not (is_over e)) (drop gone ends)) ≡ true → is_where has_bits bits' (filter (λ e. not (is_over e)) (drop gone ends)) ≡ true → AreHeld 0 None due' few.Nowhere bits' all
+swept_held gone index due over bits due' bits' ends all held is closing sending = record {
   within = omega arith;
+  indexed = tt;
   closing = rw is closing;
   ending = rw is (none_over_left (drop gone ends));
   sending = rw is sending;
@@ -577,31 +590,33 @@ bits_kept (suc count) (b ∷ bits) h =
 sent_kept : (count : ℕ) → Keeps has_bits (bits_gone count)
 sent_kept count e h = bits_kept count e.bits h
 
-pub sent_held : (gone at count : ℕ) (due over bits : Few) (e : Entry) (ends : List Entry) → AreHeld gone due over bits ends → e ≡ slice_index_or ends (gone + at) e
-    → AreHeld gone due over bits (slice_set ends (gone + at) (bits_gone count e))
-sent_held gone at count due over bits e ends held is = record {
+pub sent_held : (gone at count : ℕ) (index : Option Index) (due over bits : Few) (e : Entry) (ends : List Entry) → AreHeld gone index due over bits ends → e ≡ slice_index_or ends (gone + at) e
+    → AreHeld gone index due over bits (slice_set ends (gone + at) (bits_gone count e))
+sent_held gone at count index due over bits e ends held is = record {
   within = within_set gone (gone + at) (bits_gone count e) ends held.within;
+  indexed = same_index gone at index e (bits_gone count e) ends is refl held.indexed;
   closing = set_as gone at e (bits_gone count e) ends is waits (λ h. h) due held.closing;
   ending = set_as gone at e (bits_gone count e) ends is is_over (λ h. h) over held.ending;
   sending = set_as gone at e (bits_gone count e) ends is has_bits (sent_kept count e) bits held.sending;
 }
 
-same_held : (gone at : ℕ) (due over bits : Few) (e : Entry) (ends : List Entry) → AreHeld gone due over bits ends → e ≡ slice_index_or ends (gone + at) e → AreHeld gone due over bits (slice_set ends (gone + at) e)
-same_held gone at due over bits e ends held is = record {
+same_held : (gone at : ℕ) (index : Option Index) (due over bits : Few) (e : Entry) (ends : List Entry) → AreHeld gone index due over bits ends → e ≡ slice_index_or ends (gone + at) e → AreHeld gone index due over bits (slice_set ends (gone + at) e)
+same_held gone at index due over bits e ends held is = record {
   within = within_set gone (gone + at) e ends held.within;
+  indexed = same_index gone at index e e ends is refl held.indexed;
   closing = set_as gone at e e ends is waits (λ h. h) due held.closing;
   ending = set_as gone at e e ends is is_over (λ h. h) over held.ending;
   sending = set_as gone at e e ends is has_bits (λ h. h) bits held.sending;
 }
 
 -- whether or not the bits could go
-pub sent_or_same : {T E : Type 0} (r : Result T E) (gone at count : ℕ) (due over bits : Few) (e y : Entry) (ends : List Entry) → OnOk r (y ≡ bits_gone count e) → OnErr r (y ≡ e)
-    → AreHeld gone due over bits ends → e ≡ slice_index_or ends (gone + at) e → AreHeld gone due over bits (slice_set ends (gone + at) y)
-sent_or_same (Ok x) gone at count due over bits e y ends sent same held is = rw sent (sent_held gone at count due over bits e ends held is)
-sent_or_same (Err x) gone at count due over bits e y ends sent same held is = rw same (same_held gone at due over bits e ends held is)
+pub sent_or_same : {T E : Type 0} (r : Result T E) (gone at count : ℕ) (index : Option Index) (due over bits : Few) (e y : Entry) (ends : List Entry) → OnOk r (y ≡ bits_gone count e) → OnErr r (y ≡ e)
+    → AreHeld gone index due over bits ends → e ≡ slice_index_or ends (gone + at) e → AreHeld gone index due over bits (slice_set ends (gone + at) y)
+sent_or_same (Ok x) gone at count index due over bits e y ends sent same held is = rw sent (sent_held gone at count index due over bits e ends held is)
+sent_or_same (Err x) gone at count index due over bits e y ends sent same held is = rw same (same_held gone at index due over bits e ends held is)
 
-pub with_bits : (gone : ℕ) (due over bits other : Few) (ends : List Entry) → AreHeld gone due over bits ends → is_where has_bits other (drop gone ends) ≡ true → AreHeld gone due over other ends
-with_bits gone due over bits other ends held h = record { within = held.within; closing = held.closing; ending = held.ending; sending = h }
+pub with_bits : (gone : ℕ) (index : Option Index) (due over bits other : Few) (ends : List Entry) → AreHeld gone index due over bits ends → is_where has_bits other (drop gone ends) ≡ true → AreHeld gone index due over other ends
+with_bits gone index due over bits other ends held h = record { within = held.within; indexed = held.indexed; closing = held.closing; ending = held.ending; sending = h }
 
 -- the view of an end that was changed at its place
 pub set_view : (gone at : ℕ) (e y : Entry) (change : Entry → Entry) (live ends : List Entry) (d : Entry) → drop gone ends ≡ live → at < length live → e ≡ slice_index_or ends (gone + at) e → y ≡ change e
@@ -609,3 +624,32 @@ pub set_view : (gone at : ℕ) (e y : Entry) (change : Entry → Entry) (live en
 set_view gone at e y change live ends d view lt is by =
     let read : slice_index_or live at d ≡ e = get_or_default live at d e lt ∙ read_at gone at e live ends view is in
     set_behind gone at y ends ∙ ap (λ (es : List Entry). slice_set es at y) view ∙ ap (λ (x : Entry). slice_set live at x) (by ∙ ap change (sym read))
+
+-- ---- the first end with a mark, where it is known where that may be
+
+none_from : (mark : Entry → Bool) (i : ℕ) (es : List Entry) → list_any mark es ≡ false → position_from mark i es ≡ None
+none_from mark i [] h = refl
+none_from mark i (e ∷ es) h =
+    let first : mark e ≡ false = (neither _ _ h).0 in
+    rw first (none_from mark (i + 1) es (neither _ _ h).1)
+
+only_from : (mark : Entry → Bool) (i at : ℕ) (d : Entry) (es : List Entry) → none_but mark at es ≡ true → at < length es → mark (slice_index_or es at d) ≡ true → position_from mark i es ≡ Some (i + at)
+only_from mark i at d [] h lt is = absurd (omega (arith, lt))
+only_from mark i zero d (e ∷ es) h lt is =
+    let same : i ≡ i + 0 = omega arith in
+    rw is (ap (λ (n : ℕ). Some n) same)
+only_from mark i (suc at) d (e ∷ es) h lt is =
+    let first : mark e ≡ false = not_is _ (both _ _ h).0 in
+    let same : i + 1 + at ≡ i + suc at = omega arith in
+    rw first (only_from mark (i + 1) at d es (both _ _ h).1 (omega (arith, lt)) is ∙ ap (λ (n : ℕ). Some n) same)
+
+pub none_placed : (mark : Entry → Bool) (es : List Entry) → not (list_any mark es) ≡ true → None ≡ position mark es
+none_placed mark es h = sym (position_from-zero mark es ∙ none_from mark 0 es (not_is _ h))
+
+pub only_placed : (mark : Entry → Bool) (at : ℕ) (d : Entry) (es : List Entry) → none_but mark at es ≡ true → at < length es → mark (slice_index_or es at d) ≡ true → Some at ≡ position mark es
+only_placed mark at d es h lt is =
+    let same : 0 + at ≡ at = omega arith in
+    sym (position_from-zero mark es ∙ only_from mark 0 at d es h lt is ∙ ap (λ (n : ℕ). Some n) same)
+
+pub none_there_placed : (mark : Entry → Bool) (at : ℕ) (d : Entry) (es : List Entry) → none_but mark at es ≡ true → mark (slice_index_or es at d) ≡ false → None ≡ position mark es
+none_there_placed mark at d es h without = none_placed mark es (none_there mark at d es h without)

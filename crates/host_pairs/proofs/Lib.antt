@@ -4,6 +4,7 @@ pub mod FoundLemmas
 pub mod GoingLemmas
 pub mod GoneLemmas
 pub mod HeldLemmas
+pub mod IndexLemmas
 pub mod LinkLemmas
 pub mod ListenerLemmas
 pub mod NoticeLemmas

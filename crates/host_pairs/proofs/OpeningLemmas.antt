@@ -1,5 +1,5 @@
 -- A pair in its initial state.
-use Rattle.std.proofs.Common.{◌≡◌, ℕ, Bool, true, false, ◌&&◌, ◌==◌, not, List, [], ◌∷◌, length, refl, ap, ◌∙◌, arith}
+use Rattle.std.proofs.Common.{◌≡◌, ℕ, Bool, true, false, ◌&&◌, ◌||◌, ◌==◌, not, List, [], ◌∷◌, length, refl, ap, ◌∙◌, arith}
 use Rattle.std.proofs.lemmas.Bool.{eqb-true}
 use Rattle.ncp_control.specs.declared.command.Command.{Command}
 use Rattle.host_pairs.specs.Pair.{PairState, opening_pair, is_opening}
@@ -28,6 +28,13 @@ closed_is phase.Ready e = absurd (cc)
 pub not_is : (b : Bool) → not b ≡ true → b ≡ false
 not_is true e = absurd (cc)
 not_is false e = refl
+
+pub is_none : (b : Bool) → b ≡ false → not b ≡ true
+is_none b h = rw h refl
+
+pub neither : (a b : Bool) → (a || b) ≡ false → (a ≡ false) × (b ≡ false)
+neither true b h = absurd (cc)
+neither false b h = (refl, h)
 
 abbrev pair_of : Phase → Bool → List ℕ → List Entry → List Command → PairState
 pair_of p o b e q = record { phase = p; owed = o; busy = b; entries = e; queue = q }

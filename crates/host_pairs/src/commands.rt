@@ -10,7 +10,7 @@ ghost use Rattle.std.specs.List.{list_any};
 
 use crate::Notice;
 use crate::desk::Desk;
-use crate::ends::{free_link, place};
+use crate::ends::free_link;
 use crate::entry::Entry;
 use crate::found::{Found, receiver_on, sender_on};
 use crate::listener::{listener_on, stop_listening};
@@ -55,7 +55,7 @@ impl Desk {
         ensures state { OnOk result (self.new ≡ desk_told (opening_notices peer (entry_at own foreign self.old.entries)) self.old) }
         ensures memory { OnErr result (said self.old < said (desk_told (opening_notices peer (entry_at own foreign self.old.entries)) self.old)) }
     {
-        let Some(at) = place(self.entries.as_slice(), own, foreign) else {
+        let Some(at) = self.entries.place(own, foreign) else {
             return Ok(());
         };
         let entry = &self.entries.as_slice()[at];
@@ -128,7 +128,7 @@ impl Desk {
         if has_sender_on(self.entries.as_slice(), link.number()) {
             return self.fault(alloc, ERRONEOUS, &command);
         }
-        match place(self.entries.as_slice(), own.number(), foreign.number()) {
+        match self.entries.place(own.number(), foreign.number()) {
             Some(sender) if self.entries.as_slice()[sender].partner.is_some() => {
                 self.fault(alloc, ERRONEOUS, &command)
             }
@@ -178,7 +178,7 @@ impl Desk {
         ensures state { OnOk result (self.new ≡ commands.str_taken peer own foreign size stamp self.old) }
         ensures memory { OnErr result (said self.old < said (commands.str_taken peer own foreign size stamp self.old)) }
     {
-        match place(self.entries.as_slice(), own.number(), foreign.number()) {
+        match self.entries.place(own.number(), foreign.number()) {
             Some(receiver) if self.entries.as_slice()[receiver].partner.is_some() => {
                 let command = Command::Str {
                     send: foreign,
@@ -255,7 +255,7 @@ impl Desk {
         ensures state { OnOk result (self.new ≡ commands.cls_taken peer busy.now own foreign self.old) }
         ensures memory { OnErr result (said self.old < said (commands.cls_taken peer busy.now own foreign self.old)) }
     {
-        let Some(at) = place(self.entries.as_slice(), own, foreign) else {
+        let Some(at) = self.entries.place(own, foreign) else {
             let command = Command::Cls {
                 own: foreign,
                 foreign: own,

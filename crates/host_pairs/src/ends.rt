@@ -30,9 +30,7 @@ pub(crate) fn place(entries: &[Entry], own: u32, foreign: u32) -> Option<usize>
 fn first_place(entries: &[Entry], own: u32, foreign: u32) -> Option<usize>
     ensures { result ≡ position (is_at own foreign) entries.now }
 {
-    entries
-        .iter()
-        .position(|e| e.own == own && e.foreign == foreign)
+    entries.iter().position(|e| e.is_at(own, foreign))
 }
 
 /// Returns the place of the end that sends on a link.

@@ -129,6 +129,13 @@ impl Entry {
         self.own % 2 == 0
     }
 
+    /// Returns whether it is the end of these two sockets.
+    pub(crate) fn is_at(&self, own: u32, foreign: u32) -> bool
+        ensures { result ≡ entries.is_at own foreign self.now }
+    {
+        self.own == own && self.foreign == foreign
+    }
+
     /// Returns whether it has this link.
     fn has_link(&self, link: u8) -> bool
         ensures { result ≡ entries.is_link link self.now.link }

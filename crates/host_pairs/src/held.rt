@@ -1,11 +1,14 @@
 //! The ends of a pair's connections, with what is remembered of them so that few are looked at.
 
-ghost use Rattle.std.specs.Prelude.{◌≡◌, ◌++◌, ◌∷◌, ◌<◌, [], ℕ, List, Bool, true, false, not, IfOk, OnOk, OnErr, length, drop, take, filter, map, slice_set};
+ghost use Rattle.std.specs.Prelude.{◌≡◌, ◌++◌, ◌∷◌, ◌<◌, [], ℕ, List, Bool, true, false, not, IfOk, OnOk, OnErr, length, drop, take, filter, map};
+ghost use Rattle.std.specs.Prelude.{MatchOption, None, Some, position, slice_set, slice_index_or};
+ghost use Rattle.std.specs.Bool.{OnTrue};
 ghost use Rattle.std.specs.List.{flat_map, list_any, remove};
 ghost use Rattle.host_pairs.specs.Asked.{with_more_bits};
 ghost use Rattle.host_pairs.specs.Commands.{asked_on_link, asked_with_size, granted, given_back, returned};
 ghost use Rattle.host_pairs.specs.Data.{spent};
-ghost use Rattle.host_pairs.specs.Entries.{called_off, changed_at, changed_first, closed_by_partner, closed_when, cls_of, ending, is_due, is_mine_on, is_over, must_close, receives_on, sends_on};
+ghost use Rattle.host_pairs.specs.Entries.{called_off, changed_at, changed_first, closed_by_partner, closed_when, cls_of, ending};
+ghost use Rattle.host_pairs.specs.Entries.{entry_at, is_at, is_due, is_mine_on, is_over, must_close, receives_on, sends_on};
 ghost use Rattle.host_pairs.specs.Inside.Held.{AreHeld, has_bits, is_where, none_but, waits};
 ghost use Rattle.host_pairs.specs.Outgoing.{end_at};
 ghost use Rattle.host_pairs.specs.Parcels as parcels;
@@ -18,6 +21,7 @@ use crate::ends::{
     sweep, tell_endings,
 };
 use crate::entry::{Closing, Entry};
+use crate::index::{Index, add_to, find_in, learn, remove_from};
 use crate::outgoing::lowest_link;
 use crate::queue::Queue;
 use bit_messages::Bits;
@@ -101,12 +105,14 @@ impl Few {
 /// The ends of a pair's connections, the oldest first.
 ///
 /// Those that have gone are before the others until they are more than half, and go all at once then. Beside them it
-/// is remembered where an end waits to close, where one is over, and where bits wait to be sent. So the first end goes
-/// at once, and one that closes is found at once, however many there are.
+/// is remembered where an end waits to close, where one is over, and where bits wait to be sent, and many ends have an
+/// index by their sockets. So the first end goes at once, and one that closes is found at once, however many there are.
 #[derive(Drop)]
 pub struct Ends {
     ends: Vec<Entry>,
     gone: usize,
+    alloc: Global,
+    index: Option<Index>,
     due: Few,
     over: Few,
     bits: Few,
@@ -121,7 +127,7 @@ impl Model for Ends {
 
     ghost view = { λ a. drop a.gone a.ends.items };
 
-    ghost invariant = { λ a. AreHeld a.gone a.due a.over a.bits a.ends.items };
+    ghost invariant = { λ a. AreHeld a.gone a.index a.due a.over a.bits a.ends.items };
 }
 
 impl Ends {
@@ -132,6 +138,8 @@ impl Ends {
         Ends {
             ends: Vec::new(alloc),
             gone: 0,
+            alloc,
+            index: None,
             due: Few::Nowhere,
             over: Few::Nowhere,
             bits: Few::Nowhere,
@@ -150,6 +158,7 @@ impl Ends {
         ensures { OnOk result (self.new ≡ self.old ++ end ∷ []) }
     {
         let at = self.ends.len() - self.gone;
+        let (own, foreign) = (end.own, end.foreign);
         let (due, over, bits) = (
             end.closing == Closing::Due,
             end.is_over(),
@@ -159,7 +168,76 @@ impl Ends {
         self.due = self.due.joined(at, due);
         self.over = self.over.joined(at, over);
         self.bits = self.bits.joined(at, bits);
+        add_to(&mut self.index, own, foreign);
+        self.learn();
         Ok(())
+    }
+
+    /// Makes an index of the ends where they have become many.
+    fn learn(&mut self)
+        ensures { self.new ≡ self.old }
+    {
+        learn(&mut self.index, self.alloc, &self.ends[self.gone..]);
+    }
+}
+
+// ---- found
+
+/// Returns whether the first of these ends is that of two sockets. Requests are answered in their order, so often it is.
+fn is_first(ends: &[Entry], own: u32, foreign: u32) -> bool
+    ensures { OnTrue result (position (is_at own foreign) ends.now ≡ Some 0) }
+{
+    if ends.is_empty() {
+        return false;
+    }
+    let end = &ends[0];
+    end.is_at(own, foreign)
+}
+
+/// Returns the place of the end of two sockets, which is looked for where it may be.
+fn first_among(ends: &[Entry], few: Few, own: u32, foreign: u32) -> Option<usize>
+    requires { is_where (is_at own foreign) few ends.now ≡ true }
+    ensures { result ≡ position (is_at own foreign) ends.now }
+{
+    match few {
+        Few::Nowhere => None,
+        Few::At(at) if at < ends.len() => place_there(ends, at, own, foreign),
+        _ => place(ends, own, foreign),
+    }
+}
+
+/// Returns a place, if the end there is at two sockets. No other end is.
+fn place_there(ends: &[Entry], at: usize, own: u32, foreign: u32) -> Option<usize>
+    requires there { at < length ends.now }
+    requires only { none_but (is_at own foreign) at ends.now ≡ true }
+    ensures { result ≡ position (is_at own foreign) ends.now }
+{
+    let end = &ends[at];
+    if end.is_at(own, foreign) {
+        Some(at)
+    } else {
+        None
+    }
+}
+
+impl Ends {
+    /// Returns the place of the end of two sockets.
+    pub(crate) fn place(&self, own: u32, foreign: u32) -> Option<usize>
+        ensures place { result ≡ position (is_at own foreign) self.now }
+        ensures found { MatchOption result (entry_at own foreign self.now ≡ None) (λ at. (d : Entry) → entry_at own foreign self.now ≡ Some (slice_index_or self.now at d)) }
+    {
+        self.first_place(own, foreign)
+    }
+
+    /// Returns the same place, without what is found there.
+    fn first_place(&self, own: u32, foreign: u32) -> Option<usize>
+        ensures { result ≡ position (is_at own foreign) self.now }
+    {
+        let ends = self.as_slice();
+        if is_first(ends, own, foreign) {
+            return Some(0);
+        }
+        first_among(ends, find_in(&self.index, own, foreign), own, foreign)
     }
 }
 
@@ -170,7 +248,7 @@ impl Ends {
     pub(crate) fn ask_on_link(&mut self, own: u32, foreign: u32, stamp: usize, link: ConnectionLink)
         ensures { self.new ≡ changed_at own foreign (asked_on_link stamp link) self.old }
     {
-        if let Some(at) = place(self.as_slice(), own, foreign) {
+        if let Some(at) = self.place(own, foreign) {
             let end = &mut self.ends[self.gone + at];
             end.partner = Some(stamp);
             end.link = Some(link);
@@ -181,7 +259,7 @@ impl Ends {
     pub(crate) fn ask_with_size(&mut self, own: u32, foreign: u32, stamp: usize, size: ByteSize)
         ensures { self.new ≡ changed_at own foreign (asked_with_size stamp size) self.old }
     {
-        if let Some(at) = place(self.as_slice(), own, foreign) {
+        if let Some(at) = self.place(own, foreign) {
             let end = &mut self.ends[self.gone + at];
             end.partner = Some(stamp);
             end.size = Some(size);
@@ -192,7 +270,7 @@ impl Ends {
     pub(crate) fn ask(&mut self, own: u32, foreign: u32, stamp: usize)
         ensures { self.new ≡ changed_at own foreign (asked_at stamp) self.old }
     {
-        if let Some(at) = place(self.as_slice(), own, foreign) {
+        if let Some(at) = self.place(own, foreign) {
             let end = &mut self.ends[self.gone + at];
             end.asked = Some(stamp);
         }
@@ -202,7 +280,7 @@ impl Ends {
     pub(crate) fn send_cls(&mut self, own: u32, foreign: u32)
         ensures { self.new ≡ changed_at own foreign cls_sent self.old }
     {
-        if let Some(at) = place(self.as_slice(), own, foreign) {
+        if let Some(at) = self.place(own, foreign) {
             let over = self.over.noted(at);
             self.over = over;
             let end = &mut self.ends[self.gone + at];
@@ -214,7 +292,7 @@ impl Ends {
     pub(crate) fn close_by_partner(&mut self, alloc: Global, own: u32, foreign: u32)
         ensures { self.new ≡ changed_at own foreign closed_by_partner self.old }
     {
-        if let Some(at) = place(self.as_slice(), own, foreign) {
+        if let Some(at) = self.place(own, foreign) {
             let due = self.due.noted(at);
             let over = self.over.noted(at);
             self.due = due;
@@ -435,6 +513,7 @@ impl Ends {
         self.ends.drain(..self.gone);
         self.gone = 0;
         sweep(&mut self.ends);
+        self.index = None;
         let (due, bits) = (self.due.left(), self.bits.left());
         self.due = due;
         self.over = Few::Nowhere;
@@ -448,6 +527,9 @@ impl Ends {
     {
         let (due, over) = (self.due.without(at), self.over.without(at));
         let bits = self.bits.without(at);
+        let end = &self.ends[self.gone + at];
+        let (own, foreign) = (end.own, end.foreign);
+        remove_from(&mut self.index, at, own, foreign);
         self.due = due;
         self.over = over;
         self.bits = bits;

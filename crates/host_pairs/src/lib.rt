@@ -20,6 +20,7 @@ mod entry;
 mod found;
 mod gone;
 mod held;
+mod index;
 mod listener;
 mod notice;
 mod outgoing;

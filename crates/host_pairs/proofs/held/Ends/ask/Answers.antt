@@ -1,4 +1,4 @@
-use Rattle.std.proofs.Common.{rules, sym}
+use Rattle.std.proofs.Common.{rules, refl, sym}
 use Rattle.host_pairs.specs.Entries.{is_at}
 use Rattle.host_pairs.specs.Parcels.{asked_at}
 use Rattle.host_pairs.proofs.EntryLemmas.{none_changed}
@@ -6,8 +6,8 @@ use Rattle.host_pairs.proofs.HeldLemmas.{all_held, changed_behind}
 use Rattle.host_pairs.proofs.held.Ends.ask.Goals as goal
 
 pub invariant_of-self : goal.invariant_of-self
-invariant_of-self c = all_held (is_at c.args.own c.args.foreign) (asked_at c.args.stamp) c.self.inside.gone c.in-Some.at _ _ _ c.index_mut-end.result.now _ _ _
-    (record { closing = λ e h. h; ending = λ e h. h; sending = λ e h. h }) c.self.view_is (search rules) (search rules) c.self.invariant
+invariant_of-self c = all_held (is_at c.args.own c.args.foreign) (asked_at c.args.stamp) c.self.inside.gone c.in-Some.at _ _ _ _ c.index_mut-end.result.now _ _ _
+    (record { sockets = λ e. refl; closing = λ e h. h; ending = λ e h. h; sending = λ e h. h }) c.self.view_is (search rules) (search rules) c.self.invariant
 
 pub returns-in-Some : goal.returns-in-Some
 returns-in-Some c = changed_behind (is_at c.args.own c.args.foreign) (asked_at c.args.stamp) c.self.inside.gone c.in-Some.at c.index_mut-end.result.now _ _ _ c.self.view_is (search rules) (search rules)

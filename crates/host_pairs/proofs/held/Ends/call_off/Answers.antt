@@ -1,13 +1,14 @@
-use Rattle.std.proofs.Common.{rules, sym, ◌+◌}
+use Rattle.std.proofs.Common.{rules, refl, sym, ◌+◌}
 use Rattle.host_pairs.specs.Entries.{is_mine_on, is_over, called_off}
 use Rattle.host_pairs.specs.Inside.Held.{waits, has_bits}
 use Rattle.host_pairs.proofs.EntryLemmas.{none_changed}
-use Rattle.host_pairs.proofs.HeldLemmas.{called_off_kept, changed_behind, kept_held, one_held, within_set}
+use Rattle.host_pairs.proofs.HeldLemmas.{called_off_kept, changed_behind, index_held, kept_held, one_held, within_set}
 use Rattle.host_pairs.proofs.held.Ends.call_off.Goals as goal
 
 pub invariant_of-self : goal.invariant_of-self
 invariant_of-self c = record {
   within = within_set c.self.inside.gone (c.self.inside.gone + c.in-Some.at) _ c.self.inside.ends.items c.self.invariant.within;
+  indexed = index_held _ (is_mine_on c.args.socket) (called_off) c.self.inside.gone c.in-Some.at c.index_mut-end.result.now _ _ _ c.self.view_is (search rules) (search rules) (λ e. refl) c.self.invariant.indexed;
   closing = one_held waits _ c.self.inside.gone c.in-Some.at _ c.self.inside.ends.items (c.noted-due.ensures waits _ _ c.self.invariant.closing);
   ending = kept_held is_over _ (is_mine_on c.args.socket) (called_off) c.self.inside.gone c.in-Some.at c.index_mut-end.result.now _ _ _ c.self.view_is (search rules) (search rules) called_off_kept c.self.invariant.ending;
   sending = kept_held has_bits _ (is_mine_on c.args.socket) (called_off) c.self.inside.gone c.in-Some.at c.index_mut-end.result.now _ _ _ c.self.view_is (search rules) (search rules) (λ e h. h) c.self.invariant.sending;

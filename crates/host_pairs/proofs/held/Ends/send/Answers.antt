@@ -6,7 +6,7 @@ use Rattle.host_pairs.proofs.HeldLemmas.{sent_or_same, set_view}
 use Rattle.host_pairs.proofs.held.Ends.send.Goals as goal
 
 pub invariant_of-self : goal.invariant_of-self
-invariant_of-self c = sent_or_same c.send.result c.self.inside.gone c.args.at c.args.bits _ _ _ c.index_mut-end.result.now c.send.new.self c.self.inside.ends.items c.send.ensures.gone c.send.ensures.kept c.self.invariant (search rules)
+invariant_of-self c = sent_or_same c.send.result c.self.inside.gone c.args.at c.args.bits _ _ _ _ c.index_mut-end.result.now c.send.new.self c.self.inside.ends.items c.send.ensures.gone c.send.ensures.kept c.self.invariant (search rules)
 
 pub returns-clause-gone : goal.returns-clause-gone
 returns-clause-gone c =

@@ -3,12 +3,13 @@ use Rattle.host_pairs.specs.Entries.{is_at, is_over}
 use Rattle.host_pairs.specs.Parcels.{cls_sent}
 use Rattle.host_pairs.specs.Inside.Held.{waits, has_bits}
 use Rattle.host_pairs.proofs.EntryLemmas.{none_changed}
-use Rattle.host_pairs.proofs.HeldLemmas.{changed_behind, kept_held, one_held, within_set}
+use Rattle.host_pairs.proofs.HeldLemmas.{changed_behind, index_held, kept_held, one_held, within_set}
 use Rattle.host_pairs.proofs.held.Ends.send_cls.Goals as goal
 
 pub invariant_of-self : goal.invariant_of-self
 invariant_of-self c = record {
   within = within_set c.self.inside.gone (c.self.inside.gone + c.in-Some.at) _ c.self.inside.ends.items c.self.invariant.within;
+  indexed = index_held _ (is_at c.args.own c.args.foreign) (cls_sent) c.self.inside.gone c.in-Some.at c.index_mut-end.result.now _ _ _ c.self.view_is (search rules) (search rules) (λ e. refl) c.self.invariant.indexed;
   closing = kept_held waits _ (is_at c.args.own c.args.foreign) (cls_sent) c.self.inside.gone c.in-Some.at c.index_mut-end.result.now _ _ _ c.self.view_is (search rules) (search rules) (λ e h. refl) c.self.invariant.closing;
   ending = one_held is_over _ c.self.inside.gone c.in-Some.at _ c.self.inside.ends.items (c.noted-over.ensures is_over _ _ c.self.invariant.ending);
   sending = kept_held has_bits _ (is_at c.args.own c.args.foreign) (cls_sent) c.self.inside.gone c.in-Some.at c.index_mut-end.result.now _ _ _ c.self.view_is (search rules) (search rules) (λ e h. h) c.self.invariant.sending;
