@@ -3,5 +3,14 @@ pub mod Mailboxes
 pub mod Named
 pub mod Matched
 pub mod Made
+pub mod Elements
+pub mod Placed
+pub mod Asked
+pub mod Known
+pub mod Walks
+pub mod Fed
+pub mod Peace
+pub mod Steps
+pub mod Taken
 pub mod Worked
 pub mod lemmas

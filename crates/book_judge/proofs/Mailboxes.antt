@@ -132,7 +132,7 @@ alike f g = both_ways (eq_by_cmp flow_cmp f g) (same_flow f g)
     (λ e. let P : Flow → Type 0 = λ x. same_flow f x ≡ true in subst P (exact_flows f g (is_equal (flow_cmp f g) e)) (same_flow-refl f))
     (λ e. let P : Flow → Type 0 = λ x. eq_by_cmp flow_cmp f x ≡ true in subst P (same_flow-true f g e) ((eq_by_cmp_equiv flows_total).refl f))
 
-get_set : {V : Type 0} (m : fin.FinMap flow_cmp V) (k : Flow) (v : V) (f : Flow) → fin.get (fin.insert m k v) f ≡ (if same_flow f k then Some v else fin.get m f)
+pub get_set : {V : Type 0} (m : fin.FinMap flow_cmp V) (k : Flow) (v : V) (f : Flow) → fin.get (fin.insert m k v) f ≡ (if same_flow f k then Some v else fin.get m f)
 get_set {V} m k v f = get-insert flows_total m k v f ∙ by (eq_by_cmp flow_cmp f k) (same_flow f k) (alike f k) where
   by : (a b : Bool) → a ≡ b → cond a (Some v) (fin.get m f) ≡ (if b then Some v else fin.get m f)
   by true true e = refl

@@ -235,7 +235,7 @@ pass_stops text bits i to end o p r whole lt le x y e t h =
 -- ---- the messages of a life, one after another
 
 -- what is left of the crossings, one after another
-here_of : (comes : Bool) (f : Flow) (log : List Crossing) (place : ℕ) (c : Crossing) → place < length log
+pub here_of : (comes : Bool) (f : Flow) (log : List Crossing) (place : ℕ) (c : Crossing) → place < length log
     → c ≡ get_or log place c
     → texts_on comes f (drop place log) ≡ text_of comes f c ++ texts_on comes f (drop (place + 1) log)
 here_of comes f log place c lt at =
@@ -355,12 +355,10 @@ pub all_found : (comes : Bool) (texts : List (List Bool)) (more at : ℕ) (bits 
 all_found comes texts zero at bits whole e le h = sym (nil_at bits at le) ∙ h
 all_found comes texts (suc more) at bits whole e le h = absurd (omega (arith, e))
 
-pub none_left : (comes : Bool) (f : Flow) (log : List Crossing) (place more at : ℕ) (bits : List Bool) (whole : Bool)
-    → length log ≤ place → at ≤ length bits
+pub none_texts : (comes : Bool) (f : Flow) (log : List Crossing) (place more at : ℕ) (bits : List Bool) (whole : Bool)
+    → texts_on comes f (drop place log) ≡ [] → at ≤ length bits
     → are_data comes more (texts_on comes f (drop place log)) (drop at bits) ≡ whole
     → (more == 0 && at == length bits) ≡ whole
-none_left comes f log place more at bits whole past le h =
-    let none : texts_on comes f (drop place log) ≡ [] =
-    ap (λ (zs : List Crossing). texts_on comes f zs) (drop_all place log past) in
+none_texts comes f log place more at bits whole none le h =
     ap (λ (b : Bool). more == 0 && b) (sym (nil_at bits at le)) ∙ sym (no_more comes more (drop at bits))
     ∙ ap (λ (zs : List (List Bool)). are_data comes more zs (drop at bits)) (sym none) ∙ h

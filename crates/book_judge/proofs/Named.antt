@@ -5,7 +5,7 @@ use Rattle.std.proofs.lemmas.Bool.{eqb-true}
 use Rattle.std.proofs.lemmas.List.{drop_all, length-drop, length-reverse, reverse-append, reverse-reverse}
 use Rattle.std.proofs.lemmas.List.Elements.{Contains-append_cases, Contains-append_left, Contains-append_right}
 use Rattle.bit_messages.specs.Octets.{octets_of}
-use Rattle.host_pairs.specs.Control.{Order, Legal, Wrong, orders_in, orders_of, orders_within}
+use Rattle.host_pairs.specs.Control.{Order, Legal, Wrong, orders_of, orders_within}
 use Rattle.host_pairs.proofs.lemmas.{header_covers}
 use Rattle.interface.specs.Flow.{same_flow}
 use Rattle.interface.specs.declared.address.Flow.{Flow}
@@ -205,17 +205,17 @@ all_named own foreign found (o ∷ octets) whole is e = absurd (omega (arith, e)
 
 -- ---- what crossed at a place
 
-get_seam : {X : Type 0} (xs : List X) (y : X) → slice_get (xs ++ y ∷ []) (length xs) ≡ Some y
+pub get_seam : {X : Type 0} (xs : List X) (y : X) → slice_get (xs ++ y ∷ []) (length xs) ≡ Some y
 get_seam [] y = refl
 get_seam (x ∷ xs) y = get_seam xs y
 
-get_front : {X : Type 0} (xs : List X) (y z : X) (place : ℕ) → slice_get xs place ≡ Some z
+pub get_front : {X : Type 0} (xs : List X) (y z : X) (place : ℕ) → slice_get xs place ≡ Some z
     → slice_get (xs ++ y ∷ []) place ≡ Some z
 get_front [] y z place e = absurd (cc)
 get_front (x ∷ xs) y z zero e = e
 get_front (x ∷ xs) y z (suc place) e = get_front xs y z place e
 
-get_cases : {X : Type 0} (xs : List X) (y z : X) (place : ℕ) → slice_get (xs ++ y ∷ []) place ≡ Some z
+pub get_cases : {X : Type 0} (xs : List X) (y z : X) (place : ℕ) → slice_get (xs ++ y ∷ []) place ≡ Some z
     → ((z ≡ y) × (place ≡ length xs)) ⊎ (slice_get xs place ≡ Some z)
 get_cases [] y z zero e = inl ((let s : y ≡ z = cc in sym s), refl)
 get_cases [] y z (suc place) e = absurd (cc)

@@ -1,5 +1,11 @@
 -- What the contracts of private functions say. No public clause cites this file.
 pub mod Made
+pub mod Asked
+pub mod Partners
+pub mod Chains
+pub mod Crossed
+pub mod Said
+pub mod Taken
 use Rattle.std.specs.Prelude.{ℕ, Bool, true, false, not, ◌&&◌, nat_le, if◌then◌else◌, List, [], ◌∷◌, slice_get, Option, Some, None}
 use Rattle.std.specs.FinMap as map
 use Rattle.interface.specs.Flow.{flow_cmp}

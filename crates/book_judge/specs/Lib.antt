@@ -1,3 +1,4 @@
 pub mod Runs
 pub mod Lives
+pub mod Broken
 pub mod Inside

@@ -4,9 +4,12 @@ ghost use Rattle.std.specs.Prelude.{◌≡◌, ◌==◌, ◌&&◌, ◌≤◌, If
 ghost use Rattle.promise.specs.Formed as formed;
 ghost use Rattle.promise.specs.Safe as safe;
 ghost use Rattle.world_keeps_lives.specs.Firsts.{data_in, text_of};
+ghost use Rattle.book_judge.specs.Inside.Crossed.{ArePlaced};
 ghost use Rattle.book_judge.specs.Inside.Made as tests;
 ghost use Rattle.book_judge.specs.Inside.Made.{Hears};
 
+use crate::crossed::next_on;
+use crate::places::Places;
 use bit_messages::Bits;
 use interface::{Crossing, Flow, Link, Text};
 use ncp_control::{DataHeader, HEADER_BITS};
@@ -43,7 +46,7 @@ fn end_of(comes: bool, text: &Bits) -> Option<usize>
 }
 
 /// Returns whether there are two bits, and they are the same.
-fn same_found(bit: Option<bool>, other: Option<bool>) -> bool
+pub(crate) fn same_found(bit: Option<bool>, other: Option<bool>) -> bool
     ensures { result ≡ tests.same_found bit other }
 {
     match (bit, other) {
@@ -133,8 +136,9 @@ fn since(log: &[Crossing], life: &Life) -> usize
 }
 
 /// Returns whether the messages of a life are the first on a link after both of its requests, as many as it counts, with its
-/// bits.
-pub(crate) fn is_first_on(log: &[Crossing], life: &Life, link: u8) -> bool
+/// bits. The map has where each message crossed.
+pub(crate) fn is_first_on(log: &[Crossing], places: &Places, life: &Life, link: u8) -> bool
+    requires { ArePlaced (length log.now) places.now log.now }
     ensures { result ≡ tests.is_first_on log.now life.now link }
 {
     let comes = receives(life);
@@ -142,15 +146,18 @@ pub(crate) fn is_first_on(log: &[Crossing], life: &Life, link: u8) -> bool
     let mut more = life.messages;
     let mut at = 0;
     let mut place = since(log, life);
-    'crossings: while more > 0 && place < log.len() {
-        if let Some(found) = next_data(comes, &flow, &log[place], &life.bits, at) {
+    'crossings: while more > 0 {
+        let Some(next) = next_on(places, log, comes, &flow, place) else {
+            return is_all(more, at, &life.bits);
+        };
+        if let Some(found) = next_data(comes, &flow, &log[next], &life.bits, at) {
             let Some(to) = found else {
                 return false;
             };
             at = to;
             more -= 1;
         }
-        place += 1;
+        place = next + 1;
     }
     is_all(more, at, &life.bits)
 }

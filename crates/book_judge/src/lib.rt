@@ -1,19 +1,34 @@
-//! What only the crossings of a log can say of a book, whoever wrote it.
+//! What a log says of a book, whoever wrote it.
 //!
 //! A caller may rely on this: what crossed is a run of the mailboxes between some hosts (BBN Report 1822) exactly where
-//! [`stray_at`] finds nothing, and else what it finds is the first crossing with which it is none.
+//! [`stray_at`] finds nothing, and else what it finds is the first crossing with which it is none. The lives are made of what
+//! crossed exactly where [`unmade_at`] finds nothing, messages are kept exactly where [`broken_message`] does, and of
+//! [`broken_at`] each part holds that isn't named.
 //!
 //! Nothing here reads lines: a log is a list of crossings, the oldest first.
 #![tactic(auto)]
 
+mod broken;
+mod chains;
+mod crossed;
 mod data;
 mod flow_map;
+mod grants;
 pub mod law;
 mod lives;
 mod mail;
+mod matches;
+mod messages;
+mod names;
+mod partners;
+mod places;
 mod requests;
 mod runs;
+mod stamps;
+mod streams;
 mod texts;
 
+pub use broken::{Broken, broken_at};
 pub use lives::unmade_at;
+pub use messages::broken_message;
 pub use runs::stray_at;

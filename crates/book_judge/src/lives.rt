@@ -1,19 +1,22 @@
 //! Whether lives are made of the messages that crossed.
 
-ghost use Rattle.std.specs.Prelude.{◌≡◌, IfOk, MatchOption, reverse};
+ghost use Rattle.std.specs.Prelude.{◌≡◌, IfOk, MatchOption, length, reverse};
 ghost use Rattle.std.specs.List.{list_any};
 ghost use Rattle.promise.specs.Safe as safe;
+ghost use Rattle.book_judge.specs.Inside.Crossed.{ArePlaced};
 ghost use Rattle.book_judge.specs.Inside.Made as tests;
 ghost use Rattle.book_judge.specs.Lives.{AreMade, UnmadeAt};
 
+use crate::crossed::placed;
 use crate::data::{is_first_on, receives, text_of};
+use crate::places::Places;
 use crate::requests::names_in;
 use interface::{Crossing, Flow, HostAddr, Link};
 use net_sim::Life;
 use std::alloc::{AllocError, Global};
 
 /// Returns the flow of requests from one host to another.
-fn control_flow(source: HostAddr, destination: HostAddr) -> Flow
+pub(crate) fn control_flow(source: HostAddr, destination: HostAddr) -> Flow
     ensures { result ≡ safe.control_flow source destination }
 {
     Flow {
@@ -47,11 +50,12 @@ fn names_at(
 }
 
 /// Returns whether the messages of a life are the first on one of these links.
-fn is_first_on_any(log: &[Crossing], life: &Life, links: &[u8]) -> bool
+fn is_first_on_any(log: &[Crossing], places: &Places, life: &Life, links: &[u8]) -> bool
+    requires { ArePlaced (length log.now) places.now log.now }
     ensures { result ≡ list_any (tests.is_first_on log.now life.now) links.now }
 {
     for link in links {
-        if is_first_on(log, life, *link) {
+        if is_first_on(log, places, life, *link) {
             return true;
         }
     }
@@ -61,7 +65,13 @@ fn is_first_on_any(log: &[Crossing], life: &Life, links: &[u8]) -> bool
 /// Returns whether a life is made of the messages that crossed.
 ///
 /// Errors: `AllocError`.
-fn is_made(alloc: Global, log: &[Crossing], life: &Life) -> Result<bool, AllocError>
+fn is_made(
+    alloc: Global,
+    log: &[Crossing],
+    places: &Places,
+    life: &Life,
+) -> Result<bool, AllocError>
+    requires { ArePlaced (length log.now) places.now log.now }
     ensures { IfOk result (λ made. made ≡ tests.is_made log.now life.now) }
 {
     let goes = control_flow(life.host, life.peer);
@@ -85,9 +95,9 @@ fn is_made(alloc: Global, log: &[Crossing], life: &Life) -> Result<bool, AllocEr
         life.partner_stamp,
     )?;
     if receives(life) {
-        return Ok(!partner.is_empty() && is_first_on_any(log, life, &own));
+        return Ok(!partner.is_empty() && is_first_on_any(log, places, life, &own));
     }
-    Ok(!own.is_empty() && is_first_on_any(log, life, &partner))
+    Ok(!own.is_empty() && is_first_on_any(log, places, life, &partner))
 }
 
 /// Returns the place of the first life that isn't made of the messages that crossed, counted from 0; `None` where all are. The
@@ -104,8 +114,9 @@ pub fn unmade_at(
 ) -> Result<Option<usize>, AllocError>
     ensures { IfOk result (λ found. MatchOption found (AreMade (reverse log.now) lives.now) (λ place. UnmadeAt (reverse log.now) lives.now place)) }
 {
+    let places = placed(alloc, log)?;
     for (place, life) in lives.iter().enumerate() {
-        if !is_made(alloc, log, life)? {
+        if !is_made(alloc, log, &places, life)? {
             return Ok(Some(place));
         }
     }

@@ -79,7 +79,7 @@ fn taken(held: Held) -> Held
 }
 
 /// Returns whether a message with this text waits.
-fn waits_with(held: Held, log: &[Crossing], text: &Text) -> bool
+pub(crate) fn waits_with(held: Held, log: &[Crossing], text: &Text) -> bool
     ensures { result ≡ tests.waits_with held log.now text.now }
 {
     let Held::Waiting(place) = held else {

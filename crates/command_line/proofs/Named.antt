@@ -4,6 +4,7 @@ use Rattle.std.specs.List.{Contains}
 use Rattle.std.specs.Prelude.{◌↔◌}
 use Rattle.std.proofs.lemmas.List.{append_assoc, take-append-drop}
 use Rattle.std.proofs.lemmas.List.Elements.{Contains-append_left}
+use Rattle.book_judge.specs.Broken.{IfFormed}
 use Rattle.book_judge.specs.Lives.{AreMade, UnmadeAt}
 use Rattle.book_judge.specs.Runs.{IsSomeRun, StraysAt}
 use Rattle.book_judge.proofs.lemmas.{made_front, run_front}
@@ -19,7 +20,7 @@ use Rattle.net_sim.specs.declared.auditing.findings.Finding.TheVariants as findi
 use Rattle.net_sim.specs.declared.auditing.said.Audit.TheVariants as audit
 use Rattle.promise.specs.Safe.{AreHanded, AreTwo, Name, SafeGrants, SafePartners, SafeStreams, own_request}
 use Rattle.promise.specs.declared.life.Life.{Life}
-use Rattle.command_line.specs.Audits.{IfFormed, Judged, kept}
+use Rattle.command_line.specs.Audits.{Judged, kept}
 use Rattle.command_line.specs.declared.verdict.Verdict.{Verdict}
 
 contains_front : {X : Type 0} (n : ℕ) (xs : List X) (x : X) → Contains (take n xs) x → Contains xs x

@@ -3,6 +3,7 @@ use Rattle.std.specs.Prelude.{◌≡◌, ℕ, ◌+◌, ◌&&◌, Bool, List, [],
 use Rattle.std.specs.Fmt.{decimal}
 use Rattle.std.specs.Io.KnownBytes.{Appends}
 use Rattle.book_log.specs.Log.{Book, IsBadLine, IsLog}
+use Rattle.book_judge.specs.Broken.{IfFormed}
 use Rattle.book_judge.specs.Lives.{AreMade, UnmadeAt}
 use Rattle.book_judge.specs.Runs.{IsSomeRun, StraysAt}
 use Rattle.interface.specs.Messages.{SafeMessages}
@@ -22,11 +23,6 @@ use Rattle.command_line.specs.declared.verdict.Lines.TheVariants as lines
 use Rattle.command_line.specs.declared.auditing.AuditFault.TheVariants as fault
 
 -- ---- what is said
-
--- partners, streams and grants are about the requests that stamps name: of a malformed book nothing is said of them
-abbrev pub IfFormed : Option Finding → Option Finding → Type 0 → (Finding → Type 0) → Type 0
-IfFormed None found Holds ShowsAt = MatchOption found Holds ShowsAt
-IfFormed (Some malformed) found Holds ShowsAt = found ≡ None
 
 -- what is said of a log, the oldest crossing first: a part that isn't named holds, and of one that is it is said where it shows
 pub record Judged (v : Verdict) (crossings : List Crossing) (lives : List Life) (handed : List (List Bool)) : Type 0 where

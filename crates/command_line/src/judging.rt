@@ -7,23 +7,26 @@ ghost use Rattle.interface.specs.Messages.{SafeMessages};
 ghost use Rattle.net_sim.specs.Findings.{ShowsCrossing};
 
 use crate::verdict::Verdict;
-use book_judge::{stray_at, unmade_at};
+use book_judge::{Broken, broken_at, broken_message, stray_at, unmade_at};
 use interface::Crossing;
-use net_sim::{
-    BitLog, Finding, Life, broken_grants, broken_messages, broken_partners, broken_streams,
-    malformed,
-};
+use net_sim::{BitLog, Finding, Life};
 use std::alloc::{AllocError, Global};
 
 /// Returns the first crossing with which messages are broken; `None` where they are kept. A run of the mailboxes keeps them, so
 /// they are looked at where what crossed strays from one.
-fn unkept(log: &[Crossing], stray: Option<usize>) -> Option<Finding>
+///
+/// Errors: `AllocError`.
+fn unkept(
+    alloc: Global,
+    log: &[Crossing],
+    stray: Option<usize>,
+) -> Result<Option<Finding>, AllocError>
     requires { MatchOption stray (IsSomeRun (reverse log.now)) (λ place. StraysAt log.now place) }
-    ensures { MatchOption result (SafeMessages (reverse log.now)) (λ found. ShowsCrossing found (reverse log.now)) }
+    ensures { IfOk result (λ found. MatchOption found (SafeMessages (reverse log.now)) (λ at. ShowsCrossing at (reverse log.now))) }
 {
     match stray {
-        Some(_) => broken_messages(log),
-        None => None,
+        Some(_) => broken_message(alloc, log),
+        None => Ok(None),
     }
 }
 
@@ -42,25 +45,20 @@ pub(crate) fn judge(
 {
     let stray = stray_at(alloc, log)?;
     let unmade = unmade_at(alloc, log, lives)?;
-    let messages = unkept(log, stray);
-    if let Some(found) = malformed(log, lives, handed) {
-        return Ok(Verdict {
-            stray,
-            unmade,
-            malformed: Some(found),
-            messages,
-            partners: None,
-            streams: None,
-            grants: None,
-        });
-    }
+    let messages = unkept(alloc, log, stray)?;
+    let Broken {
+        malformed,
+        partners,
+        streams,
+        grants,
+    } = broken_at(alloc, log, lives, handed)?;
     Ok(Verdict {
         stray,
         unmade,
-        malformed: None,
+        malformed,
         messages,
-        partners: broken_partners(log, lives),
-        streams: broken_streams(log, lives, handed),
-        grants: broken_grants(log, lives),
+        partners,
+        streams,
+        grants,
     })
 }

@@ -1,0 +1,109 @@
+-- The map that a list of places by key makes.
+use Rattle.std.proofs.Common.{◌≡◌, ℕ, ◌+◌, ◌<◌, ◌≤◌, Bool, true, false, List, [], ◌∷◌, ◌⊎◌, inl, inr, Option, Some, None, refl, ap, sym, subst, ◌∙◌, cond, arith}
+use Rattle.std.specs.Map.{lookup}
+use Rattle.std.specs.BTreeMap as tree
+use Rattle.std.specs.BTreeMap.{BTreeMap}
+use Rattle.std.specs.BTreeMap.Range.{IsRangeOf}
+use Rattle.std.specs.declared.ops.Bound.TheVariants.{Included, Unbounded}
+use Rattle.std.specs.BTreeMap.{is_at}
+use Rattle.std.specs.Ordering.{eq_by_cmp, nat_cmp}
+use Rattle.std.specs.Cmp.{eq_by_cmp_equiv, nat_cmp_is, nat_cmp_total}
+use Rattle.std.specs.FinMap.{FinMap, find, from_entries, get, insert, same_map, get-from_entries, get-insert}
+use Rattle.std.proofs.lemmas.Map.Lookups.{exact_unsigned}
+use Rattle.std.specs.Ordering.{is_eq, is_gt}
+use Rattle.std.specs.Prelude.{IsSome}
+use Rattle.std.proofs.lemmas.Bool.{cases_lt}
+use Rattle.std.specs.declared.cmp.Ordering.{Ordering}
+use Rattle.std.specs.declared.cmp.Ordering.TheVariants.{Less, Equal, Greater}
+use Rattle.book_judge.specs.Inside.Partners.{HasPlace}
+
+-- what a list of entries has at a key
+abbrev pub place_in : List (ℕ × ℕ) → ℕ → Option ℕ
+place_in es k = lookup (is_at (nat_cmp k)) es
+
+find_place : (es : List (ℕ × ℕ)) (k : ℕ) → find nat_cmp k es ≡ place_in es k
+find_place [] k = refl
+find_place (e ∷ es) k = ap (cond (is_at (nat_cmp k) e.0) (Some e.1)) (find_place es k)
+
+pub get_place : (es : List (ℕ × ℕ)) (k : ℕ) → get (from_entries {R = nat_cmp} es) k ≡ place_in es k
+get_place es k = get-from_entries nat_cmp_total es k ∙ find_place es k
+
+-- entries that differ at one key make maps that differ there
+pub place_set : (es ds : List (ℕ × ℕ)) (k v : ℕ)
+    → ((q : ℕ) → place_in ds q ≡ cond (is_at (nat_cmp k) q) (Some v) (place_in es q))
+    → from_entries {R = nat_cmp} ds ≡ insert (from_entries es) k v
+place_set es ds k v h = same_map nat_cmp_total exact_unsigned _ _ (λ q.
+    get_place ds q ∙ h q ∙ ap (λ b. cond b (Some v) (place_in es q)) ((eq_by_cmp_equiv nat_cmp_total).symm k q)
+    ∙ sym (get-insert nat_cmp_total (from_entries es) k v q ∙ ap (cond (eq_by_cmp nat_cmp q k) (Some v)) (get_place es q)))
+
+-- ---- one place more
+
+order_equal : (o : Ordering) → is_eq o ≡ true → o ≡ Equal
+order_equal Less e = absurd (cc)
+order_equal Equal e = refl
+order_equal Greater e = absurd (cc)
+
+is_equal : (q k : ℕ) → eq_by_cmp nat_cmp q k ≡ true → nat_cmp q k ≡ Equal
+is_equal q k e = order_equal (nat_cmp q k) e
+
+pub set_here : (m : FinMap nat_cmp ℕ) (k v q : ℕ) → q ≡ k → get (insert m k v) q ≡ Some v
+set_here m k v q e =
+    let P : ℕ → Type 0 = λ z. eq_by_cmp nat_cmp q z ≡ true in
+    let same : eq_by_cmp nat_cmp q k ≡ true = subst P e ((eq_by_cmp_equiv nat_cmp_total).refl q) in
+    get-insert nat_cmp_total m k v q ∙ ap (λ (b : Bool). cond b (Some v) (get m q)) same
+
+-- a key is the one that was set, with its place, or has the place that it had
+pub set_cases : (m : FinMap nat_cmp ℕ) (k v q : ℕ)
+    → ((q ≡ k) × (get (insert m k v) q ≡ Some v)) ⊎ ((q ≡ k → ⊥) × (get (insert m k v) q ≡ get m q))
+set_cases m k v q = by (eq_by_cmp nat_cmp q k) refl where
+  by : (b : Bool) → eq_by_cmp nat_cmp q k ≡ b → ((q ≡ k) × (get (insert m k v) q ≡ Some v)) ⊎ ((q ≡ k → ⊥) × (get (insert m k v) q ≡ get m q))
+  by true e = (let same : q ≡ k = exact_unsigned q k (is_equal q k e) in inl (same, set_here m k v q same))
+  by false e = inr (
+    (λ s. (let P : ℕ → Type 0 = λ z. eq_by_cmp nat_cmp q z ≡ true in
+        let t : eq_by_cmp nat_cmp q k ≡ true = subst P s ((eq_by_cmp_equiv nat_cmp_total).refl q) in cc)),
+    get-insert nat_cmp_total m k v q ∙ ap (λ (b : Bool). cond b (Some v) (get m q)) e,
+  )
+
+-- the places of the first keys, with one more
+pub has_more : (m : FinMap nat_cmp ℕ) (n k q : ℕ) → (q ≡ k) ⊎ HasPlace n m q → HasPlace (n + 1) (insert m k n) q
+has_more m n k q (inl e) = (n, set_here m k n q e, omega arith)
+has_more m n k q (inr h) = elim (set_cases m k n q) [
+  | inl s ↦ (n, s.1, omega arith)
+  | inr s ↦ (h.0, s.1 ∙ h.1, omega (arith, h.2))
+]
+
+-- ---- the least key from one on
+
+greater : (a b : ℕ) → b < a → nat_cmp a b ≡ Greater
+greater a b l = sym (nat_cmp_is a b Greater l)
+
+le_of : (a b : ℕ) → is_gt (nat_cmp a b) ≡ false → a ≤ b
+le_of a b e = elim (cases_lt b a) [
+  | inl l ↦ (let t : is_gt (nat_cmp a b) ≡ true = ap (λ (o : Ordering). is_gt o) (greater a b l) in absurd (cc))
+  | inr ge ↦ ge
+]
+
+not_gt : (a b : ℕ) → a ≤ b → is_gt (nat_cmp a b) ≡ false
+not_gt a b le = elim (cases_lt a b) [
+  | inl l ↦ ap (λ (o : Ordering). is_gt o) (sym (nat_cmp_is a b Less l))
+  | inr ge ↦ ap (λ (o : Ordering). is_gt o) (sym (nat_cmp_is a b Equal (omega (arith, le, ge))))
+]
+
+pub range_none : (m : BTreeMap ℕ ℕ) (key : ℕ) (r : List (ℕ × ℕ)) → IsRangeOf nat_cmp (Included key) Unbounded m r → r ≡ []
+    → (q : ℕ) → key ≤ q → tree.get nat_cmp m q ≡ None
+range_none m key r is e q le = is.5 e q (not_gt key q le, tt)
+
+none_or : (o : Option ℕ) → (IsSome o → ⊥) → o ≡ None
+none_or None f = refl
+none_or (Some p) f = absurd (f refl)
+
+pub range_some : (m : BTreeMap ℕ ℕ) (key found place : ℕ) (r rest : List (ℕ × ℕ)) → IsRangeOf nat_cmp (Included key) Unbounded m r → r ≡ (found, place) ∷ rest
+    → (key ≤ found) × (tree.get nat_cmp m found ≡ Some place) × ((q : ℕ) → key ≤ q → q < found → tree.get nat_cmp m q ≡ None)
+range_some m key found place r rest is e =
+    let P : List (ℕ × ℕ) → Type 0 = λ z. IsRangeOf nat_cmp (Included key) Unbounded m z in
+    let at : IsRangeOf nat_cmp (Included key) Unbounded m ((found, place) ∷ rest) = subst P e is in (
+      le_of key found at.1.0.0,
+      at.1.1,
+      λ q le lt. none_or (tree.get nat_cmp m q) (λ some.
+          (let low : found ≤ q = le_of found q (at.2 q (not_gt key q le, tt) some) in omega (arith, low, lt))),
+    )

@@ -1,0 +1,7 @@
+use Rattle.std.proofs.Common.{◌≤◌, length, reverse, take}
+use Rattle.book_judge.specs.Inside.Asked.{AreOuts}
+use Rattle.book_judge.proofs.Asked.{AreLast}
+use Rattle.book_judge.proofs.stamps.outs_of.Given as goal
+
+abbrev pub invariant-loop-place : goal.invariant-loop-place
+invariant-loop-place l = (AreLast l.last (reverse (take l.place l.log)) × AreOuts l.place l.outs.items l.log) × (l.place ≤ length l.log)

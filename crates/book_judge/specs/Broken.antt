@@ -1,0 +1,23 @@
+-- What is wrong with the lives of a book: where they are malformed, and else which of partners, streams and grants are broken.
+use Rattle.std.specs.Prelude.{◌≡◌, Bool, List, MatchOption, Option, Some, None}
+use Rattle.interface.specs.declared.crossing.Crossing.{Crossing}
+use Rattle.net_sim.specs.Audit.{IsWellFormed}
+use Rattle.net_sim.specs.Findings.{AreFed, ShowsLife, ShowsMalformed, ShowsTwo, first_fed, first_granted}
+use Rattle.net_sim.specs.declared.auditing.findings.Finding.{Finding}
+use Rattle.promise.specs.Safe.{SafeGrants, SafePartners}
+use Rattle.promise.specs.declared.life.Life.{Life}
+use Rattle.book_judge.specs.declared.broken.Broken.{Broken}
+
+-- partners, streams and grants are about the requests that stamps name: of a malformed book nothing is said of them
+abbrev pub IfFormed : Option Finding → Option Finding → Type 0 → (Finding → Type 0) → Type 0
+IfFormed None found Holds ShowsAt = MatchOption found Holds ShowsAt
+IfFormed (Some malformed) found Holds ShowsAt = found ≡ None
+
+-- a part that isn't named holds, and of one that is it is said where it shows; the log is the newest first
+pub record IsBroken (b : Broken) (log : List Crossing) (lives : List Life) (handed : List (List Bool)) : Type 0 where
+  -- there is a list for each life, and their stamps name requests
+  pub formed : MatchOption b.malformed (IsWellFormed log lives handed) (λ found. ShowsMalformed found log lives handed)
+  -- that a receiving life matches one sender at most is of partners
+  pub partners : IfFormed b.malformed b.partners (SafePartners log lives) (λ found. ShowsTwo found log lives)
+  pub streams : IfFormed b.malformed b.streams (AreFed log lives lives handed) (λ found. ShowsLife (first_fed log lives handed) found log lives)
+  pub grants : IfFormed b.malformed b.grants (SafeGrants log lives) (λ found. ShowsLife (first_granted log lives) found log lives)

@@ -1,0 +1,157 @@
+//! Whether the lives of a log are a safe book's.
+
+ghost use Rattle.std.specs.Prelude.{◌≡◌, IfOk, List, MatchOption, length, reverse};
+ghost use Rattle.interface.specs.declared.crossing.Crossing.{Crossing};
+ghost use Rattle.net_sim.specs.Findings.{ShowsMalformed};
+ghost use Rattle.book_judge.specs.Broken.{IsBroken};
+ghost use Rattle.book_judge.specs.Inside.Asked.{AreNamed};
+ghost use Rattle.book_judge.specs.Inside.Chains.{AreChained};
+ghost use Rattle.book_judge.specs.Inside.Said.{TellsGrants, TellsPartners, TellsStreams};
+
+use crate::chains::chained;
+use crate::grants::excess_at;
+use crate::matches::with_match;
+use crate::names::Name;
+use crate::partners::odds_at;
+use crate::places::Places;
+use crate::stamps::partners_of;
+use crate::streams::unfed_at;
+use interface::Crossing as Passage;
+use net_sim::{BitLog, Finding, Life};
+use std::alloc::{AllocError, Global};
+
+/// Where it shows that the lives of a log aren't those of a safe book. What isn't named holds.
+#[derive(Clone, Copy, Debug, PartialEq, Eq)]
+pub struct Broken {
+    /// Where it shows that the book is malformed; `None` where it isn't.
+    pub malformed: Option<Finding>,
+    /// Where it shows that partners are broken; `None` where they are kept, or the book is malformed.
+    pub partners: Option<Finding>,
+    /// Where it shows that streams are broken; `None` where they are kept, or the book is malformed.
+    pub streams: Option<Finding>,
+    /// Where it shows that grants are broken; `None` where they are kept, or the book is malformed.
+    pub grants: Option<Finding>,
+}
+
+/// Returns that only this is said: the book is malformed.
+fn only_malformed(found: Finding) -> Broken
+    ensures { result ≡ record { malformed = Some found; partners = None; streams = None; grants = None } }
+{
+    Broken {
+        malformed: Some(found),
+        partners: None,
+        streams: None,
+        grants: None,
+    }
+}
+
+/// Returns the first life that has no list, or the first list that has no life.
+fn uncounted(lives: &[Life], handed: &[BitLog]) -> Option<Finding>
+    ensures { MatchOption result (length lives.now ≡ length handed.now) (λ found. (log : List Crossing) → ShowsMalformed found log lives.now handed.now) }
+{
+    if handed.len() < lives.len() {
+        return Some(Finding::Life(handed.len()));
+    }
+    if lives.len() < handed.len() {
+        return Some(Finding::List(lives.len()));
+    }
+    None
+}
+
+/// Returns the first two lives that can't both be in one book.
+///
+/// Errors: `AllocError`.
+fn odd_partners(
+    alloc: Global,
+    names: &[Name],
+    lives: &[Life],
+) -> Result<Option<Finding>, AllocError>
+    requires { length names.now ≡ length lives.now }
+    ensures { IfOk result (λ found. TellsPartners found names.now lives.now) }
+{
+    match odds_at(alloc, names, lives)? {
+        Some((first, second)) => Ok(Some(Finding::Lives(first, second))),
+        None => Ok(None),
+    }
+}
+
+/// Returns the first life that breaks streams, with the one that it matches.
+fn unfed(
+    last: &Places,
+    before: &[Option<usize>],
+    names: &[Name],
+    lives: &[Life],
+    handed: &[BitLog],
+) -> Option<Finding>
+    requires chained { AreChained (length lives.now) last.now before.now lives.now }
+    requires counts { (length names.now ≡ length lives.now) × (length handed.now ≡ length lives.now) }
+    ensures { TellsStreams result names.now lives.now handed.now }
+{
+    let place = unfed_at(last, before, names, lives, handed)?;
+    Some(with_match(names, lives, place))
+}
+
+/// Returns the first life that breaks grants, with the one that it matches.
+fn excess(
+    last: &Places,
+    before: &[Option<usize>],
+    names: &[Name],
+    lives: &[Life],
+) -> Option<Finding>
+    requires chained { AreChained (length lives.now) last.now before.now lives.now }
+    requires counts { length names.now ≡ length lives.now }
+    ensures { TellsGrants result names.now lives.now }
+{
+    let place = excess_at(last, before, names, lives)?;
+    Some(with_match(names, lives, place))
+}
+
+/// Returns where it shows that lives aren't those of a safe book. These are the requests of their partners, and what was handed
+/// over in them.
+///
+/// Errors: `AllocError`.
+fn broken_parts(
+    alloc: Global,
+    names: &[Name],
+    lives: &[Life],
+    handed: &[BitLog],
+) -> Result<Broken, AllocError>
+    requires { (length names.now ≡ length lives.now) × (length lives.now ≡ length handed.now) }
+    ensures { IfOk result (λ broken. (log : List Crossing) → AreNamed (length lives.now) names.now lives.now log → IsBroken broken log lives.now handed.now) }
+{
+    let partners = odd_partners(alloc, names, lives)?;
+    let (last, before) = chained(alloc, lives)?;
+    let streams = unfed(&last, &before, names, lives, handed);
+    let grants = excess(&last, &before, names, lives);
+    Ok(Broken {
+        malformed: None,
+        partners,
+        streams,
+        grants,
+    })
+}
+
+/// Returns where it shows that the lives of a log, and what was handed over in them, aren't those of a safe book. The log is the
+/// oldest first.
+///
+/// It says what [`net_sim::malformed`], [`net_sim::broken_partners`], [`net_sim::broken_streams`] and
+/// [`net_sim::broken_grants`] say. Those take no memory, and look at each pair of lives; here each request has its place in a
+/// map, so the time grows with crossings and lives, and only of lives that have one own request each pair is looked at.
+///
+/// Errors: `AllocError`.
+pub fn broken_at(
+    alloc: Global,
+    log: &[Passage],
+    lives: &[Life],
+    handed: &[BitLog],
+) -> Result<Broken, AllocError>
+    ensures { IfOk result (λ broken. IsBroken broken (reverse log.now) lives.now handed.now) }
+{
+    if let Some(found) = uncounted(lives, handed) {
+        return Ok(only_malformed(found));
+    }
+    match partners_of(alloc, log, lives)? {
+        Ok(names) => broken_parts(alloc, &names, lives, handed),
+        Err(place) => Ok(only_malformed(Finding::Life(place))),
+    }
+}
