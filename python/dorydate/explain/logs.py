@@ -16,6 +16,7 @@ from dorydate.model.bits import Bits
 from dorydate.model.bits import octets as octets_of
 from dorydate.model.book import Life
 from dorydate.model.crossings import Answered, Passed, Turned
+from dorydate.model.firsts import Data
 from dorydate.model.names import Flow, spell_flow, spell_host
 from dorydate.model.log import BadLog, Book, read_log
 from dorydate.model.mailboxes import Holds, Mailboxes, hosts_of
@@ -82,7 +83,19 @@ def why_other(log: Log, life: Life) -> str:
     malformed = next((at for at, bits in found[: life.messages] if bits is None), None)
     if malformed is not None:
         return f"what came in in line {malformed + 1} is shorter than its header says."
-    return difference(life.bits, "".join(bits or "" for bits in first), "what it says", f"what {way}")
+    return difference(life.bits, "".join(bits or "" for bits in first), "what it says", f"what {way}") + where_of(life, found[: life.messages])
+
+
+def where_of(life: Life, messages: list[tuple[int, Data]]) -> str:
+    """The line that has the octet at which what crossed isn't what a life says, and where in its data: nothing where there is none."""
+    bits = "".join(bits or "" for _, bits in messages)
+    octet = next((at for at in range(len(bits) // 8) if bits[8 * at : 8 * at + 8] != life.bits[8 * at : 8 * at + 8]), None)
+    before = 0
+    for place, data in messages if octet is not None and 8 * octet < len(life.bits) else []:
+        if octet is not None and 8 * octet < before + len(data or ""):
+            return f" That is in line {place + 1}, octet {octet - before // 8 + 1} of its data."
+        before += len(data or "")
+    return ""
 
 
 def short(octets: bytes, number: int) -> str:
@@ -256,19 +269,21 @@ def why_run(book: Book, numbers: list[int]) -> str:
     host = crossing.flow.destination if crossing.kind == "in" else crossing.flow.source
     if not mailboxes.is_up[host]:
         return f"Host {spell_host(host)} is down."
-    return why_boxed(crossing, mailboxes.boxes.get(crossing.flow))
+    return why_boxed(crossing, mailboxes.boxes.get(crossing.flow), log, at)
 
 
-def why_boxed(crossing: Passed | Answered, box: tuple[Holds, Bits] | None) -> str:
-    """What a crossing doesn't find in the box of its flow."""
-    flow = spell_flow(crossing.flow)
-    if box is None:
+def why_boxed(crossing: Passed | Answered, box: tuple[Holds, Bits] | None, log: Log, at: int) -> str:
+    """What a crossing doesn't find in the box of its flow, and the line of the message that is there."""
+    flow, out = spell_flow(crossing.flow), last_out(log, crossing.flow, at)
+    if box is None or out is None:
         return f"No message of the flow {flow} is outstanding."
     if crossing.kind == "out":
-        return f"The last message of the flow {flow} has no answer yet, and one may be outstanding."
+        return f"The last message of the flow {flow}, in line {out + 1}, has no answer yet, and one may be outstanding."
     if isinstance(crossing, Passed) and box[0] == "waits":
-        return f"Another text waits on the flow {flow}: {difference(crossing.text, box[1], 'what was taken', 'what went out')}"
-    return f"The message of the flow {flow} {'was taken already' if box[0] == 'taken' else 'was not taken'}."
+        return f"Another text waits on the flow {flow}, that of line {out + 1}: {difference(crossing.text, box[1], 'what was taken', 'what went out')}"
+    taken = next((place for place in range(out, at) if is_passed(log[place], "in", crossing.flow)), None)
+    became = f"was taken already, in line {taken + 1}" if box[0] == "taken" and taken is not None else "was not taken"
+    return f"The message of line {out + 1}, of the flow {flow}, {became}."
 
 
 def why_messages(book: Book, numbers: list[int]) -> str:
