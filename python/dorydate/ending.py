@@ -65,6 +65,8 @@ def run(name: str, main: Callable[[], int | None]) -> int:
         return broken_pipe()
     except OSError as fault:
         print(f"{name}: {in_words(fault)}", file=sys.stderr)
+    except (MemoryError, RecursionError) as fault:
+        print(f"{name}: {'memory ran out' if isinstance(fault, MemoryError) else 'something in the input is nested too deeply'}", file=sys.stderr)
     except KeyboardInterrupt:
         print(f"{name}: stopped", file=sys.stderr)
     quiet_output()

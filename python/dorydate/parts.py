@@ -67,4 +67,11 @@ def run(kind: str, command: str, name: str, words: list[str]) -> int:
         return 0
     sys.argv = [f"{command} {name}", *words]
     main: Callable[[], int | None] = importlib.import_module(f"dorydate.{kind}.{name}").main
-    return main() or 0
+    try:
+        return main() or 0
+    except ValueError as fault:
+        wrong = next((it for it in words if str(fault) == f"invalid literal for int() with base 10: {it!r}"), None)
+        if wrong is None:
+            raise
+        print(f"{command}: `{wrong}` is no number; ./{command} {name} --help says what is asked for", file=sys.stderr)
+        return 1

@@ -159,7 +159,8 @@ fn write_lives<W: Output>(lives: &[Life], book: bool, writer: &mut W) -> Result<
     write_last(writer, b"end\n")
 }
 
-/// Returns the subnet of a topology's IMPs and lines, at its opening. What `Subnet::new` requires a topology keeps by its type.
+/// Returns the subnet of a topology's IMPs and lines, at its opening. What `Subnet::new` requires a topology keeps by
+/// its type.
 ///
 /// Errors: `AllocError`.
 pub fn subnet_of(alloc: Global, network: &Topology) -> Result<Subnet, AllocError>

@@ -214,6 +214,9 @@ def main() -> int:
         with ThreadPoolExecutor(CORES) as threads:
             return told([*threads.map(check_for_gate, [it for it in sys.argv[1:] if it != "--gate"] or having)])
     whole, jobs, words = options(sys.argv[1:])
+    if jobs and not (jobs[1:] and jobs[1].isdecimal()):
+        print("check edits: a number of jobs is missing after --jobs")
+        return 1
     asked: dict[str, list[str]] = {}
     for word in words or having:
         crate, _, name = word.partition("/")

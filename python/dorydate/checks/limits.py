@@ -150,6 +150,9 @@ def main() -> int:
     """Tries all, or those that are named."""
     words = sys.argv[1:]
     names = [it for it in words if not it.startswith("--")] or NAMES
+    if unknown := [it for it in names if it not in NAMES]:
+        print(f"check limits: there is no limit called {unknown[0]}; there are {', '.join(NAMES)}")
+        return 1
     if "--write" in words:
         return write(names)
     program = any_program()
