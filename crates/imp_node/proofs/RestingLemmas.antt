@@ -57,6 +57,10 @@ pump_with frames s none = rests frames s s.store none
 pub pump_rests : (s : State) → length s.store ≡ 0 → pump [] s ≡ ignored s
 pump_rests s none = pump_with [] s none
 
+-- a pump that does nothing by itself does nothing after frames either
+pub pump_still : (frames : List Outgoing) (s : State) → pump [] s ≡ ignored s → pump frames s ≡ leaving s frames
+pump_still frames s still = ap (λ (t : ImpTurn). leaving t.state (frames ++ t.frames)) still ∙ ap (leaving s) (append-nil frames)
+
 -- ---- what is sent again
 
 none_by : (e : End) (c : ℕ) (bit : Bool) (packet : Option PacketFields) (rest : List Channel)
@@ -129,9 +133,9 @@ port_free [] k none = refl
 port_free (port ∷ ports) zero none = omega (arith, none, sum_by-cons busy_channels port ports)
 port_free (port ∷ ports) (suc k) none = port_free ports k (omega (arith, none, sum_by-cons busy_channels port ports))
 
--- no packet waits, neither for a channel nor at this end for its acknowledgement
+-- the pump does nothing, and no packet waits at this end for its acknowledgement
 pub record IsIdle (s : State) (k : ℕ) : Type 0 where
-  pub waits : length s.store ≡ 0
+  pub waits : pump [] s ≡ ignored s
   pub free : length (packets_in (port_at s.ports k).line.sending) ≡ 0
 
 -- where no packet waits, acknowledgements change nothing
@@ -141,7 +145,7 @@ taken_again s k acks idle =
     let line : End = (port_at s.ports k).line in
     ap (λ (channels : List Channel). set s.ports k (record (port_at s.ports k) { line = record line { sending = channels } })) (all_free acks line.sending idle.free) ∙ set-get_or s.ports k down_port
 
--- where no packet waits, distances that were heard last do nothing when they are heard again, nor does any frame at an end that is down
+-- where the pump does nothing, distances that were heard last do nothing when they are heard again, nor does any frame at an end that is down
 pub routes_again : (up : Bool) (s : State) (k : ℕ) (acks : List Bool) (distances : List ℕ) → IsIdle s k → (up ≡ true → get_or s.routes.heard k None ≡ Some distances)
     → (if up then taken_frame (answer_to (port_at s.ports k).line (record { acks = acks; content = content.Routes distances })) k (record { acks = acks; content = content.Routes distances }) s else ignored s) ≡ ignored s
 routes_again false s k acks distances idle heard = refl
@@ -150,14 +154,14 @@ routes_again true s k acks distances idle heard =
     let same : vector_heard k distances (frame_taken k (record { acks = acks; content = content.Routes distances }) s) ≡ s =
     ap (λ (ports : List Port). record s { ports = ports; routes = record { own = s.routes.own; heard = set s.routes.heard k (Some distances) } }) (taken_again s k acks idle)
     ∙ ap (λ (heard : List (Option (List ℕ))). record s { routes = record { own = s.routes.own; heard = heard } }) routes in
-    ap (λ (t : State). pump [] t) same ∙ pump_rests s idle.waits
+    ap (λ (t : State). pump [] t) same ∙ idle.waits
 
 -- an IMP without packets that hears again what it heard last does nothing
 pub hears_again : (s : State) (k : ℕ) (acks : List Bool) (distances : List ℕ) → holds_packet s ≡ false → ((port_at s.ports k).up ≡ true → get_or s.routes.heard k None ≡ Some distances)
     → from_line s k (record { acks = acks; content = content.Routes distances }) ≡ ignored s
 hears_again s k acks distances none heard =
     let are : StoresNone s = stores_none s none in
-    routes_again (port_at s.ports k).up s k acks distances (record { waits = are.waits; free = port_free s.ports k are.free }) heard
+    routes_again (port_at s.ports k).up s k acks distances (record { waits = pump_rests s are.waits; free = port_free s.ports k are.free }) heard
 
 -- ---- a frame of which only acknowledgement bits matter
 
@@ -238,11 +242,14 @@ accepts true true false is_there is_up has = cc
 accepts true false room is_there is_up has = cc
 accepts false up room is_there is_up has = cc
 
-pub taking_rests : (s : State) (h : ℕ) → h < length s.hosts → (host_at s h).up ≡ true → is_some (next_for s h) ≡ false → length s.store ≡ 0 → Rests s h
-taking_rests s h there up none waits =
+pub taking_still : (s : State) (h : ℕ) → h < length s.hosts → (host_at s h).up ≡ true → is_some (next_for s h) ≡ false → pump [] s ≡ ignored s → Rests s h
+taking_still s h there up none still =
     let nothing = takes_none (host_at s h).answers (host_at s h).queue s h none in
     record {
       accepted = accepts (nat_lt h (length s.hosts)) (host_at s h).up (taking_has_room (host_at s h).answers (host_at s h).queue s) (grind (arith, nat_tests, there)) up nothing.0;
       nothing = nothing.1;
-      unchanged = ap (λ (t : State). pump [] t) nothing.2 ∙ pump_rests s waits;
+      unchanged = ap (λ (t : State). pump [] t) nothing.2 ∙ still;
     }
+
+pub taking_rests : (s : State) (h : ℕ) → h < length s.hosts → (host_at s h).up ≡ true → is_some (next_for s h) ≡ false → length s.store ≡ 0 → Rests s h
+taking_rests s h there up none waits = taking_still s h there up none (pump_rests s waits)

@@ -12,7 +12,7 @@ ghost use Rattle.imp_channel.specs.Line.{answer_to, acknowledgement};
 ghost use Rattle.imp_node.specs.State.{is_up, port_at};
 ghost use Rattle.imp_node.specs.Flows as flows;
 ghost use Rattle.imp_node.specs.Flows.{noted, message_queued};
-ghost use Rattle.imp_node.specs.Pump.{stored};
+ghost use Rattle.imp_node.specs.Pump.{pump, stored};
 ghost use Rattle.imp_node.specs.Room.{queue_has_room};
 ghost use Rattle.imp_node.specs.Arrival as arrivals;
 ghost use Rattle.imp_node.specs.Arrival.{arrival, arrived, data_arrival, ask_arrival, piece_arrival, arrival_has_room, acknowledged, frame_taken};
@@ -68,8 +68,7 @@ impl Imp {
         match self.receive(port, frame) {
             Received::Fresh(packet) => {
                 let frames = self.acknowledge(port)?;
-                self.arrive(packet)?;
-                self.pump(frames)
+                self.take_packet(packet, frames)
             }
             Received::Repeat => {
                 let frames = self.acknowledge(port)?;
@@ -170,6 +169,22 @@ impl Imp {
         let frame = self.ports[port as usize].line.ack_frame();
         push_frame(&mut frames, port, frame)?;
         Ok(frames)
+    }
+
+    /// Takes a fresh packet, and pumps. The frames that are there go first.
+    fn take_packet(
+        &mut self,
+        packet: Packet,
+        frames: Vec<Outgoing>,
+    ) -> Result<Vec<Outgoing>, AllocError>
+        requires { has_place (arrival self.old packet) self.old packet ≡ true }
+        ensures { IfOk result (λ out. Takes (pump frames.items (arrived (arrival self.old packet) packet self.old)) self.new out.items) }
+    {
+        if target(&packet) != self.number() {
+            return self.pass_on(packet, frames);
+        }
+        self.arrive(packet)?;
+        self.pump(frames)
     }
 
     /// Takes a fresh packet. A message that it makes whole has a place.

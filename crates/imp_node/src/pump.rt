@@ -53,7 +53,7 @@ fn send_on(
 }
 
 /// Sends a packet on its route's line, hands it back if that has no free channel, and drops it without a live route.
-fn send(
+pub(crate) fn send(
     routes: &RouteTable,
     ports: &mut [Port],
     packet: Packet,

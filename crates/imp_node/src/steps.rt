@@ -11,7 +11,7 @@ ghost use Rattle.imp_node.specs.Turns.{Takes, sends};
 ghost use Rattle.imp_node.specs.Inside.Parts.{IsPacketFlow};
 ghost use Rattle.interface.specs.declared.carrier.CarrierFault.TheVariants as fault;
 
-use crate::pump::{pump, target};
+use crate::pump::{pump, send, target};
 use crate::waiting::{Message, Told};
 use crate::{Imp, Outgoing};
 use bit_messages::Bits;
@@ -45,6 +45,27 @@ impl Imp {
         }
         let frames = self.spare.take(self.alloc);
         self.pump(frames)
+    }
+
+    /// Stores a packet for its route, and pumps. The frames that are there go first. Where no packet waits, it goes at
+    /// once, and is stored only if its line has no free channel.
+    #[tactic(auto, using(crate::proofs::Pumping::passed))]
+    pub(crate) fn pass_on(
+        &mut self,
+        packet: Packet,
+        mut frames: Vec<Outgoing>,
+    ) -> Result<Vec<Outgoing>, AllocError>
+        ensures { IfOk result (λ out. Takes (pumps.pump frames.items (pumps.stored packet self.old)) self.new out.items) }
+    {
+        let others_wait = !self.store.is_empty();
+        if others_wait {
+            self.admit(packet)?;
+            return self.pump(frames);
+        }
+        if let Some(packet) = send(&self.routes, &mut self.ports, packet, &mut frames)? {
+            self.store.push(packet)?;
+        }
+        Ok(frames)
     }
 
     /// Handles running out of memory: it is not to be used again.
