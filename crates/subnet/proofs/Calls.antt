@@ -26,6 +26,7 @@ pub mod Silence
 pub mod SiteHosts
 pub mod Starts
 pub mod Stopping
+pub mod Stuck
 pub mod Taken
 pub mod Telling
 pub mod Working

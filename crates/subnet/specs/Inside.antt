@@ -1,4 +1,5 @@
 pub mod Calling
+pub mod Giving
 pub mod Highest
 pub mod Joined
 pub mod Losing

@@ -2,11 +2,9 @@
 
 ghost use Rattle.std.specs.Prelude.{◌≡◌, ◌∷◌, [], ◌<◌, length, None, true, false, OnOk, IfSome};
 ghost use Rattle.imp_node.specs.Turns.{Turned, Takes};
-ghost use Rattle.subnet.specs.Events.{at_up};
-ghost use Rattle.subnet.specs.Calls.{grows_at};
 ghost use Rattle.subnet.specs.Net.{imp_at};
 ghost use Rattle.subnet.specs.declared.imp_call.ImpCall.TheVariants as call;
-ghost use Rattle.subnet.specs.Inside.Calling.{call_refusal, call_turn, call_grows, IsLive, AreLive, CallEnds, imp_by, imps_by, frames_by};
+ghost use Rattle.subnet.specs.Inside.Calling.{call_refusal, call_turn, call_grows, IsLive, AreLive, MakesAt, MakesAmong, imp_by, imps_by, frames_by};
 
 use imp_channel::Frame;
 use imp_node::{Imp, Outgoing};
@@ -68,7 +66,7 @@ impl ImpCall {
     #[tactic(auto, using(crate::proofs::Calls::Ending::ends_of_turned))]
     fn make_at(self, imp: &mut Option<Imp>) -> Result<Vec<Outgoing>, CarrierFault>
         requires { IfSome imp.old (λ s. s.spent ≡ false) }
-        ensures call { CallEnds (at_up imp.old (call_refusal self)) (grows_at imp.old (call_grows self)) (λ frames. (imp.new ≡ imp_by imp.old (call_turn self)) × (frames.items ≡ frames_by imp.old (call_turn self))) imp.old imp.new result }
+        ensures call { MakesAt self (λ frames. frames.items) imp.old imp.new result }
         ensures live { OnOk result (IfSome imp.new (λ s. s.spent ≡ false)) }
     {
         match imp {
@@ -87,7 +85,7 @@ pub(crate) fn call_imp(
     call: ImpCall,
 ) -> Result<Vec<Outgoing>, CarrierFault>
     requires { AreLive imps.old }
-    ensures call { CallEnds (at_up (imp_at imps.old imp) (call_refusal call)) (grows_at (imp_at imps.old imp) (call_grows call)) (λ frames. (imps.new ≡ imps_by imps.old imp (imp_at imps.old imp) (call_turn call)) × (frames.items ≡ frames_by (imp_at imps.old imp) (call_turn call))) imps.old imps.new result }
+    ensures call { MakesAmong imp call (λ frames. frames.items) imps.old imps.new result }
     ensures live { OnOk result (AreLive imps.new) }
 {
     let at = imp as usize;

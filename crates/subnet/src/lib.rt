@@ -21,6 +21,7 @@ mod seeking;
 mod settled;
 mod starting;
 mod stops;
+mod stuck;
 mod subnet;
 mod taking;
 mod telling;

@@ -8,21 +8,22 @@ ghost use Rattle.subnet.specs.Net.{imp_at};
 ghost use Rattle.subnet.specs.Events as events;
 ghost use Rattle.subnet.specs.Inside.Resting.{TakesNone, TakesNoneAt, is_away};
 ghost use Rattle.subnet.specs.Inside.Settled as settled;
-ghost use Rattle.subnet.specs.Inside.Settled.{IsFree, IsStill, IsStillOn, is_silent, stores_nothing};
+ghost use Rattle.subnet.specs.Inside.Settled.{IsFree, IsStill, IsStillOn, is_silent, waits_at};
 
 use crate::parts::Parts;
+use crate::stuck::only_waits;
 use crate::wire::Wire;
 use imp_node::Imp;
 use interface::{Direction, HostAddr};
 
 impl Parts {
-    /// Returns whether no frame is on a line, in no IMP a packet waits for a channel, and where both ends of a line are
+    /// Returns whether no frame is on a line, each packet that waits in an IMP is stuck, and where both ends of a line are
     /// up, nothing new goes over it. A quiet round then changes nothing: what it sends again is lost at ends that are down.
     #[tactic(auto, using(crate::proofs::Calls::Settled::round_rests))]
     pub(crate) fn is_settled(&self) -> bool
         ensures { result ≡ true → events.quiet_round self.now ≡ self.now }
     {
-        all_silent(self.lines.all()) && all_store_nothing(&self.imps) && self.all_are_still()
+        all_silent(self.lines.all()) && all_wait(&self.imps) && self.all_are_still()
     }
 
     /// Returns whether a taking of any host of the network is refused, or gives nothing and changes nothing.
@@ -46,7 +47,7 @@ impl Parts {
         self.takes_nothing(&self.hosts.all()[at])
     }
 
-    /// Returns whether this host is down, or its IMP is, or nothing waits for it and no packet waits in its IMP.
+    /// Returns whether this host is down, or its IMP is, or nothing waits for it and all packets in its IMP are stuck.
     #[tactic(auto, using(crate::proofs::Calls::Restful::away_takes, crate::proofs::Calls::Restful::empty_takes))]
     fn takes_nothing(&self, host: &HostAddr) -> bool
         ensures { result ≡ true → TakesNone self.now host.now }
@@ -160,19 +161,19 @@ fn is_silent(wire: &Wire) -> bool
     wire.live(Direction::Forward) == 0 && wire.live(Direction::Back) == 0
 }
 
-/// Returns whether in none of these IMPs a packet waits for a channel.
-fn all_store_nothing(imps: &[Option<Imp>]) -> bool
-    ensures { result ≡ list_all stores_nothing imps.now }
+/// Returns whether in each of these IMPs the packets that wait are stuck.
+fn all_wait(imps: &[Option<Imp>]) -> bool
+    ensures { result ≡ list_all waits_at imps.now }
 {
-    imps.iter().all(|imp| stores_nothing(imp))
+    imps.iter().all(|imp| waits_at(imp))
 }
 
-/// Returns whether an IMP is down, or no packet waits in it for a channel.
-fn stores_nothing(imp: &Option<Imp>) -> bool
-    ensures { result ≡ stores_nothing imp.now }
+/// Returns whether an IMP is down, or each packet that waits in it is stuck.
+fn waits_at(imp: &Option<Imp>) -> bool
+    ensures { result ≡ waits_at imp.now }
 {
     match imp {
-        Some(imp) => imp.store().is_empty(),
+        Some(imp) => only_waits(imp),
         None => true,
     }
 }

@@ -245,9 +245,9 @@ impl Carrier for Subnet {
     }
 
     /// It is known from the first quiet round on that would leave the network as it is, until something is done there, and only
-    /// while nothing waits for any host that is up. Such a round finds no frame on a line and no packet that waits for a channel,
-    /// and at each line that is up at both ends no packet that waits for its acknowledgement and no distances to announce. What is
-    /// sent again then is lost, at ends that are down.
+    /// while nothing waits for any host that is up. Such a round finds no frame on a line, no packet in an IMP but such as wait for a
+    /// line without a free channel, and at each line that is up at both ends no packet that waits for its acknowledgement and no
+    /// distances to announce. What is sent again then is lost, at ends that are down.
     fn rests(&self) -> bool {
         self.is_at_rest()
     }

@@ -3,14 +3,14 @@
 ghost use Rattle.std.specs.Prelude.{◌≡◌, ◌∷◌, [], None, true, false, is_some, IfOk, IfSome, OnOk, OnErr};
 ghost use Rattle.interface.specs.Calls.{crossing_of};
 ghost use Rattle.imp_node.specs.Taking as taking;
-ghost use Rattle.imp_node.specs.Turns.{to_host_grows};
 ghost use Rattle.subnet.specs.Net.{imp_at};
 ghost use Rattle.subnet.specs.Events as events;
-ghost use Rattle.subnet.specs.Events.{at_up, logging, given_at, crossings_of};
-ghost use Rattle.subnet.specs.Calls.{grows_at, take_grows};
-ghost use Rattle.subnet.specs.Inside.Calling.{AreLive, CallEnds, SameLog, imp_by, imps_by, frames_by};
+ghost use Rattle.subnet.specs.Events.{at_up, logging, crossings_of};
+ghost use Rattle.subnet.specs.Inside.Calling.{AreLive, SameLog};
+ghost use Rattle.subnet.specs.Inside.Giving.{TakesAt, TakesAmong, TakesFrom, TakesIn};
 
 use crate::parts::Parts;
+use crate::stuck::gives_nothing;
 use imp_node::{Imp, Outgoing};
 use interface::{CarrierFault, Crossing, HostAddr, Inbound};
 use std::alloc::AllocError;
@@ -19,7 +19,7 @@ impl Parts {
     /// Gives a host the oldest of what waits for it. What it gets is put on the log.
     pub(crate) fn take_in(&mut self, host: HostAddr) -> Result<Option<Inbound>, CarrierFault>
         requires { AreLive self.old.imps }
-        ensures call { CallEnds (events.take_refusal self.old host) (take_grows self.old host) (λ given. (given ≡ events.taken_by_host self.old host) × (self.new ≡ events.take_in self.old host)) self.old self.new result }
+        ensures call { TakesIn host self.old self.new result }
         ensures live { OnOk result (AreLive self.new.imps) }
         ensures keeps { OnErr result (SameLog self.old self.new) }
     {
@@ -52,7 +52,7 @@ impl Parts {
         ensures unchanged { result ≡ true → events.at_imp (imp_at self.now.imps host.now.imp) host.now.imp (λ s. taking.to_host s host.now.host) self.now ≡ self.now }
     {
         match self.imp(host.imp()) {
-            Some(imp) => imp.has_nothing_for(host.host()),
+            Some(imp) => gives_nothing(imp, host.host()),
             None => false,
         }
     }
@@ -62,7 +62,7 @@ impl Parts {
     /// Errors: `IsDown` where the IMP is down, and then those of the IMP's call.
     fn take_from(&mut self, imp: u8, host: u8) -> Result<Option<Inbound>, CarrierFault>
         requires { AreLive self.old.imps }
-        ensures call { CallEnds (at_up (imp_at self.old.imps imp) (λ s. taking.to_host_refusal s host)) (grows_at (imp_at self.old.imps imp) (λ s. to_host_grows s host)) (λ given. (given ≡ given_at (imp_at self.old.imps imp) host) × (self.new ≡ events.at_imp (imp_at self.old.imps imp) imp (λ s. taking.to_host s host) self.old)) self.old self.new result }
+        ensures call { TakesFrom imp host self.old self.new result }
         ensures live { OnOk result (AreLive self.new.imps) }
         ensures keeps { SameLog self.old self.new }
     {
@@ -103,7 +103,7 @@ fn take_at(
     host: u8,
 ) -> Result<(Option<Inbound>, Vec<Outgoing>), CarrierFault>
     requires { IfSome place.old (λ s. s.spent ≡ false) }
-    ensures call { CallEnds (at_up place.old (λ s. taking.to_host_refusal s host)) (grows_at place.old (λ s. to_host_grows s host)) (λ given. (given.0 ≡ given_at place.old host) × (place.new ≡ imp_by place.old (λ s. taking.to_host s host)) × (given.1.items ≡ frames_by place.old (λ s. taking.to_host s host))) place.old place.new result }
+    ensures call { TakesAt host (λ frames. frames.items) place.old place.new result }
     ensures live { OnOk result (IfSome place.new (λ s. s.spent ≡ false)) }
 {
     match place {
@@ -119,7 +119,7 @@ fn take_at_imp(
     host: u8,
 ) -> Result<(Option<Inbound>, Vec<Outgoing>), CarrierFault>
     requires { AreLive imps.old }
-    ensures call { CallEnds (at_up (imp_at imps.old imp) (λ s. taking.to_host_refusal s host)) (grows_at (imp_at imps.old imp) (λ s. to_host_grows s host)) (λ given. (given.0 ≡ given_at (imp_at imps.old imp) host) × (imps.new ≡ imps_by imps.old imp (imp_at imps.old imp) (λ s. taking.to_host s host)) × (given.1.items ≡ frames_by (imp_at imps.old imp) (λ s. taking.to_host s host))) imps.old imps.new result }
+    ensures call { TakesAmong imp host (λ frames. frames.items) imps.old imps.new result }
     ensures live { OnOk result (AreLive imps.new) }
 {
     let at = imp as usize;

@@ -17,13 +17,15 @@ use Rattle.imp_node.specs.declared.port.Port.{Port}
 use Rattle.imp_node.specs.State.{State, ImpTurn, port_at}
 use Rattle.imp_node.specs.Arrival.{from_line, ignored}
 use Rattle.imp_channel.specs.Holding.{packets_in}
+use Rattle.imp_node.specs.Pump.{pump}
 use Rattle.imp_node.specs.Lines.{on_port, told_by, told_from, route, resent_by, resent_from, resend}
-use Rattle.imp_node.proofs.lemmas.{at_set, none_resent, pump_with, quiet_down, routes_again}
+use Rattle.imp_node.proofs.lemmas.{at_set, none_resent, pump_still, quiet_down, routes_again}
 use Rattle.subnet.specs.Net.{Net, Wire, no_wire, imp_at, wire_at, ends_at, port_of, line_places, line_from, followed_by, with_frame, put_on, put_one, put_all, with_turn, frames_on, far_end, without_at, dropping}
 use Rattle.subnet.specs.Events.{at_imp, delivered, deliver, drop_frame, refreshed, all_refreshed, carried, turn_of, all_turns, quiet_round}
-use Rattle.subnet.specs.Inside.Settled.{near_end, IsFree, IsStill, IsStillOn, IsSettled, is_silent, stores_nothing}
+use Rattle.subnet.specs.Inside.Settled.{near_end, IsFree, IsStill, IsStillOn, IsSettled, is_silent, waits_at}
 use Rattle.subnet.proofs.Calls.Resending.{all_resent}
 use Rattle.subnet.proofs.Calls.Resting.{rests_at}
+use Rattle.subnet.proofs.Calls.Stuck.{only_rests}
 use Rattle.subnet.proofs.Calls.Telling.{all_from, all_told, put_both}
 
 -- ---- lines without their frames
@@ -206,7 +208,7 @@ put_ports each n (port ∷ ports) lines i k s at ok still =
 
 -- ---- what an IMP announces
 
-heard_by : (s : State) (k q : ℕ) (o : Option State) → (port_at s.ports k).up ≡ true → IfSome o (λ t. length t.store ≡ 0) → IsStill (Some s) k o q
+heard_by : (s : State) (k q : ℕ) (o : Option State) → (port_at s.ports k).up ≡ true → IfSome o (λ t. pump [] t ≡ ignored t) → IsStill (Some s) k o q
     → Ignores o q (routes_frame (port_at s.ports k).line (vector_of s.routes))
 heard_by s k q None up waits still = tt
 heard_by s k q (Some t) up waits still = by (port_at t.ports q).up refl where
@@ -280,23 +282,23 @@ imp_puts turn outs n lines i s is only still =
       still = still;
     }
 
-imp_told : (n : Net) (lines : List Wire) (i : ℕ) (o : Option State) → IsSettled n → imp_at n.imps i ≡ o → IfSome o (λ s. length s.store ≡ 0) → AreStill n lines
+imp_told : (n : Net) (lines : List Wire) (i : ℕ) (o : Option State) → IsSettled n → imp_at n.imps i ≡ o → IfSome o (λ s. pump [] s ≡ ignored s) → AreStill n lines
     → Tells n (at_imp o i route (record n { lines = lines }))
 imp_told n lines i None settled is waits still = record { lines = lines; same = refl; still = still }
 imp_told n lines i (Some s) settled is waits still =
     let outs : List Outgoing = told_from (vector_of s.routes) 0 s.ports in
     let all : AreStill n (put_all lines i (all_from (told_by (vector_of s.routes)) 0 s.ports)) =
     put_ports (told_by (vector_of s.routes)) n s.ports lines i 0 s (λ j within. ap (port_at s.ports) (omega arith)) (λ others j ok. put_told n others i j s settled is ok) still in
-    imp_puts route outs n lines i s is (pump_with outs s waits) (subst (λ (os : List Outgoing). AreStill n (put_all lines i os)) (sym (all_told (vector_of s.routes) 0 s.ports)) all)
+    imp_puts route outs n lines i s is (pump_still outs s waits) (subst (λ (os : List Outgoing). AreStill n (put_all lines i os)) (sym (all_told (vector_of s.routes) 0 s.ports)) all)
 
-imp_resent : (n : Net) (lines : List Wire) (i : ℕ) (o : Option State) → IsSettled n → imp_at n.imps i ≡ o → IfSome o (λ s. length s.store ≡ 0) → AreStill n lines
+imp_resent : (n : Net) (lines : List Wire) (i : ℕ) (o : Option State) → IsSettled n → imp_at n.imps i ≡ o → IfSome o (λ s. pump [] s ≡ ignored s) → AreStill n lines
     → Tells n (at_imp o i resend (record n { lines = lines }))
 imp_resent n lines i None settled is waits still = record { lines = lines; same = refl; still = still }
 imp_resent n lines i (Some s) settled is waits still =
     let outs : List Outgoing = resent_from 0 s.ports in
     let all : AreStill n (put_all lines i (all_from resent_by 0 s.ports)) =
     put_ports resent_by n s.ports lines i 0 s (λ j within. ap (port_at s.ports) (omega arith)) (λ others j ok. put_resent n others i j s settled is ok) still in
-    imp_puts resend outs n lines i s is (pump_with outs s waits) (subst (λ (os : List Outgoing). AreStill n (put_all lines i os)) (sym (all_resent 0 s.ports)) all)
+    imp_puts resend outs n lines i s is (pump_still outs s waits) (subst (λ (os : List Outgoing). AreStill n (put_all lines i os)) (sym (all_resent 0 s.ports)) all)
 
 refreshed_still : (n : Net) (lines : List Wire) (i : ℕ) → IsSettled n → AreStill n lines → Tells n (refreshed (record n { lines = lines }) i)
 refreshed_still n lines i settled still =
@@ -501,21 +503,21 @@ silent_on : (d : Direction) (w : Wire) → is_silent w ≡ true → frames_on d 
 silent_on way.Forward w silent = no_length w.forward (and_true (length w.forward == 0) (length w.back == 0) silent).0
 silent_on way.Back w silent = no_length w.back (and_true (length w.forward == 0) (length w.back == 0) silent).1
 
-waiting_of : (o : Option State) → stores_nothing o ≡ true → IfSome o (λ s. length s.store ≡ 0)
+waiting_of : (o : Option State) → waits_at o ≡ true → IfSome o (λ s. pump [] s ≡ ignored s)
 waiting_of None none = tt
-waiting_of (Some s) none = eqb-true (length s.store) 0 none
+waiting_of (Some s) all = only_rests s all
 
 silent_at : (lines : List Wire) (l : ℕ) (d : Direction) → list_all is_silent lines ≡ true → frames_on d (wire_at lines l) ≡ []
 silent_at [] l d all = no_frames d
 silent_at (w ∷ ws) zero d all = silent_on d w (and_true (is_silent w) (list_all is_silent ws) all).0
 silent_at (w ∷ ws) (suc l) d all = silent_at ws l d (and_true (is_silent w) (list_all is_silent ws) all).1
 
-waiting_at : (imps : List (Option State)) (i : ℕ) → list_all stores_nothing imps ≡ true → IfSome (imp_at imps i) (λ s. length s.store ≡ 0)
+waiting_at : (imps : List (Option State)) (i : ℕ) → list_all waits_at imps ≡ true → IfSome (imp_at imps i) (λ s. pump [] s ≡ ignored s)
 waiting_at [] i all = tt
-waiting_at (o ∷ imps) zero all = waiting_of o (and_true (stores_nothing o) (list_all stores_nothing imps) all).0
-waiting_at (o ∷ imps) (suc i) all = waiting_at imps i (and_true (stores_nothing o) (list_all stores_nothing imps) all).1
+waiting_at (o ∷ imps) zero all = waiting_of o (and_true (waits_at o) (list_all waits_at imps) all).0
+waiting_at (o ∷ imps) (suc i) all = waiting_at imps i (and_true (waits_at o) (list_all waits_at imps) all).1
 
-pub round_rests : (n : Net) → list_all is_silent n.lines ≡ true → list_all stores_nothing n.imps ≡ true → ((l : ℕ) (d : Direction) → l < length n.lines → IsStillOn n l d) → quiet_round n ≡ n
+pub round_rests : (n : Net) → list_all is_silent n.lines ≡ true → list_all waits_at n.imps ≡ true → ((l : ℕ) (d : Direction) → l < length n.lines → IsStillOn n l d) → quiet_round n ≡ n
 round_rests n silent none still = settled_rests n record { empty = λ l d. silent_at n.lines l d silent; waits = λ i. waiting_at n.imps i none; still = still }
 
 -- an end that is down

@@ -111,6 +111,17 @@ abbrev pub Makes : ℕ → ImpCall → Net → Net → Result (Unit {0}) Carrier
 Makes i c old new r =
     CallEnds (at_up (imp_at old.imps i) (call_refusal c)) (grows_at (imp_at old.imps i) (call_grows c)) (λ done. new ≡ at_imp (imp_at old.imps i) i (call_turn c) old) old new r
 
+-- a call of the IMP of a place, if it is up; `frames` are those of what it gives
+abbrev pub MakesAt : {T : Type 0} → ImpCall → (T → List Outgoing) → Option State → Option State → Result T CarrierFault → Type 0
+MakesAt c frames old new r =
+    CallEnds (at_up old (call_refusal c)) (grows_at old (call_grows c)) (λ given. (new ≡ imp_by old (call_turn c)) × (frames given ≡ frames_by old (call_turn c))) old new r
+
+-- a call of IMP `i` among all
+abbrev pub MakesAmong : {T : Type 0} → ℕ → ImpCall → (T → List Outgoing) → List (Option State) → List (Option State) → Result T CarrierFault → Type 0
+MakesAmong i c frames old new r =
+    CallEnds (at_up (imp_at old i) (call_refusal c)) (grows_at (imp_at old i) (call_grows c))
+    (λ given. (new ≡ imps_by old i (imp_at old i) (call_turn c)) × (frames given ≡ frames_by (imp_at old i) (call_turn c))) old new r
+
 -- an event is refused, or gives the subnet that is `stepped`
 abbrev pub Steps : NetEvent → Net → Net → Result (Unit {0}) CarrierFault → Type 0
 Steps e old new r = CallEnds (step_refusal old e) (step_grows old e) (λ done. new ≡ stepped old e) old new r

@@ -1,11 +1,16 @@
--- A network in which a quiet round changes nothing: no frame is on a line, in no IMP a packet waits for a channel, and where both ends of a line
--- are up, each IMP heard last what the other would announce, and no packet waits for its acknowledgement. What is sent again then goes to ends
--- that are down, and is lost.
-use Rattle.std.specs.Prelude.{◌≡◌, ℕ, ◌<◌, ◌==◌, ◌&&◌, Bool, true, [], length, Option, Some, None, IfSome, slice_index_or}
+-- A network in which a quiet round changes nothing: no frame is on a line, a packet in an IMP's store waits for a line without a free channel, and
+-- where both ends of a line are up, each IMP heard last what the other would announce, and no packet waits for its acknowledgement. What is sent
+-- again then goes to ends that are down, and is lost, and no channel becomes free.
+use Rattle.std.specs.Prelude.{◌≡◌, ℕ, ◌<◌, ◌==◌, ◌&&◌, Bool, true, false, [], length, Option, Some, None, is_none, IfSome, position, slice_index_or}
+use Rattle.std.specs.List.{list_all}
 use Rattle.interface.specs.declared.event.Direction.{Direction}
 use Rattle.interface.specs.declared.event.Direction.TheVariants as way
-use Rattle.routing.specs.RouteTable.{vector_of}
+use Rattle.packetiser.specs.PacketFields.{PacketFields}
+use Rattle.routing.specs.RouteTable.{next_of, vector_of}
 use Rattle.imp_channel.specs.Holding.{packets_in}
+use Rattle.imp_channel.specs.Line.{is_free}
+use Rattle.imp_node.specs.Arrival.{ignored}
+use Rattle.imp_node.specs.Pump.{pump, target}
 use Rattle.imp_node.specs.State.{State, port_at}
 use Rattle.subnet.specs.Net.{Net, Wire, imp_at, wire_at, port_of, frames_on, far_end}
 
@@ -40,12 +45,29 @@ IsStillOn n l d =
 abbrev pub is_silent : Wire → Bool
 is_silent w = length w.forward == 0 && length w.back == 0
 
--- an IMP is down, or no packet waits in it for a channel
-abbrev pub stores_nothing : Option State → Bool
-stores_nothing None = true
-stores_nothing (Some s) = length s.store == 0
+-- no channel of an IMP's end of a line is free
+abbrev pub is_full_at : State → ℕ → Bool
+is_full_at s k = is_none (position is_free (port_at s.ports k).line.sending)
+
+-- the next line of a packet's route, if it has one, is such a line
+abbrev pub is_stuck_by : State → Option ℕ → Bool
+is_stuck_by s None = false
+is_stuck_by s (Some k) = is_full_at s k
+
+-- a packet that waits in an IMP can neither go nor be dropped
+abbrev pub is_stuck : State → PacketFields → Bool
+is_stuck s p = is_stuck_by s (next_of s.routes (target p))
+
+-- and so each that waits there
+abbrev pub only_waits : State → Bool
+only_waits s = list_all (is_stuck s) s.store
+
+-- an IMP is down, or all that waits in it is stuck
+abbrev pub waits_at : Option State → Bool
+waits_at None = true
+waits_at (Some s) = only_waits s
 
 pub record IsSettled (n : Net) : Type 0 where
   pub empty : (l : ℕ) (d : Direction) → frames_on d (wire_at n.lines l) ≡ []
-  pub waits : (i : ℕ) → IfSome (imp_at n.imps i) (λ s. length s.store ≡ 0)
+  pub waits : (i : ℕ) → IfSome (imp_at n.imps i) (λ s. pump [] s ≡ ignored s)
   pub still : (l : ℕ) (d : Direction) → l < length n.lines → IsStillOn n l d
