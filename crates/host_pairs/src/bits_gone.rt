@@ -1,12 +1,10 @@
 //! What the going out of data changes in the connections of a pair (NIC 8246, message format; ALL).
 
-ghost use Rattle.std.specs.Prelude.{◌≡◌, ◌<◌, ◌≤◌, ◌∷◌, [], IfOk, OnErr, OnOk, drop, length, take};
-ghost use Rattle.host_pairs.specs.Commands.{changed};
+ghost use Rattle.std.specs.Prelude.{◌≡◌, ◌<◌, ◌≤◌, IfOk, OnErr, OnOk, drop, length, take};
 ghost use Rattle.host_pairs.specs.Entries.{changed_first};
 ghost use Rattle.host_pairs.specs.Outgoing.{end_at};
-ghost use Rattle.host_pairs.specs.Desk.{desk_told};
+ghost use Rattle.host_pairs.specs.Inside.Clauses.{bits_left};
 ghost use Rattle.host_pairs.specs.Parcels as parcels;
-ghost use Rattle.host_pairs.specs.declared.notice.Notice.TheVariants as notice;
 
 use crate::Notice;
 use crate::desk::Desk;
@@ -112,7 +110,7 @@ impl Desk {
         bits: u32,
     ) -> Result<(), AllocError>
         requires { at < length self.old.entries }
-        ensures { OnOk result (self.new ≡ desk_told (notice.Sent (end_at self.old.entries at).own (take bits (end_at self.old.entries at).bits) ∷ []) (changed (parcels.may_send_on busy.now (parcels.link_of (end_at self.old.entries at).link)) (parcels.bits_gone bits) self.old)) }
+        ensures { OnOk result (self.new ≡ bits_left busy.now at bits self.old) }
     {
         let entry = &self.entries.as_slice()[at];
         let socket = entry.own;

@@ -7,6 +7,7 @@ ghost use Rattle.host_pairs.specs.Turn as turns;
 ghost use Rattle.host_pairs.specs.Control.{Wrong, error, orders_in, orders_of, orders_within};
 ghost use Rattle.host_pairs.specs.Control as errors;
 ghost use Rattle.host_pairs.specs.Desk.{command_queued};
+ghost use Rattle.host_pairs.specs.Inside.Clauses.{LeavesOrders};
 
 use crate::commands::ERRONEOUS;
 use crate::turn::Turn;
@@ -62,7 +63,7 @@ impl Turn {
         octets: &[u8],
     ) -> Result<usize, AllocError>
         requires { 0 < length octets.now }
-        ensures first { IfOk result (λ read. (more : ℕ) → turns.orders_taken peer stamp (orders_within (1 + more) octets.now) self.old ≡ turns.orders_taken peer stamp (orders_within more (drop read octets.now)) self.new) }
+        ensures first { IfOk result (LeavesOrders peer stamp octets.now self.old self.new) }
         ensures said { IfOk result (λ read. (more : ℕ) → said_by peer stamp (orders_within more (drop read octets.now)) self.new ≤ said_by peer stamp (orders_within (1 + more) octets.now) self.old) }
         ensures memory { OnErr result ((more : ℕ) → 0 < said_by peer stamp (orders_within (1 + more) octets.now) self.old) }
         ensures some { IfOk result (λ read. 0 < read) }

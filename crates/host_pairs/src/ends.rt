@@ -8,6 +8,7 @@ ghost use Rattle.host_pairs.specs.Data.{spent};
 ghost use Rattle.host_pairs.specs.Parcels.{asked_at, cls_sent};
 ghost use Rattle.host_pairs.specs.Entries.{is_at, entry_at, sends_on, receives_on, is_mine_on, changed_first, changed_at, closed_by_partner, is_due, must_close, closed_when, cls_of, is_over, ending};
 ghost use Rattle.host_pairs.specs.Entries.{free_link};
+ghost use Rattle.host_pairs.specs.Inside.Clauses.{IsFoundAt};
 
 use crate::Notice;
 use crate::entry::{Closing, Entry};
@@ -21,7 +22,7 @@ use std::alloc::{AllocError, Global};
 /// Returns the place of the end of two sockets.
 pub(crate) fn place(entries: &[Entry], own: u32, foreign: u32) -> Option<usize>
     ensures place { result ≡ position (is_at own foreign) entries.now }
-    ensures found { MatchOption result (entry_at own foreign entries.now ≡ None) (λ at. (d : Entry) → entry_at own foreign entries.now ≡ Some (slice_index_or entries.now at d)) }
+    ensures found { IsFoundAt (is_at own foreign) entries.now result }
 {
     first_place(entries, own, foreign)
 }
@@ -36,7 +37,7 @@ fn first_place(entries: &[Entry], own: u32, foreign: u32) -> Option<usize>
 /// Returns the place of the end that sends on a link.
 pub(crate) fn sender_place(entries: &[Entry], link: u8) -> Option<usize>
     ensures place { result ≡ position (sends_on link) entries.now }
-    ensures found { MatchOption result (find (sends_on link) entries.now ≡ None) (λ at. (d : Entry) → find (sends_on link) entries.now ≡ Some (slice_index_or entries.now at d)) }
+    ensures found { IsFoundAt (sends_on link) entries.now result }
 {
     first_sender(entries, link)
 }
@@ -51,7 +52,7 @@ fn first_sender(entries: &[Entry], link: u8) -> Option<usize>
 /// Returns the place of the end that receives on a link.
 pub(crate) fn receiver_place(entries: &[Entry], link: u8) -> Option<usize>
     ensures place { result ≡ position (receives_on link) entries.now }
-    ensures found { MatchOption result (find (receives_on link) entries.now ≡ None) (λ at. (d : Entry) → find (receives_on link) entries.now ≡ Some (slice_index_or entries.now at d)) }
+    ensures found { IsFoundAt (receives_on link) entries.now result }
 {
     first_receiver(entries, link)
 }

@@ -9,6 +9,7 @@ ghost use Rattle.host_pairs.specs.Commands.{asked_on_link, asked_with_size, gran
 ghost use Rattle.host_pairs.specs.Data.{spent};
 ghost use Rattle.host_pairs.specs.Entries.{called_off, changed_at, changed_first, closed_by_partner, closed_when, cls_of, ending};
 ghost use Rattle.host_pairs.specs.Entries.{entry_at, is_at, is_due, is_mine_on, is_over, must_close, receives_on, sends_on};
+ghost use Rattle.host_pairs.specs.Inside.Clauses.{IsFoundAt};
 ghost use Rattle.host_pairs.specs.Inside.Held.{AreHeld, has_bits, is_where, none_but, waits};
 ghost use Rattle.host_pairs.specs.Outgoing.{end_at};
 ghost use Rattle.host_pairs.specs.Parcels as parcels;
@@ -224,7 +225,7 @@ impl Ends {
     /// Returns the place of the end of two sockets.
     pub(crate) fn place(&self, own: u32, foreign: u32) -> Option<usize>
         ensures place { result ≡ position (is_at own foreign) self.now }
-        ensures found { MatchOption result (entry_at own foreign self.now ≡ None) (λ at. (d : Entry) → entry_at own foreign self.now ≡ Some (slice_index_or self.now at d)) }
+        ensures found { IsFoundAt (is_at own foreign) self.now result }
     {
         self.first_place(own, foreign)
     }

@@ -3,6 +3,7 @@
 
 ghost use Rattle.std.specs.Prelude.{◌≡◌, ◌==◌, ◌&&◌, not, if◌then◌else◌, length, MatchOption, IfSome, Some, None, List, filter, find, is_some, position, slice_index_or};
 ghost use Rattle.std.specs.Bool.{OnFalse, OnTrue};
+ghost use Rattle.host_pairs.specs.Inside.Clauses.{IsFoundAt};
 ghost use Rattle.host_pairs.specs.Outgoing.{HasRoom, IsThere, parcel_of};
 ghost use Rattle.host_pairs.specs.Parcels as parcels;
 ghost use Rattle.host_pairs.specs.Parcels.{may_send_on};
@@ -123,7 +124,7 @@ fn is_lower(link: u8, other: Option<u8>) -> bool
 /// The place of the end that may send now on a link.
 pub(crate) fn sending_place(entries: &[Entry], busy: &[u8], link: u8) -> Option<usize>
     ensures place { result ≡ position (may_send_on busy.now link) entries.now }
-    ensures found { MatchOption result (find (may_send_on busy.now link) entries.now ≡ None) (λ at. (d : Entry) → find (may_send_on busy.now link) entries.now ≡ Some (slice_index_or entries.now at d)) }
+    ensures found { IsFoundAt (may_send_on busy.now link) entries.now result }
 {
     first_sending(entries, busy, link)
 }

@@ -2,7 +2,8 @@
 
 ghost use Rattle.std.specs.Prelude.{◌≡◌, ◌++◌, ◌<◌, ◌∷◌, ◌*◌, OnOk, length};
 ghost use Rattle.host_pairs.specs.Gone.{desk_after, gone_with, left_with};
-ghost use Rattle.host_pairs.specs.Outgoing.{IsThere, end_at, parcel_of};
+ghost use Rattle.host_pairs.specs.Inside.Clauses.{bytes_left};
+ghost use Rattle.host_pairs.specs.Outgoing.{IsThere, parcel_of};
 ghost use Rattle.host_pairs.specs.Parcels as parcels;
 
 use crate::outgoing::Outgoing;
@@ -38,7 +39,7 @@ impl Turn {
         count: u16,
     ) -> Result<(), AllocError>
         requires { at < length self.old.pair.entries }
-        ensures { OnOk result (self.new ≡ left_with (parcels.Bytes (end_at self.old.pair.entries at) size count) self.old (desk_after peer stamp (parcels.Bytes (end_at self.old.pair.entries at) size count) self.old)) }
+        ensures { OnOk result (self.new ≡ bytes_left peer stamp at size count self.old) }
     {
         let mut desk = self.desk(alloc);
         desk.bits_gone(alloc, &self.pair.busy, at, size as u32 * count as u32)?;
