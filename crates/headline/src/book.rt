@@ -18,7 +18,7 @@ use net_sim::{Book, World};
 ///
 /// By `lawful` the book says what the programs of all hosts make of what crossed and of what their users asked for (`IsLawful`).
 /// Data that were taken where they came for a receiving life arrived there, all of them, if its end was open or no user of its host had closed it
-/// (`arrives`). Where a host gets RFNM of data, they were taken at an earlier moment, once (`answered`): so it means that they arrived, unless the
+/// (`arrives`), and what was taken on the link of a sending life came for the one that it matches (`comes`). Where a host gets RFNM of data, they were taken at an earlier moment, once (`answered`): so it means that they arrived, unless the
 /// receiving end was closing or gone. And a receiving life whose end its partner has
 /// closed, and no user of its host, took all that its partner sent (`closes`), also once it is over. It took all that was handed over in the life that it
 /// matches, if that had begun when the CLS was taken (`handed`), since a sender that closes first has sent all of that (`drained`). A receiving life whose

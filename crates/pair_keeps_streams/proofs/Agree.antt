@@ -1,15 +1,15 @@
 -- Two programs that have nothing more to say to one another agree on what each connection may still carry.
-use Rattle.std.proofs.Common.{◌≡◌, inl, inr, ℕ, ◌&&◌, ◌||◌, not, Bool, true, false, List, [], ◌∷◌, find, map, Option, Some, None, is_some, refl, ap, sym, subst, ◌∙◌, arith}
+use Rattle.std.proofs.Common.{◌≡◌, ◌⊎◌, inl, inr, ℕ, ◌&&◌, ◌||◌, not, Bool, true, false, List, [], ◌∷◌, find, map, Option, Some, None, is_some, refl, ap, sym, subst, ◌∙◌, arith}
 use Rattle.ncp_control.specs.declared.command.Command.{Command}
 use Rattle.stream_law.specs.Agreed.{AreAgreed, IsAtRest}
 use Rattle.stream_law.specs.Receivers.{Receiver}
-use Rattle.stream_law.specs.Streams.{Stream}
+use Rattle.stream_law.specs.Streams.{Stream, Waiting}
 use Rattle.stream_law.specs.Within.{waiting_in}
 use Rattle.stream_law.specs.Words.{Word}
 use Rattle.stream_law.proofs.lemmas.{agreed_of}
 use Rattle.host_pairs.specs.Entries.{entry_at, has_cls, is_at, is_link, is_open, is_receiving, receives_on, sends_on}
 use Rattle.host_pairs.specs.declared.entry.Entry.{Entry}
-use Rattle.host_keeps_streams.specs.Ends.{has_opened, IsReceiver, IsSender}
+use Rattle.host_keeps_streams.specs.Ends.{has_opened, IsLeaving, IsReceiver, IsSender}
 use Rattle.host_keeps_streams.specs.Histories.{IsTelling}
 use Rattle.host_keeps_streams.specs.Names.{named}
 use Rattle.host_keeps_streams.proofs.lemmas.{leaving_shut, name_of, open_same, open_same_senders, own_name, own_receiver, unlike}
@@ -62,38 +62,11 @@ pub record OfOne (number other : ℕ → ℕ → ℕ → ℕ) (a b : Party) (tak
   pub giver_found : entry_at foreign own b.entries ≡ Some giver
   pub same : name_of number a.gone own foreign ≡ name_of other b.gone foreign own
   pub receiving : is_receiving taker ≡ true
-  pub taker_open : is_open taker ≡ true
-  pub giver_opened : has_opened giver ≡ true
 
-module _ (number other : ℕ → ℕ → ℕ → ℕ) (tells : IsTelling number) (others : IsTelling other) (same : (own foreign g : ℕ) → other own foreign g ≡ number foreign own g) (link : ℕ) (x y : Stream) (a b : Party) (j : Joint number other tells others link x y a b) (here : a.stays ≡ true) (there : b.stays ≡ true)
-    (taker giver : Entry) (o : OfOne number other a b taker giver) (silent : a.pending ≡ []) (quiet : b.pending ≡ []) (sends : sends_on link giver ≡ true) where
-  -- each has heard as many CLS as the other has said, so the giver's end is open too
-  gone_same : a.gone o.own o.foreign ≡ b.gone o.foreign o.own
-  gone_same = tells.gone o.own o.foreign (a.gone o.own o.foreign) o.own o.foreign (b.gone o.foreign o.own) (o.same ∙ same o.foreign o.own (b.gone o.foreign o.own))
-
-  unsaid : has_cls giver.closing ≡ false
-  unsaid =
-      count_same (b.gone o.foreign o.own) (has_cls giver.closing) taker.partner_closed
-      (ap (λ (e : Option Entry). counted (has_said e) (b.gone o.foreign o.own)) (sym o.giver_found) ∙ j.told_a here there o.foreign o.own ∙ ap (λ (cs : List Command). closings_in cs (heard_by a) o.foreign o.own) quiet
-      ∙ ap (λ (e : Option Entry). counted (has_heard e) (a.gone o.own o.foreign)) o.taker_found ∙ ap (λ (g : ℕ). counted taker.partner_closed g) gone_same)
-      ∙ (open_parts taker o.taker_open).unheard
-
-  unheard : giver.partner_closed ≡ false
-  unheard =
-      sym (count_same (a.gone o.own o.foreign) (has_cls taker.closing) giver.partner_closed
-      (ap (λ (e : Option Entry). counted (has_said e) (a.gone o.own o.foreign)) (sym o.taker_found) ∙ j.told_b here there o.own o.foreign ∙ ap (λ (cs : List Command). closings_in cs (heard_by b) o.own o.foreign) silent
-      ∙ ap (λ (e : Option Entry). counted (has_heard e) (b.gone o.foreign o.own)) o.giver_found ∙ ap (λ (g : ℕ). counted giver.partner_closed g) (sym gone_same)))
-      ∙ (open_parts taker o.taker_open).unsaid
-
-  giver_open : is_open giver ≡ true
-  giver_open = rw (unsaid, unheard) (by (is_some giver.asked) (is_some giver.partner) o.giver_opened) where
-    by : (u v : Bool) → (u && v) ≡ true → (u && v && true) ≡ true
-    by true true e = refl
-    by true false e = e
-    by false v e = e
-
+module _ (number other : ℕ → ℕ → ℕ → ℕ) (tells : IsTelling number) (others : IsTelling other) (link : ℕ) (x y : Stream) (a b : Party) (j : Joint number other tells others link x y a b) (here : a.stays ≡ true) (there : b.stays ≡ true)
+    (taker giver : Entry) (o : OfOne number other a b taker giver) (sends : sends_on link giver ≡ true) where
   -- the connection
-  abbrev pub c : ℕ
+  abbrev c : ℕ
   c = named (name_of number a.gone) taker
 
   taker_name : named (name_of number a.gone) taker ≡ name_of number a.gone o.own o.foreign
@@ -111,47 +84,86 @@ module _ (number other : ℕ → ℕ → ℕ → ℕ) (tells : IsTelling number)
   theirs : Half other others link y.receiver x.sender b
   theirs = j.theirs there
 
-  gives : IsSender (named (name_of other b.gone) giver) giver x.sender
-  gives = elim (own_senders.own_sender (name_of other b.gone) link (is_at o.foreign o.own) (λ z. z) giver b.entries x.sender o.giver_found sends sends theirs.holds.sent.here).0 [
-    | inl is ↦ is
-    | inr n ↦ absurd (unlike (is_open giver) giver_open (leaving_shut giver x.sender n))
+  ends : IsSender (named (name_of other b.gone) giver) giver x.sender ⊎ IsLeaving giver x.sender
+  ends = (own_senders.own_sender (name_of other b.gone) link (is_at o.foreign o.own) (λ z. z) giver b.entries x.sender o.giver_found sends sends theirs.holds.sent.here).0
+
+  sender_end : IsSender (named (name_of other b.gone) giver) giver x.sender → x.sender.end ≡ Some (named (name_of number a.gone) taker)
+  sender_end gives = gives.end ∙ ap (λ (n : ℕ). Some n) names
+
+  -- the taker's end has the giver's link
+  linked_by : IsSender (named (name_of other b.gone) giver) giver x.sender → is_link link taker.link ≡ true
+  linked_by gives =
+      sym (asked_at_link (name_of number a.gone) link a.entries x.receiver (is_at o.own o.foreign) taker mine.linked o.taker_found o.receiving) ∙ j.inv_x.heard (named (name_of number a.gone) taker) (sender_end gives)
+
+  -- while data wait, which no end that leaves has sent
+  pub linked_waiting : (k z : ℕ) (bits : List Bool) → x.box ≡ Waiting k z bits → is_link link taker.link ≡ true
+  linked_waiting k z bits e = elim ends [
+    | inl gives ↦ linked_by gives
+    | inr n ↦ (let w : (x.sender.end ≡ Some k) × (x.sender.opened ≡ true) × (x.sender.closed k ≡ false) × (x.sender.size k ≡ Some z) = rw e at j.inv_x.waiting in absurd (unlike (x.sender.closed k) (n.none k w.0 w.1) w.2))
   ]
 
-  sender_end : x.sender.end ≡ Some (named (name_of number a.gone) taker)
-  sender_end = gives.end ∙ ap (λ (n : ℕ). Some n) names
+  module _ (same : (own foreign g : ℕ) → other own foreign g ≡ number foreign own g) (taker_open : is_open taker ≡ true) (giver_opened : has_opened giver ≡ true) (silent : a.pending ≡ []) (quiet : b.pending ≡ []) where
+    -- each has heard as many CLS as the other has said, so the giver's end is open too
+    gone_same : a.gone o.own o.foreign ≡ b.gone o.foreign o.own
+    gone_same = tells.gone o.own o.foreign (a.gone o.own o.foreign) o.own o.foreign (b.gone o.foreign o.own) (o.same ∙ same o.foreign o.own (b.gone o.foreign o.own))
 
-  -- so the taker's end has the giver's link
-  pub linked : is_link link taker.link ≡ true
-  linked =
-      sym (asked_at_link (name_of number a.gone) link a.entries x.receiver (is_at o.own o.foreign) taker mine.linked o.taker_found o.receiving) ∙ j.inv_x.heard (named (name_of number a.gone) taker) sender_end
+    unsaid : has_cls giver.closing ≡ false
+    unsaid =
+        count_same (b.gone o.foreign o.own) (has_cls giver.closing) taker.partner_closed
+        (ap (λ (e : Option Entry). counted (has_said e) (b.gone o.foreign o.own)) (sym o.giver_found) ∙ j.told_a here there o.foreign o.own ∙ ap (λ (cs : List Command). closings_in cs (heard_by a) o.foreign o.own) quiet
+        ∙ ap (λ (e : Option Entry). counted (has_heard e) (a.gone o.own o.foreign)) o.taker_found ∙ ap (λ (g : ℕ). counted taker.partner_closed g) gone_same)
+        ∙ (open_parts taker taker_open).unheard
 
-  receives : receives_on link taker ≡ true
-  receives = rw (o.receiving, linked) refl
+    unheard : giver.partner_closed ≡ false
+    unheard =
+        sym (count_same (a.gone o.own o.foreign) (has_cls taker.closing) giver.partner_closed
+        (ap (λ (e : Option Entry). counted (has_said e) (a.gone o.own o.foreign)) (sym o.taker_found) ∙ j.told_b here there o.own o.foreign ∙ ap (λ (cs : List Command). closings_in cs (heard_by b) o.own o.foreign) silent
+        ∙ ap (λ (e : Option Entry). counted (has_heard e) (b.gone o.foreign o.own)) o.giver_found ∙ ap (λ (g : ℕ). counted giver.partner_closed g) (sym gone_same)))
+        ∙ (open_parts taker taker_open).unsaid
 
-  takes : IsReceiver (named (name_of number a.gone) taker) taker x.receiver
-  takes = (own_receiver (name_of number a.gone) link (is_at o.own o.foreign) (λ z. z) taker a.entries x.receiver o.taker_found receives receives mine.holds.received).0
+    giver_open : is_open giver ≡ true
+    giver_open = rw (unsaid, unheard) (by (is_some giver.asked) (is_some giver.partner) giver_opened) where
+      by : (u v : Bool) → (u && v) ≡ true → (u && v && true) ≡ true
+      by true true e = refl
+      by true false e = e
+      by false v e = e
 
-  module _ (box : waiting_in x.box ≡ []) where
-    to_sender : x.to_sender ≡ []
-    to_sender = no_words x.to_sender ((j.to_b there).received ∙ ap (λ (cs : List Command). receiver_words number link x.receiver.asked (heard_by b) cs) silent)
+    gives : IsSender (named (name_of other b.gone) giver) giver x.sender
+    gives = elim ends [
+      | inl is ↦ is
+      | inr n ↦ absurd (unlike (is_open giver) giver_open (leaving_shut giver x.sender n))
+    ]
 
-    to_receiver : x.to_receiver ≡ []
-    to_receiver = no_words x.to_receiver ((j.to_a here).sent ∙ ap (λ (cs : List Command). sender_words other link (heard_by a) cs) quiet)
+    pub linked : is_link link taker.link ≡ true
+    linked = linked_by gives
 
-    rest : IsAtRest x (named (name_of number a.gone) taker)
-    rest = record {
-      receiver = takes.end;
-      receives = open_same (named (name_of number a.gone) taker) taker x.receiver takes ∙ o.taker_open;
-      sender = sender_end;
-      sends = open_same_senders (named (name_of number a.gone) taker) giver x.sender
-          (record { end = sender_end; opened = gives.opened; shut = gives.shut; closed = ap x.sender.closed (sym names) ∙ gives.closed; size = ap x.sender.size (sym names) ∙ gives.size; allocation = gives.allocation; live = gives.live }) ∙ giver_open;
-      to_sender = to_sender;
-      to_receiver = to_receiver;
-      box = box;
-    }
+    receives : receives_on link taker ≡ true
+    receives = rw (o.receiving, linked) refl
 
-    pub agree : AreAgreed x (named (name_of number a.gone) taker)
-    agree = agreed_of true x (named (name_of number a.gone) taker) j.inv_x (j.exact_x here there) rest
+    takes : IsReceiver (named (name_of number a.gone) taker) taker x.receiver
+    takes = (own_receiver (name_of number a.gone) link (is_at o.own o.foreign) (λ z. z) taker a.entries x.receiver o.taker_found receives receives mine.holds.received).0
 
-    pub counters : giver.allocation ≡ taker.allocation
-    counters = sym gives.allocation ∙ agree.allocation ∙ takes.allocation
+    module _ (box : waiting_in x.box ≡ []) where
+      to_sender : x.to_sender ≡ []
+      to_sender = no_words x.to_sender ((j.to_b there).received ∙ ap (λ (cs : List Command). receiver_words number link x.receiver.asked (heard_by b) cs) silent)
+
+      to_receiver : x.to_receiver ≡ []
+      to_receiver = no_words x.to_receiver ((j.to_a here).sent ∙ ap (λ (cs : List Command). sender_words other link (heard_by a) cs) quiet)
+
+      rest : IsAtRest x (named (name_of number a.gone) taker)
+      rest = record {
+        receiver = takes.end;
+        receives = open_same (named (name_of number a.gone) taker) taker x.receiver takes ∙ taker_open;
+        sender = sender_end gives;
+        sends = open_same_senders (named (name_of number a.gone) taker) giver x.sender
+            (record { end = sender_end gives; opened = gives.opened; shut = gives.shut; closed = ap x.sender.closed (sym names) ∙ gives.closed; size = ap x.sender.size (sym names) ∙ gives.size; allocation = gives.allocation; live = gives.live }) ∙ giver_open;
+        to_sender = to_sender;
+        to_receiver = to_receiver;
+        box = box;
+      }
+
+      pub agree : AreAgreed x (named (name_of number a.gone) taker)
+      agree = agreed_of true x (named (name_of number a.gone) taker) j.inv_x (j.exact_x here there) rest
+
+      pub counters : giver.allocation ≡ taker.allocation
+      counters = sym gives.allocation ∙ agree.allocation ∙ takes.allocation

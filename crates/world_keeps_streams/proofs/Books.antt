@@ -7,6 +7,7 @@ pub mod Arrives
 pub mod Books
 pub mod Clauses
 pub mod Closes
+pub mod Comes
 pub mod Counts
 pub mod Ended
 pub mod Firsts
@@ -14,6 +15,8 @@ pub mod Given
 pub mod Goes
 pub mod Handed
 pub mod Later
+pub mod Lies
+pub mod One
 pub mod Parted
 pub mod Run
 pub mod Source

@@ -18,7 +18,7 @@ ghost use Rattle.world_keeps_lives.specs.Firsts.{FirstBook};
 ghost use Rattle.world_keeps_streams.specs.Worked.{close_back, ended_moments, over_eight, over_gave, quit_moments, stopped_moments, took, took_eight};
 ghost use Rattle.world_keeps_streams.specs.Worked.{giving_end, granted_moments, granted_more, granting_moments, left_at, returned_moments, returning_moments, taking_end};
 ghost use Rattle.world_keeps_streams.specs.Answered.{AllAnswered, HasArrived};
-ghost use Rattle.world_keeps_streams.specs.Arrivals.{AllArrive, Arrives, ComesFor};
+ghost use Rattle.world_keeps_streams.specs.Arrivals.{AllArrive, AllCome, Arrives, ComesBetween, ComesFor};
 ghost use Rattle.world_keeps_streams.specs.Calls.{own_calls, numbered_by_peer};
 ghost use Rattle.world_keeps_streams.specs.Rests.{Agree, AllAgree, AllRest, AreAtRest, AreSettled};
 ghost use Rattle.world_keeps_lives.specs.WorkedFormed.{gave};
@@ -76,6 +76,9 @@ pub fn lives()
     // data that are taken where they come for a receiving life whose end is open, or that no user of its host has closed, arrive there, all of them
     ensures arrives { LivesArrives }
 
+    // and what is taken on the link of a sending life comes for the receiving life that it matches, if neither is over
+    ensures comes { (hosts : List Host) (moments : List Moment) → HaveAddresses hosts → mail.IsRun hosts (crossings_of moments) → IsTimeline hosts moments → AllCome moments }
+
     // where a host gets RFNM of data, they were taken at an earlier moment, once, and arrived there if they came for such a life
     ensures answered { LivesAnswered }
 
@@ -97,6 +100,7 @@ pub fn worlds<C: Carrier>()
     ensures handed { (hosts : List Host) (w : WorldState C) → (lawful : IsLawful C.calls.seen hosts w) → AllHanded lawful.whole.moments }
     ensures firsts { (hosts : List Host) (w : WorldState C) → IsLawful C.calls.seen hosts w → FirstBook w.kept.book.crossings w.kept.book.lives }
     ensures arrives { (hosts : List Host) (w : WorldState C) → (lawful : IsLawful C.calls.seen hosts w) → AllArrive lawful.whole.moments }
+    ensures comes { (hosts : List Host) (w : WorldState C) → (lawful : IsLawful C.calls.seen hosts w) → AllCome lawful.whole.moments }
     ensures answered { (hosts : List Host) (w : WorldState C) → (lawful : IsLawful C.calls.seen hosts w) → AllAnswered lawful.whole.moments }
     ensures rests { (hosts : List Host) (w : WorldState C) → (lawful : IsLawful C.calls.seen hosts w) → AllRest lawful.whole.moments }
     ensures agree { (hosts : List Host) (w : WorldState C) → (lawful : IsLawful C.calls.seen hosts w) → AllAgree lawful.whole.moments }
@@ -111,6 +115,13 @@ pub fn worked_arrivals()
     // where its user has closed the end, they don't come for the life, though it continues; and nobody is notified of them
     ensures closing { ComesFor eight_sent (Asked dialogue.first (request.Close 16) ∷ bits_sent) took → ⊥ }
     ensures dropped { notices_by (Crossed (crossing.In eight_sent)) (Asked dialogue.first (request.Close 16) ∷ bits_sent) ≡ [] }
+
+    // they come from the sending life that it matches: no message on another link or from another host does, and none once its user has closed
+    ensures between { ComesBetween eight_sent bits_sent took gave }
+    ensures link { ComesBetween (dialogue.message dialogue.second dialogue.first 3 []) bits_sent took gave → ⊥ }
+    ensures host { ComesBetween (dialogue.message dialogue.first dialogue.second 2 []) bits_sent took gave → ⊥ }
+    ensures unclosed { ComesBetween eight_sent (Asked dialogue.first (request.Close 16) ∷ bits_sent) took gave → ⊥ }
+    ensures itself { ComesBetween eight_sent bits_sent took took → ⊥ }
 {}
 
 /// RFNM of data: of eight bits that arrived.

@@ -1,25 +1,21 @@
 -- Lives at rest whose ends are open, and between whose hosts no command is on its way, agree on what may still be sent.
-use Rattle.std.proofs.Common.{◌≡◌, inl, inr, ℕ, zero, suc, ◌==◌, Bool, true, false, List, [], ◌∷◌, ◌++◌, length, Option, Some, None, refl, ap, sym, subst, ◌∙◌, eq-eqb, arith}
+use Rattle.std.proofs.Common.{◌≡◌, ℕ, zero, suc, ◌==◌, Bool, true, false, List, [], ◌++◌, length, Some, refl, ap, sym, subst, ◌∙◌, arith}
 use Rattle.std.proofs.lemmas.Bool.{eqb-true}
 use Rattle.interface.specs.Calls.{Seen}
 use Rattle.interface.specs.Host.{Host}
 use Rattle.interface.specs.Mailboxes as mail
 use Rattle.interface.specs.Mailboxes.{box_of}
-use Rattle.ncp_control.specs.Numbers.{is_receive_socket, is_send_socket}
 use Rattle.ncp_control.specs.declared.allocation.Allocation.{Allocation}
 use Rattle.ncp_control.specs.declared.command.Command.{Command}
 use Rattle.stream_law.specs.Agreed.{AreAgreed}
 use Rattle.stream_law.specs.Receivers.{Receiver}
 use Rattle.stream_law.specs.Within.{message_bits}
-use Rattle.host_pairs.specs.Entries.{entry_at, is_at, is_link, is_mine_on, is_receiving, sends_on}
-use Rattle.host_pairs.specs.declared.entry.Entry.{Entry}
+use Rattle.host_pairs.specs.Entries.{is_link, sends_on}
 use Rattle.host_pairs.proofs.lemmas.{both}
-use Rattle.host_keeps_streams.specs.Histories.{gone_now, numbered}
-use Rattle.host_keeps_streams.proofs.lemmas.{name_of, numbered_tells}
-use Rattle.pair_keeps_streams.proofs.lemmas.{AreSeparate, OfOne, agree, counters, linked, separate}
-use Rattle.pairing_law.specs.Links.{receiver, sender}
-use Rattle.pairing_law.specs.Marks.{Asks}
-use Rattle.pairing_law.proofs.lemmas.{Joined as Paired, asks_once, asks_said}
+use Rattle.host_keeps_streams.specs.Ends.{has_opened}
+use Rattle.host_keeps_streams.specs.Histories.{numbered}
+use Rattle.host_keeps_streams.proofs.lemmas.{numbered_tells}
+use Rattle.pair_keeps_streams.proofs.lemmas.{OfOne, agree, counters, linked}
 use Rattle.reset_law.specs.Boxes.{boxes}
 use Rattle.reset_law.specs.Stays as stay
 use Rattle.sockets.specs.Pairs.{pair_with}
@@ -28,58 +24,24 @@ use Rattle.net_sim.specs.Story.{Moment, events_of, program}
 use Rattle.net_sim.specs.Timeline.{crossings_of, seen_box}
 use Rattle.net_sim.specs.World.{WorldState}
 use Rattle.net_sim.proofs.lemmas.{box_same, flow_of}
-use Rattle.promise.specs.Safe.{Name, control_flow, named, own_request}
+use Rattle.promise.specs.Safe.{control_flow}
 use Rattle.promise.specs.declared.life.Life.{Life}
 use Rattle.world_keeps_lives.specs.Lives.{AddsUp}
 use Rattle.world_keeps_lives.proofs.lemmas.{linked_end}
-use Rattle.world_keeps_pairing.specs.Free.{law_events, origin_in, place_or}
-use Rattle.world_keeps_pairing.specs.Steps.{steps}
-use Rattle.world_keeps_pairing.proofs.lemmas.{IsPair, book_run, send_odd}
-use Rattle.world_keeps_streams.specs.Calls.{numbered_by_peer, own_calls}
+use Rattle.world_keeps_pairing.proofs.lemmas.{book_run}
+use Rattle.world_keeps_streams.specs.Calls.{numbered_by_peer}
 use Rattle.world_keeps_streams.specs.Rests.{Agree, AllAgree, AreSettled, NoneWaits}
-use Rattle.world_keeps_streams.proofs.Books.Arrives.{end_at, rest_lawful, unlike}
+use Rattle.world_keeps_streams.proofs.Books.Arrives.{rest_lawful}
 use Rattle.world_keeps_streams.proofs.Books.Closes as closes
 use Rattle.world_keeps_streams.proofs.Books.Firsts.{together}
-use Rattle.world_keeps_streams.proofs.Books.Given.{counts}
+use Rattle.world_keeps_streams.proofs.Books.One as one
+use Rattle.world_keeps_streams.proofs.Books.One.{HasPartner}
 use Rattle.world_keeps_streams.proofs.Books.Streams.{all_bits_length}
 use Rattle.world_keeps_streams.proofs.Books.Whole.{GoesOn, PresentR, Whole}
-use Rattle.world_keeps_streams.proofs.Deeds.Effects.{Among}
-use Rattle.world_keeps_streams.proofs.Requests.Now.{heard_now}
-use Rattle.world_keeps_streams.proofs.Requests.Sides.{Heard, Lawful, Own, law_joined}
+use Rattle.world_keeps_streams.proofs.Requests.Sides.{Heard, Lawful, Own}
 use Rattle.world_keeps_streams.proofs.Steps.Joined.{Joined, commands_in, party, turned_tells}
 
 -- ---- small facts
-
--- an end among those of a pair is found by its sockets
-among_found : (own foreign : ℕ) (e : Entry) (es : List Entry) → AreSeparate es → is_at own foreign e ≡ true → Among e es → entry_at own foreign es ≡ Some e
-among_found own foreign e [] a t i = absurd i
-among_found own foreign e (z ∷ zs) a t i = by (is_at own foreign z) refl i (among_found own foreign e zs a.1 t) where
-  none : is_at own foreign z ≡ true → entry_at own foreign zs ≡ None
-  none h =
-      let p : ((z.own == own) ≡ true) × ((z.foreign == foreign) ≡ true) = both (z.own == own) (z.foreign == foreign) h in
-      subst (λ (n : ℕ). entry_at n foreign zs ≡ None) (eqb-true z.own own p.0) (subst (λ (n : ℕ). entry_at z.own n zs ≡ None) (eqb-true z.foreign foreign p.1) a.0)
-
-  by : (v : Bool) → is_at own foreign z ≡ v → Among e (z ∷ zs) → (Among e zs → entry_at own foreign zs ≡ Some e) → entry_at own foreign (z ∷ zs) ≡ Some e
-  by true h (inl same) rest = rw h (ap (λ (y : Entry). Some y) same)
-  by true h (inr j) rest = absurd (let both_are : None ≡ Some e = sym (none h) ∙ rest j in cc)
-  by false h (inl same) rest = absurd (unlike (is_at own foreign e) t (ap (is_at own foreign) (sym same) ∙ h))
-  by false h (inr j) rest = rw h (rest j)
-
--- the place of a partner's request
-place_is : (s : Life) (o : Option ℕ) (name : Name) → named s o ≡ Some name → place_or 0 o ≡ name.place
-place_is s None name e = absurd (cc)
-place_is s (Some p) name e = named_place (record { place = p; own = s.foreign; foreign = s.socket }) name e where
-  named_place : (a b : Name) → Some a ≡ Some b → a.place ≡ b.place
-  named_place a b f = let same : a ≡ b = cc in ap (λ (z : Name). z.place) same
-
--- what the receiver asked for and the sender heard is of one connection
-one_connection : (hosts : List Host) (ms : List Moment) → Lawful hosts ms → (a b : Host) (receive send stamp taken g k : ℕ) → origin_in (crossings_of ms) b a taken ≡ stamp → Own a b ms receive send stamp g → Heard a b ms receive send taken k → g ≡ k
-one_connection hosts ms l a b receive send stamp taken g k is own heard =
-    let j : Paired (receiver (record { receive = receive; send = send }) (steps a b (law_events ms))) (sender (record { receive = receive; send = send }) (steps a b (law_events ms))) = law_joined hosts ms l a b (record { receive = receive; send = send }) in
-    let said : Asks k (origin_in (crossings_of ms) b a taken) (receiver (record { receive = receive; send = send }) (steps a b (law_events ms))).said =
-    asks_said k (origin_in (crossings_of ms) b a taken) (sender (record { receive = receive; send = send }) (steps a b (law_events ms))).heard (receiver (record { receive = receive; send = send }) (steps a b (law_events ms))).said j.there.older heard in
-    asks_once g k stamp (receiver (record { receive = receive; send = send }) (steps a b (law_events ms))).said j.here.grows own
-    (subst (λ (p : ℕ). Asks k p (receiver (record { receive = receive; send = send }) (steps a b (law_events ms))).said) is said)
 
 -- no commands are in a box in which no message waits
 none_in : (a b : Host) (ms : List Moment) → NoneWaits (control_flow a b) (crossings_of ms) → commands_in (boxes a b (events_of ms) 0) ≡ []
@@ -97,87 +59,26 @@ off_zero (suc m) e = (m, refl)
 -- ---- two lives
 
 module _ (hosts : List Host) (ms : List Moment) (l : Lawful hosts ms) (x s : Life) (q : AreSettled ms x s) where
-  abbrev at_link : closes.AtLink ms x
-  at_link = closes.at_rest hosts ms l x s q.rest
+  abbrev partner : HasPartner ms x s
+  partner = record { there = q.rest.sender_there; matches = q.rest.matches; goes = q.rest.sender_goes; end = q.giver }
 
   abbrev w : Whole x.host x.peer (Own x.host x.peer) (Heard x.host x.peer) ms
   w = closes.w hosts ms l x (closes.at_rest hosts ms l x s q.rest)
 
   here : stay.stays x.host x.peer (events_of ms) ≡ true
-  here = closes.stays hosts ms l x (closes.at_rest hosts ms l x s q.rest)
+  here = one.here hosts ms l x s (closes.at_rest hosts ms l x s q.rest) partner
 
   there : stay.stays x.peer x.host (events_of ms) ≡ true
-  there = closes.sender_stays hosts ms l x s q.rest
+  there = one.there hosts ms l x s (closes.at_rest hosts ms l x s q.rest) partner
 
-  -- the sender's end, among those of its host with the receiver's
-  giver_at : Among q.giver.end (pair_with x.host (program x.peer ms).peers).entries × (is_mine_on s.socket q.giver.end ≡ true)
-  giver_at =
-      subst (λ (h : Host). Among q.giver.end (pair_with h (program x.peer ms).peers).entries × (is_mine_on s.socket q.giver.end ≡ true)) q.rest.matches.peers.1
-      (subst (λ (h : Host). Among q.giver.end (pair_with s.peer (program h ms).peers).entries × (is_mine_on s.socket q.giver.end ≡ true)) (sym q.rest.matches.peers.0) (end_at s (program s.host ms) q.giver))
-
-  giver_own : q.giver.end.own ≡ x.foreign
-  giver_own = eqb-true q.giver.end.own s.socket (both q.giver.end.mine (q.giver.end.own == s.socket) giver_at.1).1 ∙ sym q.rest.matches.sockets.0
-
-  giver_foreign : q.giver.end.foreign ≡ x.socket
-  giver_foreign = q.giver.foreign ∙ q.rest.matches.sockets.1
-
-  -- ---- on any link
-
-  module _ (m : ℕ) where
-    abbrev j : Joined x.host x.peer (suc m) ms
-    j = (closes.w hosts ms l x (closes.at_rest hosts ms l x s q.rest)).j m
-
-    taker_found : entry_at x.socket x.foreign (pair_with x.peer (program x.host ms).peers).entries ≡ Some q.rest.end.end
-    taker_found =
-        among_found x.socket x.foreign q.rest.end.end (pair_with x.peer (program x.host ms).peers).entries
-        (separate (name_of numbered (gone_now x.peer (own_calls x.host x.peer ms))) (pair_with x.peer (program x.host ms).peers).entries (j.joint.mine here).holds.sound.apart)
-        (let own : (q.rest.end.end.own == x.socket) ≡ true = eq-eqb q.rest.end.end.own x.socket (closes.own hosts ms l x (closes.at_rest hosts ms l x s q.rest)) in
-        let foreign : (q.rest.end.end.foreign == x.foreign) ≡ true = eq-eqb q.rest.end.end.foreign x.foreign q.rest.end.foreign in rw (own, foreign) refl)
-        (closes.at_it hosts ms l x (closes.at_rest hosts ms l x s q.rest)).0
-
-    giver_found : entry_at x.foreign x.socket (pair_with x.host (program x.peer ms).peers).entries ≡ Some q.giver.end
-    giver_found =
-        among_found x.foreign x.socket q.giver.end (pair_with x.host (program x.peer ms).peers).entries
-        (separate (name_of numbered_by_peer (gone_now x.host (own_calls x.peer x.host ms))) (pair_with x.host (program x.peer ms).peers).entries (j.joint.theirs there).holds.sound.apart)
-        (let own : (q.giver.end.own == x.foreign) ≡ true = eq-eqb q.giver.end.own x.foreign giver_own in
-        let foreign : (q.giver.end.foreign == x.socket) ≡ true = eq-eqb q.giver.end.foreign x.socket giver_foreign in rw (own, foreign) refl)
-        giver_at.0
-
-  -- ---- both are of one connection
-
-  sends_foreign : is_send_socket x.foreign ≡ true
-  sends_foreign = ap is_send_socket q.rest.matches.sockets.0 ∙ q.rest.matches.sending
-
-  pair : IsPair (record { receive = x.socket; send = x.foreign })
-  pair = (q.rest.matches.receiving, sends_foreign)
-
-  origin_is : origin_in (crossings_of ms) x.peer x.host s.partner_stamp ≡ x.own_stamp
-  origin_is =
-      subst (λ (h : Host). origin_in (crossings_of ms) h x.host s.partner_stamp ≡ x.own_stamp) (sym q.rest.matches.peers.0)
-      (subst (λ (h : Host). origin_in (crossings_of ms) s.host h s.partner_stamp ≡ x.own_stamp) q.rest.matches.peers.1 (place_is s _ (own_request x) q.rest.matches.answered))
-
-  own_now : Own x.host x.peer ms x.socket x.foreign x.own_stamp (gone_now x.peer (own_calls x.host x.peer ms) x.socket x.foreign)
-  own_now = subst (λ (g : ℕ). Own x.host x.peer ms x.socket x.foreign x.own_stamp g) (closes.going hosts ms l x (closes.at_rest hosts ms l x s q.rest)).gone (closes.known hosts ms l x (closes.at_rest hosts ms l x s q.rest)).own
-
-  heard : Heard x.host x.peer ms x.socket x.foreign s.partner_stamp (gone_now x.host (own_calls x.peer x.host ms) x.foreign x.socket)
-  heard =
-      heard_now hosts ms l x.host x.peer (record { receive = x.socket; send = x.foreign }) pair (counts hosts ms l x.peer x.host) there q.giver.end (giver_found 0) s.partner_stamp q.giver.partner
-
-  same_gone : gone_now x.peer (own_calls x.host x.peer ms) x.socket x.foreign ≡ gone_now x.host (own_calls x.peer x.host ms) x.foreign x.socket
-  same_gone =
-      one_connection hosts ms l x.host x.peer x.socket x.foreign x.own_stamp s.partner_stamp (gone_now x.peer (own_calls x.host x.peer ms) x.socket x.foreign) (gone_now x.host (own_calls x.peer x.host ms) x.foreign x.socket) origin_is own_now heard
+  abbrev j : (m : ℕ) → Joined x.host x.peer (suc m) ms
+  j m = (closes.w hosts ms l x (closes.at_rest hosts ms l x s q.rest)).j m
 
   of_one : (m : ℕ) → OfOne numbered numbered_by_peer (party x.host x.peer (suc m) (j m).rest_a ms) (party x.peer x.host (suc m) (j m).rest_b ms) q.rest.end.end q.giver.end
-  of_one m = record {
-    own = x.socket;
-    foreign = x.foreign;
-    taker_found = taker_found m;
-    giver_found = giver_found m;
-    same = ap (λ (g : ℕ). numbered x.socket x.foreign g) same_gone;
-    receiving = ap is_receive_socket (closes.own hosts ms l x (closes.at_rest hosts ms l x s q.rest)) ∙ q.rest.matches.receiving;
-    taker_open = q.rest.opened;
-    giver_opened = (let own : q.giver.end.asked ≡ Some s.own_stamp = q.giver.own in let partner : q.giver.end.partner ≡ Some s.partner_stamp = q.giver.partner in rw (own, partner) refl);
-  }
+  of_one m = one.of_one hosts ms l x s (closes.at_rest hosts ms l x s q.rest) partner (suc m) (j m)
+
+  giver_opened : has_opened q.giver.end ≡ true
+  giver_opened = (let own : q.giver.end.asked ≡ Some s.own_stamp = q.giver.own in let partner_is : q.giver.end.partner ≡ Some s.partner_stamp = q.giver.partner in rw (own, partner_is) refl)
 
   -- ---- nothing is on its way
 
@@ -206,16 +107,13 @@ module _ (hosts : List Host) (ms : List Moment) (l : Lawful hosts ms) (x s : Lif
   k = off_zero giver_link.0 giver_link.2
 
   sends : sends_on (suc k.0) q.giver.end ≡ true
-  sends =
-      let odd : is_receiving q.giver.end ≡ false = ap is_receive_socket giver_own ∙ send_odd x.foreign sends_foreign in
-      let on : is_link (suc k.0) q.giver.end.link ≡ true = ap (is_link (suc k.0)) giver_link.1 ∙ eq-eqb giver_link.0 (suc k.0) k.1 in
-      rw (odd, on) refl
+  sends = one.sends_on_it hosts ms l x s (closes.at_rest hosts ms l x s q.rest) partner (suc k.0) (j k.0) (giver_link.1 ∙ ap (λ (n : ℕ). Some n) k.1)
 
   same_link : k.0 ≡ closes.n hosts ms l x (closes.at_rest hosts ms l x s q.rest)
   same_link =
       let on : is_link (suc k.0) q.rest.end.end.link ≡ true =
-      linked numbered numbered_by_peer numbered_tells turned_tells (λ own foreign g. refl) (suc k.0) (j k.0).x (j k.0).y (party x.host x.peer (suc k.0) (j k.0).rest_a ms) (party x.peer x.host (suc k.0) (j k.0).rest_b ms) (j k.0).joint here there
-      q.rest.end.end q.giver.end (of_one k.0) (silent_a k.0) (silent_b k.0) sends in
+      linked numbered numbered_by_peer numbered_tells turned_tells (suc k.0) (j k.0).x (j k.0).y (party x.host x.peer (suc k.0) (j k.0).rest_a ms) (party x.peer x.host (suc k.0) (j k.0).rest_b ms) (j k.0).joint here there
+      q.rest.end.end q.giver.end (of_one k.0) sends (λ own foreign g. refl) q.rest.opened giver_opened (silent_a k.0) (silent_b k.0) in
       let is : (q.rest.link == suc k.0) ≡ true = ap (is_link (suc k.0)) (sym q.rest.linked) ∙ on in
       closes.suc_is k.0 (closes.n hosts ms l x (closes.at_rest hosts ms l x s q.rest)) (sym (eqb-true q.rest.link (suc k.0) is) ∙ closes.place_is hosts ms l x (closes.at_rest hosts ms l x s q.rest))
 
@@ -232,13 +130,13 @@ module _ (hosts : List Host) (ms : List Moment) (l : Lawful hosts ms) (x s : Lif
   both_agree : AreAgreed (j n).x (closes.c hosts ms l x (closes.at_rest hosts ms l x s q.rest))
   both_agree =
       subst (λ (c : ℕ). AreAgreed (j n).x c) (closes.name_is hosts ms l x (closes.at_rest hosts ms l x s q.rest))
-      (agree numbered numbered_by_peer numbered_tells turned_tells (λ own foreign g. refl) (suc n) (j n).x (j n).y (party x.host x.peer (suc n) (j n).rest_a ms) (party x.peer x.host (suc n) (j n).rest_b ms) (j n).joint here there
-      q.rest.end.end q.giver.end (of_one n) (silent_a n) (silent_b n) sends_here (closes.empty hosts ms l x s q.rest))
+      (agree numbered numbered_by_peer numbered_tells turned_tells (suc n) (j n).x (j n).y (party x.host x.peer (suc n) (j n).rest_a ms) (party x.peer x.host (suc n) (j n).rest_b ms) (j n).joint here there
+      q.rest.end.end q.giver.end (of_one n) sends_here (λ own foreign g. refl) q.rest.opened giver_opened (silent_a n) (silent_b n) (closes.empty hosts ms l x s q.rest))
 
   same_counters : q.giver.end.allocation ≡ q.rest.end.end.allocation
   same_counters =
-      counters numbered numbered_by_peer numbered_tells turned_tells (λ own foreign g. refl) (suc n) (j n).x (j n).y (party x.host x.peer (suc n) (j n).rest_a ms) (party x.peer x.host (suc n) (j n).rest_b ms) (j n).joint here there
-      q.rest.end.end q.giver.end (of_one n) (silent_a n) (silent_b n) sends_here (closes.empty hosts ms l x s q.rest)
+      counters numbered numbered_by_peer numbered_tells turned_tells (suc n) (j n).x (j n).y (party x.host x.peer (suc n) (j n).rest_a ms) (party x.peer x.host (suc n) (j n).rest_b ms) (j n).joint here there
+      q.rest.end.end q.giver.end (of_one n) sends_here (λ own foreign g. refl) q.rest.opened giver_opened (silent_a n) (silent_b n) (closes.empty hosts ms l x s q.rest)
 
   law_counters : (j n).x.sender.allocation ≡ q.giver.end.allocation
   law_counters =

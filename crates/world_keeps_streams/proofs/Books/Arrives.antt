@@ -16,7 +16,7 @@ use Rattle.stream_law.specs.Words as words
 use Rattle.stream_law.specs.Words.{covers}
 use Rattle.stream_law.specs.Receivers as receivers
 use Rattle.stream_law.specs.Receivers.{Receiver}
-use Rattle.stream_law.specs.Streams.{Box, Empty, Waiting, Taken}
+use Rattle.stream_law.specs.Streams.{Waiting}
 use Rattle.stream_law.specs.Senders.{Sender}
 use Rattle.stream_law.proofs.lemmas.{Inv, acceptable, some_is, waits_of}
 use Rattle.host_pairs.specs.Commands.{Found, found_in}
@@ -31,33 +31,30 @@ use Rattle.host_pairs.proofs.lemmas.{both}
 use Rattle.host_keeps_streams.specs.Ends.{AreReceiver, HasReceiver, IsReceiver}
 use Rattle.host_keeps_streams.specs.Histories.{HasClosed, name_now, numbered, receiver_now}
 use Rattle.host_keeps_streams.proofs.lemmas.{accept_same, bits_there, closed_first, first_is, open_found, open_same}
-use Rattle.pair_keeps_streams.proofs.lemmas.{IsPosted, Lies, Post}
-use Rattle.reset_law.specs.Boxes as reset
-use Rattle.reset_law.specs.Boxes.{boxes}
-use Rattle.reset_law.specs.Events.{Message, Other}
+use Rattle.reset_law.specs.Events.{Message}
 use Rattle.reset_law.specs.Stays as stay
 use Rattle.sockets.specs.Accepting.{accepted, turn_of}
 use Rattle.sockets.specs.Pairs.{NcpState, pair_with}
 use Rattle.net_sim.specs.Clean.{HaveAddresses, IsLawful}
-use Rattle.net_sim.specs.Projection.{message_on}
 use Rattle.promise.specs.Safe.{receives}
 use Rattle.net_sim.specs.Story.{Crossed, Moment, events_of, places, program}
 use Rattle.net_sim.specs.Timeline.{IsTimeline, crossings_of}
 use Rattle.net_sim.specs.World.{WorldState}
 use Rattle.promise.specs.declared.life.Life.{Life}
-use Rattle.net_sim.proofs.lemmas.{coupled, program_own}
+use Rattle.net_sim.proofs.lemmas.{program_own}
 use Rattle.world_keeps_lives.specs.Lives.{HasOpenEnd}
 use Rattle.world_keeps_lives.proofs.lemmas.{held}
 use Rattle.world_keeps_pairing.proofs.lemmas.{book_run, mail_below, waiting}
 use Rattle.world_keeps_streams.specs.Arrivals.{AllArrive, Arrives, ComesFor, IsUnclosed}
 use Rattle.world_keeps_streams.specs.Calls.{own_calls}
+use Rattle.world_keeps_streams.proofs.Books.Lies.{Boxed, lies_there}
 use Rattle.world_keeps_streams.proofs.Books.Run.{below}
 use Rattle.world_keeps_streams.proofs.Deeds.Effects.{Among, among_filter, among_kept}
 use Rattle.world_keeps_streams.proofs.Lives.Left.{over_when_left}
 use Rattle.world_keeps_streams.proofs.Lives.Lists.{is_of}
 use Rattle.world_keeps_streams.proofs.Moments.In.{notices_there}
 use Rattle.world_keeps_streams.proofs.Requests.Sides.{Lawful, lives_in}
-use Rattle.world_keeps_streams.proofs.Steps.Joined.{Joined, post_in}
+use Rattle.world_keeps_streams.proofs.Steps.Joined.{Joined}
 use Rattle.world_keeps_streams.proofs.Steps.JoinedAll.{joined}
 use Rattle.world_keeps_streams.proofs.Steps.Streams.{has_receiver}
 
@@ -98,23 +95,6 @@ told_open link text e h d found is header good =
     (open_found (λ (w : Found). (data_found link text w d).notices ≡ d.notices ++ notice.Arrived e.own (data_of (data_bits h) text) ∷ []) e is
     (subst (λ (o : Option DataHeader). (arrived_if link e text o d).notices ≡ d.notices ++ notice.Arrived e.own (data_of (data_bits h) text) ∷ []) (sym header) (rw good refl)))
 
--- what waits in the law's box
-record Boxed (text : List Bool) (box : Box) : Type 0 where
-  connection : ℕ
-  size : ℕ
-  bits : List Bool
-  header : DataHeader
-  is : box ≡ Waiting connection size bits
-  header_is : header_of text ≡ Some header
-  size_is : header.size ≡ size
-  data_is : data_of (data_bits header) text ≡ bits
-  whole : drop 40 text ≡ bits
-
-boxed : (text : List Bool) (box : Box) → IsPosted (Lies text) box → Boxed text box
-boxed text Empty p = absurd p
-boxed text (Waiting c z bits) p = record { connection = c; size = z; bits = bits; header = p.0; is = refl; header_is = p.1; size_is = p.2; data_is = p.3; whole = p.4 }
-boxed text Taken p = absurd p
-
 open_parts : (c : ℕ) (r : Receiver) → receivers.is_open c r ≡ true → (r.closed ≡ false) × (r.over c ≡ false)
 open_parts c r e = by r.opened r.closed (r.over c) e where
   by : (u v w : Bool) → (u && not v && not w) ≡ true → (v ≡ false) × (w ≡ false)
@@ -135,7 +115,7 @@ module _ (hosts : List Host) (addresses : HaveAddresses hosts) (m : HostMessage)
   abbrev d : DeskState
   d = desk_of (pair_with x.peer (program x.host ms).peers) (program x.host ms).listening
 
-  lawful : Lawful hosts ms
+  abbrev lawful : Lawful hosts ms
   lawful = (addresses, mail_below hosts (Crossed (crossing.In m)) ms run, time.1)
 
   stays : stay.stays x.host x.peer (events_of ms) ≡ true
@@ -164,25 +144,8 @@ module _ (hosts : List Host) (addresses : HaveAddresses hosts) (m : HostMessage)
       one_end (name_now numbered x.peer (own_calls x.host x.peer ms)) f.end.end (filter (receives_on link) es) (joined link f.off_control hosts addresses x.host x.peer ms lawful.1 time.1).x.receiver has
       (among_kept (receives_on link) es f.end.end at_it.0 here)
 
-  -- ---- what waits on the link
-
-  text_is : message_on link m.text ≡ Other m.text
-  text_is = rw f.off_control refl
-
-  waits : (n : ℕ) × (boxes x.peer x.host (events_of ms) link ≡ reset.Waiting n (message_on link m.text))
-  waits =
-      waiting (boxes x.peer x.host (events_of ms) link) (message_on link m.text)
-      (subst (λ (g : Host). reset.WaitsWith (boxes g x.host (events_of ms) link) (message_on link m.text)) (sym f.peer)
-      (subst (λ (g : Host). reset.WaitsWith (boxes m.flow.source g (events_of ms) link) (message_on link m.text)) (sym f.host) (coupled hosts addresses (Crossed (crossing.In m) ∷ ms) run time).run.0.1))
-
-  lies : post_in (boxes x.peer x.host (events_of ms) link) ≡ Lies m.text
-  lies = ap post_in waits.1 ∙ ap (λ (n : Message). post_in (reset.Waiting waits.0 n)) text_is
-
   in_box : Boxed m.text (joined link f.off_control hosts addresses x.host x.peer ms lawful.1 time.1).x.box
-  in_box = boxed m.text (joined link f.off_control hosts addresses x.host x.peer ms lawful.1 time.1).x.box (by (stay.stays x.peer x.host (events_of ms)) refl) where
-    by : (v : Bool) → stay.stays x.peer x.host (events_of ms) ≡ v → IsPosted (Lies m.text) (joined link f.off_control hosts addresses x.host x.peer ms lawful.1 time.1).x.box
-    by true e = subst (λ (p : Post). IsPosted p (joined link f.off_control hosts addresses x.host x.peer ms lawful.1 time.1).x.box) lies ((joined link f.off_control hosts addresses x.host x.peer ms lawful.1 time.1).joint.box_x.whole e)
-    by false e = (joined link f.off_control hosts addresses x.host x.peer ms lawful.1 time.1).joint.box_x.left e stays m.text lies
+  in_box = lies_there hosts addresses m ms run time x.host x.peer (record { stays = stays; host = f.host; peer = f.peer; off_control = f.off_control })
 
   -- ---- the end finds it acceptable
 

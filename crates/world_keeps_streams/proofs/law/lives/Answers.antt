@@ -3,6 +3,7 @@ use Rattle.world_keeps_streams.proofs.Books.All.{sent, source}
 use Rattle.world_keeps_streams.proofs.Books.Answered.{answered}
 use Rattle.world_keeps_streams.proofs.Books.Arrives.{arrives}
 use Rattle.world_keeps_streams.proofs.Books.Closes.{rests}
+use Rattle.world_keeps_streams.proofs.Books.Comes.{all_come}
 use Rattle.world_keeps_streams.proofs.Books.Handed.{took_handed}
 use Rattle.world_keeps_streams.proofs.Books.Later.{closes_whole}
 use Rattle.world_keeps_streams.proofs.Books.Firsts.{firsts}
@@ -34,3 +35,6 @@ returns-clause-handed c hosts moments addresses run time receiver = took_handed 
 
 pub returns-clause-answered : goal.returns-clause-answered
 returns-clause-answered c hosts moments f addresses run time off = answered hosts moments f (addresses, run, time)
+
+pub returns-clause-comes : goal.returns-clause-comes
+returns-clause-comes c hosts moments addresses run time = all_come hosts moments (addresses, run, time)

@@ -1,10 +1,13 @@
-use Rattle.std.proofs.Common.{◌≡◌, inl, inr, Bool, true, false, List, [], ◌∷◌, refl, ap, ◌∙◌, arith}
+use Rattle.std.proofs.Common.{◌≡◌, inl, inr, ℕ, Bool, true, false, List, [], ◌∷◌, Option, None, refl, ap, ◌∙◌, arith}
 use Rattle.bit_messages.specs.Octets.{octets_of}
+use Rattle.interface.specs.Host.{Host, same_host}
 use Rattle.ncp_control.specs.Packing.{packed_count}
 use Rattle.ncp_control.specs.Reading.{read_of, command_of}
+use Rattle.stream_law.proofs.lemmas.{some_is}
 use Rattle.host_pairs.specs.Control.{orders_of}
-use Rattle.host_pairs.specs.Commands.{asked_with_size, granted}
-use Rattle.host_pairs.specs.Entries.{is_open, receiving_end}
+use Rattle.host_pairs.specs.Commands.{asked_on_link, asked_with_size, granted}
+use Rattle.host_pairs.specs.Data.{spent}
+use Rattle.host_pairs.specs.Entries.{is_open, receiving_end, sending_end}
 use Rattle.host_pairs.specs.Parcels.{asked_at}
 use Rattle.host_pairs.specs.declared.entry.Entry.{Entry}
 use Rattle.sockets.specs.Accepting.{accepted}
@@ -16,9 +19,19 @@ use Rattle.net_sim.specs.WorkedMoments.{bits_sent}
 use Rattle.world_keeps_lives.proofs.lemmas.{none_there}
 use Rattle.world_keeps_streams.proofs.law.worked_arrivals.Goals as goal
 
+first_link : List Entry → Option ℕ
+first_link [] = None
+first_link (e ∷ es) = e.link
+
 first_open : List Entry → Bool
 first_open [] = true
 first_open (e ∷ es) = is_open e
+
+other_host : second ≡ first → ⊥
+other_host e = let no : false ≡ true = ap (λ (h : Host). same_host h first) e in absurd (cc)
+
+not_both : false ≡ true → ⊥
+not_both e = absurd (cc)
 
 pub returns-clause-open : goal.returns-clause-open
 unfolding octets_of orders_of read_of command_of packed_count accepted refusal served served_notices next_out offered
@@ -48,3 +61,43 @@ returns-clause-closing c f = elim f.unclosed [
 pub returns-clause-dropped : goal.returns-clause-dropped
 unfolding octets_of orders_of read_of command_of packed_count accepted refusal served served_notices next_out offered
 returns-clause-dropped c = refl
+
+pub returns-clause-between : goal.returns-clause-between
+unfolding octets_of orders_of read_of command_of packed_count accepted refusal served served_notices next_out offered
+returns-clause-between c = record {
+  there = (1, omega arith, refl);
+  sender_there = (0, omega arith, refl);
+  matches = record { receiving = refl; sending = refl; peers = (refl, refl); sockets = (refl, refl); asked = refl; answered = refl };
+  goes = refl;
+  sender_goes = refl;
+  host = refl;
+  peer = refl;
+  giver = record {
+    end = spent 8 (granted 2 100 (asked_at 8 (asked_on_link 7 2 (sending_end 33 16 8))));
+    one = refl;
+    others = λ other away. none_there 33 first other (program second bits_sent).peers (refl, tt) away;
+    foreign = refl;
+    own = refl;
+    partner = refl;
+  };
+  linked = refl;
+  end = record { end = granted 2 100 (asked_with_size 10 8 (asked_at 6 (receiving_end 16 33 2))); one = refl; others = λ other away. none_there 16 second other (program first bits_sent).peers (refl, tt) away; foreign = refl; own = refl; partner = refl };
+  unclosed = inl refl;
+}
+
+pub returns-clause-link : goal.returns-clause-link
+unfolding octets_of orders_of read_of command_of packed_count accepted refusal served served_notices next_out offered first_link
+returns-clause-link c f = let e : 2 ≡ 3 = some_is 2 3 (ap first_link f.giver.one ∙ f.linked) in omega (arith, e)
+
+pub returns-clause-host : goal.returns-clause-host
+returns-clause-host c f = other_host f.host
+
+pub returns-clause-unclosed : goal.returns-clause-unclosed
+unfolding octets_of orders_of read_of command_of packed_count accepted refusal served served_notices next_out offered first_open
+returns-clause-unclosed c f = elim f.unclosed [
+  | inl is ↦ (let both : false ≡ true = ap first_open f.end.one ∙ is in absurd (cc))
+  | inr none ↦ none (inl (refl, refl))
+]
+
+pub returns-clause-itself : goal.returns-clause-itself
+returns-clause-itself c f = not_both f.matches.sending

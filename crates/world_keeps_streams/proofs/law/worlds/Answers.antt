@@ -3,6 +3,7 @@ use Rattle.world_keeps_streams.proofs.Books.All.{world_sent, world_source}
 use Rattle.world_keeps_streams.proofs.Books.Answered.{world_answered}
 use Rattle.world_keeps_streams.proofs.Books.Arrives.{world_arrives}
 use Rattle.world_keeps_streams.proofs.Books.Closes.{world_rests}
+use Rattle.world_keeps_streams.proofs.Books.Comes.{world_comes}
 use Rattle.world_keeps_streams.proofs.Books.Handed.{world_handed_over}
 use Rattle.world_keeps_streams.proofs.Books.Later.{world_closes}
 use Rattle.world_keeps_streams.proofs.Books.Firsts.{world_firsts}
@@ -34,3 +35,6 @@ returns-clause-handed g c hosts w lawful = world_handed_over g.C.Carrier.calls.s
 
 pub returns-clause-answered : goal.returns-clause-answered
 returns-clause-answered g c hosts w lawful = world_answered g.C.Carrier.calls.seen hosts w lawful
+
+pub returns-clause-comes : goal.returns-clause-comes
+returns-clause-comes g c hosts w lawful = world_comes g.C.Carrier.calls.seen hosts w lawful
