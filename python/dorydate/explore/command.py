@@ -1,4 +1,4 @@
-"""`./explore`: finds the shortest script that prints what a pattern asks for.
+"""`./explore`: finds a short script that prints what a pattern asks for.
 
     ./explore taken-and-incomplete
     ./explore --network A-B --raw --find 'in A B N .. then answer incomplete A B N'
@@ -36,7 +36,7 @@ class Wrong(Exception):
 
 
 def parser() -> argparse.ArgumentParser:
-    made = argparse.ArgumentParser("explore", description="Finds the shortest script that prints what a pattern asks for (docs/python.md).")
+    made = argparse.ArgumentParser("explore", description="Finds a short script that prints what a pattern asks for (docs/python.md).")
     made.add_argument("name", nargs="?", help="a search with a name (--list), or a file with a topology")
     made.add_argument("--list", action="store_true", help="print the searches with names")
     made.add_argument("--find", metavar="PATTERN", help="what is looked for")
