@@ -7,25 +7,29 @@ ghost use Rattle.promise.specs.Promised.{Promised};
 use interface::Carrier;
 use net_sim::{Book, World};
 
-/// Returns the book of a world. It keeps its promise, whatever the world's carrier is made of and whatever happened.
+/// Returns the book of a world. It keeps its promise, whatever the world's carrier is made of and whatever
+/// happened.
 ///
-/// By `promise` what crossed is a run of the mailboxes (`run`). Each life is made of messages that crossed (`formed`), and each notice that bits
-/// were sent, or have arrived, reports a message just after it crossed (`told`). The book is safe (`safe`): a message that was answered by RFNM was
-/// taken whole and exactly once, and none was taken twice; no two hosts hold one opening with different partners; what
-/// a receiving socket took since it was opened, if it took any bit, is a prefix of what its one matching sender sent,
-/// and that of what was handed over; and what was taken and sent is within what was granted. A finished initial
-/// connection pairs the right four sockets (`joined`).
+/// By `promise` what crossed is a run of the mailboxes (`run`). Each life is made of messages that crossed
+/// (`formed`), and each notice that bits were sent, or have arrived, reports a message just after it crossed
+/// (`told`). The book is safe (`safe`): a message that was answered by RFNM was taken whole and exactly once, and
+/// none was taken twice; no two hosts hold one opening with different partners; what a receiving socket took since
+/// it was opened, if it took any bit, is a prefix of what its one matching sender sent, and that of what was handed
+/// over; and what was taken and sent is within what was granted. A finished initial connection pairs the right four
+/// sockets (`joined`).
 ///
-/// By `lawful` the book says what the programs of all hosts make of what crossed and of what their users asked for (`IsLawful`).
-/// Data that were taken where they came for a receiving life arrived there, all of them, if its end was open or no user of its host had closed it
-/// (`arrives`), and what was taken on the link of a sending life came for the one that it matches (`comes`). Where a host gets RFNM of data, they were taken at an earlier moment, once (`answered`): so it means that they arrived, unless the
-/// receiving end was closing or gone. And a receiving life whose end its partner has
-/// closed, and no user of its host, took all that its partner sent (`closes`), also once it is over. It took all that was handed over in the life that it
-/// matches, if that had begun when the CLS was taken (`handed`), since a sender that closes first has sent all of that (`drained`). A receiving life whose
-/// end is open has all that was sent while nothing waits for it and its partner continues (`rests`). While no command is on its way between their hosts
-/// either, both have the same counters: what was granted and neither used nor returned (`agree`).
-/// The crossings determine the bits of all lives (`firsts`): a life's messages are the first on its link after both of its requests, and each message
-/// that went out is one of a sending life.
+/// By `lawful` the book says what the programs of all hosts make of what crossed and of what their users asked for
+/// (`IsLawful`). Data that were taken where they came for a receiving life arrived there, all of them, if its end
+/// was open or no user of its host had closed it (`arrives`), and what was taken on the link of a sending life came
+/// for the one that it matches (`comes`). Where a host gets RFNM of data, they were taken at an earlier moment,
+/// once (`answered`): so it means that they arrived, unless the receiving end was closing or gone. And a receiving
+/// life whose end its partner has closed, and no user of its host, took all that its partner sent (`closes`), also
+/// once it is over. It took all that was handed over in the life that it matches, if that had begun when the CLS
+/// was taken (`handed`), since a sender that closes first has sent all of that (`drained`). A receiving life whose
+/// end is open has all that was sent while nothing waits for it and its partner continues (`rests`). While no
+/// command is on its way between their hosts either, both have the same counters: what was granted and neither used
+/// nor returned (`agree`). The crossings determine the bits of all lives (`firsts`): a life's messages are the
+/// first on its link after both of its requests, and each message that went out is one of a sending life.
 pub fn book_of<C: Carrier>(world: &World<C>) -> &Book
     ensures value { result.now ≡ world.now.kept }
     ensures promise { Promised (C.calls.seen world.now.carrier).hosts result.now.book result.now.handed }
