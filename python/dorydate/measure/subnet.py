@@ -13,6 +13,7 @@ Each kind of script is measured at one size and at ten times that size:
 - quiet rounds in that ring, with nothing but distances in transit: in each, 32 frames are delivered and 64 hosts take.
 - messages between 252 hosts, four at each of 63 IMPs, the most that there can be, with 157 lines: 250 at a time.
 - one message over 63 IMPs in a row, after as many rounds as its routes need.
+- eight packets in the channels of a line that are sent again and again: after 32 times the line is full, and each copy is lost.
 - single random events in a ring of 16 IMPs with eight chords. The independent model of the rules in Python goes along, so
   that frames that are there are delivered and dropped, and messages are begun on idle flows.
 
@@ -33,6 +34,7 @@ import tempfile
 from collections.abc import Callable, Sequence
 from dataclasses import dataclass
 
+from dorydate.model.names import Flow, HostName
 from dorydate.model.packets import MOST_IMPS
 from dorydate.measure import best_of_all, instructions, most_memory, processor_time, written
 from dorydate.parts import proved_program
@@ -108,9 +110,10 @@ def chance(events: int) -> Script:
         if kind == "out":
             other = chosen.randrange(1, 17)
             link = chosen.randrange(9)
-            add(f"out 0/{number} 0/{other} {link} 0 -", lambda: subnet.happen("out", ((0, number), (0, other), link), ""))
+            flow = Flow(HostName(0, number), HostName(0, other), link)
+            add(f"out 0/{number} 0/{other} {link} 0 -", lambda: subnet.happen("out", flow, ""))
         elif kind == "take":
-            add(f"take 0/{number}", lambda: subnet.happen("take", (0, number)))
+            add(f"take 0/{number}", lambda: subnet.happen("take", HostName(0, number)))
         elif kind == "frame":
             ways = [(line, way) for line, both in enumerate(subnet.live) for way, live in both.items() if live]
             for line, way in chosen.sample(ways, min(len(ways), 12)):
@@ -119,6 +122,11 @@ def chance(events: int) -> Script:
         else:
             add(f"{kind} {number}", lambda: subnet.happen(kind, number))
     return network(imps, ends), lines[:events]
+
+
+def again(times: int) -> Script:
+    lines = ["calm 3"] + [f"out {link // 4}/1 {link // 4}/2 {link % 4} 8 AB" for link in range(8)]
+    return network([(1, 2), (2, 2)], [(1, 2)]), lines + ["resend 1"] * times
 
 
 def input_of(head: str, lines: Sequence[str]) -> str:
@@ -130,6 +138,7 @@ MEASURED = [
     ("messages between 64 hosts, 16 IMPs", between_many, (3_200, 32_000), "messages", 1),
     ("quiet rounds of 64 hosts, 16 IMPs", quiet, (1_000, 10_000), "rounds", 1),
     ("random single events, 16 IMPs", chance, (8_000, 80_000), "events", 1),
+    ("eight packets sent again on a full line", again, (6_000, 60_000), "events", 1),
     ("messages over 63 IMPs in a row", row, (1, 10), "messages", 1),
     ("messages between 252 hosts, 63 IMPs, 157 lines", between_most, (1_000, 10_000), "messages", 1),
 ]
