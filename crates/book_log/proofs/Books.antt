@@ -76,13 +76,8 @@ text_rank (o ∷ os) = octet_rank o
 
 pub rank_is : (l : Line) → text_rank (line_text l) ≡ rank l
 rank_is (line.Crossed (crossing.Out m)) = refl
-rank_is (line.Crossed (crossing.In m)) = refl
-rank_is (line.Crossed (crossing.Answer kind f)) = refl
-rank_is (line.Crossed (crossing.Down h)) = refl
-rank_is (line.Crossed (crossing.Up h)) = refl
-rank_is (line.Lived x) = refl
-rank_is (line.Handed bits) = refl
-rank_is line.End = refl
+rank_is (line.Crossed c) = refl
+rank_is l = refl
 
 -- a line may follow another
 pub record Follows (r s : ℕ) : Type 0 where

@@ -107,35 +107,20 @@ make Ends e = line.End
 
 pub made_again : (l : Line) → make (made (keyword l)) (operand l) ≡ l
 made_again (line.Crossed (crossing.Out m)) = refl
-made_again (line.Crossed (crossing.In m)) = refl
-made_again (line.Crossed (crossing.Answer kind f)) = refl
-made_again (line.Crossed (crossing.Down h)) = refl
-made_again (line.Crossed (crossing.Up h)) = refl
-made_again (line.Lived x) = refl
-made_again (line.Handed bits) = refl
-made_again line.End = refl
+made_again (line.Crossed c) = refl
+made_again l = refl
 
 pub is_meant : (l : Line) → IsLine l → IsMeant (made (keyword l)) (operand l)
 is_meant (line.Crossed (crossing.Out m)) is = is
-is_meant (line.Crossed (crossing.In m)) is = is
-is_meant (line.Crossed (crossing.Answer kind f)) is = is
-is_meant (line.Crossed (crossing.Down h)) is = is
-is_meant (line.Crossed (crossing.Up h)) is = is
-is_meant (line.Lived x) is = is
-is_meant (line.Handed bits) is = is
 is_meant line.End is = tt
+is_meant l is = is
 
 -- ---- the words of a line
 
 pub words_are : (l : Line) → line_words l ≡ keyword l ∷ words_of (made (keyword l)) (operand l)
 words_are (line.Crossed (crossing.Out m)) = refl
-words_are (line.Crossed (crossing.In m)) = refl
-words_are (line.Crossed (crossing.Answer kind f)) = refl
-words_are (line.Crossed (crossing.Down h)) = refl
-words_are (line.Crossed (crossing.Up h)) = refl
-words_are (line.Lived x) = refl
-words_are (line.Handed bits) = refl
-words_are line.End = refl
+words_are (line.Crossed c) = refl
+words_are l = refl
 
 flow_joined : (f : Flow) (rest : List ℕ) → flow_text f ++ rest ≡ host_text f.source ++ 32 ∷ (host_text f.destination ++ 32 ∷ (decimal f.link.0 ++ rest))
 flow_joined f rest =
@@ -291,9 +276,7 @@ no_short text first left cut out in_ life handed none l meant e = by l meant (sy
 pub short_line : (l : Line) → IsShort l → IsLine l
 short_line (line.Crossed (crossing.Out m)) is = absurd is
 short_line (line.Crossed (crossing.In m)) is = absurd is
-short_line (line.Crossed (crossing.Answer kind f)) is = is
-short_line (line.Crossed (crossing.Down h)) is = is
-short_line (line.Crossed (crossing.Up h)) is = is
+short_line (line.Crossed c) is = is
 short_line (line.Lived x) is = absurd is
 short_line (line.Handed bits) is = absurd is
 short_line line.End is = tt

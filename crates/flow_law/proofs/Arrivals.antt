@@ -168,9 +168,6 @@ brought v t x Kind.Never answer.NotTaken is brings tx awaited h =
     let g : Gone v.to_up v.kept v.queue v.box t = h.dead x tx (ap is_refusal is) awaited in
     record { fits = not_taken_fits v.box g.waiting; unread = g.unread; none = g.none }
 brought v t x Kind.Data answer.Rfnm is brings tx awaited h = absurd brings
-brought v t x Kind.Data answer.Dead is brings tx awaited h = absurd brings
-brought v t x Kind.Data answer.Incomplete is brings tx awaited h = absurd brings
-brought v t x Kind.Data answer.NotTaken is brings tx awaited h = absurd brings
 brought v t x Kind.Rfnm answer.Dead is brings tx awaited h = absurd brings
 brought v t x Kind.Rfnm answer.Incomplete is brings tx awaited h = absurd brings
 brought v t x Kind.Rfnm answer.NotTaken is brings tx awaited h = absurd brings
@@ -184,6 +181,7 @@ brought v t x Kind.Ask answer.NotTaken is brings tx awaited h = absurd brings
 brought v t x Kind.Never answer.Rfnm is brings tx awaited h = absurd brings
 brought v t x Kind.Never answer.Dead is brings tx awaited h = absurd brings
 brought v t x Kind.Never answer.Incomplete is brings tx awaited h = absurd brings
+brought v t x Kind.Data c is brings tx awaited h = absurd brings
 
 pub freed : {Piece : List Bool → Packet → Type 0} (v : View) (t : Packet → Type 0) (x : Packet) (kind : Answer) → CanFree v t x kind → Invariant Piece v t
     → Invariant Piece (view_moved (Move.Freed x kind) v) t

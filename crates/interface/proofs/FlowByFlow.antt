@@ -52,11 +52,8 @@ flow_below start [] qs r = r
 flow_below start (p ∷ ps) qs r = flow_below start ps qs r.1
 
 ups_below : (hosts : List Host) (c : Crossing) (log : List Crossing) → UpsAreHosts hosts (c ∷ log) → UpsAreHosts hosts log
-ups_below hosts (crossing.Out m) log u = u
-ups_below hosts (crossing.In m) log u = u
-ups_below hosts (crossing.Answer k g) log u = u
-ups_below hosts (crossing.Down h) log u = u
 ups_below hosts (crossing.Up h) log u = u.1
+ups_below hosts c log u = u
 
 -- a host's own flow to itself
 abbrev to_itself : Host → Flow

@@ -34,9 +34,7 @@ late_not_taken hosts m run = rw (same_flow-refl m.flow) at run.0.1
 
 pub answered_once : (hosts : List Host) (m : HostMessage) (kind : Answer) → IsRun hosts (crossing.Answer kind m.flow ∷ crossing.Answer answer.Incomplete m.flow ∷ crossing.Out m ∷ []) → ⊥
 answered_once hosts m answer.Rfnm run = rw (same_flow-refl m.flow) at run.0.1
-answered_once hosts m answer.Incomplete run = rw (same_flow-refl m.flow) at run.0.1
-answered_once hosts m answer.Dead run = rw (same_flow-refl m.flow) at run.0.1
-answered_once hosts m answer.NotTaken run = rw (same_flow-refl m.flow) at run.0.1
+answered_once hosts m kind run = rw (same_flow-refl m.flow) at run.0.1
 
 pub up_twice : (hosts : List Host) (h : Host) → IsRun hosts (crossing.Up h ∷ []) → ⊥
 up_twice hosts h run = let both : true ≡ false = sym run.0.0 ∙ run.0.1 in cc

@@ -173,20 +173,8 @@ record IsCoded (code : ℕ) (octets : List ℕ) : Type 0 where
   counted : length octets ≡ length_of code
 
 spelling_coded : (c : Command) → IsCommand c → IsCoded (get_or (spelling c) 0 0) (spelling c)
-spelling_coded command.Nop h = record { legal = omega arith; counted = refl }
-spelling_coded (command.Rts receive send link) h = record { legal = omega arith; counted = refl }
-spelling_coded (command.Str send receive size) h = record { legal = omega arith; counted = refl }
-spelling_coded (command.Cls own foreign) h = record { legal = omega arith; counted = refl }
-spelling_coded (command.All link messages bits) h = record { legal = omega arith; counted = refl }
-spelling_coded (command.Gvb link messages bits) h = record { legal = omega arith; counted = refl }
-spelling_coded (command.Ret link messages bits) h = record { legal = omega arith; counted = refl }
-spelling_coded (command.Inr link) h = record { legal = omega arith; counted = refl }
-spelling_coded (command.Ins link) h = record { legal = omega arith; counted = refl }
-spelling_coded (command.Eco octet) h = record { legal = omega arith; counted = refl }
-spelling_coded (command.Erp octet) h = record { legal = omega arith; counted = refl }
 spelling_coded (command.Err code detail) h = record { legal = omega arith; counted = omega (arith, h.1) }
-spelling_coded command.Rst h = record { legal = omega arith; counted = refl }
-spelling_coded command.Rrp h = record { legal = omega arith; counted = refl }
+spelling_coded c h = record { legal = omega arith; counted = refl }
 
 coded : (c : Command) → IsCommand c → (code : ℕ) (fields : List ℕ) → spelling c ≡ code ∷ fields → IsCoded code (code ∷ fields)
 coded c h code fields e = let

@@ -233,15 +233,13 @@ nothing_first : (shown own : List Shown) → own ≡ [] → StartsWith shown own
 nothing_first shown own none = record { rest = shown; parts = ap (λ xs. xs ++ shown) (sym none) }
 
 stop_first : {C : Type 0} (calls : Calls C) → AreSettled calls → (old : C) (e : RawEvent) (new other : C) (own shown : List Shown) → StopsIn calls old e new own → Happens calls old e other shown → StartsWith shown own
-stop_first calls settled old (event.Out m) new other own shown h k = nothing_first shown own (h.no_lines tt)
-stop_first calls settled old (event.Take g) new other own shown h k = nothing_first shown own (h.no_lines tt)
-stop_first calls settled old (event.Net n) new other own shown h k = nothing_first shown own (h.no_lines tt)
 stop_first calls settled old (event.Calm rounds) new other own shown h k = by h.runs_out where
   by : (IsCopied (event.Calm rounds) × (new ≡ old)) ⊎ ((outcome : Result (Unit {0}) CarrierFault) × EventGives calls old (event.Calm rounds) outcome new × Halts outcome) → StartsWith shown own
   by (inl copied) = absurd copied.0
   by (inr stopped) =
       let ahead : Grows calls new other = (steady_rounds calls settled rounds).first old stopped.0 k.outcome new other stopped.1 stopped.2 k.gives k.goes_on in
       own_first (calls.seen old).log (calls.seen new).log (calls.seen other).log h.crossings k.crossings ahead.crossings shown own k.outcome h.grown k.grown ahead.grown h.lines k.lines
+stop_first calls settled old e new other own shown h k = nothing_first shown own (h.no_lines tt)
 
 pub first_part : {C : Type 0} (calls : Calls C) → AreSettled calls → (old : C) (events : List RawEvent) (new last : C) (part whole : List Shown) → EndsIn calls StopsIn old events new part → Replays calls old events last whole → StartsWith whole part
 first_part calls settled old events new last part whole h k =

@@ -142,79 +142,23 @@ operand (event.Net (net.EndUp i l)) = (i, l)
 
 pub made_again : (e : RawEvent) → (made (keyword e)).1 (operand e) ≡ e
 made_again (event.Out m) = refl
-made_again (event.Take h) = refl
-made_again (event.Calm n) = refl
 made_again (event.Net (net.HostDown h)) = refl
-made_again (event.Net (net.HostUp h)) = refl
-made_again (event.Net (net.GiveUp f)) = refl
-made_again (event.Net (net.Abandon f)) = refl
-made_again (event.Net (net.Ask f)) = refl
-made_again (event.Net (net.Resend i)) = refl
-made_again (event.Net (net.Route i)) = refl
-made_again (event.Net (net.ImpDown i)) = refl
-made_again (event.Net (net.ImpUp i)) = refl
-made_again (event.Net (net.Forget at from)) = refl
-made_again (event.Net (net.Deliver l d k)) = refl
-made_again (event.Net (net.Drop l d k)) = refl
-made_again (event.Net (net.EndDown i l)) = refl
-made_again (event.Net (net.EndUp i l)) = refl
+made_again e = refl
 
 pub spelled : (e : RawEvent) → spelling e ≡ keyword e ++ 32 ∷ text_of (made (keyword e)).0 (operand e)
 spelled (event.Out m) = refl
-spelled (event.Take h) = refl
-spelled (event.Calm n) = refl
 spelled (event.Net (net.HostDown h)) = refl
-spelled (event.Net (net.HostUp h)) = refl
-spelled (event.Net (net.GiveUp f)) = refl
-spelled (event.Net (net.Abandon f)) = refl
-spelled (event.Net (net.Ask f)) = refl
-spelled (event.Net (net.Resend i)) = refl
-spelled (event.Net (net.Route i)) = refl
-spelled (event.Net (net.ImpDown i)) = refl
-spelled (event.Net (net.ImpUp i)) = refl
-spelled (event.Net (net.Forget at from)) = refl
-spelled (event.Net (net.Deliver l d k)) = refl
-spelled (event.Net (net.Drop l d k)) = refl
-spelled (event.Net (net.EndDown i l)) = refl
-spelled (event.Net (net.EndUp i l)) = refl
+spelled e = refl
 
 pub is_meant : (e : RawEvent) → IsEvent e → IsMeant (made (keyword e)).0 (operand e)
 is_meant (event.Out m) is = is
-is_meant (event.Take h) is = is
-is_meant (event.Calm n) is = is
 is_meant (event.Net (net.HostDown h)) is = is
-is_meant (event.Net (net.HostUp h)) is = is
-is_meant (event.Net (net.GiveUp f)) is = is
-is_meant (event.Net (net.Abandon f)) is = is
-is_meant (event.Net (net.Ask f)) is = is
-is_meant (event.Net (net.Resend i)) is = is
-is_meant (event.Net (net.Route i)) is = is
-is_meant (event.Net (net.ImpDown i)) is = is
-is_meant (event.Net (net.ImpUp i)) is = is
-is_meant (event.Net (net.Forget at from)) is = is
-is_meant (event.Net (net.Deliver l d k)) is = is
-is_meant (event.Net (net.Drop l d k)) is = is
-is_meant (event.Net (net.EndDown i l)) is = is
-is_meant (event.Net (net.EndUp i l)) is = is
+is_meant e is = is
 
 pub plain : (e : RawEvent) → list_any (λ x. x == 32) (keyword e) ≡ false
 plain (event.Out m) = refl
-plain (event.Take h) = refl
-plain (event.Calm n) = refl
 plain (event.Net (net.HostDown h)) = refl
-plain (event.Net (net.HostUp h)) = refl
-plain (event.Net (net.GiveUp f)) = refl
-plain (event.Net (net.Abandon f)) = refl
-plain (event.Net (net.Ask f)) = refl
-plain (event.Net (net.Resend i)) = refl
-plain (event.Net (net.Route i)) = refl
-plain (event.Net (net.ImpDown i)) = refl
-plain (event.Net (net.ImpUp i)) = refl
-plain (event.Net (net.Forget at from)) = refl
-plain (event.Net (net.Deliver l d k)) = refl
-plain (event.Net (net.Drop l d k)) = refl
-plain (event.Net (net.EndDown i l)) = refl
-plain (event.Net (net.EndUp i l)) = refl
+plain e = refl
 
 -- ---- lines that are no events
 
@@ -299,36 +243,19 @@ no_line_event word rest h deliver drop enddown endup x meant e = by x meant (fir
 
 -- the events by what they name are events inside a network
 pub is_imp_event : (x : NetEvent) → IsOfImps x → IsNetEvent x
-is_imp_event (net.HostDown h) meant = absurd meant
-is_imp_event (net.HostUp h) meant = absurd meant
-is_imp_event (net.GiveUp f) meant = absurd meant
-is_imp_event (net.Abandon f) meant = absurd meant
-is_imp_event (net.Ask f) meant = absurd meant
 is_imp_event (net.Resend i) meant = meant
 is_imp_event (net.Route i) meant = meant
 is_imp_event (net.ImpDown i) meant = meant
 is_imp_event (net.ImpUp i) meant = meant
 is_imp_event (net.Forget at from) meant = meant
-is_imp_event (net.Deliver l d k) meant = absurd meant
-is_imp_event (net.Drop l d k) meant = absurd meant
-is_imp_event (net.EndDown i l) meant = absurd meant
-is_imp_event (net.EndUp i l) meant = absurd meant
+is_imp_event x meant = absurd meant
 
 pub is_line_event : (x : NetEvent) → IsOfLines x → IsNetEvent x
-is_line_event (net.HostDown h) meant = absurd meant
-is_line_event (net.HostUp h) meant = absurd meant
-is_line_event (net.GiveUp f) meant = absurd meant
-is_line_event (net.Abandon f) meant = absurd meant
-is_line_event (net.Ask f) meant = absurd meant
-is_line_event (net.Resend i) meant = absurd meant
-is_line_event (net.Route i) meant = absurd meant
-is_line_event (net.ImpDown i) meant = absurd meant
-is_line_event (net.ImpUp i) meant = absurd meant
-is_line_event (net.Forget at from) meant = absurd meant
 is_line_event (net.Deliver l d k) meant = meant
 is_line_event (net.Drop l d k) meant = meant
 is_line_event (net.EndDown i l) meant = meant
 is_line_event (net.EndUp i l) meant = meant
+is_line_event x meant = absurd meant
 
 -- a line with another first word than `out`, `take` and `calm` is an event inside a network, or none
 pub no_event : (word rest : List ℕ) → Lacks 32 word → word ≢ codes "out" → word ≢ codes "take" → word ≢ codes "calm" → ((x : NetEvent) → IsNetEvent x → word ++ 32 ∷ rest ≢ net_spelling x) → (x : RawEvent) → IsEvent x → word ++ 32 ∷ rest ≢ spelling x

@@ -207,13 +207,10 @@ taken_knows k f s knows = record {
 }
 
 arrived_knows : (a : Arrival) (p : PacketFields) (s : State) → IsPacketTold p → Knows s → Knows (arrived a p s)
-arrived_knows Passing p s told k = record { hosts = k.hosts; sources = k.sources; kept = k.kept; ports = k.ports }
 arrived_knows Old p s told k = k
 arrived_knows (Undeliverable new packet) p s told k =
     let known = noted_knows (flow_of p) p.number new s told.flow told.number k in
     record { hosts = known.hosts; sources = known.sources; kept = known.kept; ports = known.ports }
-arrived_knows (Replying packet) p s told k = record { hosts = k.hosts; sources = k.sources; kept = k.kept; ports = k.ports }
-arrived_knows Piece p s told k = record { hosts = k.hosts; sources = k.sources; kept = k.kept; ports = k.ports }
 arrived_knows NoSlot p s told k = k
 arrived_knows (arrivals.Whole text) p s told k =
     let known = noted_knows (flow_of p) p.number fate.Waits s told.flow told.number k in
@@ -222,6 +219,7 @@ arrived_knows Unmarked p s told k =
     let known = noted_knows (flow_of p) p.number fate.Never s told.flow told.number k in
     record { hosts = known.hosts; sources = known.sources; kept = known.kept; ports = known.ports }
 arrived_knows (Answering kind) p s told k = answered_knows (release_in p.number (fin.get s.sources (flow_of p))) kind (flow_of p) p.number s told.flow k
+arrived_knows a p s told k = record { hosts = k.hosts; sources = k.sources; kept = k.kept; ports = k.ports }
 
 ignored_knows : (s : State) → Knows s → TurnKnows (ignored s)
 ignored_knows s k = record { state = k; frames = All-nil OutFits }

@@ -1,8 +1,7 @@
 -- Words, bits, packets, messages, channels and what is known of flows have texts of their own.
 use Rattle.std.proofs.Common.{◌≡◌, ℕ, ◌==◌, Bool, true, false, List, [], ◌∷◌, ◌++◌, codes, if◌then◌else◌, Option, Some, None, IfSome, refl, sym, ap, ap₂, ◌∙◌}
-use Rattle.std.proofs.lemmas.List.Elements.{All-append, All-cons, All-nil}
+use Rattle.std.proofs.lemmas.List.Elements.{All-append, All-nil}
 use Rattle.std.specs.Fmt.{decimal}
-use Rattle.std.specs.List.{All, list_all}
 use Rattle.std.specs.Str.{bytes_eq}
 use Rattle.interface.specs.declared.address.Flow.{Flow}
 use Rattle.packetiser.specs.PacketFields.{PacketFields, flow_of}
@@ -20,9 +19,9 @@ use Rattle.imp_node.specs.declared.waiting.Message.{Message}
 use Rattle.imp_node.specs.declared.waiting.Told.{Told}
 use Rattle.script.specs.Steps.{Lacks}
 use Rattle.script.proofs.lemmas.{unmarked_where}
-use Rattle.trace.specs.Texts.{answer_object, bits_members, bool_text, flow_members, member, object, quoted}
+use Rattle.trace.specs.Texts.{bits_members, bool_text, flow_members, member, quoted}
 pub use Rattle.trace.proofs.lemmas.{Any, bool_spelled, word_closed}
-use Rattle.trace.proofs.lemmas.{AreClosed, IsClosed, SameThen, Spelled, Words, also_closed, answer_spelled, bits_closed, bits_same, decimal_closed, first_same, flow_closed, flow_same, is_plain, member_once, none_closed, object_closed, object_once, other_first, plain_closed, quoted_once, rest_same, short_once, string_closed, strings_spelled}
+use Rattle.trace.proofs.lemmas.{AreClosed, IsClosed, Spelled, Words, also_closed, answer_spelled, bits_closed, bits_same, decimal_closed, first_same, flow_closed, flow_same, member_once, none_closed, object_closed, object_once, other_first, quoted_once, rest_same, short_once, string_closed, strings_spelled}
 use Rattle.subnet_trace.specs.Texts.{awaits_host, bit_text, bits_text, channel_text, fate_word, flow_object, held_members, kept_text, kind_word, packet_text, piece_members, source_text, standing_word, told_text, whole_text}
 use Rattle.subnet_trace.specs.Told.{IsAnswerTold, IsChannelTold, IsFlowNamed, IsKeptTold, IsMessageTold, IsPacketTold, IsShort, IsSourceTold}
 
@@ -90,10 +89,7 @@ kind_in word =
 kind_again : (k : PacketKind) → kind_in (kind_word k) ≡ k
 unfolding kind_in
 kind_again kind.Data = refl
-kind_again kind.Rfnm = refl
-kind_again kind.Dead = refl
-kind_again kind.Ask = refl
-kind_again kind.Never = refl
+kind_again k = refl
 
 kind_plain : (k : PacketKind) → Lacks 34 (kind_word k)
 kind_plain kind.Data = unmarked_where 34 (codes "data") refl
@@ -249,9 +245,7 @@ fate_in_word word = if bytes_eq word (codes "waits") then fate.Waits else if byt
 fate_again : (x : Fate) → fate_in_word (fate_word x) ≡ x
 unfolding fate_in_word
 fate_again fate.Waits = refl
-fate_again fate.Taken = refl
-fate_again fate.Dead = refl
-fate_again fate.Never = refl
+fate_again x = refl
 
 fate_plain : (x : Fate) → Lacks 34 (fate_word x)
 fate_plain fate.Waits = unmarked_where 34 (codes "waits") refl

@@ -28,17 +28,8 @@ closing_sends receive send ended false true e f = rw (e, f) refl
 closing_sends receive send ended false false e f = rw (e, f) refl
 
 closed_sends : (receive send : ℕ) (n : Notice) → bits_sent (closed_by receive send n) ≡ []
-closed_sends receive send (notice.Ready p) = refl
-closed_sends receive send (notice.ContactFailed p) = refl
-closed_sends receive send (notice.PairReset p) = refl
-closed_sends receive send (notice.Opened s p f o k) = refl
 closed_sends receive send (notice.Ended s p f) = closing_sends receive send s (s == receive) (s == send) refl refl
-closed_sends receive send (notice.Sent s b) = refl
-closed_sends receive send (notice.Arrived s b) = refl
-closed_sends receive send (notice.Returned s m b) = refl
-closed_sends receive send (notice.Interrupt s) = refl
-closed_sends receive send (notice.Echoed p o) = refl
-closed_sends receive send (notice.RemoteError p c d) = refl
+closed_sends receive send n = refl
 
 pub record EchoKeeps (s : EchoState) (news : List Bool) (t : EchoState × List Request) : Type 0 where
   pub bits : bits_sent t.1 ≡ news

@@ -100,22 +100,16 @@ elementary old new e shown k = elementary_of traced round_of goes_round old new 
 -- ---- all of a calm's elementary events are takings
 
 abbrev pub IsTaking : RawEvent → Type 0
-IsTaking (event.Out m) = ⊥
 IsTaking (event.Take h) = Unit {0}
-IsTaking (event.Net e) = ⊥
-IsTaking (event.Calm rounds) = ⊥
+IsTaking c = ⊥
 
 pub rounds_are : (round times : ℕ) (b : Boxes) → AllEvents IsTaking (rounds_from round_of round times b)
 rounds_are round times b = rounds_events IsTaking round_of (λ round b. all_takings_events IsTaking from_boxes (λ h. tt) round b.hosts b) round times b
 
 pub one_call : (e : RawEvent) → IsTaking e → IsOneCall e
-one_call (event.Out m) h = tt
-one_call (event.Take k) h = tt
-one_call (event.Net e) h = tt
 one_call (event.Calm rounds) h = absurd h
+one_call e h = tt
 
 pub all_one_call : (b : Boxes) (e : RawEvent) → All IsOneCall (events_of (elements_of b e))
-all_one_call b (event.Out m) = All-cons IsOneCall (event.Out m) [] tt (All-nil IsOneCall)
-all_one_call b (event.Take h) = All-cons IsOneCall (event.Take h) [] tt (All-nil IsOneCall)
-all_one_call b (event.Net e) = All-cons IsOneCall (event.Net e) [] tt (All-nil IsOneCall)
 all_one_call b (event.Calm rounds) = All-weaker IsTaking IsOneCall one_call (events_of (rounds_from round_of 1 rounds b).elements) (rounds_are 1 rounds b)
+all_one_call b e = All-cons IsOneCall e [] tt (All-nil IsOneCall)

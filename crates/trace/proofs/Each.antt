@@ -25,15 +25,8 @@ GoesOnAfter (Err f) = (is_halt f || is_memory f) ≡ false
 pub went : {T : Type 0} (refusal : Option CarrierFault) (grows : Bool) (Gives : T → Type 0) (old : Boxes) (r : Result T CarrierFault) (new : Boxes) → BoxesDecided refusal grows Gives old r new → GoesOnAfter r → Went refusal Gives old r new
 went refusal grows Gives old (Ok x) new h goes = h
 went refusal grows Gives old (Err fault.OutOfMemory) new h goes = absurd (cc)
-went refusal grows Gives old (Err fault.NoSuch) new h goes = h
-went refusal grows Gives old (Err fault.StillAlive) new h goes = h
-went refusal grows Gives old (Err fault.IsDown) new h goes = h
-went refusal grows Gives old (Err fault.IsUp) new h goes = h
-went refusal grows Gives old (Err fault.Unsettled) new h goes = h
-went refusal grows Gives old (Err fault.NotOutstanding) new h goes = h
-went refusal grows Gives old (Err fault.Blocked) new h goes = h
-went refusal grows Gives old (Err fault.NoRoom) new h goes = h
 went refusal grows Gives old (Err fault.Stopped) new h goes = absurd (cc)
+went refusal grows Gives old (Err c) new h goes = h
 
 pub goes_after : (r : Result (Unit {0}) CarrierFault) → GoesOn r → GoesOnAfter r
 goes_after (Ok done) goes = tt

@@ -15,15 +15,7 @@ use Rattle.trace.specs.Worked.{first, hosts, second, stop}
 done : {T : Type 0} (grows : Bool) (Gives : T → Type 0) (old : Boxes) (r : Result T CarrierFault) (new : Boxes) → new.stopped ≡ false → BoxesDecided None grows Gives old r new → (x : T) × Gives x
 done grows Gives old (Ok x) new running h = (x, h.1)
 done grows Gives old (Err fault.OutOfMemory) new running h = let stopped : new.stopped ≡ true = h.2.stopped in absurd (cc)
-done grows Gives old (Err fault.NoSuch) new running h = absurd (cc)
-done grows Gives old (Err fault.StillAlive) new running h = absurd (cc)
-done grows Gives old (Err fault.IsDown) new running h = absurd (cc)
-done grows Gives old (Err fault.IsUp) new running h = absurd (cc)
-done grows Gives old (Err fault.Unsettled) new running h = absurd (cc)
-done grows Gives old (Err fault.NotOutstanding) new running h = absurd (cc)
-done grows Gives old (Err fault.Blocked) new running h = absurd (cc)
-done grows Gives old (Err fault.NoRoom) new running h = absurd (cc)
-done grows Gives old (Err fault.Stopped) new running h = absurd (cc)
+done grows Gives old (Err c) new running h = absurd (cc)
 
 -- the first of some hosts has number 0
 abbrev is_first : List Host → Bool

@@ -161,15 +161,13 @@ itself calls old new e shown k = (new, shown, [], k, (refl, refl), sym (append-n
 -- an event is its elementary events one after another
 pub elementary_of : {C S : Type 0} (x : Traced C S) (whole : ℕ → S → Course S) → AllRoundsGo x whole → (old new : C) (e : RawEvent) (shown : List Shown) → x.Holds old → Happens x.calls old e new shown
     → Replays x.calls old (events_of (elements_in (λ rounds. (rounds_from whole 1 rounds (x.view old)).elements) e)) new shown
-elementary_of x whole each old new (event.Out m) shown holds k = itself x.calls old new (event.Out m) shown k
-elementary_of x whole each old new (event.Take h) shown holds k = itself x.calls old new (event.Take h) shown k
-elementary_of x whole each old new (event.Net e) shown holds k = itself x.calls old new (event.Net e) shown k
 elementary_of x whole each old new (event.Calm rounds) shown holds k =
     let goes : Goes x old (rounds_from whole 1 rounds (x.view old)) k.outcome new = goes_rounds x whole each 1 rounds old k.outcome new holds k.gives k.goes_on in
     let crossings : goes.run.crossings ≡ k.crossings = crossings_are goes.run.crossings k.crossings (x.calls.seen old).log (x.calls.seen new).log goes.run.grown k.grown in
     let lines : shown_crossings goes.run.crossings ≡ shown =
     ap shown_crossings crossings ∙ sym (append-nil (shown_crossings k.crossings)) ∙ ap (λ r. shown_crossings k.crossings ++ shown_refusal r) (sym goes.ok) ∙ sym k.lines in
     subst (λ (s : List Shown). Replays x.calls old (events_of (rounds_from whole 1 rounds (x.view old)).elements) new s) lines goes.run.replays
+elementary_of x whole each old new c shown holds k = itself x.calls old new c shown k
 
 -- what holds all the while holds after a calm
 pub calm_holds : {C S : Type 0} (x : Traced C S) (whole : ℕ → S → Course S) → AllRoundsGo x whole → (old new : C) (rounds : ℕ) (shown : List Shown) → x.Holds old → Happens x.calls old (event.Calm rounds) new shown → x.Holds new

@@ -114,17 +114,7 @@ stepped_kept : (old : Boxes) (e : NetEvent) → IsTold old → IsNetEvent e → 
 stepped_kept old (net.GiveUp f) told valid none = given_up_kept old f told valid (give_up_there old f none)
 stepped_kept old (net.HostDown h) told valid none = host_stopped_kept old h told valid
 stepped_kept old (net.HostUp h) told valid none = host_started_kept old h told
-stepped_kept old (net.Deliver line way frame) told valid none = told
-stepped_kept old (net.Drop line way frame) told valid none = told
-stepped_kept old (net.Resend imp) told valid none = told
-stepped_kept old (net.Route imp) told valid none = told
-stepped_kept old (net.EndDown imp line) told valid none = told
-stepped_kept old (net.EndUp imp line) told valid none = told
-stepped_kept old (net.ImpDown imp) told valid none = told
-stepped_kept old (net.ImpUp imp) told valid none = told
-stepped_kept old (net.Forget at from) told valid none = told
-stepped_kept old (net.Abandon f) told valid none = told
-stepped_kept old (net.Ask f) told valid none = told
+stepped_kept old e told valid none = told
 
 -- ---- one call
 

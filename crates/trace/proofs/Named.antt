@@ -3,7 +3,7 @@ use Rattle.std.proofs.Common.{◌≡◌, ℕ, ◌<◌, ◌≤◌, ◌==◌, Bool
 use Rattle.std.proofs.lemmas.Bool.Decides.{nat_tests}
 use Rattle.std.proofs.lemmas.List.Elements.{All-append, All-cons}
 use Rattle.std.specs.Fmt.{decimal}
-use Rattle.std.specs.List.{All, list_all}
+use Rattle.std.specs.List.{All}
 use Rattle.std.specs.Str.{bytes_eq}
 use Rattle.hex.specs.Hex.{encode_upper}
 use Rattle.bit_messages.specs.Octets.{octets_of}
@@ -18,9 +18,9 @@ use Rattle.script.specs.Spelling.{IsFlow, IsHost}
 use Rattle.script.specs.Steps.{Lacks}
 use Rattle.script.proofs.lemmas.{SameCut, same_cut, unmarked_where}
 use Rattle.trace.specs.Named.{IsFlowNamed, IsHostNamed}
-use Rattle.trace.specs.Texts.{answer_object, answer_word, array, bits_members, bool_text, flow_members, host_string, member, message_object, object, queues_text, quoted}
+use Rattle.trace.specs.Texts.{answer_object, answer_word, array, bits_members, flow_members, host_string, member, message_object, queues_text, quoted}
 use Rattle.trace.proofs.Decimals.{decimal_closed, decimal_lacks, octets_lack, short_once, sized_once}
-use Rattle.trace.proofs.Closed.{AreClosed, IsClosed, Spelled, Words, also_closed, first_same, lists_spelled, member_once, none_closed, object_closed, object_once, quoted_once, rest_same, string_closed, strings_spelled}
+use Rattle.trace.proofs.Closed.{AreClosed, Spelled, Words, also_closed, first_same, lists_spelled, member_once, none_closed, object_closed, object_once, quoted_once, rest_same, string_closed, strings_spelled}
 
 -- ---- hosts
 
@@ -110,9 +110,7 @@ answer_in_word word =
 answer_again : (k : Answer) → answer_in_word (answer_word k) ≡ k
 unfolding answer_in_word
 answer_again answer.Rfnm = refl
-answer_again answer.Incomplete = refl
-answer_again answer.Dead = refl
-answer_again answer.NotTaken = refl
+answer_again k = refl
 
 word_plain : (k : Answer) → Lacks 34 (answer_word k)
 word_plain answer.Rfnm = unmarked_where 34 (codes "rfnm") refl

@@ -92,18 +92,7 @@ taken_same old new g h (Some (inbound.Message m)) cs e grown other none =
 stepped_same : (old : Boxes) (e : NetEvent) (crossings : List Crossing) (h : Host) → reaches (event.Net e) crossings h ≡ false → Same old h (stepped old e)
 stepped_same old (net.GiveUp f) crossings h none = let apart = or_false (same_host h f.destination) (same_host h f.source) none in given_up_same old f h apart.0 apart.1
 stepped_same old (net.HostDown g) crossings h none = absurd (cc)
-stepped_same old (net.HostUp g) crossings h none = (refl, refl)
-stepped_same old (net.Deliver line way frame) crossings h none = (refl, refl)
-stepped_same old (net.Drop line way frame) crossings h none = (refl, refl)
-stepped_same old (net.Resend imp) crossings h none = (refl, refl)
-stepped_same old (net.Route imp) crossings h none = (refl, refl)
-stepped_same old (net.EndDown imp line) crossings h none = (refl, refl)
-stepped_same old (net.EndUp imp line) crossings h none = (refl, refl)
-stepped_same old (net.ImpDown imp) crossings h none = (refl, refl)
-stepped_same old (net.ImpUp imp) crossings h none = (refl, refl)
-stepped_same old (net.Forget at from) crossings h none = (refl, refl)
-stepped_same old (net.Abandon f) crossings h none = (refl, refl)
-stepped_same old (net.Ask f) crossings h none = (refl, refl)
+stepped_same old e crossings h none = (refl, refl)
 
 queues_left : (old new : Boxes) (e : RawEvent) (shown : List Shown) (h : Host) → Left old new e → Happens plain_calls old e new shown → reaches e (crossings_of shown) h ≡ false → Same old h new
 queues_left old new (event.Out m) shown h (inl same) k none = all_same old new h same
@@ -143,35 +132,12 @@ taken_down old g (Some (inbound.Message m)) = refl
 
 stepped_frame : (old : Boxes) (e : NetEvent) → Frame old (stepped old e)
 stepped_frame old (net.GiveUp f) = record { hosts = refl; stopped = refl }
-stepped_frame old (net.HostDown g) = record { hosts = refl; stopped = refl }
-stepped_frame old (net.HostUp g) = record { hosts = refl; stopped = refl }
-stepped_frame old (net.Deliver line way frame) = record { hosts = refl; stopped = refl }
-stepped_frame old (net.Drop line way frame) = record { hosts = refl; stopped = refl }
-stepped_frame old (net.Resend imp) = record { hosts = refl; stopped = refl }
-stepped_frame old (net.Route imp) = record { hosts = refl; stopped = refl }
-stepped_frame old (net.EndDown imp line) = record { hosts = refl; stopped = refl }
-stepped_frame old (net.EndUp imp line) = record { hosts = refl; stopped = refl }
-stepped_frame old (net.ImpDown imp) = record { hosts = refl; stopped = refl }
-stepped_frame old (net.ImpUp imp) = record { hosts = refl; stopped = refl }
-stepped_frame old (net.Forget at from) = record { hosts = refl; stopped = refl }
-stepped_frame old (net.Abandon f) = record { hosts = refl; stopped = refl }
-stepped_frame old (net.Ask f) = record { hosts = refl; stopped = refl }
+stepped_frame old e = record { hosts = refl; stopped = refl }
 
 stepped_down : (old : Boxes) (e : NetEvent) → moves_host (event.Net e) ≡ false → (stepped old e).down ≡ old.down
-stepped_down old (net.GiveUp f) none = refl
 stepped_down old (net.HostDown g) none = absurd (cc)
 stepped_down old (net.HostUp g) none = absurd (cc)
-stepped_down old (net.Deliver line way frame) none = refl
-stepped_down old (net.Drop line way frame) none = refl
-stepped_down old (net.Resend imp) none = refl
-stepped_down old (net.Route imp) none = refl
-stepped_down old (net.EndDown imp line) none = refl
-stepped_down old (net.EndUp imp line) none = refl
-stepped_down old (net.ImpDown imp) none = refl
-stepped_down old (net.ImpUp imp) none = refl
-stepped_down old (net.Forget at from) none = refl
-stepped_down old (net.Abandon f) none = refl
-stepped_down old (net.Ask f) none = refl
+stepped_down old e none = refl
 
 frame_of : (old new : Boxes) (e : RawEvent) → Left old new e → Frame old new
 frame_of old new (event.Out m) (inl same) = same_frame old new same

@@ -289,18 +289,13 @@ module _ {C : Type 0} (calls : Calls C) where
       at_host (λ s. TypeGives h line s (services_of h old.services).typing old r new) h old r new (λ s g. type_grows h line s (services_of h old.services).typing old r new g) t
 
   event_gains : (e : Event) (old : WorldState C) (r : Result (Unit {0}) WorldFault) (new : WorldState C) → EventGives calls old e r new → Gains old.kept new.kept
-  event_gains (Net e) old r new t = (event_grows (Net e) old r new refl t).gains
-  event_gains Quiet old r new t = (event_grows Quiet old r new refl t).gains
-  event_gains (Offer h) old r new t = (event_grows (Offer h) old r new refl t).gains
-  event_gains (Take h) old r new t = (event_grows (Take h) old r new refl t).gains
-  event_gains (Ask h q) old r new t = (event_grows (Ask h q) old r new refl t).gains
   event_gains (Server h listen base) old r new t =
       at_seat (λ s. DoesOrHalts (with_server h listen base s old) old r new) (Gains old.kept new.kept) (seat_of h old.seats) old r new (λ is. gains_same old.kept new.kept (ap (λ (w : WorldState C). w.kept) is))
       (λ s g. begun h (services.server_begun listen base (services_of h old.services) (opening_desk h (noticed old) s)) old (with_server h listen base s old) r new refl g) t
   event_gains (User h peer listen own) old r new t =
       at_seat (λ s. DoesOrHalts (with_user h peer listen own s old) old r new) (Gains old.kept new.kept) (seat_of h old.seats) old r new (λ is. gains_same old.kept new.kept (ap (λ (w : WorldState C). w.kept) is))
       (λ s g. begun h (services.user_begun peer listen own (services_of h old.services) (opening_desk h (noticed old) s)) old (with_user h peer listen own s old) r new refl g) t
-  event_gains (Typed h line) old r new t = (event_grows (Typed h line) old r new refl t).gains
+  event_gains e old r new t = (event_grows e old r new refl t).gains
 
   pub step_grows : (e : Event) (old : WorldState C) (r : Result (Unit {0}) WorldFault) (new : WorldState C) → begins e ≡ false → StepGives calls old e r new → Grew old.kept new.kept
   step_grows e old r new other h =

@@ -163,15 +163,11 @@ told_news n ts (r ∷ rs) = news_behind (take (r.notices - n) ts) (Said r ∷ to
 
 news_first : (s : Shown) (xs ys : List Shown) → AreNews (s ∷ xs) → crossings_of (s ∷ ys) ≡ crossings_of ys
 news_first (Crossed c) xs ys h = absurd h
-news_first (Noticed t) xs ys h = refl
-news_first (Said r) xs ys h = refl
-news_first (Refused f) xs ys h = refl
+news_first s xs ys h = refl
 
 news_rest : (s : Shown) (xs : List Shown) → AreNews (s ∷ xs) → AreNews xs
 news_rest (Crossed c) xs h = absurd h
-news_rest (Noticed t) xs h = h
-news_rest (Said r) xs h = h
-news_rest (Refused f) xs h = h
+news_rest s xs h = h
 
 among_news : (before : ℕ) (cs : List Crossing) (xs : List Shown) → AreNews xs → crossings_of (shown_in_turn before cs xs) ≡ cs
 among_news before cs [] h = crossings_again cs
@@ -232,16 +228,12 @@ reports_told n ts (r ∷ rs) =
     ∙ ap (λ xs. r ∷ xs) (reports_told (max n r.notices) (drop (r.notices - n) ts) rs)
 
 notices_behind : (s : Shown) (xs ys : List Shown) → notices_of xs ≡ notices_of ys → notices_of (s ∷ xs) ≡ notices_of (s ∷ ys)
-notices_behind (Crossed c) xs ys e = e
 notices_behind (Noticed t) xs ys e = ap (λ ts. t ∷ ts) e
-notices_behind (Said r) xs ys e = e
-notices_behind (Refused f) xs ys e = e
+notices_behind s xs ys e = e
 
 reports_behind : (s : Shown) (xs ys : List Shown) → reports_of xs ≡ reports_of ys → reports_of (s ∷ xs) ≡ reports_of (s ∷ ys)
-reports_behind (Crossed c) xs ys e = e
-reports_behind (Noticed t) xs ys e = e
 reports_behind (Said r) xs ys e = ap (λ rs. r ∷ rs) e
-reports_behind (Refused f) xs ys e = e
+reports_behind s xs ys e = e
 
 notices_among : (before : ℕ) (cs : List Crossing) (xs : List Shown) → notices_of (shown_in_turn before cs xs) ≡ notices_of xs
 notices_among before cs [] = (crossings_silent cs).0

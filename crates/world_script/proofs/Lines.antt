@@ -51,12 +51,8 @@ behind (world.Calm n) = decimal n
 pub spelled_event : (x : WorldEvent) → IsWorldEvent x → world_spelling x ≡ first x ++ 32 ∷ behind x
 spelled_event (world.Happen (event.Net e)) meant = spelled (raw.Net e)
 spelled_event (world.Happen event.Quiet) meant = absurd meant
-spelled_event (world.Happen (event.Offer h)) meant = refl
-spelled_event (world.Happen (event.Take h)) meant = refl
 spelled_event (world.Happen (event.Ask h r)) meant = spelled_request h r
-spelled_event (world.Happen (event.Server h l s)) meant = refl
-spelled_event (world.Happen (event.User h p l u)) meant = refl
-spelled_event (world.Happen (event.Typed h text)) meant = refl
+spelled_event (world.Happen c) meant = refl
 spelled_event (world.Calm n) meant = refl
 
 pub first_unmarked : (x : WorldEvent) → IsWorldEvent x → Lacks 32 (first x)
@@ -122,41 +118,17 @@ head (world.Calm n) = Calms
 
 head_verb : (v : Verb) → head_of (verb_text v) ≡ Asks v
 head_verb verb.Contact = refl
-head_verb verb.Echo = refl
-head_verb verb.Listen = refl
-head_verb verb.OpenSend = refl
-head_verb verb.OpenReceive = refl
-head_verb verb.Send = refl
-head_verb verb.Grant = refl
-head_verb verb.AskBack = refl
-head_verb verb.Interrupt = refl
-head_verb verb.Close = refl
+head_verb v = refl
 
 head_net : (e : NetEvent) → head_of (keyword (raw.Net e)) ≡ Nets
 head_net (net.HostDown h) = refl
-head_net (net.HostUp h) = refl
-head_net (net.GiveUp f) = refl
-head_net (net.Abandon f) = refl
-head_net (net.Ask f) = refl
-head_net (net.Resend i) = refl
-head_net (net.Route i) = refl
-head_net (net.ImpDown i) = refl
-head_net (net.ImpUp i) = refl
-head_net (net.Forget at from) = refl
-head_net (net.Deliver l d k) = refl
-head_net (net.Drop l d k) = refl
-head_net (net.EndDown i l) = refl
-head_net (net.EndUp i l) = refl
+head_net e = refl
 
 pub head_again : (x : WorldEvent) → IsWorldEvent x → head_of (first x) ≡ head x
 head_again (world.Happen (event.Net e)) meant = head_net e
 head_again (world.Happen event.Quiet) meant = absurd meant
-head_again (world.Happen (event.Offer h)) meant = refl
-head_again (world.Happen (event.Take h)) meant = refl
 head_again (world.Happen (event.Ask h r)) meant = head_verb (verb_of r)
-head_again (world.Happen (event.Server h l s)) meant = refl
-head_again (world.Happen (event.User h p l u)) meant = refl
-head_again (world.Happen (event.Typed h text)) meant = refl
+head_again (world.Happen c) meant = refl
 head_again (world.Calm n) meant = refl
 
 -- ---- the operands of a first word
@@ -193,14 +165,9 @@ operand_at (world.Happen (event.Typed h text)) meant = (h, text)
 operand_at (world.Calm n) meant = n
 
 pub event_again : (x : WorldEvent) (meant : IsWorldEvent x) → event_at (head x) (operand_at x meant) ≡ x
-event_again (world.Happen (event.Net e)) meant = refl
 event_again (world.Happen event.Quiet) meant = absurd meant
-event_again (world.Happen (event.Offer h)) meant = refl
-event_again (world.Happen (event.Take h)) meant = refl
 event_again (world.Happen (event.Ask h r)) meant = ap (λ s. world.Happen (event.Ask h s)) (request_again r)
-event_again (world.Happen (event.Server h l s)) meant = refl
-event_again (world.Happen (event.User h p l u)) meant = refl
-event_again (world.Happen (event.Typed h text)) meant = refl
+event_again (world.Happen c) meant = refl
 event_again (world.Calm n) meant = refl
 
 -- words that follow a first word for no operand are those of no event

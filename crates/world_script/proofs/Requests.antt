@@ -96,27 +96,11 @@ operand (request.Close n) = n
 
 pub request_again : (r : Request) → request_of (verb_of r) (operand r) ≡ r
 request_again (request.Contact h) = refl
-request_again (request.Echo h n) = refl
-request_again (request.Listen n m) = refl
-request_again (request.OpenSend h n m k) = refl
-request_again (request.OpenReceive h n m) = refl
-request_again (request.Send n bits) = refl
-request_again (request.Grant n m k) = refl
-request_again (request.AskBack n m k) = refl
-request_again (request.Interrupt n) = refl
-request_again (request.Close n) = refl
+request_again r = refl
 
 pub verb_again : (v : Verb) (z : OperandOf v) → verb_of (request_of v z) ≡ v
 verb_again verb.Contact z = refl
-verb_again verb.Echo z = refl
-verb_again verb.Listen z = refl
-verb_again verb.OpenSend z = refl
-verb_again verb.OpenReceive z = refl
-verb_again verb.Send z = refl
-verb_again verb.Grant z = refl
-verb_again verb.AskBack z = refl
-verb_again verb.Interrupt z = refl
-verb_again verb.Close z = refl
+verb_again v z = refl
 
 -- words that are the arguments of no operand of a verb are those of no request of that verb
 no_request : (v : Verb) (words : List ℕ) → ((z : OperandOf v) → IsRequest (request_of v z) → words ≢ arguments (request_of v z)) → (r : Request) → IsRequest r → verb_of r ≡ v → words ≢ arguments r
@@ -128,28 +112,12 @@ no_request v words none r meant same e =
 -- a request's line is its verb, its host and its arguments
 pub spelled_request : (h : Host) (r : Request) → request_spelling h r ≡ verb_text (verb_of r) ++ 32 ∷ (host_text h ++ 32 ∷ arguments r)
 spelled_request h (request.Contact peer) = refl
-spelled_request h (request.Echo peer n) = refl
-spelled_request h (request.Listen n m) = refl
-spelled_request h (request.OpenSend peer n m k) = refl
-spelled_request h (request.OpenReceive peer n m) = refl
-spelled_request h (request.Send n bits) = refl
-spelled_request h (request.Grant n m k) = refl
-spelled_request h (request.AskBack n m k) = refl
-spelled_request h (request.Interrupt n) = refl
-spelled_request h (request.Close n) = refl
+spelled_request h r = refl
 
 -- a verb's word has no space
 verb_plain : (v : Verb) → list_any (λ x. x == 32) (verb_text v) ≡ false
 verb_plain verb.Contact = refl
-verb_plain verb.Echo = refl
-verb_plain verb.Listen = refl
-verb_plain verb.OpenSend = refl
-verb_plain verb.OpenReceive = refl
-verb_plain verb.Send = refl
-verb_plain verb.Grant = refl
-verb_plain verb.AskBack = refl
-verb_plain verb.Interrupt = refl
-verb_plain verb.Close = refl
+verb_plain v = refl
 
 pub verb_unmarked : (v : Verb) → Lacks 32 (verb_text v)
 verb_unmarked v = unmarked_where 32 (verb_text v) (verb_plain v)

@@ -75,19 +75,7 @@ command_of word ns octets =
 command_again : (c : Command) → command_of (word_of c) (numbers_of c) (quoted_by c) ≡ c
 unfolding word_of command_of
 command_again command.Nop = refl
-command_again (command.Rts receive send link) = refl
-command_again (command.Str send receive size) = refl
-command_again (command.Cls own foreign) = refl
-command_again (command.All link messages bits) = refl
-command_again (command.Gvb link messages bits) = refl
-command_again (command.Ret link messages bits) = refl
-command_again (command.Inr link) = refl
-command_again (command.Ins link) = refl
-command_again (command.Eco octet) = refl
-command_again (command.Erp octet) = refl
-command_again (command.Err code detail) = refl
-command_again command.Rst = refl
-command_again command.Rrp = refl
+command_again c = refl
 
 -- ---- members
 
@@ -125,19 +113,7 @@ members_of c = member (codes "kind") (quoted (word_of c)) ∷ numbered (names_of
 object_is : (c : Command) → command_object c ≡ object (members_of c)
 unfolding word_of members_of numbered names_of quoting is_error
 object_is command.Nop = refl
-object_is (command.Rts receive send link) = refl
-object_is (command.Str send receive size) = refl
-object_is (command.Cls own foreign) = refl
-object_is (command.All link messages bits) = refl
-object_is (command.Gvb link messages bits) = refl
-object_is (command.Ret link messages bits) = refl
-object_is (command.Inr link) = refl
-object_is (command.Ins link) = refl
-object_is (command.Eco octet) = refl
-object_is (command.Erp octet) = refl
-object_is (command.Err code detail) = refl
-object_is command.Rst = refl
-object_is command.Rrp = refl
+object_is c = refl
 
 -- each number has a name, and only an error quotes octets
 record IsFormed (c : Command) : Type 0 where
@@ -147,20 +123,8 @@ record IsFormed (c : Command) : Type 0 where
 
 formed : (c : Command) → IsFormed c
 unfolding word_of names_of is_error
-formed command.Nop = record { long = refl; plain = refl; quiet = λ e. refl }
-formed (command.Rts receive send link) = record { long = refl; plain = refl; quiet = λ e. refl }
-formed (command.Str send receive size) = record { long = refl; plain = refl; quiet = λ e. refl }
-formed (command.Cls own foreign) = record { long = refl; plain = refl; quiet = λ e. refl }
-formed (command.All link messages bits) = record { long = refl; plain = refl; quiet = λ e. refl }
-formed (command.Gvb link messages bits) = record { long = refl; plain = refl; quiet = λ e. refl }
-formed (command.Ret link messages bits) = record { long = refl; plain = refl; quiet = λ e. refl }
-formed (command.Inr link) = record { long = refl; plain = refl; quiet = λ e. refl }
-formed (command.Ins link) = record { long = refl; plain = refl; quiet = λ e. refl }
-formed (command.Eco octet) = record { long = refl; plain = refl; quiet = λ e. refl }
-formed (command.Erp octet) = record { long = refl; plain = refl; quiet = λ e. refl }
 formed (command.Err code detail) = record { long = refl; plain = refl; quiet = λ e. absurd (false≢true (sym e)) }
-formed command.Rst = record { long = refl; plain = refl; quiet = λ e. refl }
-formed command.Rrp = record { long = refl; plain = refl; quiet = λ e. refl }
+formed c = record { long = refl; plain = refl; quiet = λ e. refl }
 
 -- ---- each text is closed, and no two are alike
 

@@ -68,9 +68,7 @@ closing_of word =
 closing_again : (c : Closing) → closing_of (closing_word c) ≡ c
 unfolding closing_of
 closing_again closing.No = refl
-closing_again closing.Due = refl
-closing_again closing.Queued = refl
-closing_again closing.Sent = refl
+closing_again c = refl
 
 closing_plain : (c : Closing) → Lacks 34 (closing_word c)
 closing_plain closing.No = unmarked_where 34 (codes "no") refl

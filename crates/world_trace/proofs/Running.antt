@@ -249,21 +249,17 @@ letters xs ys e = append_cancel_left (codes "{\"kind\":\"") xs ys e
 
 service_once : (s t : Service) → IsServiceTold s → IsServiceTold t → service_object s ≡ service_object t → s ≡ t
 service_once (service.Server s) (service.Server t) p q e = ap (λ (x : ServerState). service.Server x) (server_spelled.once s t p q e)
-service_once (service.Server s) (service.User t) p q e = absurd (other_first refl (letters _ _ e))
 service_once (service.Server s) (service.Echo t) p q e = absurd (other_first refl (letters _ _ e))
 service_once (service.Server s) (service.Terminal t) p q e = absurd (other_first refl (letters _ _ e))
-service_once (service.User s) (service.Server t) p q e = absurd (other_first refl (letters _ _ e))
 service_once (service.User s) (service.User t) p q e = ap (λ (x : UserState). service.User x) (user_spelled.once s t p q e)
-service_once (service.User s) (service.Echo t) p q e = absurd (other_first refl (letters _ _ e))
-service_once (service.User s) (service.Terminal t) p q e = absurd (other_first refl (letters _ _ e))
 service_once (service.Echo s) (service.Server t) p q e = absurd (other_first refl (letters _ _ e))
-service_once (service.Echo s) (service.User t) p q e = absurd (other_first refl (letters _ _ e))
 service_once (service.Echo s) (service.Echo t) p q e = ap (λ (x : EchoState). service.Echo x) (echo_spelled.once s t p q e)
 service_once (service.Echo s) (service.Terminal t) p q e = absurd (other_first refl (letters _ _ e))
 service_once (service.Terminal s) (service.Server t) p q e = absurd (other_first refl (letters _ _ e))
-service_once (service.Terminal s) (service.User t) p q e = absurd (other_first refl (letters _ _ e))
 service_once (service.Terminal s) (service.Echo t) p q e = absurd (other_first refl (letters _ _ e))
 service_once (service.Terminal s) (service.Terminal t) p q e = ap (λ (x : TerminalState). service.Terminal x) (terminal_spelled.once s t p q e)
+service_once s (service.User t) p q e = absurd (other_first refl (letters _ _ e))
+service_once (service.User s) t p q e = absurd (other_first refl (letters _ _ e))
 
 all_spelled : Spelled (λ xs. array (map service_object xs)) (All IsServiceTold)
 all_spelled = lists_spelled service_object IsServiceTold (record { closed = service_closed; once = service_once })

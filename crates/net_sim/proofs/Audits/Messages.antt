@@ -264,16 +264,12 @@ needs_rfnm f log t =
 
 needs_answer : (k : Answer) (f : Flow) (log : List Crossing) → SafeMessages (crossing.Answer k f ∷ log) → answer_holds k f log ≡ true
 needs_answer answer.Rfnm f log s = needs_rfnm f log (s.answered [] log f refl)
-needs_answer answer.Incomplete f log s = refl
-needs_answer answer.Dead f log s = refl
-needs_answer answer.NotTaken f log s = refl
+needs_answer k f log s = refl
 
 needs : (c : Crossing) (log : List Crossing) → SafeMessages (c ∷ log) → crossing_holds c log ≡ true
-needs (crossing.Out m) log s = refl
 needs (crossing.In m) log s = needs_in m log s
 needs (crossing.Answer k f) log s = needs_answer k f log s
-needs (crossing.Down h) log s = refl
-needs (crossing.Up h) log s = refl
+needs c log s = refl
 
 holds : (log : List Crossing) → SafeMessages log → messages_hold log ≡ true
 holds [] s = refl

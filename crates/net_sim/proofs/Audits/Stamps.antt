@@ -77,18 +77,12 @@ in_past f log p h = ap (λ (o : Option Crossing). is_in f o) (sym (at_past p (re
 out_true : (f : Flow) (p : ℕ) (log : List Crossing) (o : Option Crossing) → crossed_at p log ≡ o → is_out f o ≡ true → Passes going f p log
 out_true f p log None e h = absurd (cc)
 out_true f p log (Some (crossing.Out m)) e h = (m, sym (same_flow-true f m.flow h), crossed_from p (crossing.Out m) log e)
-out_true f p log (Some (crossing.In m)) e h = absurd (cc)
-out_true f p log (Some (crossing.Answer k g)) e h = absurd (cc)
-out_true f p log (Some (crossing.Down g)) e h = absurd (cc)
-out_true f p log (Some (crossing.Up g)) e h = absurd (cc)
+out_true f p log (Some c) e h = absurd (cc)
 
 in_true : (f : Flow) (p : ℕ) (log : List Crossing) (o : Option Crossing) → crossed_at p log ≡ o → is_in f o ≡ true → Passes coming f p log
 in_true f p log None e h = absurd (cc)
-in_true f p log (Some (crossing.Out m)) e h = absurd (cc)
 in_true f p log (Some (crossing.In m)) e h = (m, sym (same_flow-true f m.flow h), crossed_from p (crossing.In m) log e)
-in_true f p log (Some (crossing.Answer k g)) e h = absurd (cc)
-in_true f p log (Some (crossing.Down g)) e h = absurd (cc)
-in_true f p log (Some (crossing.Up g)) e h = absurd (cc)
+in_true f p log (Some c) e h = absurd (cc)
 
 out_is : (f : Flow) (p : ℕ) (log : List Crossing) → Passes going f p log → is_out f (crossed_at p log) ≡ true
 out_is f p log (m, e, c) = rw (crossed_is p (crossing.Out m) log c) (same_yes f m.flow e)

@@ -76,13 +76,8 @@ needs_told hosts (Up x) es fs up bs n = (n.0, up x ∙ n.1)
 needs_told hosts Idle es fs up bs n = tt
 
 allowed_told : (e : Event) (es fs : List Event) → ((a b : Host) → pair a b es ≡ pair a b fs) → Allowed e fs → Allowed e es
-allowed_told (Contact x y) es fs ps n = tt
 allowed_told (Out x y l m) es fs ps n = subst (λ (p : Pair). MaySend p l m) (sym (ps x y)) n
-allowed_told (In x y l m) es fs ps n = tt
-allowed_told (Told x y l k) es fs ps n = tt
-allowed_told (Down x) es fs ps n = tt
-allowed_told (Up x) es fs ps n = tt
-allowed_told Idle es fs ps n = tt
+allowed_told e es fs ps n = tt
 
 event_told : (hosts : List Host) (e : Event) (moments : List Moment) → Needs hosts e (events_of moments) → Allowed e (events_of moments) → IsRun hosts (told_events moments) → IsRun hosts (e ∷ told_events moments)
 event_told hosts e moments n a r = (

@@ -84,19 +84,7 @@ stops_of_one (c ∷ d ∷ cs) s = s
 
 step_of_one : (seen : Seen) (e : NetEvent) → AreOfOneEvent (step_crossings seen e)
 step_of_one seen (event.ImpDown imp) = stops_of_one (step_crossings seen (event.ImpDown imp)) (all_stop (up_at seen imp))
-step_of_one seen (event.HostDown h) = tt
-step_of_one seen (event.HostUp h) = tt
-step_of_one seen (event.Deliver line direction frame) = tt
-step_of_one seen (event.Drop line direction frame) = tt
-step_of_one seen (event.Resend imp) = tt
-step_of_one seen (event.Route imp) = tt
-step_of_one seen (event.EndDown imp line) = tt
-step_of_one seen (event.EndUp imp line) = tt
-step_of_one seen (event.ImpUp imp) = tt
-step_of_one seen (event.GiveUp f) = tt
-step_of_one seen (event.Forget at from) = tt
-step_of_one seen (event.Abandon f) = tt
-step_of_one seen (event.Ask f) = tt
+step_of_one seen e = tt
 
 -- ---- one event
 

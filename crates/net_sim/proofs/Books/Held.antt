@@ -99,10 +99,6 @@ owner_live s (Some (peer, e)) change live = live
 
 served_live : (s : NcpState) (r : Request) → IsLive s → IsLive (served s r)
 unfolding served
-served_live s (request.Contact peer) live = live
-served_live s (request.Listen socket size) live = live
-served_live s (request.OpenSend peer own foreign size) live = live
-served_live s (request.OpenReceive peer own foreign) live = live
 served_live s (request.Send socket bits) live = owner_live s (owner_of socket s.peers) _ live
 served_live s (request.Grant socket messages bits) live = owner_live s (owner_of socket s.peers) _ live
 served_live s (request.AskBack socket messages bits) live = owner_live s (owner_of socket s.peers) _ live
@@ -110,7 +106,7 @@ served_live s (request.Interrupt socket) live = owner_live s (owner_of socket s.
 served_live s (request.Close socket) live =
     if_live (listens_on socket s.listening) (record s { listening = without_listener socket s.listening }) (at_owner s (owner_of socket s.peers) (λ e. closed_end socket)) live
     (owner_live s (owner_of socket s.peers) (λ e. closed_end socket) live)
-served_live s (request.Echo peer octet) live = live
+served_live s r live = live
 
 after_live : (a : Host) (here : ℕ) (x : Moment) (s : NcpState) → IsLive s → IsLive (program_after a here x s)
 after_live a here (Crossed (crossing.Out m)) s live = if_live (same_host a m.flow.source) (offered s here).0 s (offered_live s here live) live

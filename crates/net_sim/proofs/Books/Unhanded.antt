@@ -44,11 +44,8 @@ push_unhanded (y ∷ lives) (b ∷ handed) x h = (h.0, push_unhanded lives hande
 -- ---- what happens
 
 crossed_unhanded : (c : Crossing) (lives : List Life) (handed : List (List Bool)) → AreUnhanded lives handed → AreUnhanded (lives_crossed c lives) handed
-crossed_unhanded (crossing.Out m) lives handed u = u
-crossed_unhanded (crossing.In m) lives handed u = u
-crossed_unhanded (crossing.Answer kind f) lives handed u = u
 crossed_unhanded (crossing.Down h) lives handed u = where_unhanded (lives_on h) life_ended (λ x. refl) lives handed u
-crossed_unhanded (crossing.Up h) lives handed u = u
+crossed_unhanded c lives handed u = u
 
 told_unhanded : (h : Host) (n : Notice) (lives : List Life) (handed : List (List Bool)) → AreUnhanded lives handed → AreUnhanded (lives_told h n lives) (handed_told n handed)
 told_unhanded h (notice.Opened socket peer foreign own partner) lives handed u = push_unhanded lives handed (new_life h socket peer foreign own partner) u
@@ -57,11 +54,7 @@ told_unhanded h (notice.PairReset peer) lives handed u = where_unhanded (lives_w
 told_unhanded h (notice.Sent socket bits) lives handed u = where_unhanded (lives_at h socket) (carried bits) (λ x. refl) lives handed u
 told_unhanded h (notice.Arrived socket bits) lives handed u = where_unhanded (lives_at h socket) (carried bits) (λ x. refl) lives handed u
 told_unhanded h (notice.Returned socket messages bits) lives handed u = where_unhanded (lives_at h socket) (returned messages bits) (λ x. refl) lives handed u
-told_unhanded h (notice.Ready peer) lives handed u = u
-told_unhanded h (notice.ContactFailed peer) lives handed u = u
-told_unhanded h (notice.Interrupt socket) lives handed u = u
-told_unhanded h (notice.Echoed peer octet) lives handed u = u
-told_unhanded h (notice.RemoteError peer code detail) lives handed u = u
+told_unhanded h n lives handed u = u
 
 all_unhanded : (h : Host) (ns : List Notice) (k : Kept) → AreUnhanded k.book.lives k.handed → AreUnhanded (all_told h ns k).book.lives (all_told h ns k).handed
 all_unhanded h [] k u = u
@@ -96,14 +89,7 @@ unfolding refusal
 asked_unhanded h s (request.Send socket bits) may lives handed u =
     sent_unhanded h socket bits (not_false (is_send_socket socket) (guard (not (is_send_socket socket)) _ _ may).0) lives handed u
 asked_unhanded h s (request.Grant socket messages bits) may lives handed u = where_unhanded (lives_at h socket) (granted messages bits) (λ x. refl) lives handed u
-asked_unhanded h s (request.Contact peer) may lives handed u = u
-asked_unhanded h s (request.Listen socket size) may lives handed u = u
-asked_unhanded h s (request.OpenSend peer own foreign size) may lives handed u = u
-asked_unhanded h s (request.OpenReceive peer own foreign) may lives handed u = u
-asked_unhanded h s (request.AskBack socket messages bits) may lives handed u = u
-asked_unhanded h s (request.Interrupt socket) may lives handed u = u
-asked_unhanded h s (request.Close socket) may lives handed u = u
-asked_unhanded h s (request.Echo peer octet) may lives handed u = u
+asked_unhanded h s r may lives handed u = u
 
 -- ---- every world
 

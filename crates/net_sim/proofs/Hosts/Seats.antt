@@ -138,14 +138,4 @@ pub step_turns : (seen : Seen) (e : NetEvent) → AreTurns (step_crossings seen 
 step_turns seen (event.HostDown h) = (tt, tt)
 step_turns seen (event.HostUp h) = (tt, tt)
 step_turns seen (event.ImpDown imp) = downs_turn (up_at seen imp)
-step_turns seen (event.Deliver line direction frame) = tt
-step_turns seen (event.Drop line direction frame) = tt
-step_turns seen (event.Resend imp) = tt
-step_turns seen (event.Route imp) = tt
-step_turns seen (event.EndDown imp line) = tt
-step_turns seen (event.EndUp imp line) = tt
-step_turns seen (event.ImpUp imp) = tt
-step_turns seen (event.GiveUp f) = tt
-step_turns seen (event.Forget at from) = tt
-step_turns seen (event.Abandon f) = tt
-step_turns seen (event.Ask f) = tt
+step_turns seen e = tt

@@ -36,15 +36,7 @@ kept_more x h ns k moments host notices same =
 silent : (s : NcpState) (r : Request) → IsSilent r → served_notices s r ≡ []
 unfolding served_notices
 silent s (request.Contact peer) is = absurd is
-silent s (request.Listen socket size) is = refl
-silent s (request.OpenSend peer own foreign size) is = refl
-silent s (request.OpenReceive peer own foreign) is = refl
-silent s (request.Send socket bits) is = refl
-silent s (request.Grant socket messages bits) is = refl
-silent s (request.AskBack socket messages bits) is = refl
-silent s (request.Interrupt socket) is = refl
-silent s (request.Close socket) is = refl
-silent s (request.Echo peer octet) is = refl
+silent s r is = refl
 
 -- what services of a host asked for
 pub kept_asked : (h : Host) (rs : List Request) (k : Kept) (moments : List Moment) → All MayAsk rs → without_reports k ≡ kept_in moments → without_reports (all_asked h rs k) ≡ kept_in (asks_of h rs moments)

@@ -25,15 +25,7 @@ IsQuiet h here r = (event_by h r ≡ Idle) × (contacts_asked h here r ≡ [])
 
 pub contact_or : (h : Host) (here : ℕ) (r : Request) → ((peer : Host) × (r ≡ request.Contact peer)) ⊎ IsQuiet h here r
 contact_or h here (request.Contact peer) = inl (peer, refl)
-contact_or h here (request.Listen socket size) = inr (refl, refl)
-contact_or h here (request.OpenSend peer own foreign size) = inr (refl, refl)
-contact_or h here (request.OpenReceive peer own foreign) = inr (refl, refl)
-contact_or h here (request.Send socket bits) = inr (refl, refl)
-contact_or h here (request.Grant socket messages bits) = inr (refl, refl)
-contact_or h here (request.AskBack socket messages bits) = inr (refl, refl)
-contact_or h here (request.Interrupt socket) = inr (refl, refl)
-contact_or h here (request.Close socket) = inr (refl, refl)
-contact_or h here (request.Echo peer octet) = inr (refl, refl)
+contact_or h here r = inr (refl, refl)
 
 -- what holds of every contact and where nothing happens, holds of what a user asks for
 pub by_request : (P : Event → Type 0) (h : Host) (r : Request) → ((peer : Host) → P (Contact h peer)) → P Idle → P (event_by h r)
@@ -46,10 +38,7 @@ by_request P h r contact idle = elim (contact_or h 0 r) [
 
 pub place_by : (c : Crossing) (events : List Event) → place (event_of c ∷ events) ≡ 1 + place events
 place_by (crossing.Out m) events = refl
-place_by (crossing.In m) events = refl
-place_by (crossing.Answer kind f) events = refl
-place_by (crossing.Down h) events = refl
-place_by (crossing.Up h) events = refl
+place_by c events = refl
 
 pub place_same : (moments : List Moment) → place (events_of moments) ≡ length (crossings_of moments)
 place_same [] = refl
@@ -62,11 +51,9 @@ places_same (Crossed c ∷ moments) = omega (arith, places_same moments)
 places_same (Asked h r ∷ moments) = places_same moments
 
 up_by : (hosts : List Host) (h : Host) (c : Crossing) (events : List Event) (log : List Crossing) → is_up hosts h events ≡ mail.is_up hosts h log → is_up hosts h (event_of c ∷ events) ≡ mail.is_up hosts h (c ∷ log)
-up_by hosts h (crossing.Out m) events log e = e
-up_by hosts h (crossing.In m) events log e = e
-up_by hosts h (crossing.Answer kind f) events log e = e
 up_by hosts h (crossing.Down g) events log e = ap (λ (up : Bool). if same_host h g then false else up) e
 up_by hosts h (crossing.Up g) events log e = ap (λ (up : Bool). if same_host h g then true else up) e
+up_by hosts h c events log e = e
 
 pub up_same : (hosts : List Host) (h : Host) (moments : List Moment) → is_up hosts h (events_of moments) ≡ mail.is_up hosts h (crossings_of moments)
 up_same hosts h [] = refl
@@ -140,15 +127,13 @@ seen_fits : (link : ℕ) (kind : Answer) (box : mail.Box) → mail.Fits kind box
 seen_fits link answer.Rfnm mail.Empty h = h
 seen_fits link answer.Rfnm (mail.Waiting place text) h = h
 seen_fits link answer.Rfnm (mail.Taken place text) h = h
-seen_fits link answer.Dead mail.Empty h = h
 seen_fits link answer.Dead (mail.Waiting place text) h = h
 seen_fits link answer.Dead (mail.Taken place text) h = h
-seen_fits link answer.Incomplete mail.Empty h = h
 seen_fits link answer.Incomplete (mail.Waiting place text) h = h
 seen_fits link answer.Incomplete (mail.Taken place text) h = h
-seen_fits link answer.NotTaken mail.Empty h = h
 seen_fits link answer.NotTaken (mail.Waiting place text) h = h
 seen_fits link answer.NotTaken (mail.Taken place text) h = h
+seen_fits link kind mail.Empty h = h
 
 pub needs_same : (hosts : List Host) (c : Crossing) (moments : List Moment) → mail.Needs hosts c (crossings_of moments) → Needs hosts (event_of c) (events_of moments)
 needs_same hosts (crossing.Out m) moments n =

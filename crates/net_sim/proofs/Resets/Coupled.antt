@@ -84,15 +84,13 @@ fits_kind : (link : ℕ) (kind : Answer) (box : mail.Box) → mail.Fits kind box
 fits_kind link answer.Rfnm mail.Empty h = absurd h
 fits_kind link answer.Rfnm (mail.Waiting place text) h = absurd h
 fits_kind link answer.Rfnm (mail.Taken place text) h = refl
-fits_kind link answer.Dead mail.Empty h = absurd h
 fits_kind link answer.Dead (mail.Waiting place text) h = refl
 fits_kind link answer.Dead (mail.Taken place text) h = absurd h
-fits_kind link answer.Incomplete mail.Empty h = absurd h
 fits_kind link answer.Incomplete (mail.Waiting place text) h = refl
 fits_kind link answer.Incomplete (mail.Taken place text) h = refl
-fits_kind link answer.NotTaken mail.Empty h = absurd h
 fits_kind link answer.NotTaken (mail.Waiting place text) h = refl
 fits_kind link answer.NotTaken (mail.Taken place text) h = absurd h
+fits_kind link kind mail.Empty h = absurd h
 
 -- ---- what a program says
 

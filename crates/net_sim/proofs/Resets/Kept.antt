@@ -243,7 +243,6 @@ kept_ret link messages bits e d =
 -- ---- all commands, and data
 
 pub kept_taken : (peer : Host) (busy : List ℕ) (stamp : ℕ) (c : Command) → names_control c ≡ false → (d : DeskState) → Kept d (desk_taken peer busy stamp c d)
-kept_taken peer busy stamp command.Nop away d = kept d
 kept_taken peer busy stamp (command.Rts receive send link) away d = kept_rts peer send receive link stamp d away
 kept_taken peer busy stamp (command.Str send receive size) away d = kept_str_by peer receive send size stamp (entry_at receive send d.entries) d
 kept_taken peer busy stamp (command.Cls own foreign) away d = kept_cls_by peer busy foreign own (entry_at foreign own d.entries) d
@@ -255,8 +254,7 @@ kept_taken peer busy stamp (command.Ins link) away d = kept_at (command.Ins link
 kept_taken peer busy stamp (command.Eco octet) away d = kept_queued _ d (refl, refl, refl, refl)
 kept_taken peer busy stamp (command.Erp octet) away d = kept_told _ d
 kept_taken peer busy stamp (command.Err code detail) away d = kept_told _ d
-kept_taken peer busy stamp command.Rst away d = kept d
-kept_taken peer busy stamp command.Rrp away d = kept d
+kept_taken peer busy stamp c away d = kept d
 
 kept_arrived : (link : ℕ) (e : Entry) (text : List Bool) (h : Option DataHeader) (d : DeskState) → Kept d (arrived_if link e text h d)
 kept_arrived link e text None d = kept_error ERRONEOUS (octets_of text) d

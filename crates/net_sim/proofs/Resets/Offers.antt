@@ -218,21 +218,11 @@ request_linked : (peer : Host) (stamp own foreign : ℕ) (d : DeskState) → has
 request_linked peer stamp own foreign d h = any_changed strays (is_at own foreign) (asked_at stamp) (λ x k. k) d.entries h
 
 gone_linked : (peer : Host) (stamp : ℕ) (c : Command) (d : DeskState) → has_control (command_gone peer stamp c d).entries ≡ true → has_control d.entries ≡ true
-gone_linked peer stamp command.Nop d h = h
 gone_linked peer stamp (command.Rts receive send link) d h = request_linked peer stamp receive send d h
 gone_linked peer stamp (command.Str send receive size) d h = request_linked peer stamp send receive d h
 gone_linked peer stamp (command.Cls own foreign) d h =
     any_changed strays (is_at own foreign) cls_sent (λ x k. k) d.entries (over_less strays (changed_first (is_at own foreign) cls_sent d.entries) h)
-gone_linked peer stamp (command.All link messages bits) d h = h
-gone_linked peer stamp (command.Gvb link messages bits) d h = h
-gone_linked peer stamp (command.Ret link messages bits) d h = h
-gone_linked peer stamp (command.Inr link) d h = h
-gone_linked peer stamp (command.Ins link) d h = h
-gone_linked peer stamp (command.Eco octet) d h = h
-gone_linked peer stamp (command.Erp octet) d h = h
-gone_linked peer stamp (command.Err code detail) d h = h
-gone_linked peer stamp command.Rst d h = h
-gone_linked peer stamp command.Rrp d h = h
+gone_linked peer stamp c d h = h
 
 all_gone_linked : (peer : Host) (stamp : ℕ) (cs : List Command) (d : DeskState) → has_control (commands_gone peer stamp cs d).entries ≡ true → has_control d.entries ≡ true
 all_gone_linked peer stamp [] d h = h
@@ -249,11 +239,8 @@ pub record Goes (q : PairState) (p : Pair) (x : Parcel) (new : PairState) : Type
   pub agrees : Agrees new (pair_sent (link_for x) (message_on (link_for x) (text_for q x)) p)
 
 not_want : (ph : host.Phase) → program.is_want ph ≡ false → ph ≢ phase.Want
-not_want phase.Closed e = λ h. absurd (cc)
 not_want phase.Want e = absurd (cc)
-not_want (phase.Gone early) e = λ h. absurd (cc)
-not_want phase.Heard e = λ h. absurd (cc)
-not_want phase.Ready e = λ h. absurd (cc)
+not_want ph e = λ h. absurd (cc)
 
 reset_goes : (peer : Host) (stamp : ℕ) (listening : List Listener) (q : PairState) (p : Pair) → Agrees q p → MayReset q → Goes q p parcel.Reset (after peer stamp listening parcel.Reset q)
 reset_goes peer stamp listening q p a m =

@@ -39,16 +39,12 @@ closed_own s socket false e = rw e (owner_own s (owner_of socket s.peers) _)
 
 served_own : (s : NcpState) (r : Request) → (served s r).own ≡ s.own
 unfolding served
-served_own s (request.Contact peer) = refl
-served_own s (request.Listen socket size) = refl
-served_own s (request.OpenSend peer own foreign size) = refl
-served_own s (request.OpenReceive peer own foreign) = refl
 served_own s (request.Send socket bits) = owner_own s (owner_of socket s.peers) _
 served_own s (request.Grant socket messages bits) = owner_own s (owner_of socket s.peers) _
 served_own s (request.AskBack socket messages bits) = owner_own s (owner_of socket s.peers) _
 served_own s (request.Interrupt socket) = owner_own s (owner_of socket s.peers) _
 served_own s (request.Close socket) = closed_own s socket (listens_on socket s.listening) refl
-served_own s (request.Echo peer octet) = refl
+served_own s r = refl
 
 offered_own_by : (s : NcpState) (stamp : ℕ) (o : Option (Peer × Parcel)) → (offered_by s stamp o).0.own ≡ s.own
 offered_own_by s stamp None = refl
@@ -102,15 +98,7 @@ as_own a b e q p s own h = subst (λ (x : Host). Agrees q (pair_moved (part_of x
 
 another : (a b h : Host) (r : Request) (q : PairState) (p : Pair) → same_host a h ≡ false → Agrees q p → Agrees q (pair_moved (part_of a b (event_by h r)) p)
 another a b h (request.Contact peer) q p e k = rw e k
-another a b h (request.Listen socket size) q p e k = k
-another a b h (request.OpenSend peer own foreign size) q p e k = k
-another a b h (request.OpenReceive peer own foreign) q p e k = k
-another a b h (request.Send socket bits) q p e k = k
-another a b h (request.Grant socket messages bits) q p e k = k
-another a b h (request.AskBack socket messages bits) q p e k = k
-another a b h (request.Interrupt socket) q p e k = k
-another a b h (request.Close socket) q p e k = k
-another a b h (request.Echo peer octet) q p e k = k
+another a b h r q p e k = k
 
 asked_stands : (a b h : Host) (r : Request) (moments : List Moment) → Before a b moments → (c : Bool) → same_host a h ≡ c → Stands a b (Asked h r) moments
 asked_stands a b h r moments k true e =

@@ -29,19 +29,14 @@ use Rattle.net_sim.proofs.Resets.Kept.{Kept, kept_taken, kept_data, kept_error, 
 
 -- a pair that is ready stays so by an RRP and by an RFNM
 reply_ready : (ph : host.Phase) → program.is_ready ph ≡ true → program.is_ready (program.reply_phase ph) ≡ true
-reply_ready phase.Closed h = h
-reply_ready phase.Want h = h
-reply_ready (phase.Gone early) h = h
 reply_ready phase.Heard h = refl
 reply_ready phase.Ready h = refl
+reply_ready ph h = h
 
 taken_ready : (ph : host.Phase) → program.is_ready ph ≡ true → program.is_ready (program.taken_phase ph) ≡ true
-taken_ready phase.Closed h = h
-taken_ready phase.Want h = h
-taken_ready (phase.Gone true) h = h
-taken_ready (phase.Gone false) h = h
-taken_ready phase.Heard h = h
 taken_ready phase.Ready h = refl
+taken_ready (phase.Gone true) h = h
+taken_ready ph h = h
 
 rfnm_ready : (zero : Bool) (ph : host.Phase) → program.is_ready ph ≡ true → program.is_ready (if zero then program.taken_phase ph else ph) ≡ true
 rfnm_ready true ph h = taken_ready ph h
@@ -90,20 +85,9 @@ agrees_reply peer t p a = record {
 -- ---- orders
 
 agrees_command : (peer : Host) (stamp : ℕ) (c : Command) (t : TurnState) (p : Pair) → is_rst c ≡ false → is_rrp c ≡ false → names_control c ≡ false → Agrees t.pair p → Agrees (command_taken peer stamp c t).pair p
-agrees_command peer stamp command.Nop t p rst rrp away a = agrees_if (desk_taken peer t.pair.busy stamp command.Nop) t p (kept_taken peer t.pair.busy stamp command.Nop away) a
-agrees_command peer stamp (command.Rts receive send link) t p rst rrp away a = agrees_if (desk_taken peer t.pair.busy stamp (command.Rts receive send link)) t p (kept_taken peer t.pair.busy stamp (command.Rts receive send link) away) a
-agrees_command peer stamp (command.Str send receive size) t p rst rrp away a = agrees_if (desk_taken peer t.pair.busy stamp (command.Str send receive size)) t p (kept_taken peer t.pair.busy stamp (command.Str send receive size) away) a
-agrees_command peer stamp (command.Cls own foreign) t p rst rrp away a = agrees_if (desk_taken peer t.pair.busy stamp (command.Cls own foreign)) t p (kept_taken peer t.pair.busy stamp (command.Cls own foreign) away) a
-agrees_command peer stamp (command.All link messages bits) t p rst rrp away a = agrees_if (desk_taken peer t.pair.busy stamp (command.All link messages bits)) t p (kept_taken peer t.pair.busy stamp (command.All link messages bits) away) a
-agrees_command peer stamp (command.Gvb link messages bits) t p rst rrp away a = agrees_if (desk_taken peer t.pair.busy stamp (command.Gvb link messages bits)) t p (kept_taken peer t.pair.busy stamp (command.Gvb link messages bits) away) a
-agrees_command peer stamp (command.Ret link messages bits) t p rst rrp away a = agrees_if (desk_taken peer t.pair.busy stamp (command.Ret link messages bits)) t p (kept_taken peer t.pair.busy stamp (command.Ret link messages bits) away) a
-agrees_command peer stamp (command.Inr link) t p rst rrp away a = agrees_if (desk_taken peer t.pair.busy stamp (command.Inr link)) t p (kept_taken peer t.pair.busy stamp (command.Inr link) away) a
-agrees_command peer stamp (command.Ins link) t p rst rrp away a = agrees_if (desk_taken peer t.pair.busy stamp (command.Ins link)) t p (kept_taken peer t.pair.busy stamp (command.Ins link) away) a
-agrees_command peer stamp (command.Eco octet) t p rst rrp away a = agrees_if (desk_taken peer t.pair.busy stamp (command.Eco octet)) t p (kept_taken peer t.pair.busy stamp (command.Eco octet) away) a
-agrees_command peer stamp (command.Erp octet) t p rst rrp away a = agrees_if (desk_taken peer t.pair.busy stamp (command.Erp octet)) t p (kept_taken peer t.pair.busy stamp (command.Erp octet) away) a
-agrees_command peer stamp (command.Err code detail) t p rst rrp away a = agrees_if (desk_taken peer t.pair.busy stamp (command.Err code detail)) t p (kept_taken peer t.pair.busy stamp (command.Err code detail) away) a
 agrees_command peer stamp command.Rst t p rst rrp away a = absurd (cc)
 agrees_command peer stamp command.Rrp t p rst rrp away a = absurd (cc)
+agrees_command peer stamp c t p rst rrp away a = agrees_if (desk_taken peer t.pair.busy stamp c) t p (kept_taken peer t.pair.busy stamp c away) a
 
 agrees_order : (peer : Host) (stamp : ℕ) (o : Order) (t : TurnState) (p : Pair) → IsPlain o → Agrees t.pair p → Agrees (order_taken peer stamp o t).pair p
 agrees_order peer stamp (Legal c) t p plain a = agrees_command peer stamp c t p plain.0 plain.1 plain.2 a
@@ -114,36 +98,12 @@ agrees_orders peer stamp [] t p plain a = a
 agrees_orders peer stamp (o ∷ os) t p plain a = agrees_orders peer stamp os (order_taken peer stamp o t) p plain.1 (agrees_order peer stamp o t p plain.0 a)
 
 rst_is : (c : Command) → is_rst c ≡ true → c ≡ command.Rst
-rst_is command.Nop e = absurd (cc)
-rst_is (command.Rts receive send link) e = absurd (cc)
-rst_is (command.Str send receive size) e = absurd (cc)
-rst_is (command.Cls own foreign) e = absurd (cc)
-rst_is (command.All link messages bits) e = absurd (cc)
-rst_is (command.Gvb link messages bits) e = absurd (cc)
-rst_is (command.Ret link messages bits) e = absurd (cc)
-rst_is (command.Inr link) e = absurd (cc)
-rst_is (command.Ins link) e = absurd (cc)
-rst_is (command.Eco octet) e = absurd (cc)
-rst_is (command.Erp octet) e = absurd (cc)
-rst_is (command.Err code detail) e = absurd (cc)
 rst_is command.Rst e = refl
-rst_is command.Rrp e = absurd (cc)
+rst_is c e = absurd (cc)
 
 rrp_is : (c : Command) → is_rrp c ≡ true → c ≡ command.Rrp
-rrp_is command.Nop e = absurd (cc)
-rrp_is (command.Rts receive send link) e = absurd (cc)
-rrp_is (command.Str send receive size) e = absurd (cc)
-rrp_is (command.Cls own foreign) e = absurd (cc)
-rrp_is (command.All link messages bits) e = absurd (cc)
-rrp_is (command.Gvb link messages bits) e = absurd (cc)
-rrp_is (command.Ret link messages bits) e = absurd (cc)
-rrp_is (command.Inr link) e = absurd (cc)
-rrp_is (command.Ins link) e = absurd (cc)
-rrp_is (command.Eco octet) e = absurd (cc)
-rrp_is (command.Erp octet) e = absurd (cc)
-rrp_is (command.Err code detail) e = absurd (cc)
-rrp_is command.Rst e = absurd (cc)
 rrp_is command.Rrp e = refl
+rrp_is c e = absurd (cc)
 
 alone_is : (test : Command → Bool) (x : Command) → ((c : Command) → test c ≡ true → c ≡ x) → (os : List Order) → is_alone test os ≡ true → os ≡ Legal x ∷ []
 alone_is test x only [] e = absurd (cc)
@@ -253,16 +213,13 @@ silent p q to quiet a =
 
 failed_by : (peer : Host) (ph : host.Phase) (owed : Bool) (busy : List ℕ) (entries : List Entry) (queue : List Command) (listening : List Listener) (notices : List Notice) (p : Pair)
     → Agrees (turn_by ph owed busy entries queue listening notices).pair p → Agrees (failed peer (turn_by ph owed busy entries queue listening notices)).pair (unsaid p)
-failed_by peer phase.Closed true busy entries queue listening notices p a = agrees_settled (turn_by phase.Closed true busy entries queue listening notices) (unsaid p) (stayed p (record { phase = phase.Closed; owed = true; busy = busy; entries = entries; queue = queue }) (fails_to p phase.Closed true a.phase a.owed) refl a)
 failed_by peer phase.Closed false busy entries queue listening notices p a = silent p (record { phase = phase.Closed; owed = false; busy = busy; entries = entries; queue = queue }) (fails_to p phase.Closed false a.phase a.owed) refl a
-failed_by peer phase.Want true busy entries queue listening notices p a = agrees_settled (turn_by phase.Want true busy entries queue listening notices) (unsaid p) (stayed p (record { phase = phase.Want; owed = true; busy = busy; entries = entries; queue = queue }) (fails_to p phase.Want true a.phase a.owed) refl a)
 failed_by peer phase.Want false busy entries queue listening notices p a = silent p (record { phase = phase.Want; owed = false; busy = busy; entries = entries; queue = queue }) (fails_to p phase.Want false a.phase a.owed) refl a
 failed_by peer (phase.Gone early) true busy entries queue listening notices p a = dropped p (record { phase = phase.Gone early; owed = true; busy = busy; entries = entries; queue = queue }) (fails_to p (phase.Gone early) true a.phase a.owed) a
 failed_by peer (phase.Gone early) false busy entries queue listening notices p a = dropped p (record { phase = phase.Gone early; owed = false; busy = busy; entries = entries; queue = queue }) (fails_to p (phase.Gone early) false a.phase a.owed) a
-failed_by peer phase.Heard true busy entries queue listening notices p a = agrees_settled (turn_by phase.Heard true busy entries queue listening notices) (unsaid p) (stayed p (record { phase = phase.Heard; owed = true; busy = busy; entries = entries; queue = queue }) (fails_to p phase.Heard true a.phase a.owed) refl a)
 failed_by peer phase.Heard false busy entries queue listening notices p a = dropped p (record { phase = phase.Heard; owed = false; busy = busy; entries = entries; queue = queue }) (fails_to p phase.Heard false a.phase a.owed) a
-failed_by peer phase.Ready true busy entries queue listening notices p a = agrees_settled (turn_by phase.Ready true busy entries queue listening notices) (unsaid p) (stayed p (record { phase = phase.Ready; owed = true; busy = busy; entries = entries; queue = queue }) (fails_to p phase.Ready true a.phase a.owed) refl a)
 failed_by peer phase.Ready false busy entries queue listening notices p a = dropped p (record { phase = phase.Ready; owed = false; busy = busy; entries = entries; queue = queue }) (fails_to p phase.Ready false a.phase a.owed) a
+failed_by peer ph true busy entries queue listening notices p a = agrees_settled (turn_by ph true busy entries queue listening notices) (unsaid p) (stayed p (record { phase = ph; owed = true; busy = busy; entries = entries; queue = queue }) (fails_to p ph true a.phase a.owed) refl a)
 
 agrees_failed : (peer : Host) (t : TurnState) (p : Pair) → Agrees t.pair p → Agrees (failed peer t).pair (unsaid p)
 agrees_failed peer t p a = failed_by peer t.pair.phase t.pair.owed t.pair.busy t.pair.entries t.pair.queue t.listening t.notices p a
@@ -270,9 +227,7 @@ agrees_failed peer t p a = failed_by peer t.pair.phase t.pair.owed t.pair.busy t
 answer_by : (peer : Host) (kind : Answer) (link : ℕ) (t : TurnState) (p : Pair) → Agrees (record t { pair = freed link t.pair }).pair (record p { out = at_link p.out link None })
     → Agrees (answered_turn peer kind link t).pair (pair_answered link kind p)
 answer_by peer answer.Rfnm link t p a = agrees_rfnm link (record t { pair = freed link t.pair }) (record p { out = at_link p.out link None }) a
-answer_by peer answer.Incomplete link t p a = agrees_failed peer (record t { pair = freed link t.pair }) (record p { out = at_link p.out link None }) a
-answer_by peer answer.Dead link t p a = agrees_failed peer (record t { pair = freed link t.pair }) (record p { out = at_link p.out link None }) a
-answer_by peer answer.NotTaken link t p a = agrees_failed peer (record t { pair = freed link t.pair }) (record p { out = at_link p.out link None }) a
+answer_by peer kind link t p a = agrees_failed peer (record t { pair = freed link t.pair }) (record p { out = at_link p.out link None }) a
 
 pub agrees_answer : (peer : Host) (kind : Answer) (link : ℕ) (t : TurnState) (p : Pair) → Agrees t.pair p → Agrees (answered_turn peer kind link t).pair (pair_answered link kind p)
 agrees_answer peer kind link t p a = answer_by peer kind link t p (agrees_freed t.pair p link a)

@@ -23,20 +23,9 @@ if_unready : (work : DeskState → DeskState) (t : TurnState) → program.is_rea
 if_unready work t e = rw e refl
 
 command_unheard : (peer : Host) (stamp : ℕ) (c : Command) (t : TurnState) → is_rst c ≡ false → is_rrp c ≡ false → program.is_ready t.pair.phase ≡ false → command_taken peer stamp c t ≡ t
-command_unheard peer stamp command.Nop t rst rrp e = rw e refl
-command_unheard peer stamp (command.Rts receive send link) t rst rrp e = rw e refl
-command_unheard peer stamp (command.Str send receive size) t rst rrp e = rw e refl
-command_unheard peer stamp (command.Cls own foreign) t rst rrp e = rw e refl
-command_unheard peer stamp (command.All link messages bits) t rst rrp e = rw e refl
-command_unheard peer stamp (command.Gvb link messages bits) t rst rrp e = rw e refl
-command_unheard peer stamp (command.Ret link messages bits) t rst rrp e = rw e refl
-command_unheard peer stamp (command.Inr link) t rst rrp e = rw e refl
-command_unheard peer stamp (command.Ins link) t rst rrp e = rw e refl
-command_unheard peer stamp (command.Eco octet) t rst rrp e = rw e refl
-command_unheard peer stamp (command.Erp octet) t rst rrp e = rw e refl
-command_unheard peer stamp (command.Err code detail) t rst rrp e = rw e refl
 command_unheard peer stamp command.Rst t rst rrp e = absurd (cc)
 command_unheard peer stamp command.Rrp t rst rrp e = absurd (cc)
+command_unheard peer stamp c t rst rrp e = rw e refl
 
 order_unheard : (peer : Host) (stamp : ℕ) (o : Order) (t : TurnState) → IsPlain o → program.is_ready t.pair.phase ≡ false → order_taken peer stamp o t ≡ t
 order_unheard peer stamp (Legal c) t h e = command_unheard peer stamp c t h.0 h.1 e
