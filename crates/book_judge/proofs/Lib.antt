@@ -9,6 +9,7 @@ pub mod Asked
 pub mod Known
 pub mod Walks
 pub mod Fed
+pub mod Shown
 pub mod Peace
 pub mod Steps
 pub mod Taken

@@ -21,3 +21,11 @@ pub record IsBroken (b : Broken) (log : List Crossing) (lives : List Life) (hand
   pub partners : IfFormed b.malformed b.partners (SafePartners log lives) (λ found. ShowsTwo found log lives)
   pub streams : IfFormed b.malformed b.streams (AreFed log lives lives handed) (λ found. ShowsLife (first_fed log lives handed) found log lives)
   pub grants : IfFormed b.malformed b.grants (SafeGrants log lives) (λ found. ShowsLife (first_granted log lives) found log lives)
+
+-- nothing is named
+abbrev pub unbroken : Broken
+unbroken = record { malformed = None; partners = None; streams = None; grants = None }
+
+-- only this: the book is malformed
+abbrev pub only_malformed : Finding → Broken
+only_malformed found = record { malformed = Some found; partners = None; streams = None; grants = None }

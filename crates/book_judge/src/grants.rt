@@ -1,12 +1,12 @@
 //! Whether what was taken and sent was granted.
 
-ghost use Rattle.std.specs.Prelude.{◌≡◌, ◌+◌, ℕ, MatchBool, length, nat_le};
+ghost use Rattle.std.specs.Prelude.{◌≡◌, ◌+◌, ℕ, IfSome, MatchBool, length, nat_le};
 ghost use Rattle.book_judge.specs.Inside.Chains as tests;
 ghost use Rattle.book_judge.specs.Inside.Chains.{AreChained, ExceedsAt, FoundFirst, GrantedAt, HasGranted};
 
 use crate::data::receives;
 use crate::matches::fits;
-use crate::names::Name;
+use crate::names::{Name, same_name};
 use crate::places::Places;
 use crate::stamps::found_at;
 use net_sim::Life;
@@ -58,7 +58,34 @@ fn is_exceeded(
     false
 }
 
-/// Returns whether what a receiving life took is granted, and what was sent to it.
+/// Returns whether a life has the same requests as an earlier one, if there is one, and granted as much.
+fn is_shown(
+    asked: &Name,
+    life: &Life,
+    names: &[Name],
+    lives: &[Life],
+    earlier: Option<usize>,
+) -> bool
+    ensures { result ≡ tests.is_shown asked.now life.now names.now lives.now earlier }
+{
+    let Some(place) = earlier else {
+        return false;
+    };
+    match (names.get(place), lives.get(place)) {
+        (Some(b), Some(y)) => {
+            same_name(asked, b)
+                && same_name(&Name::own_of(life), &Name::own_of(y))
+                && life.host == y.host
+                && life.peer == y.peer
+                && life.granted == y.granted
+                && life.returned == y.returned
+        }
+        _ => false,
+    }
+}
+
+/// Returns whether what a receiving life took is granted, and what was sent to it. An earlier life with its own request, if there is
+/// one, is granted all of that: where it granted as much, so is this one.
 fn has_granted(
     asked: &Name,
     life: &Life,
@@ -66,8 +93,10 @@ fn has_granted(
     before: &[Option<usize>],
     names: &[Name],
     lives: &[Life],
+    earlier: Option<usize>,
 ) -> bool
-    requires { AreChained (length lives.now) last.now before.now lives.now }
+    requires chained { AreChained (length lives.now) last.now before.now lives.now }
+    requires earlier { IfSome earlier (GrantedAt names.now lives.now) }
     ensures { MatchBool result (HasGranted asked.now life.now names.now lives.now) (HasGranted asked.now life.now names.now lives.now → ⊥) }
 {
     if !receives(life) {
@@ -75,6 +104,9 @@ fn has_granted(
     }
     if !is_granted(life, life.messages, life.bits.len()) {
         return false;
+    }
+    if is_shown(asked, life, names, lives, earlier) {
+        return true;
     }
     !is_exceeded(asked, life, last, before, names, lives)
 }
@@ -92,7 +124,8 @@ pub(crate) fn excess_at(
     ensures { FoundFirst (GrantedAt names.now lives.now) (length lives.now) result }
 {
     for (place, life) in lives.iter().enumerate() {
-        if !has_granted(&names[place], life, last, before, names, lives) {
+        let earlier = found_at(before, place);
+        if !has_granted(&names[place], life, last, before, names, lives, earlier) {
             return Some(place);
         }
     }

@@ -1,15 +1,18 @@
-//! Logs that are runs between some hosts, and logs that stop being one; and lives that are made of what crossed, and one that isn't. The
-//! functions here do nothing: each clause is a row.
+//! Logs that are runs between some hosts, and logs that stop being one; a book that is whole, and one that is malformed; lives that
+//! are made of what crossed, and one that isn't. The functions here do nothing: each clause is a row.
 
-ghost use Rattle.std.specs.Prelude.{[], ◌∷◌};
+ghost use Rattle.std.specs.Prelude.{ℕ, Bool, List, Some, [], ◌∷◌};
 ghost use Rattle.interface.specs.Host.{Host};
 ghost use Rattle.interface.specs.declared.address.Flow.{Flow};
 ghost use Rattle.interface.specs.declared.crossing.Answer.{Answer};
 ghost use Rattle.interface.specs.declared.crossing.Answer.TheVariants as answer;
 ghost use Rattle.interface.specs.declared.crossing.Crossing.TheVariants as crossing;
 ghost use Rattle.interface.specs.declared.message.HostMessage.{HostMessage};
+ghost use Rattle.net_sim.specs.declared.auditing.findings.Finding.{Finding};
+ghost use Rattle.net_sim.specs.declared.auditing.findings.Finding.TheVariants as finding;
 ghost use Rattle.promise.specs.declared.life.Life.{Life};
 ghost use Rattle.world_keeps_lives.specs.WorkedFormed.{gave, sent_log, took};
+ghost use Rattle.book_judge.specs.Broken.{IsBroken, only_malformed, unbroken};
 ghost use Rattle.book_judge.specs.Lives.{AreMade, UnmadeAt};
 ghost use Rattle.book_judge.specs.Runs.{IsSomeRun, StraysAt};
 
@@ -32,6 +35,17 @@ pub fn worked_strays()
     ensures here { (m : HostMessage) → StraysAt (crossing.Out m ∷ crossing.Answer answer.Dead m.flow ∷ crossing.Answer answer.Dead m.flow ∷ crossing.Out m ∷ []) 2 }
     ensures earlier { (m : HostMessage) → StraysAt (crossing.Out m ∷ crossing.Answer answer.Dead m.flow ∷ crossing.Answer answer.Dead m.flow ∷ crossing.Out m ∷ []) 1 → ⊥ }
     ensures later { (m : HostMessage) → StraysAt (crossing.Out m ∷ crossing.Answer answer.Dead m.flow ∷ crossing.Answer answer.Dead m.flow ∷ crossing.Out m ∷ []) 3 → ⊥ }
+{}
+
+/// Lists without lives: a book of none is whole, and of one the list shows that it is malformed. Nothing else is named of that.
+pub fn worked_broken()
+    ensures whole { IsBroken unbroken [] [] [] }
+    ensures list { (h : List Bool) → IsBroken (only_malformed (finding.List 0)) [] [] (h ∷ []) }
+
+    // not as a life, not as whole, and no part beside it
+    ensures no_life { (h : List Bool) (n : ℕ) → IsBroken (only_malformed (finding.Life n)) [] [] (h ∷ []) → ⊥ }
+    ensures not_whole { (h : List Bool) → IsBroken unbroken [] [] (h ∷ []) → ⊥ }
+    ensures no_part { (h : List Bool) (found : Finding) → IsBroken (record (only_malformed (finding.List 0)) { grants = Some found }) [] [] (h ∷ []) → ⊥ }
 {}
 
 /// Lives of small logs, the newest crossing first.

@@ -9,8 +9,8 @@
 - connections whose requests go out first and are taken at the end, so the way back from a stamp to its message is long;
 - messages that all go out before the first of them is taken, and are all taken before the first of them is answered, without lives.
 
-The last four are broken, each in one place at the end, so all is looked at: an RFNM comes twice, two lives have one request, what
-was taken was not sent, and more was taken than was granted.
+The others are broken, the first four of them in one place at the end, so all is looked at: an RFNM comes twice, two lives have one
+request, what was taken was not sent, more was taken than was granted, and the same two lives come again and again.
 
 Told are the best processor time of the rounds, from the start of the process to its end, the greatest memory, and the verdict. Growth
 compares the times: a hundred times as long is a square. It wants GNU time at /usr/bin/time, and is not part of the gate.
@@ -146,6 +146,11 @@ def one_request(count: int) -> Book:
     return book
 
 
+def again_and_again(count: int) -> Book:
+    book = one_after_another(True, 1)
+    return Book(book.log, book.lives * count, book.handed * count)
+
+
 def not_sent(count: int) -> Book:
     book = one_after_another(True, count)
     book.lives[-2].bits = DATA[::-1]
@@ -169,6 +174,7 @@ MEASURED: list[tuple[str, Make]] = [
     ("two lives with one request", one_request),
     ("bits that were not sent", not_sent),
     ("more than was granted", past_the_grant),
+    ("the same two lives again and again", again_and_again),
 ]
 
 

@@ -1,9 +1,10 @@
 -- Lives by their own requests, and the tests by which streams and grants are judged. No public clause cites this file.
-use Rattle.std.specs.Prelude.{◌≡◌, ℕ, ◌<◌, ◌≤◌, ◌+◌, ◌&&◌, nat_le, Bool, true, false, List, [], length, slice_get, Option, Some, None}
+use Rattle.std.specs.Prelude.{◌≡◌, ℕ, ◌<◌, ◌≤◌, ◌+◌, ◌==◌, ◌&&◌, nat_le, Bool, true, false, List, [], length, slice_get, Option, Some, None}
 use Rattle.std.specs.FinMap as map
 use Rattle.std.specs.Ordering.{nat_cmp}
 use Rattle.interface.specs.Host.{same_host}
 use Rattle.promise.specs.Safe.{IsPrefix, Name, own_request, receives, sends}
+use Rattle.promise.specs.declared.life.Amount.{Amount}
 use Rattle.promise.specs.declared.life.Life.{Life}
 use Rattle.book_judge.specs.Inside.Asked.{key, same_name}
 
@@ -79,6 +80,21 @@ ExceedsAt a x names lives i =
 abbrev pub HasGranted : Name → Life → List Name → List Life → Type 0
 HasGranted a x names lives =
     receives x ≡ true → (is_granted x x.messages (length x.bits) ≡ true) × ((i : ℕ) → ExceedsAt a x names lives i → ⊥)
+
+abbrev pub same_amount : Amount → Amount → Bool
+same_amount a b = a.messages == b.messages && a.bits == b.bits
+
+abbrev pub shown_of : Name → Life → Option Name → Option Life → Bool
+shown_of a x None y = false
+shown_of a x (Some b) None = false
+shown_of a x (Some b) (Some y) =
+    same_name a b && same_name (own_request x) (own_request y) && same_host x.host y.host && same_host x.peer y.peer
+    && same_amount x.granted y.granted && same_amount x.returned y.returned
+
+-- an earlier life has the same requests, and granted as much
+abbrev pub is_shown : Name → Life → List Name → List Life → Option ℕ → Bool
+is_shown a x names lives None = false
+is_shown a x names lives (Some place) = shown_of a x (slice_get names place) (slice_get lives place)
 
 -- what grants promise of the life at a place
 abbrev pub GrantedAt : List Name → List Life → ℕ → Type 0
