@@ -73,7 +73,7 @@ LIMITS: dict[str, Limit] = {
     "notices that services hear": Limit([], PAIR, [*JOINED, "send 0/1 101 8 5A", "calm 70000"]),
     "peers": Limit([], MANY, [*[f"contact 0/1 {host}/{imp}" for imp in range(2, 64) for host in range(4)], "calm 6"]),
     "requests in a row": Limit([], MANY, [*[f"contact {host}/{imp} 0/1" for imp in range(2, 64) for host in range(4)], "calm 12"]),
-    "ends": Limit(["--book"], PAIR, ["contact 0/1 0/2", "calm 3", *[f"openrecv 0/1 0/2 {2 * at} {2 * at + 1}" for at in range(1, 250)], "calm 20", *[f"opensend 0/1 0/2 {2 * at + 1} {2 * at} 8" for at in range(1, 400)], "calm 20"]),
+    "ends": Limit(["--book"], PAIR, ["contact 0/1 0/2", "calm 3", *[f"openrecv 0/1 0/2 {2 * at} {2 * at + 1}" for at in range(1, 250)], "calm 20", *[f"opensend 0/1 0/2 {2 * at + 1} {2 * at} 8" for at in range(1, 5000)], "calm 1000"]),
     "listeners": Limit([], PAIR, ["contact 0/1 0/2", "calm 3", *[f"listen 0/2 {at} 8" for at in range(1, 3000)], "openrecv 0/1 0/2 16 2999", "calm 4"]),
     "commands that wait": Limit([], PAIR, ["contact 0/1 0/2", "calm 3", *["echo 0/1 0/2 65"] * 5000, "calm 400"]),
     "a typed line": Limit([], PAIR, [*SERVED, f"type 0/2 {'A' * 20_000}", "calm 200"]),
