@@ -11,7 +11,7 @@ use Rattle.interface.specs.declared.address.Flow.{Flow}
 use Rattle.interface.specs.declared.crossing.Crossing.{Crossing}
 use Rattle.interface.specs.declared.crossing.Crossing.TheVariants as crossing
 use Rattle.interface.specs.declared.message.HostMessage.{HostMessage}
-use Rattle.interface.proofs.lemmas.{same_flow-refl, same_flow-true}
+use Rattle.interface.proofs.lemmas.{same_flow-true}
 use Rattle.net_sim.specs.Audit.{IsStamped, Passes}
 use Rattle.net_sim.specs.Findings.{AreStamped, EndsAt}
 use Rattle.promise.specs.Formed.{coming, going}
@@ -20,7 +20,7 @@ use Rattle.promise.specs.declared.life.Life.{Life}
 use Rattle.book_judge.specs.Inside.Asked.{AreNamed, AreOuts, found_at, noted, out_at, passes}
 use Rattle.book_judge.proofs.Elements.{contains_place, get_take, get_took, place_contains}
 use Rattle.book_judge.proofs.Mailboxes.{get_set}
-use Rattle.book_judge.proofs.Named.{crossed_there, get_front, get_seam, got_there}
+use Rattle.book_judge.proofs.Named.{crossed_there, get_front, get_seam, got_there, same_flow_is}
 
 -- ---- a list that grows
 
@@ -119,9 +119,6 @@ outs_next n outs next log last more c v h at e f g inv =
 
 -- ---- stamps
 
-same_yes : (f g : Flow) → g ≡ f → same_flow f g ≡ true
-same_yes f g e = let P : Flow → Type 0 = λ x. same_flow f x ≡ true in subst P (sym e) (same_flow-refl f)
-
 went : (f : Flow) (o : Option Crossing) → passes false f o ≡ true → (m : HostMessage) × (m.flow ≡ f) × (o ≡ Some (crossing.Out m))
 went f None e = absurd (cc)
 went f (Some (crossing.Out m)) e = (m, sym (same_flow-true f m.flow e), refl)
@@ -139,10 +136,10 @@ came f (Some (crossing.Down g)) e = absurd (cc)
 came f (Some (crossing.Up g)) e = absurd (cc)
 
 went_passes : (f : Flow) (log : List Crossing) (p : ℕ) → Passes going f p (reverse log) → passes false f (slice_get log p) ≡ true
-went_passes f log p (m, e, c) = ap (λ (o : Option Crossing). passes false f o) (got_there log p (crossing.Out m) c) ∙ same_yes f m.flow e
+went_passes f log p (m, e, c) = ap (λ (o : Option Crossing). passes false f o) (got_there log p (crossing.Out m) c) ∙ same_flow_is f m.flow e
 
 came_passes : (f : Flow) (log : List Crossing) (p : ℕ) → Passes coming f p (reverse log) → passes true f (slice_get log p) ≡ true
-came_passes f log p (m, e, c) = ap (λ (o : Option Crossing). passes true f o) (got_there log p (crossing.In m) c) ∙ same_yes f m.flow e
+came_passes f log p (m, e, c) = ap (λ (o : Option Crossing). passes true f o) (got_there log p (crossing.In m) c) ∙ same_flow_is f m.flow e
 
 pub unsent : (log : List Crossing) (x : Life) (b : Bool) → b ≡ passes false (control_flow x.host x.peer) (slice_get log x.own_stamp) → b ≡ false
     → IsStamped (reverse log) x → ⊥

@@ -1,5 +1,5 @@
 -- The elements of a list by their places.
-use Rattle.std.proofs.Common.{◌≡◌, ℕ, zero, suc, ◌+◌, ◌<◌, ◌≤◌, Bool, true, false, not, ◌&&◌, List, [], ◌∷◌, ◌++◌, length, take, Some, MatchBool, refl, ap, sym, subst, ◌∙◌, inl, inr, arith}
+use Rattle.std.proofs.Common.{◌≡◌, ℕ, zero, suc, ◌+◌, ◌<◌, ◌≤◌, Bool, true, false, not, ◌&&◌, List, [], ◌∷◌, ◌++◌, length, take, get_or, Some, MatchBool, refl, ap, sym, subst, ◌∙◌, inl, inr, arith}
 use Rattle.std.specs.List.{Contains, slice_get}
 use Rattle.std.proofs.lemmas.Bool.{cases_lt}
 use Rattle.std.proofs.lemmas.List.{append_assoc}
@@ -51,6 +51,11 @@ get_take zero xs i x h e = absurd (omega (arith, h))
 get_take (suc n) [] i x h e = absurd (cc)
 get_take (suc n) (y ∷ xs) zero x h e = e
 get_take (suc n) (y ∷ xs) (suc i) x h e = get_take n xs i x (omega (arith, h)) e
+
+pub read_at : {X : Type 0} (xs : List X) (i : ℕ) → i < length xs → (x : X) × (slice_get xs i ≡ Some x) × (x ≡ get_or xs i x)
+read_at [] i h = absurd (omega (arith, h))
+read_at (z ∷ xs) zero h = (z, refl, refl)
+read_at (z ∷ xs) (suc i) h = read_at xs i (omega (arith, h))
 
 pub place_contains : {X : Type 0} (xs : List X) (i : ℕ) (x : X) → slice_get xs i ≡ Some x → Contains xs x
 place_contains xs i x e = (i, slice_get_within xs i x e, get_or_from_slice_get xs i x x e)

@@ -1,5 +1,5 @@
 -- What streams and grants promise of the first lives, with one more.
-use Rattle.std.proofs.Common.{◌≡◌, ℕ, zero, suc, ◌+◌, ◌<◌, ◌≤◌, Bool, true, false, not, List, [], ◌∷◌, ◌++◌, length, take, drop, get_or, Option, Some, None, MatchBool, refl, ap, sym, subst, ◌∙◌, arith}
+use Rattle.std.proofs.Common.{◌≡◌, ℕ, ◌+◌, ◌<◌, ◌≤◌, Bool, true, false, not, List, [], ◌∷◌, ◌++◌, length, take, drop, get_or, Option, Some, None, MatchBool, refl, ap, sym, subst, ◌∙◌, arith}
 use Rattle.std.specs.List.{slice_get}
 use Rattle.std.proofs.lemmas.List.{take-append-drop, take_all, take_more}
 use Rattle.std.proofs.lemmas.Option.{get_or_from_slice_get, slice_get_read, slice_get_within}
@@ -7,6 +7,7 @@ use Rattle.promise.specs.Safe.{IsPrefix, Name, receives}
 use Rattle.promise.specs.declared.life.Life.{Life}
 use Rattle.book_judge.specs.Inside.Chains.{ExceedsAt, FedAt, GrantedAt, HasGranted, IsHanded, IsSourced, SourceAt, is_granted}
 use Rattle.book_judge.specs.Inside.Made.{same_found}
+use Rattle.book_judge.proofs.Elements.{read_at}
 use Rattle.book_judge.proofs.SameText.{same_bit-true}
 
 -- ---- prefixes
@@ -70,13 +71,8 @@ pub unsourced_here : (names : List Name) (lives : List Life) (handed : List (Lis
     → n < length lives → (length names ≡ length lives) × (length handed ≡ length lives) → a ≡ get_or names n a → x ≡ get_or lives n x
     → FedAt names lives handed n → IsSourced a x names lives
 unsourced_here names lives handed n a x l counts e f fed =
-    let h = there_is handed n (omega (arith, l, counts.1)) in
+    let h = read_at handed n (omega (arith, l, counts.1)) in
     (fed a x h.0 (slice_get_read names (length names) n a refl (omega (arith, l, counts.0)) e) (slice_get_read lives (length lives) n x refl l f) h.1).0
-  where
-    there_is : (xs : List (List Bool)) (i : ℕ) → i < length xs → (b : List Bool) × (slice_get xs i ≡ Some b)
-    there_is [] i h = absurd (omega (arith, h))
-    there_is (x ∷ xs) zero h = (x, refl)
-    there_is (x ∷ xs) (suc i) h = there_is xs i (omega (arith, h))
 
 pub granted_here : (names : List Name) (lives : List Life) (n : ℕ) (a : Name) (x : Life)
     → n < length lives → length names ≡ length lives → a ≡ get_or names n a → x ≡ get_or lives n x → HasGranted a x names lives → GrantedAt names lives n

@@ -12,6 +12,7 @@ use Rattle.promise.specs.declared.life.Life.{Life}
 use Rattle.world_keeps_lives.specs.Firsts.{FirstBook, IsFirst, Linked, all_data, texts_for}
 use Rattle.book_judge.specs.Inside.Made.{has_one, is_first_on, is_made, named_at, texts_on}
 use Rattle.book_judge.specs.Lives.{AreMade, IsMade, UnmadeAt}
+use Rattle.book_judge.proofs.Elements.{both_is, false_not}
 use Rattle.book_judge.proofs.Matched.{data_is, data_true, texts_same}
 use Rattle.book_judge.proofs.Named.{contains_cases, contains_head, contains_none, contains_tail, crossed_named, named_crossed}
 
@@ -28,10 +29,6 @@ or_left false b e = absurd (cc)
 or_right : (a b : Bool) → b ≡ true → (a || b) ≡ true
 or_right true b e = refl
 or_right false b e = e
-
-and_is : (a b : Bool) → a ≡ true → b ≡ true → (a && b) ≡ true
-and_is true b e f = f
-and_is false b e f = e
 
 any_at : {X : Type 0} (test : X → Bool) (xs : List X) → list_any test xs ≡ true
     → (x : X) × Contains xs x × (test x ≡ true)
@@ -142,10 +139,10 @@ is_by : (log : List Crossing) (x : Life) (b : Bool) (link size : ℕ) → receiv
     → (has_one (names_by b (partner_names x log) (own_names x log)) && list_any (is_first_on log x)
     (names_by b (own_names x log) (partner_names x log))) ≡ true
 is_by log x true link size e own partner first =
-    and_is (has_one (partner_names x log)) (list_any (is_first_on log x) (own_names x log))
+    both_is (has_one (partner_names x log)) (list_any (is_first_on log x) (own_names x log))
     (has_some (partner_names x log) size partner) (any_from (is_first_on log x) (own_names x log) link own first)
 is_by log x false link size e own partner first =
-    and_is (has_one (own_names x log)) (list_any (is_first_on log x) (partner_names x log))
+    both_is (has_one (own_names x log)) (list_any (is_first_on log x) (partner_names x log))
     (has_some (own_names x log) size own) (any_from (is_first_on log x) (partner_names x log) link partner first)
 
 pub made_is : (log : List Crossing) (x : Life) → IsMade (reverse log) x → is_made log x ≡ true
@@ -171,7 +168,7 @@ all_true log (y ∷ lives) h x c =
 
 all_is : (log : List Crossing) (lives : List Life) → AreMade (reverse log) lives → list_all (is_made log) lives ≡ true
 all_is log [] a = refl
-all_is log (y ∷ lives) a = and_is (is_made log y) (list_all (is_made log) lives)
+all_is log (y ∷ lives) a = both_is (is_made log y) (list_all (is_made log) lives)
     (made_is log y (a y (contains_head y lives))) (all_is log lives (λ x c. a x (contains_tail y lives x c)))
 
 -- ---- what is known of all lives
@@ -214,10 +211,6 @@ made_twice log lives firsts =
     subst (λ (cs : List Crossing). AreMade cs lives) (sym (reverse-reverse log)) (first_made log lives firsts)
 
 -- ---- the search
-
-false_not : (a : Bool) → a ≡ false → a ≡ true → ⊥
-false_not true e f = absurd (cc)
-false_not false e f = absurd (cc)
 
 pub unmade_here : (log : List Crossing) (lives : List Life) (place : ℕ) (x : Life) → place < length lives
     → x ≡ get_or lives place x → is_made log x ≡ false

@@ -298,7 +298,7 @@ is_text false f (crossing.Down g) text h = absurd (contains_none text h)
 is_text true f (crossing.Up g) text h = absurd (contains_none text h)
 is_text false f (crossing.Up g) text h = absurd (contains_none text h)
 
-same_flow_is : (f g : Flow) → g ≡ f → same_flow f g ≡ true
+pub same_flow_is : (f g : Flow) → g ≡ f → same_flow f g ≡ true
 same_flow_is f g e = let P : Flow → Type 0 = λ x. same_flow f x ≡ true in subst P (sym e) (same_flow-refl f)
 
 pub text_is : (comes : Bool) (f : Flow) (m : HostMessage) → m.flow ≡ f → text_of comes f (way_of comes m) ≡ m.text ∷ []

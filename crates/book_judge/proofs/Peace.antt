@@ -25,7 +25,7 @@ use Rattle.book_judge.specs.declared.broken.Broken.{Broken}
 use Rattle.book_judge.specs.Inside.Asked.{AreNamed, same_name}
 use Rattle.book_judge.specs.Inside.Partners.{AllApart, ApartFrom, FoundOdds, apart_at}
 use Rattle.book_judge.specs.Inside.Chains.{FedAt, FoundFirst, GrantedAt, IsHanded, SourceAt, fits, fits_at, fits_of, is_granted}
-use Rattle.book_judge.proofs.Elements.{AreAt, both_is, contains_place, false_not, get_take, get_took, is_false, place_contains, places_two, two_places}
+use Rattle.book_judge.proofs.Elements.{AreAt, both_is, contains_place, false_not, get_take, get_took, is_false, place_contains, places_two, read_at, two_places}
 use Rattle.book_judge.proofs.Known.{Apart, apart_is, apart_there, apart_true, same_is, same_true}
 
 -- ---- the partner's request of a life
@@ -143,11 +143,6 @@ pairs_safe log lives s x y a b two e f =
       forth = λ h. one_some (partner_request log y) b (own_request x) f (s.both_ways x y c d (e ∙ ap (λ (n : Name). Some n) h));
       back = λ h. one_some (partner_request log x) a (own_request y) e (s.both_ways y x d c (f ∙ ap (λ (n : Name). Some n) h));
     }
-
-read_at : {X : Type 0} (xs : List X) (i : ℕ) → i < length xs → (x : X) × (slice_get xs i ≡ Some x)
-read_at [] i h = absurd (omega (arith, h))
-read_at (z ∷ xs) zero h = (z, refl)
-read_at (z ∷ xs) (suc i) h = read_at xs i (omega (arith, h))
 
 -- the request of the partner of a life
 asked_of : (names : List Name) (lives : List Life) (log : List Crossing) (i : ℕ) (x : Life) → AreNamed (length lives) names lives log → slice_get lives i ≡ Some x

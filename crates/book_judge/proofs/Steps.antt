@@ -17,6 +17,7 @@ use Rattle.world_keeps_lives.specs.Firsts.{text_of}
 use Rattle.book_judge.specs.Inside.Crossed.{ArePlaced, CrossesAt, IsFirstFrom, NoneFrom, flow_key, place_key, with_place}
 use Rattle.book_judge.specs.Inside.Made.{texts_on}
 use Rattle.book_judge.proofs.Asked.{below_cases}
+use Rattle.book_judge.proofs.Elements.{read_at}
 use Rattle.book_judge.proofs.Matched.{here_of}
 use Rattle.book_judge.proofs.Placed.{set_cases}
 
@@ -194,11 +195,6 @@ text_or comes f c = by (text_of comes f c) where
   by : (zs : List (List Bool)) → (zs ≡ []) ⊎ (zs ≡ [] → ⊥)
   by [] = inl refl
   by (z ∷ zs) = inr (λ e. absurd (cc))
-
-read_at : (xs : List Crossing) (i : ℕ) → i < length xs → (x : Crossing) × (slice_get xs i ≡ Some x) × (x ≡ get_or xs i x)
-read_at [] i h = absurd (omega (arith, h))
-read_at (z ∷ xs) zero h = (z, refl, refl)
-read_at (z ∷ xs) (suc i) h = read_at xs i (omega (arith, h))
 
 -- this many crossings have no text of the flow
 skips : (comes : Bool) (f : Flow) (log : List Crossing) (count from : ℕ) → from + count ≤ length log → ((p : ℕ) → from ≤ p → p < from + count → CrossesAt comes f log p → ⊥)

@@ -21,6 +21,7 @@ use Rattle.book_judge.specs.declared.mail.Held.{Held}
 use Rattle.book_judge.specs.declared.mail.Held.TheVariants as held
 use Rattle.book_judge.proofs.Asked.{before_place, one_back}
 use Rattle.book_judge.proofs.Mailboxes.{get_set}
+use Rattle.book_judge.proofs.Named.{same_flow_is}
 use Rattle.book_judge.proofs.SameText.{same_text-is, same_text-true}
 
 -- ---- what crossed last on a flow
@@ -38,13 +39,10 @@ last f (crossing.Answer kind g ∷ log) = last f log
 last f (crossing.Down h ∷ log) = last f log
 last f (crossing.Up h ∷ log) = last f log
 
-same_yes : (f g : Flow) → g ≡ f → same_flow f g ≡ true
-same_yes f g e = let P : Flow → Type 0 = λ x. same_flow f x ≡ true in subst P (sym e) (same_flow-refl f)
-
 -- since a message went out on a flow: it waits where none was taken, and else one was
 since_out : (f : Flow) (m : HostMessage) (since older : List Crossing) → m.flow ≡ f → went_out f since ≡ false
     → ((taken_in f since ≡ []) × (last f (since ++ crossing.Out m ∷ older) ≡ Sent m.text)) ⊎ ((taken_in f since ≡ [] → ⊥) × (last f (since ++ crossing.Out m ∷ older) ≡ Took))
-since_out f m [] older e n = inl (refl, ap (λ (b : Bool). if b then Sent m.text else last f older) (same_yes f m.flow e))
+since_out f m [] older e n = inl (refl, ap (λ (b : Bool). if b then Sent m.text else last f older) (same_flow_is f m.flow e))
 since_out f m (crossing.Out x ∷ since) older e n =
     let t = or_false (same_flow f x.flow) (went_out f since) n in
     let skip = ap (λ (b : Bool). if b then Sent x.text else last f (since ++ crossing.Out m ∷ older)) t.0 in

@@ -1,5 +1,5 @@
 -- The lives of one own request, from the last to the first: whoever goes through them misses none.
-use Rattle.std.proofs.Common.{◌≡◌, ℕ, zero, suc, ◌+◌, ◌<◌, ◌≤◌, true, ◌&&◌, List, [], ◌∷◌, ◌++◌, length, get_or, Option, Some, None, refl, ap, sym, subst, ◌∙◌, inl, inr, arith}
+use Rattle.std.proofs.Common.{◌≡◌, ℕ, ◌+◌, ◌<◌, ◌≤◌, true, ◌&&◌, List, [], ◌∷◌, ◌++◌, length, get_or, Option, Some, None, refl, ap, sym, subst, ◌∙◌, inl, inr, arith}
 use Rattle.std.specs.List.{slice_get}
 use Rattle.std.specs.FinMap as map
 use Rattle.std.specs.Ordering.{nat_cmp}
@@ -13,6 +13,7 @@ use Rattle.promise.specs.declared.life.Life.{Life}
 use Rattle.book_judge.specs.Inside.Asked.{found_at, key, same_name}
 use Rattle.book_judge.specs.Inside.Chains.{AreChained, ExceedsAt, IsLast, NoneWith, SourceAt, fits}
 use Rattle.book_judge.proofs.Asked.{below_cases, grown_get, grown_last, grown_length}
+use Rattle.book_judge.proofs.Elements.{read_at}
 use Rattle.book_judge.proofs.Known.{same_true}
 use Rattle.book_judge.proofs.Placed.{set_cases}
 
@@ -129,7 +130,7 @@ pub walk_next : (k p : ℕ) (lives : List Life) (Is : ℕ → Type 0) (next : Op
     → next ≡ found_at (slice_get before p) → HasWalked k lives Is next
 walk_next k p lives Is next last before keyed c w not e =
     let below : p < length lives = omega (arith, w.last.0, w.within) in
-    let x : (y : Life) × (slice_get lives p ≡ Some y) = read_at lives p below in
+    let x = read_at lives p below in
     let t = c.links p x.0 below x.1 in
     let same : key (own_request x.0) ≡ k = w.last.1 x.0 x.1 in
     let is : next ≡ t.0 = e ∙ ap (λ (o : Option (Option ℕ)). found_at o) t.1 in
@@ -140,11 +141,6 @@ walk_next k p lives Is next last before keyed c w not e =
       last = subst (P k) (sym is) (subst (λ (j : ℕ). P j t.0) same t.2);
       none = none_past k lives Is p keyed w not;
     }
-  where
-    read_at : (xs : List Life) (i : ℕ) → i < length xs → (y : Life) × (slice_get xs i ≡ Some y)
-    read_at [] i h = absurd (omega (arith, h))
-    read_at (z ∷ xs) zero h = (z, refl)
-    read_at (z ∷ xs) (suc i) h = read_at xs i (omega (arith, h))
 
 pub walk_end : (k : ℕ) (lives : List Life) (Is : ℕ → Type 0) → IsKeyed k lives Is → HasWalked k lives Is None → (i : ℕ) → Is i → ⊥
 walk_end k lives Is keyed w i is = elim (cases_lt i w.end) [
