@@ -6,6 +6,7 @@ pub mod Answered
 pub mod Arrives
 pub mod Books
 pub mod Clauses
+pub mod Calm
 pub mod Closes
 pub mod Comes
 pub mod Counts

@@ -1,13 +1,14 @@
 -- What two lives have in common while nothing waits between them (BBN Report 1822, RFNM; NIC 8246, messages of data).
-use Rattle.std.specs.Prelude.{◌≡◌, ℕ, Bool, false, true, List, [], ◌++◌, Some}
+use Rattle.std.specs.Prelude.{◌≡◌, ℕ, Bool, false, true, List, [], ◌++◌, None, Some}
 use Rattle.std.specs.List.{Contains}
 use Rattle.interface.specs.Host.{Host}
-use Rattle.interface.specs.Mailboxes.{Waiting, box_of}
+use Rattle.interface.specs.Mailboxes.{Empty, Waiting, box_of}
 use Rattle.interface.specs.declared.address.Flow.{Flow}
 use Rattle.interface.specs.declared.crossing.Crossing.{Crossing}
 use Rattle.host_pairs.specs.Entries.{is_open}
 use Rattle.host_pairs.specs.declared.entry.Entry.{Entry}
 use Rattle.sockets.specs.Pairs.{pair_with}
+use Rattle.sockets.specs.Sending.{next_out}
 use Rattle.promise.specs.Safe.{Match, control_flow}
 use Rattle.net_sim.specs.Story.{Moment, program}
 use Rattle.net_sim.specs.Timeline.{crossings_of}
@@ -63,3 +64,34 @@ abbrev pub AllAgree : List Moment → Type 0
 AllAgree moments =
     (later earlier : List Moment) → moments ≡ later ++ earlier → (receiver sender : Life) → (settled : AreSettled earlier receiver sender)
     → Agree receiver settled.rest.end.end settled.giver.end
+
+-- ---- where nothing is left to be done
+
+-- each message from one host to another was answered, on any link
+abbrev pub NoneOut : Host → Host → List Crossing → Type 0
+NoneOut from to log = (link : ℕ) → box_of (record { source = from; destination = to; link = record { 0 = link } }) log ≡ Empty
+
+-- so it is between two hosts both ways, and the program of neither has anything to say
+pub record AreIdle (a b : Host) (moments : List Moment) : Type 0 where
+  pub there : NoneOut a b (crossings_of moments)
+  pub back : NoneOut b a (crossings_of moments)
+  pub mute : next_out (program a moments) ≡ None
+  pub mute_back : next_out (program b moments) ≡ None
+
+-- a receiving life whose end is open and the sending one that it matches aren't over, and between their hosts nothing is left to be done
+pub record AreCalm (moments : List Moment) (receiver sender : Life) : Type 0 where
+  pub there : Contains (kept_in moments).book.lives receiver
+  pub sender_there : Contains (kept_in moments).book.lives sender
+  pub matches : Match (crossings_of moments) receiver sender
+  pub goes : receiver.ended ≡ false
+  pub sender_goes : sender.ended ≡ false
+  pub end : HasOpenEnd (program receiver.host moments) receiver
+  pub opened : is_open end.end ≡ true
+  pub giver : HasOpenEnd (program sender.host moments) sender
+  pub idle : AreIdle receiver.host sender.host moments
+
+-- then all that was sent was taken, and they agree, at every moment
+abbrev pub AllCalm : List Moment → Type 0
+AllCalm moments =
+    (later earlier : List Moment) → moments ≡ later ++ earlier → (receiver sender : Life) → (calm : AreCalm earlier receiver sender)
+    → (receiver.bits ≡ sender.bits) × (receiver.messages ≡ sender.messages) × Agree receiver calm.end.end calm.giver.end

@@ -48,6 +48,16 @@ returning_moments = Crossed (crossing.In half_asked) ∷ Crossed (crossing.Out h
 abbrev pub returned_moments : List Moment
 returned_moments = Crossed (crossing.Out (control second first (6 ∷ 2 ∷ 0 ∷ 0 ∷ 0 ∷ 0 ∷ 0 ∷ 46 ∷ []))) ∷ returning_moments
 
+-- all was answered, and nothing is left to be done
+abbrev pub calm_moments : List Moment
+calm_moments = Crossed (crossing.Answer answer.Rfnm (on_link second first 2)) ∷ sent_moments
+
+-- the RET waits to go out, and all was answered
+abbrev pub asked_moments : List Moment
+asked_moments =
+    Crossed (crossing.Answer answer.Rfnm (on_link first second 0)) ∷ Crossed (crossing.In half_asked) ∷ Crossed (crossing.Out half_asked)
+    ∷ Asked first (request.AskBack 16 64 64) ∷ calm_moments
+
 -- the two ends, with these counters
 abbrev pub taking_end : Entry
 taking_end = receiving_end 16 33 2

@@ -13,14 +13,14 @@ ghost use Rattle.net_sim.specs.Timeline.{IsTimeline, crossings_of};
 ghost use Rattle.net_sim.specs.Told.{notices_by};
 ghost use Rattle.net_sim.specs.World.{WorldState};
 ghost use Rattle.net_sim.specs.Worked.{eight};
-ghost use Rattle.net_sim.specs.WorkedMoments.{bits_sent, connected, eight_sent, sent_moments};
+ghost use Rattle.net_sim.specs.WorkedMoments.{all_given, bits_sent, connected, eight_sent, sent_moments};
 ghost use Rattle.world_keeps_lives.specs.Firsts.{FirstBook};
 ghost use Rattle.world_keeps_streams.specs.Worked.{close_back, ended_moments, over_eight, over_gave, quit_moments, stopped_moments, took, took_eight};
-ghost use Rattle.world_keeps_streams.specs.Worked.{giving_end, granted_moments, granted_more, granting_moments, left_at, returned_moments, returning_moments, taking_end};
+ghost use Rattle.world_keeps_streams.specs.Worked.{asked_moments, calm_moments, giving_end, granted_moments, granted_more, granting_moments, left_at, returned_moments, returning_moments, taking_end};
 ghost use Rattle.world_keeps_streams.specs.Answered.{AllAnswered, HasArrived};
 ghost use Rattle.world_keeps_streams.specs.Arrivals.{AllArrive, AllCome, Arrives, ComesBetween, ComesFor};
 ghost use Rattle.world_keeps_streams.specs.Calls.{own_calls, numbered_by_peer};
-ghost use Rattle.world_keeps_streams.specs.Rests.{Agree, AllAgree, AllRest, AreAtRest, AreSettled};
+ghost use Rattle.world_keeps_streams.specs.Rests.{Agree, AllAgree, AllCalm, AllRest, AreAtRest, AreCalm, AreSettled};
 ghost use Rattle.world_keeps_lives.specs.WorkedFormed.{gave};
 ghost use Rattle.world_keeps_streams.specs.Closes.{AllClose, AllHanded, EachHanded, IsClosedByPartner, TookHanded, WasClosedBy, WasClosedByPartner};
 ghost use Rattle.world_keeps_streams.specs.Laws.Programs.{ProgramsCalls, ProgramsAllowed, ProgramsReceiver, ProgramsSender};
@@ -89,6 +89,9 @@ pub fn lives()
     // returned
     ensures agree { LivesAgree }
 
+    // so it is where each message between the hosts was answered, and neither program has anything to say
+    ensures calm { (hosts : List Host) (moments : List Moment) → HaveAddresses hosts → mail.IsRun hosts (crossings_of moments) → IsTimeline hosts moments → AllCalm moments }
+
     // what a sending life sent that it matches, with what was returned, is within what it granted
     ensures sent { LivesSent }
 {}
@@ -104,6 +107,7 @@ pub fn worlds<C: Carrier>()
     ensures answered { (hosts : List Host) (w : WorldState C) → (lawful : IsLawful C.calls.seen hosts w) → AllAnswered lawful.whole.moments }
     ensures rests { (hosts : List Host) (w : WorldState C) → (lawful : IsLawful C.calls.seen hosts w) → AllRest lawful.whole.moments }
     ensures agree { (hosts : List Host) (w : WorldState C) → (lawful : IsLawful C.calls.seen hosts w) → AllAgree lawful.whole.moments }
+    ensures calm { (hosts : List Host) (w : WorldState C) → (lawful : IsLawful C.calls.seen hosts w) → AllCalm lawful.whole.moments }
     ensures sent { WorldsSent C.calls.seen }
 {}
 
@@ -157,6 +161,22 @@ pub fn worked_settled()
     // what the receiver asked back is queued at the sender, and waits to be taken
     ensures returning { AreSettled returning_moments took_eight gave → ⊥ }
     ensures returned { AreSettled returned_moments took_eight gave → ⊥ }
+{}
+
+/// Lives whose hosts have nothing left to do, and where something is left.
+pub fn worked_calm()
+    ensures calm { AreCalm calm_moments took_eight gave }
+
+    // eight bits were taken, and their RFNM wasn't; and a grant went out
+    ensures unanswered { AreCalm sent_moments took_eight gave → ⊥ }
+    ensures out { AreCalm (Crossed (crossing.Out all_given) ∷ Asked dialogue.first (request.Grant 16 2 100) ∷ calm_moments) took_eight gave → ⊥ }
+
+    // a grant is queued, and what the receiver asked back
+    ensures granting { AreCalm (Asked dialogue.first (request.Grant 16 1 8) ∷ calm_moments) granted_more gave → ⊥ }
+    ensures returning { AreCalm asked_moments took_eight gave → ⊥ }
+
+    // the receiver's user has closed
+    ensures closing { AreCalm (Asked dialogue.first (request.Close 16) ∷ calm_moments) took_eight gave → ⊥ }
 {}
 
 /// A connection that its partner closes: after all was taken, and after the receiving user had closed it and eight bits were dropped.

@@ -2,6 +2,7 @@ use Rattle.world_keeps_streams.proofs.Books.Agree.{settled}
 use Rattle.world_keeps_streams.proofs.Books.All.{sent, source}
 use Rattle.world_keeps_streams.proofs.Books.Answered.{answered}
 use Rattle.world_keeps_streams.proofs.Books.Arrives.{arrives}
+use Rattle.world_keeps_streams.proofs.Books.Calm.{all_calm}
 use Rattle.world_keeps_streams.proofs.Books.Closes.{rests}
 use Rattle.world_keeps_streams.proofs.Books.Comes.{all_come}
 use Rattle.world_keeps_streams.proofs.Books.Handed.{took_handed}
@@ -38,3 +39,6 @@ returns-clause-answered c hosts moments f addresses run time off = answered host
 
 pub returns-clause-comes : goal.returns-clause-comes
 returns-clause-comes c hosts moments addresses run time = all_come hosts moments (addresses, run, time)
+
+pub returns-clause-calm : goal.returns-clause-calm
+returns-clause-calm c hosts moments addresses run time = all_calm hosts moments (addresses, run, time)

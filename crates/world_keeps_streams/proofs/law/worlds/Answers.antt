@@ -2,6 +2,7 @@ use Rattle.world_keeps_streams.proofs.Books.Agree.{world_agrees}
 use Rattle.world_keeps_streams.proofs.Books.All.{world_sent, world_source}
 use Rattle.world_keeps_streams.proofs.Books.Answered.{world_answered}
 use Rattle.world_keeps_streams.proofs.Books.Arrives.{world_arrives}
+use Rattle.world_keeps_streams.proofs.Books.Calm.{world_calms}
 use Rattle.world_keeps_streams.proofs.Books.Closes.{world_rests}
 use Rattle.world_keeps_streams.proofs.Books.Comes.{world_comes}
 use Rattle.world_keeps_streams.proofs.Books.Handed.{world_handed_over}
@@ -38,3 +39,6 @@ returns-clause-answered g c hosts w lawful = world_answered g.C.Carrier.calls.se
 
 pub returns-clause-comes : goal.returns-clause-comes
 returns-clause-comes g c hosts w lawful = world_comes g.C.Carrier.calls.seen hosts w lawful
+
+pub returns-clause-calm : goal.returns-clause-calm
+returns-clause-calm g c hosts w lawful = world_calms g.C.Carrier.calls.seen hosts w lawful
