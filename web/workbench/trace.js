@@ -282,8 +282,7 @@ function linesIn(printed, crossed) {
 }
 
 /**
- * A trace: the parts at the opening, and the records. A last line that was cut off is left out. In a network with host
- * programs each line has all parts; a record has those that its event changed.
+ * A trace: the parts at the opening, and the records. A last line that was cut off is left out.
  *
  * @param {string} text what `--trace` printed, with its first line whole
  * @param {number} [most] how many lines are read
@@ -297,22 +296,13 @@ export function readTrace(text, most = Infinity, isWanted = () => true) {
         throw new Error(`The trace is not of format ${FORMAT}: the page and its program are of different sources.`);
     }
     const opening = Object.fromEntries(partsOf(first).map(([name, it]) => [name, partIn(name, it)]));
-    /** @type {Map<string, string>} the text of each part of a network with host programs */
-    const texts = new Map(first.raw ? [] : partsOf(first).map(([name, it]) => [name, JSON.stringify(it)]));
-    const isNew = (/** @type {[string, any]} */ [name, it]) => {
-        if (first.raw) return true;
-        const told = JSON.stringify(it);
-        const isOld = texts.get(name) === told;
-        texts.set(name, told);
-        return !isOld;
-    };
     /** @type {Record[]} */
     const records = [];
     for (const line of text.slice(end + 1, text.lastIndexOf("\n")).split("\n")) {
         if (line === "") continue;
         if (records.length === most) break;
         const it = JSON.parse(line);
-        const parts = partsOf(it).filter(([name]) => isWanted(name)).filter(isNew);
+        const parts = partsOf(it).filter(([name]) => isWanted(name));
         records.push({
             event: it.number - 1,
             round: it.round,

@@ -17,9 +17,9 @@ use Rattle.world_replay.proofs.lemmas.Replays.{SameGains, gains_once, happens_on
 use Rattle.world_script.specs.declared.event.WorldEvent.{WorldEvent}
 use Rattle.world_script.specs.declared.event.WorldEvent.TheVariants as worlds
 use Rattle.world_trace.specs.Texts.{opening_text, world_line}
-use Rattle.world_trace.specs.Traces.{EndsIn, IsHeard, IsSilent, SameText, StopsOne, TellsIn, TellsOne, TellsRound, first_rounds, state_of}
+use Rattle.world_trace.specs.Traces.{EndsIn, IsHeard, IsSilent, IsUnchanged, StopsOne, TellsIn, TellsOne, TellsRound, change_of, first_rounds, state_of}
 use Rattle.trace.specs.Elements.{elements_in}
-use Rattle.trace.specs.Texts.{opening_line, trace_line}
+use Rattle.trace.specs.Texts.{object, opening_line, trace_line}
 use Rattle.trace.specs.declared.element.Spot.{Spot}
 use Rattle.trace.specs.Traces.{EndsEvent, Inside, StopsElement, TellsElement, TellsEvent, asking_from, numbered_from, plain_inside}
 use Rattle.leader1822.specs.Boxes.{plain_calls}
@@ -48,7 +48,7 @@ from_once : {C : Type 0} (calls : Calls C) (inside : Inside C) → AreSettled ca
 from_once calls inside settled t opening events before after other h k =
     let one : (h.last ≡ k.last) × (h.traced.is_shown.0 ≡ k.traced.is_shown.0) =
     in_turn_once (TellsEvent calls inside) (event_once calls inside settled) opening (numbered_from 1 events) h.last k.last h.traced.is_shown.0 k.traced.is_shown.0 h.traced.is_shown.2 k.traced.is_shown.2 in
-    let same : h.traced.shown ≡ k.traced.shown = h.traced.is_shown.1 ∙ ap (λ ls. opening_line t (inside.whole opening) ∷ ls) one.1 ∙ sym k.traced.is_shown.1 in
+    let same : h.traced.shown ≡ k.traced.shown = h.traced.is_shown.1 ∙ ap (λ ls. opening_line t (object (inside.members opening)) ∷ ls) one.1 ∙ sym k.traced.is_shown.1 in
     h.traced.written ∙ ap (λ ls. before ++ text_of (λ line. line) ls) same ∙ sym k.traced.written
 
 -- ---- the first part of a trace
@@ -76,46 +76,46 @@ from_front calls inside settled t opening events before part whole h k =
     ends_front (TellsEvent calls inside) (EndsEvent calls inside (StopsElement calls)) (event_once calls inside settled) (event_front calls inside settled) opening (numbered_from 1 events) h.last k.last h.traced.is_shown.0 k.traced.is_shown.0
     h.traced.is_shown.2 k.traced.is_shown.2 in
     text_front before part whole h.traced.shown k.traced.shown starts.0 h.traced.written k.traced.written
-    (k.traced.is_shown.1 ∙ ap (λ ls. opening_line t (inside.whole opening) ∷ ls) starts.1 ∙ ap (λ ls. ls ++ starts.0) (sym h.traced.is_shown.1))
+    (k.traced.is_shown.1 ∙ ap (λ ls. opening_line t (object (inside.members opening)) ∷ ls) starts.1 ∙ ap (λ ls. ls ++ starts.0) (sym h.traced.is_shown.1))
 
 -- ---- worlds
 
 -- an event, or a round, has one line
-told_once : {C : Type 0} (calls : Calls C) (whole : C → List ℕ) → AreSettled calls → (spot : Spot) (round : ℕ) → HappensOnce (TellsOne calls whole spot round)
-told_once {C} calls whole settled spot round old e new other lines more (shows, h, is) (others, k, are) =
+told_once : {C : Type 0} (calls : Calls C) (members : C → List (List ℕ)) → AreSettled calls → (spot : Spot) (round : ℕ) → HappensOnce (TellsOne calls members spot round)
+told_once {C} calls members settled spot round old e new other lines more (shows, h, is) (others, k, are) =
     let one : (new ≡ other) × (shows ≡ others) = happens_once calls settled old e new other shows others h k in
     let same : SameGains h.gains k.gains = gains_once old.kept new.kept other.kept h.gains k.gains (ap (λ (w : WorldState C). w.kept) one.0) in (
       one.0,
-      is ∙ ap (λ cs. world_line spot round e cs shows (state_of whole new) ∷ []) same.crossings
-          ∙ ap₂ (λ (w : WorldState C) ss. world_line spot round e k.gains.crossings ss (state_of whole w) ∷ []) one.0 one.1 ∙ sym are,
+      is ∙ ap (λ cs. world_line spot round e cs shows (change_of members old new) ∷ []) same.crossings
+          ∙ ap₂ (λ (w : WorldState C) ss. world_line spot round e k.gains.crossings ss (change_of members old w) ∷ []) one.0 one.1 ∙ sym are,
     )
 
 -- a silent round isn't one that is heard
-never_both : {C : Type 0} (calls : Calls C) (whole : C → List ℕ) → AreSettled calls → (spot : Spot) (round : ℕ) (old new other : WorldState C) (lines more : List (List ℕ))
-    → IsSilent calls whole old new lines → IsHeard calls whole spot old round other more → ⊥
-never_both {C} calls whole settled spot round old new other lines more (h, same, none) ((shows, k, are), heard) =
+never_both : {C : Type 0} (calls : Calls C) (members : C → List (List ℕ)) → AreSettled calls → (spot : Spot) (round : ℕ) (old new other : WorldState C) (lines more : List (List ℕ))
+    → IsSilent calls members old new lines → IsHeard calls members spot old round other more → ⊥
+never_both {C} calls members settled spot round old new other lines more (h, same, none) ((shows, k, are), heard) =
     let one : (new ≡ other) × ([] ≡ shows) = happens_once calls settled old (worlds.Calm 1) new other [] shows h k in
-    heard (sym one.1) (subst (λ (w : WorldState C). SameText whole old w) one.0 same)
+    heard (sym one.1) (subst (λ (w : WorldState C). IsUnchanged members old w) one.0 same)
 
-round_once : {C : Type 0} (calls : Calls C) (whole : C → List ℕ) → AreSettled calls → (spot : Spot) → HappensOnce (TellsRound calls whole spot)
-round_once calls whole settled spot old round new other lines more (inl h) (inl k) =
+round_once : {C : Type 0} (calls : Calls C) (members : C → List (List ℕ)) → AreSettled calls → (spot : Spot) → HappensOnce (TellsRound calls members spot)
+round_once calls members settled spot old round new other lines more (inl h) (inl k) =
     let one : (new ≡ other) × ([] ≡ []) = happens_once calls settled old (worlds.Calm 1) new other [] [] h.0 k.0 in
     (one.0, h.2 ∙ sym k.2)
-round_once calls whole settled spot old round new other lines more (inl h) (inr k) = absurd (never_both calls whole settled spot round old new other lines more h k)
-round_once calls whole settled spot old round new other lines more (inr h) (inl k) = absurd (never_both calls whole settled spot round old other new more lines k h)
-round_once calls whole settled spot old round new other lines more (inr h) (inr k) = told_once calls whole settled spot round old (worlds.Calm 1) new other lines more h.0 k.0
+round_once calls members settled spot old round new other lines more (inl h) (inr k) = absurd (never_both calls members settled spot round old new other lines more h k)
+round_once calls members settled spot old round new other lines more (inr h) (inl k) = absurd (never_both calls members settled spot round old other new more lines k h)
+round_once calls members settled spot old round new other lines more (inr h) (inr k) = told_once calls members settled spot round old (worlds.Calm 1) new other lines more h.0 k.0
 
-at_once : {C : Type 0} (calls : Calls C) (whole : C → List ℕ) → AreSettled calls → HappensOnce (TellsIn calls whole)
-at_once calls whole settled old (spot, worlds.Happen e) new other lines more h k = told_once calls whole settled spot 0 old (worlds.Happen e) new other lines more h k
-at_once calls whole settled old (spot, worlds.Calm rounds) new other lines more h k = in_turn_once (TellsRound calls whole spot) (round_once calls whole settled spot) old (first_rounds rounds) new other lines more h k
+at_once : {C : Type 0} (calls : Calls C) (members : C → List (List ℕ)) → AreSettled calls → HappensOnce (TellsIn calls members)
+at_once calls members settled old (spot, worlds.Happen e) new other lines more h k = told_once calls members settled spot 0 old (worlds.Happen e) new other lines more h k
+at_once calls members settled old (spot, worlds.Calm rounds) new other lines more h k = in_turn_once (TellsRound calls members spot) (round_once calls members settled spot) old (first_rounds rounds) new other lines more h k
 
-world_once : {C : Type 0} (calls : Calls C) (whole : C → List ℕ) → AreSettled calls → (t : TopologyFields) (opening : C) (events : List (ℕ × WorldEvent)) (before after other : List ℕ) → WorldTracesFrom calls whole t opening events (Some before) (Some after)
-    → WorldTracesFrom calls whole t opening events (Some before) (Some other) → after ≡ other
-world_once {C} calls whole settled t opening events before after other h k =
+world_once : {C : Type 0} (calls : Calls C) (members : C → List (List ℕ)) → AreSettled calls → (t : TopologyFields) (opening : C) (events : List (ℕ × WorldEvent)) (before after other : List ℕ) → WorldTracesFrom calls members t opening events (Some before) (Some after)
+    → WorldTracesFrom calls members t opening events (Some before) (Some other) → after ≡ other
+world_once {C} calls members settled t opening events before after other h k =
     let begins : WorldState C = opening_world calls opening in
     let one : (h.last ≡ k.last) × (h.traced.is_shown.0 ≡ k.traced.is_shown.0) =
-    in_turn_once (TellsIn calls whole) (at_once calls whole settled) begins (numbered_from 1 events) h.last k.last h.traced.is_shown.0 k.traced.is_shown.0 h.traced.is_shown.2 k.traced.is_shown.2 in
-    let same : h.traced.shown ≡ k.traced.shown = h.traced.is_shown.1 ∙ ap (λ ls. opening_text t (state_of whole begins) ∷ ls) one.1 ∙ sym k.traced.is_shown.1 in
+    in_turn_once (TellsIn calls members) (at_once calls members settled) begins (numbered_from 1 events) h.last k.last h.traced.is_shown.0 k.traced.is_shown.0 h.traced.is_shown.2 k.traced.is_shown.2 in
+    let same : h.traced.shown ≡ k.traced.shown = h.traced.is_shown.1 ∙ ap (λ ls. opening_text t (state_of members begins) ∷ ls) one.1 ∙ sym k.traced.is_shown.1 in
     h.traced.written ∙ ap (λ ls. before ++ text_of (λ line. line) ls) same ∙ sym k.traced.written
 
 -- the event or round in which memory ran out has no line
@@ -123,33 +123,33 @@ one_front : {C : Type 0} (calls : Calls C) (old new : WorldState C) (e : WorldEv
 one_front calls old new e part whole (inl h) = (whole, sym (ap (λ xs. xs ++ whole) h.0))
 one_front calls old new e part whole (inr h) = (whole, sym (ap (λ xs. xs ++ whole) h.0))
 
-at_front : {C : Type 0} (calls : Calls C) (whole : C → List ℕ) → AreSettled calls → ShowsFront (EndsIn calls whole (StopsOne calls)) (TellsIn calls whole)
-at_front calls whole settled old (spot, worlds.Happen e) new other part lines h k = one_front calls old new (worlds.Happen e) part lines h
-at_front {C} calls whole settled old (spot, worlds.Calm rounds) new other part lines h k =
+at_front : {C : Type 0} (calls : Calls C) (members : C → List (List ℕ)) → AreSettled calls → ShowsFront (EndsIn calls members (StopsOne calls)) (TellsIn calls members)
+at_front calls members settled old (spot, worlds.Happen e) new other part lines h k = one_front calls old new (worlds.Happen e) part lines h
+at_front {C} calls members settled old (spot, worlds.Calm rounds) new other part lines h k =
     let Stops = λ (o : WorldState C) (n : ℕ) (w : WorldState C) (ls : List (List ℕ)). StopsOne calls o (worlds.Calm 1) w ls in
-    ends_front (TellsRound calls whole spot) Stops (round_once calls whole settled spot) (λ o n w v part lines h k. one_front calls o w (worlds.Calm 1) part lines h) old (first_rounds rounds) new other part lines h k
+    ends_front (TellsRound calls members spot) Stops (round_once calls members settled spot) (λ o n w v part lines h k. one_front calls o w (worlds.Calm 1) part lines h) old (first_rounds rounds) new other part lines h k
 
-world_front : {C : Type 0} (calls : Calls C) (whole : C → List ℕ) → AreSettled calls → (t : TopologyFields) (opening : C) (events : List (ℕ × WorldEvent)) (before part all : List ℕ) → WorldEndsFrom calls whole t opening events (Some before) (Some part)
-    → WorldTracesFrom calls whole t opening events (Some before) (Some all) → (rest : List ℕ) × (all ≡ part ++ rest)
-world_front {C} calls whole settled t opening events before part all h k =
+world_front : {C : Type 0} (calls : Calls C) (members : C → List (List ℕ)) → AreSettled calls → (t : TopologyFields) (opening : C) (events : List (ℕ × WorldEvent)) (before part all : List ℕ) → WorldEndsFrom calls members t opening events (Some before) (Some part)
+    → WorldTracesFrom calls members t opening events (Some before) (Some all) → (rest : List ℕ) × (all ≡ part ++ rest)
+world_front {C} calls members settled t opening events before part all h k =
     let begins : WorldState C = opening_world calls opening in
     let starts : (more : List (List ℕ)) × (k.traced.is_shown.0 ≡ h.traced.is_shown.0 ++ more) =
-    ends_front (TellsIn calls whole) (EndsIn calls whole (StopsOne calls)) (at_once calls whole settled) (at_front calls whole settled) begins (numbered_from 1 events) h.last k.last h.traced.is_shown.0 k.traced.is_shown.0
+    ends_front (TellsIn calls members) (EndsIn calls members (StopsOne calls)) (at_once calls members settled) (at_front calls members settled) begins (numbered_from 1 events) h.last k.last h.traced.is_shown.0 k.traced.is_shown.0
     h.traced.is_shown.2 k.traced.is_shown.2 in
     text_front before part all h.traced.shown k.traced.shown starts.0 h.traced.written k.traced.written
-    (k.traced.is_shown.1 ∙ ap (λ ls. opening_text t (state_of whole begins) ∷ ls) starts.1 ∙ ap (λ ls. ls ++ starts.0) (sym h.traced.is_shown.1))
+    (k.traced.is_shown.1 ∙ ap (λ ls. opening_text t (state_of members begins) ∷ ls) starts.1 ∙ ap (λ ls. ls ++ starts.0) (sym h.traced.is_shown.1))
 
 -- ---- of either kind
 
 all_once : {C : Type 0} (calls : Calls C) (inside : Inside C) → AreSettled calls → (t : TopologyFields) (opening : C) (lines : List ℕ) (events : Asked) (before after other : List ℕ) → TracesAll calls inside t opening lines events (Some before) (Some after)
     → TracesAll calls inside t opening lines events (Some before) (Some other) → after ≡ other
 all_once calls inside settled t opening lines (Raw events) before after other h k = from_once calls inside settled t opening (zip lines events) before after other h k
-all_once calls inside settled t opening lines (World events) before after other h k = world_once (shown calls) inside.whole (shown_settled calls settled) t opening (zip lines events) before after other h k
+all_once calls inside settled t opening lines (World events) before after other h k = world_once (shown calls) inside.members (shown_settled calls settled) t opening (zip lines events) before after other h k
 
 all_front : {C : Type 0} (calls : Calls C) (inside : Inside C) → AreSettled calls → (t : TopologyFields) (opening : C) (lines : List ℕ) (events : Asked) (before part whole : List ℕ) → EndsAll calls inside t opening lines events (Some before) (Some part)
     → TracesAll calls inside t opening lines events (Some before) (Some whole) → (rest : List ℕ) × (whole ≡ part ++ rest)
 all_front calls inside settled t opening lines (Raw events) before part whole h k = from_front calls inside settled t opening (zip lines events) before part whole h k
-all_front calls inside settled t opening lines (World events) before part whole h k = world_front (shown calls) inside.whole (shown_settled calls settled) t opening (zip lines events) before part whole h k
+all_front calls inside settled t opening lines (World events) before part whole h k = world_front (shown calls) inside.members (shown_settled calls settled) t opening (zip lines events) before part whole h k
 
 -- ---- of a topology
 

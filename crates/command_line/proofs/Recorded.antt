@@ -25,7 +25,7 @@ use Rattle.topology.specs.Topology.{TopologyFields, hosts_of, sites_of}
 use Rattle.topology.specs.declared.network.CarrierKind.{CarrierKind}
 use Rattle.topology.specs.declared.network.CarrierKind.TheVariants as kind
 use Rattle.trace.proofs.lemmas as plain
-use Rattle.trace.specs.Texts.{opening_line}
+use Rattle.trace.specs.Texts.{object, opening_line}
 use Rattle.trace.specs.Elements.{elements_in, events_of}
 use Rattle.trace.specs.Traces.{Inside, TellsElement, TellsEvent, numbered_from, plain_inside}
 use Rattle.trace.specs.declared.element.Element.{Element}
@@ -37,7 +37,7 @@ use Rattle.world_replay.specs.Replay.{Happens, Replays, rounds_of}
 use Rattle.world_script.specs.declared.event.WorldEvent.{WorldEvent}
 use Rattle.world_script.specs.declared.event.WorldEvent.TheVariants as worlds
 use Rattle.world_trace.specs.Texts.{opening_text}
-use Rattle.world_trace.specs.Traces.{TellsIn, TellsOne, TellsRound, first_rounds, state_of}
+use Rattle.world_trace.specs.Traces.{TellsIn, TellsOne, TellsRound, change_of, first_rounds, state_of}
 use Rattle.command_line.specs.Carriers.{ends_of, plain_of, subnet_of}
 use Rattle.command_line.specs.Events.{Asked, Raw, World}
 use Rattle.command_line.specs.Recorded.{OfElement, OfWorld, PrintsTrace, Recorded, printed_lines, recorded_text}
@@ -129,24 +129,24 @@ texts lines = map (shown_text Sizes) lines
 abbrev Passes : {C : Type 0} → WorldState C → WorldState C → List (List ℕ) → List Shown → Type 0
 Passes new other lines prints = (new ≡ other) × HavePrinted lines (texts prints)
 
-one_printed : {C : Type 0} (calls : Calls C) (whole : C → List ℕ) (spot : Spot) (round : ℕ) (e : WorldEvent) (old new : WorldState C) (lines : List (List ℕ)) (h : TellsOne calls whole spot round old e new lines) → HavePrinted lines (texts h.0)
+one_printed : {C : Type 0} (calls : Calls C) (members : C → List (List ℕ)) (spot : Spot) (round : ℕ) (e : WorldEvent) (old new : WorldState C) (lines : List (List ℕ)) (h : TellsOne calls members spot round old e new lines) → HavePrinted lines (texts h.0)
 unfolding texts
-one_printed calls whole spot round e old new lines (prints, h, is) = (OfWorld spot round e h.gains.crossings prints (state_of whole new) ∷ [], is, sym (append-nil (texts prints)))
+one_printed calls members spot round e old new lines (prints, h, is) = (OfWorld spot round e h.gains.crossings prints (change_of members old new) ∷ [], is, sym (append-nil (texts prints)))
 
 -- rounds are a replay of calms of one round each
-rounds_printed : {C : Type 0} (calls : Calls C) (whole : C → List ℕ) (spot : Spot) (numbers : List ℕ) (old new : WorldState C) (lines : List (List ℕ)) → InTurn (TellsRound calls whole spot) old numbers new lines
+rounds_printed : {C : Type 0} (calls : Calls C) (members : C → List (List ℕ)) (spot : Spot) (numbers : List ℕ) (old new : WorldState C) (lines : List (List ℕ)) → InTurn (TellsRound calls members spot) old numbers new lines
     → (prints : List Shown) × Replays calls old (rounds_of (length numbers)) new prints × HavePrinted lines (texts prints)
 unfolding texts
-rounds_printed calls whole spot [] old new lines (left, none) = ([], (left, refl), subst (λ (ls : List (List ℕ)). HavePrinted ls []) (sym none) none_printed)
-rounds_printed calls whole spot (n ∷ numbers) old new lines (mid, first, rest, inl (h, same, none), more, all) =
-    let (later, replays, has) = rounds_printed calls whole spot numbers mid new rest more in
+rounds_printed calls members spot [] old new lines (left, none) = ([], (left, refl), subst (λ (ls : List (List ℕ)). HavePrinted ls []) (sym none) none_printed)
+rounds_printed calls members spot (n ∷ numbers) old new lines (mid, first, rest, inl (h, same, none), more, all) =
+    let (later, replays, has) = rounds_printed calls members spot numbers mid new rest more in
     (later, (mid, [], later, h, replays, refl), subst (λ (ls : List (List ℕ)). HavePrinted ls (texts later)) (sym (all ∙ ap (λ (ls : List (List ℕ)). ls ++ rest) none)) has)
-rounds_printed calls whole spot (n ∷ numbers) old new lines (mid, first, rest, inr (h, heard), more, all) =
-    let (later, replays, has) = rounds_printed calls whole spot numbers mid new rest more in (
+rounds_printed calls members spot (n ∷ numbers) old new lines (mid, first, rest, inr (h, heard), more, all) =
+    let (later, replays, has) = rounds_printed calls members spot numbers mid new rest more in (
       h.0 ++ later,
       (mid, h.0, later, h.1, replays, refl),
       subst (λ (ls : List (List ℕ)). HavePrinted ls (texts (h.0 ++ later))) (sym all)
-          (subst (λ (ts : List (List ℕ)). HavePrinted (first ++ rest) ts) (sym (map-append (shown_text Sizes) h.0 later)) (more_printed first rest (texts h.0) (texts later) (one_printed calls whole spot n (worlds.Calm 1) old mid first h) has)),
+          (subst (λ (ts : List (List ℕ)). HavePrinted (first ++ rest) ts) (sym (map-append (shown_text Sizes) h.0 later)) (more_printed first rest (texts h.0) (texts later) (one_printed calls members spot n (worlds.Calm 1) old mid first h) has)),
     )
 
 all_rounds : (rounds : ℕ) → length (first_rounds rounds) ≡ rounds
@@ -156,25 +156,25 @@ all_rounds (suc rounds) =
     let fewer : length (first_rounds rounds) ≡ rounds = all_rounds rounds in
     omega (arith, count, fewer)
 
-at_printed : {C : Type 0} (calls : Calls C) (whole : C → List ℕ) → AreSettled calls → (spot : Spot) (e : WorldEvent) (old new other : WorldState C) (lines : List (List ℕ)) (prints : List Shown)
-    → TellsIn calls whole old (spot, e) new lines → Happens calls old e other prints → Passes new other lines prints
-at_printed calls whole settled spot (worlds.Happen e) old new other lines prints h k =
+at_printed : {C : Type 0} (calls : Calls C) (members : C → List (List ℕ)) → AreSettled calls → (spot : Spot) (e : WorldEvent) (old new other : WorldState C) (lines : List (List ℕ)) (prints : List Shown)
+    → TellsIn calls members old (spot, e) new lines → Happens calls old e other prints → Passes new other lines prints
+at_printed calls members settled spot (worlds.Happen e) old new other lines prints h k =
     let one : (new ≡ other) × (h.0 ≡ prints) = happens_once calls settled old (worlds.Happen e) new other h.0 prints h.1 k in
-    (one.0, subst (λ (ps : List Shown). HavePrinted lines (texts ps)) one.1 (one_printed calls whole spot 0 (worlds.Happen e) old new lines h))
-at_printed {C} calls whole settled spot (worlds.Calm rounds) old new other lines prints h k =
-    let (own, replays, has) = rounds_printed calls whole spot (first_rounds rounds) old new lines h in
+    (one.0, subst (λ (ps : List Shown). HavePrinted lines (texts ps)) one.1 (one_printed calls members spot 0 (worlds.Happen e) old new lines h))
+at_printed {C} calls members settled spot (worlds.Calm rounds) old new other lines prints h k =
+    let (own, replays, has) = rounds_printed calls members spot (first_rounds rounds) old new lines h in
     let passed : Replays calls old (rounds_of rounds) new own = subst (λ (n : ℕ). Replays calls old (rounds_of n) new own) (all_rounds rounds) replays in
     let one : (new ≡ other) × (own ≡ prints) = in_turn_once (Happens calls) (happens_once calls settled) old (rounds_of rounds) new other own prints passed (calm_rounds calls rounds old other prints k) in
     (one.0, subst (λ (ps : List Shown). HavePrinted lines (texts ps)) one.1 has)
 
-world_printed : {C : Type 0} (calls : Calls C) (whole : C → List ℕ) → AreSettled calls → (number : ℕ) (events : List (ℕ × WorldEvent)) (old new other : WorldState C) (lines : List (List ℕ)) (prints : List Shown)
-    → InTurn (TellsIn calls whole) old (numbered_from number events) new lines → Replays calls old (alone events) other prints → Passes new other lines prints
+world_printed : {C : Type 0} (calls : Calls C) (members : C → List (List ℕ)) → AreSettled calls → (number : ℕ) (events : List (ℕ × WorldEvent)) (old new other : WorldState C) (lines : List (List ℕ)) (prints : List Shown)
+    → InTurn (TellsIn calls members) old (numbered_from number events) new lines → Replays calls old (alone events) other prints → Passes new other lines prints
 unfolding texts
-world_printed calls whole settled number [] old new other lines prints (left, none) (same, nothing) =
+world_printed calls members settled number [] old new other lines prints (left, none) (same, nothing) =
     (left ∙ sym same, subst (λ (ls : List (List ℕ)). HavePrinted ls (texts prints)) (sym none) (subst (λ (ps : List Shown). HavePrinted [] (texts ps)) (sym nothing) none_printed))
-world_printed {C} calls whole settled number (e ∷ events) old new other lines prints (mid, first, rest, one, more, all) (between, begin, later, happens, follow, end) =
-    let here : Passes mid between first begin = at_printed calls whole settled (record { line = e.0; number = number }) e.1 old mid between first begin one happens in
-    let there : Passes new other rest later = world_printed calls whole settled (suc number) events mid new other rest later more (subst (λ (w : WorldState C). Replays calls w (alone events) other later) (sym here.0) follow) in (
+world_printed {C} calls members settled number (e ∷ events) old new other lines prints (mid, first, rest, one, more, all) (between, begin, later, happens, follow, end) =
+    let here : Passes mid between first begin = at_printed calls members settled (record { line = e.0; number = number }) e.1 old mid between first begin one happens in
+    let there : Passes new other rest later = world_printed calls members settled (suc number) events mid new other rest later more (subst (λ (w : WorldState C). Replays calls w (alone events) other later) (sym here.0) follow) in (
       there.0,
       subst (λ (ls : List (List ℕ)). HavePrinted ls (texts prints)) (sym all)
           (subst (λ (ts : List (List ℕ)). HavePrinted (first ++ rest) ts) (sym (ap texts end ∙ map-append (shown_text Sizes) begin later)) (more_printed first rest (texts begin) (texts later) here.1 there.1)),
@@ -199,35 +199,35 @@ raw_from {C} calls inside Holds settled each t opening lines events book out tra
     let replays : of_network.Replays calls opening (alone (zip lines events)) h.shows.last h.shown = subst (λ (es : List RawEvent). of_network.Replays calls opening es h.shows.last h.shown) (sym (alone_of lines events fit)) h.shows.replayed in
     let (same, (recorded, are, prints)) = events_printed calls inside Holds settled each 1 (zip lines events) opening k.last h.shows.last others h.shown holds tells replays in
     record {
-      opening = opening_line t (inside.whole opening);
+      opening = opening_line t (object (inside.members opening));
       recorded = recorded;
       lives = [];
-      traced = k.traced.written ∙ ap in_lines (is ∙ ap (λ (ls : List (List ℕ)). opening_line t (inside.whole opening) ∷ ls) are);
+      traced = k.traced.written ∙ ap in_lines (is ∙ ap (λ (ls : List (List ℕ)). opening_line t (object (inside.members opening)) ∷ ls) are);
       printed =
           h.written
           ∙ ap₂ (λ (xs ys : List ℕ). xs ++ (ys ++ codes "end\n")) (sym (flat_map-map ended_line (raw.shown_text Sizes) h.shown) ∙ ap in_lines prints) (sym (no_lives book));
     }
 
-world_from : {C : Type 0} (calls : Calls C) (whole : C → List ℕ) → AreSettled calls → (t : TopologyFields) (opening : C) (lines : List ℕ) (events : List WorldEvent) (book : Bool) (out trace : List ℕ)
-    → length lines ≡ length events → ReplaysFrom calls opening book Sizes (World events) (Some []) (Some out) → WorldTracesFrom (shown calls) whole t opening (zip lines events) (Some []) (Some trace) → PrintsTrace book out trace
+world_from : {C : Type 0} (calls : Calls C) (members : C → List (List ℕ)) → AreSettled calls → (t : TopologyFields) (opening : C) (lines : List ℕ) (events : List WorldEvent) (book : Bool) (out trace : List ℕ)
+    → length lines ≡ length events → ReplaysFrom calls opening book Sizes (World events) (Some []) (Some out) → WorldTracesFrom (shown calls) members t opening (zip lines events) (Some []) (Some trace) → PrintsTrace book out trace
 unfolding texts
-world_from {C} calls whole settled t opening lines events book out trace fit h k =
+world_from {C} calls members settled t opening lines events book out trace fit h k =
     let begins : WorldState C = opening_world (shown calls) opening in
     let (others, is, tells) = k.traced.is_shown in
     let replays : Replays (shown calls) begins (alone (zip lines events)) h.shows.last h.shown = subst (λ (es : List WorldEvent). Replays (shown calls) begins es h.shows.last h.shown) (sym (alone_of lines events fit)) h.shows.replayed in
-    let (same, (recorded, are, prints)) = world_printed (shown calls) whole (shown_settled calls settled) 1 (zip lines events) begins k.last h.shows.last others h.shown tells replays in
+    let (same, (recorded, are, prints)) = world_printed (shown calls) members (shown_settled calls settled) 1 (zip lines events) begins k.last h.shows.last others h.shown tells replays in
     record {
-      opening = opening_text t (state_of whole begins);
+      opening = opening_text t (state_of members begins);
       recorded = recorded;
       lives = h.lives;
-      traced = k.traced.written ∙ ap in_lines (is ∙ ap (λ (ls : List (List ℕ)). opening_text t (state_of whole begins) ∷ ls) are);
+      traced = k.traced.written ∙ ap in_lines (is ∙ ap (λ (ls : List (List ℕ)). opening_text t (state_of members begins) ∷ ls) are);
       printed = h.written ∙ ap (λ (xs : List ℕ). xs ++ (book_text book h.lives ++ codes "end\n")) (sym (flat_map-map ended_line (shown_text Sizes) h.shown) ∙ ap in_lines prints);
     }
 
 all_from : {C : Type 0} (calls : Calls C) (inside : Inside C) (Holds : C → Type 0) → AreSettled calls → IsElementary calls inside Holds → (t : TopologyFields) (opening : C) (lines : List ℕ) (events : Asked) (book : Bool) (out trace : List ℕ)
     → Holds opening → length lines ≡ asked_count events → ReplaysFrom calls opening book Sizes events (Some []) (Some out) → TracesAll calls inside t opening lines events (Some []) (Some trace) → PrintsTrace book out trace
 all_from calls inside Holds settled each t opening lines (Raw events) book out trace holds fit h k = raw_from calls inside Holds settled each t opening lines events book out trace holds fit h k
-all_from calls inside Holds settled each t opening lines (World events) book out trace holds fit h k = world_from calls inside.whole settled t opening lines events book out trace fit h k
+all_from calls inside Holds settled each t opening lines (World events) book out trace holds fit h k = world_from calls inside.members settled t opening lines events book out trace fit h k
 
 plain_elementary : IsElementary plain_calls plain_inside (λ b. Unit {0})
 plain_elementary = record { course = λ old new e prints holds h. plain.elementary old new e prints h; kept = λ old new e prints holds h. tt }

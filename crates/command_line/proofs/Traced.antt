@@ -43,18 +43,18 @@ ends_over carrier network lines asked a b is (inr h) = inr (subst (λ (k : Carri
 
 -- ---- of hosts with programs
 
-pub flushed_world : {C : Type 0} (calls : Calls C) (whole : C → List ℕ) (t : TopologyFields) (opening : C) (first last : WorldState C) (events : List (ℕ × WorldEvent)) (a b c : Option (List ℕ)) → first ≡ opening_world calls opening
-    → WritesTrace (worlds.AfterOpening whole t first (TracesWorld calls whole first events last)) a b → Keeps b c → WorldTracesFrom calls whole t opening events a c
-flushed_world {C} calls whole t opening first last events a b c is w k =
-    let own : WritesTrace (worlds.AfterOpening whole t (opening_world calls opening) (TracesWorld calls whole (opening_world calls opening) events last)) a b =
-    subst (λ (x : WorldState C). WritesTrace (worlds.AfterOpening whole t x (TracesWorld calls whole x events last)) a b) is w in
+pub flushed_world : {C : Type 0} (calls : Calls C) (members : C → List (List ℕ)) (t : TopologyFields) (opening : C) (first last : WorldState C) (events : List (ℕ × WorldEvent)) (a b c : Option (List ℕ)) → first ≡ opening_world calls opening
+    → WritesTrace (worlds.AfterOpening members t first (TracesWorld calls members first events last)) a b → Keeps b c → WorldTracesFrom calls members t opening events a c
+flushed_world {C} calls members t opening first last events a b c is w k =
+    let own : WritesTrace (worlds.AfterOpening members t (opening_world calls opening) (TracesWorld calls members (opening_world calls opening) events last)) a b =
+    subst (λ (x : WorldState C). WritesTrace (worlds.AfterOpening members t x (TracesWorld calls members x events last)) a b) is w in
     record { last = last; traced = record { shown = own.shown; is_shown = own.is_shown; written = stays a b c (text_of (λ line. line) own.shown) own.written k } }
 
-pub world_ends : {C : Type 0} (calls : Calls C) (whole : C → List ℕ) (t : TopologyFields) (opening : C) (first last : WorldState C) (events : List (ℕ × WorldEvent)) (a b : Option (List ℕ)) → first ≡ opening_world calls opening
-    → WritesTrace (worlds.AfterOpening whole t first (WorldTraceEnds calls whole (StopsOne calls) first events last)) a b → WorldEndsFrom calls whole t opening events a b
-world_ends {C} calls whole t opening first last events a b is w = record {
+pub world_ends : {C : Type 0} (calls : Calls C) (members : C → List (List ℕ)) (t : TopologyFields) (opening : C) (first last : WorldState C) (events : List (ℕ × WorldEvent)) (a b : Option (List ℕ)) → first ≡ opening_world calls opening
+    → WritesTrace (worlds.AfterOpening members t first (WorldTraceEnds calls members (StopsOne calls) first events last)) a b → WorldEndsFrom calls members t opening events a b
+world_ends {C} calls members t opening first last events a b is w = record {
   last = last;
-  traced = subst (λ (x : WorldState C). WritesTrace (worlds.AfterOpening whole t x (WorldTraceEnds calls whole (StopsOne calls) x events last)) a b) is w;
+  traced = subst (λ (x : WorldState C). WritesTrace (worlds.AfterOpening members t x (WorldTraceEnds calls members (StopsOne calls) x events last)) a b) is w;
 }
 
 -- ---- of known octets

@@ -30,25 +30,25 @@ pub record EndsFrom {C : Type 0} (calls : Calls C) (inside : Inside C) (t : Topo
   pub last : C
   pub traced : WritesTrace (AfterOpening inside t opening (TraceEnds calls inside (StopsElement calls) opening events last)) before after
 
--- events of hosts with programs are replayed over a carrier that shows the object of all its parts, and their trace is written, first
+-- events of hosts with programs are replayed over a carrier that shows all its parts as these members of an object, and their trace is written, first
 -- the network and then a line for each event and each round of a calm, and nothing else
-pub record WorldTracesFrom {C : Type 0} (calls : Calls C) (whole : C → List ℕ) (t : TopologyFields) (opening : C) (events : List (ℕ × WorldEvent)) (before after : Option (List ℕ)) : Type 0 where
+pub record WorldTracesFrom {C : Type 0} (calls : Calls C) (members : C → List (List ℕ)) (t : TopologyFields) (opening : C) (events : List (ℕ × WorldEvent)) (before after : Option (List ℕ)) : Type 0 where
   pub last : WorldState C
-  pub traced : WritesTrace (worlds.AfterOpening whole t (opening_world calls opening) (TracesWorld calls whole (opening_world calls opening) events last)) before after
+  pub traced : WritesTrace (worlds.AfterOpening members t (opening_world calls opening) (TracesWorld calls members (opening_world calls opening) events last)) before after
 
 -- memory ran out in one of them
-pub record WorldEndsFrom {C : Type 0} (calls : Calls C) (whole : C → List ℕ) (t : TopologyFields) (opening : C) (events : List (ℕ × WorldEvent)) (before after : Option (List ℕ)) : Type 0 where
+pub record WorldEndsFrom {C : Type 0} (calls : Calls C) (members : C → List (List ℕ)) (t : TopologyFields) (opening : C) (events : List (ℕ × WorldEvent)) (before after : Option (List ℕ)) : Type 0 where
   pub last : WorldState C
-  pub traced : WritesTrace (worlds.AfterOpening whole t (opening_world calls opening) (WorldTraceEnds calls whole (StopsOne calls) (opening_world calls opening) events last)) before after
+  pub traced : WritesTrace (worlds.AfterOpening members t (opening_world calls opening) (WorldTraceEnds calls members (StopsOne calls) (opening_world calls opening) events last)) before after
 
 -- events of either kind, which are in these lines of a script
 abbrev pub TracesAll : {C : Type 0} → Calls C → Inside C → TopologyFields → C → List ℕ → Asked → Option (List ℕ) → Option (List ℕ) → Type 0
 TracesAll calls inside t opening lines (Raw events) before after = TracesFrom calls inside t opening (zip lines events) before after
-TracesAll calls inside t opening lines (World events) before after = WorldTracesFrom (shown calls) inside.whole t opening (zip lines events) before after
+TracesAll calls inside t opening lines (World events) before after = WorldTracesFrom (shown calls) inside.members t opening (zip lines events) before after
 
 abbrev pub EndsAll : {C : Type 0} → Calls C → Inside C → TopologyFields → C → List ℕ → Asked → Option (List ℕ) → Option (List ℕ) → Type 0
 EndsAll calls inside t opening lines (Raw events) before after = EndsFrom calls inside t opening (zip lines events) before after
-EndsAll calls inside t opening lines (World events) before after = WorldEndsFrom (shown calls) inside.whole t opening (zip lines events) before after
+EndsAll calls inside t opening lines (World events) before after = WorldEndsFrom (shown calls) inside.members t opening (zip lines events) before after
 
 -- ---- of a topology
 

@@ -191,8 +191,8 @@ fn trace_hosts<C: Inspect, W: Output>(
     requires unused { (C.calls.seen carrier).log ≡ [] }
     requires running { (C.calls.seen carrier).stopped ≡ false }
     requires whole { W.failed writer.old ≡ false }
-    ensures traced { OnOk result (WorldTracesFrom (shown C.calls) C.inside.whole network.now carrier events.items (W.contents writer.old) (W.contents writer.new)) }
-    ensures stopped { result ≡ Err ScriptFault.OutOfMemory → NothingOr (WorldEndsFrom (shown C.calls) C.inside.whole network.now carrier events.items) (W.contents writer.old) (W.contents writer.new) }
+    ensures traced { OnOk result (WorldTracesFrom (shown C.calls) C.inside.members network.now carrier events.items (W.contents writer.old) (W.contents writer.new)) }
+    ensures stopped { result ≡ Err ScriptFault.OutOfMemory → NothingOr (WorldEndsFrom (shown C.calls) C.inside.members network.now carrier events.items) (W.contents writer.old) (W.contents writer.new) }
     ensures fault { IfErr result IsReplayFault }
     ensures failed { (result ≡ Err ScriptFault.CannotWrite) ↔ (W.failed writer.new ≡ true) }
     ensures flushed { OnOk result (W.flushed writer.new ≡ true) }

@@ -12,6 +12,7 @@ pub mod Rest
 pub mod Pump
 pub mod Settled
 pub mod Nothing
+pub mod AllMembers
 pub mod Calms
 pub mod Stages
 pub mod Onward

@@ -6,8 +6,8 @@ use Rattle.std.specs.List.{range_with_len}
 use Rattle.subnet.specs.Events.{is_imp}
 use Rattle.subnet.specs.Net.{Net, ends_at, wire_at}
 use Rattle.subnet_trace.specs.Parts.{Part, Imp, Line, all_parts, imp_and_lines, lines_at, parts_text}
-use Rattle.subnet_trace.specs.Printing.{line_behind, named, part_behind, place_behind}
-use Rattle.trace.specs.Joined.{mark}
+use Rattle.subnet_trace.specs.Printing.{line_behind, named}
+use Rattle.trace.specs.Joined.{mark, part_behind, place_behind}
 use Rattle.trace.specs.Texts.{further, object}
 use Rattle.trace.proofs.lemmas.{Remains, end_printed, left, maybe_printed}
 
@@ -71,7 +71,7 @@ whole_left n place i = left (codes "{") (codes "}") place (map (named n) (imps_f
 abbrev pub rest_left : Net → ℕ → ℕ → List ℕ
 rest_left n place l = left (codes "{") (codes "}") place (map (named n) (lines_from n l))
 
-one_imp : (n : Net) (i : ℕ) (is : List ℕ) (others : List Part)
+pub one_imp : (n : Net) (i : ℕ) (is : List ℕ) (others : List Part)
     → map (named n) (map (λ k. Imp k) (filter (is_imp n) (i ∷ is)) ++ others) ≡ (if is_imp n i then named n (Imp i) ∷ [] else []) ++ map (named n) (map (λ k. Imp k) (filter (is_imp n) is) ++ others)
 one_imp n i is others = by (is_imp n i) refl where
   by : (t : Bool) → is_imp n i ≡ t

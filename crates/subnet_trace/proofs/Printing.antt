@@ -14,9 +14,9 @@ use Rattle.imp_channel.specs.declared.frame.Content.{Content}
 use Rattle.imp_channel.specs.declared.frame.Content.TheVariants as contents
 use Rattle.routing.specs.RouteTable.{Table, next_of}
 use Rattle.routing.specs.Vector.{infinite}
-use Rattle.subnet_trace.specs.Printing.{distance_behind, known_text, next_behind, place_after, place_behind}
+use Rattle.subnet_trace.specs.Printing.{distance_behind, known_text, next_behind, place_after}
 use Rattle.subnet_trace.specs.Texts.{bit_text, bits_text, content_members, distances_text, finite_from, next_from, next_members, next_text, packet_text}
-use Rattle.trace.specs.Joined.{mark}
+use Rattle.trace.specs.Joined.{mark, place_behind}
 use Rattle.trace.specs.Texts.{array, further, member, object, quoted}
 use Rattle.trace.proofs.lemmas.{Remains, end_printed, left, maybe_printed, three}
 

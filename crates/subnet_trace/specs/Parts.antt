@@ -30,8 +30,12 @@ abbrev pub part_text : Net → Part → List ℕ
 part_text n (Imp i) = imp_text (imp_at n.imps i)
 part_text n (Line l) = line_text (wire_at n.lines l)
 
+-- parts with their names
+abbrev pub parts_members : Net → List Part → List (List ℕ)
+parts_members n parts = map (λ p. member (part_name p) (part_text n p)) parts
+
 abbrev pub parts_text : Net → List Part → List ℕ
-parts_text n parts = object (map (λ p. member (part_name p) (part_text n p)) parts)
+parts_text n parts = object (parts_members n parts)
 
 -- all parts: the IMPs by rising number, and the lines in order
 abbrev pub all_parts : Net → List Part

@@ -1,19 +1,22 @@
 -- What the contracts of private functions say. No public clause cites this file.
-use Rattle.std.specs.Prelude.{ℕ, Bool, true, false, List, [], ◌∷◌, ◌++◌, Option, Some, None, codes, if◌then◌else◌, nat_lt}
+use Rattle.std.specs.Prelude.{ℕ, Bool, true, false, List, [], ◌∷◌, ◌++◌, Option, Some, None, codes, if◌then◌else◌, map, nat_lt}
+use Rattle.std.specs.FinMap as fin
 use Rattle.std.specs.Fmt.{decimal}
 use Rattle.imp_node.specs.Arrival.{Arrival, arrival_has_room}
 use Rattle.imp_node.specs.State.{State}
 use Rattle.interface.specs.declared.address.Flow.{Flow}
 use Rattle.packetiser.specs.PacketFields.{PacketFields}
+use Rattle.routing.specs.RouteTable.{vector_of}
 use Rattle.routing.specs.Vector.{infinite}
+use Rattle.subnet.specs.Events.{is_imp}
 use Rattle.subnet.specs.Net.{Net, Wire, ends_at}
 use Rattle.subnet_trace.specs.Fates.{arrival_fate}
-use Rattle.subnet_trace.specs.Parts.{Part, Line, imp_alone, imp_and_lines, line_alone, part_name, part_text}
-use Rattle.subnet_trace.specs.Texts.{flow_object, line_text}
+use Rattle.subnet_trace.specs.Parts.{Part, Imp, Line, imp_alone, imp_and_lines, line_alone, part_name, part_text}
+use Rattle.subnet_trace.specs.Texts.{distances_text, flow_object, heard_text, host_object, kept_text, line_text, next_text, packet_text, port_object, slot_text, source_text}
 use Rattle.subnet_trace.specs.declared.parts.Scope.{Scope}
 use Rattle.subnet_trace.specs.declared.parts.Scope.TheVariants as scope
 use Rattle.trace.specs.Joined.{mark}
-use Rattle.trace.specs.Texts.{member}
+use Rattle.trace.specs.Texts.{array, member}
 use Rattle.trace.specs.declared.fate.Fate.{Fate}
 use Rattle.trace.specs.declared.fate.Fate.TheVariants as fates
 
@@ -22,10 +25,6 @@ use Rattle.trace.specs.declared.fate.Fate.TheVariants as fates
 -- a number under the number of an IMP, after this many others, if it is there
 abbrev pub number_behind : ℕ → ℕ → ℕ → Bool → List ℕ
 number_behind place imp number there = if there then mark (codes "{") (codes ",") place ++ member (decimal imp) (decimal number) else []
-
--- the place after it
-abbrev pub place_behind : ℕ → Bool → ℕ
-place_behind place there = if there then 1 else place
 
 -- the distance to an IMP; nothing where there is no way
 abbrev pub distance_behind : ℕ → ℕ → ℕ → List ℕ
@@ -46,6 +45,24 @@ place_after place (Some port) = 1
 abbrev pub known_text : {V : Type 0} → List ℕ → (Flow → V → List ℕ) → (V → ℕ) → Flow × V → List ℕ
 known_text name word number e = flow_object name (word e.0 e.1) e.0 (number e.1)
 
+-- ---- an IMP, piece by piece
+
+-- its hosts, its ends of lines, and what its neighbours announced
+abbrev pub begun_text : State → List ℕ
+begun_text s = codes "{\"hosts\":" ++ (array (map host_object s.hosts) ++ (codes ",\"ports\":" ++ (array (map port_object s.ports) ++ (codes ",\"routes\":" ++ array (map heard_text s.routes.heard)))))
+
+-- the packets outside of channels
+abbrev pub held_text : State → List ℕ
+held_text s = codes ",\"store\":" ++ (array (map packet_text s.store) ++ (codes ",\"slots\":" ++ array (map slot_text s.slots)))
+
+-- what is known of flows
+abbrev pub noted_text : State → List ℕ
+noted_text s = codes ",\"sources\":" ++ (array (map (source_text s) (fin.entries s.sources)) ++ (codes ",\"kept\":" ++ array (map kept_text (fin.entries s.kept))))
+
+-- what follows of routes, and the end
+abbrev pub ways_text : State → List ℕ
+ways_text s = codes ",\"distances\":" ++ (distances_text (vector_of s.routes) ++ (codes ",\"next\":" ++ (next_text s.routes ++ codes "}")))
+
 -- ---- parts
 
 -- a line of an IMP after another part; nothing for another line
@@ -63,9 +80,9 @@ parts_in n scope.Nothing = []
 abbrev pub named : Net → Part → List ℕ
 named n p = member (part_name p) (part_text n p)
 
--- after this many others, if it is there
-abbrev pub part_behind : Bool → ℕ → List ℕ → List ℕ
-part_behind there place text = if there then mark (codes "{") (codes ",") place ++ text else []
+-- an IMP with its name, if it is in the network
+abbrev pub imp_members : Net → ℕ → List (List ℕ)
+imp_members n i = if is_imp n i then named n (Imp i) ∷ [] else []
 
 -- ---- fates
 

@@ -1,13 +1,11 @@
 //! What an IMP keeps, printed.
 
-ghost use Rattle.std.specs.Prelude.{◌≡◌, ◌++◌, OnOk, Some, codes, false, map};
-ghost use Rattle.std.specs.FinMap as fin;
+ghost use Rattle.std.specs.Prelude.{◌≡◌, OnOk, Some, false, map};
 ghost use Rattle.std.specs.Io.KnownBytes.{Appends};
 ghost use Rattle.replay.specs.Failing.{TellsFailure};
-ghost use Rattle.routing.specs.RouteTable.{vector_of};
-ghost use Rattle.subnet_trace.specs.Texts.{channel_text, distances_text, heard_text, host_object, imp_text, kept_text, next_text, packet_text, port_object, slot_text, source_text, told_text};
+ghost use Rattle.subnet_trace.specs.Printing.{begun_text, held_text, noted_text, ways_text};
+ghost use Rattle.subnet_trace.specs.Texts.{channel_text, heard_text, host_object, imp_text, packet_text, port_object, slot_text, told_text};
 ghost use Rattle.subnet_trace.specs.Texts.{whole_text};
-ghost use Rattle.trace.specs.Texts.{array};
 
 use crate::flows::print_flows;
 use crate::lists::{All, Held};
@@ -145,7 +143,7 @@ impl Listed for Slots<'_> {
 /// Prints the beginning of an IMP: its hosts, its ends of lines, and what its neighbours announced.
 fn print_ends<W: Output>(imp: &Imp, writer: &mut W) -> Result<(), WriteFailed>
     requires { W.failed writer.old ≡ false }
-    ensures written { OnOk result (Appends (W.contents writer.old) (W.contents writer.new) (codes "{\"hosts\":" ++ (array (map host_object imp.now.hosts) ++ (codes ",\"ports\":" ++ (array (map port_object imp.now.ports) ++ (codes ",\"routes\":" ++ array (map heard_text imp.now.routes.heard))))))) }
+    ensures written { OnOk result (Appends (W.contents writer.old) (W.contents writer.new) (begun_text imp.now)) }
     ensures failed { TellsFailure result (W.failed writer.new) }
 {
     writer.write_all(b"{\"hosts\":")?;
@@ -159,7 +157,7 @@ fn print_ends<W: Output>(imp: &Imp, writer: &mut W) -> Result<(), WriteFailed>
 /// Prints the packets that an IMP holds outside of channels: those that wait for one, and those of messages in reassembly.
 fn print_held<W: Output>(imp: &Imp, writer: &mut W) -> Result<(), WriteFailed>
     requires { W.failed writer.old ≡ false }
-    ensures written { OnOk result (Appends (W.contents writer.old) (W.contents writer.new) (codes ",\"store\":" ++ (array (map packet_text imp.now.store) ++ (codes ",\"slots\":" ++ array (map slot_text imp.now.slots))))) }
+    ensures written { OnOk result (Appends (W.contents writer.old) (W.contents writer.new) (held_text imp.now)) }
     ensures failed { TellsFailure result (W.failed writer.new) }
 {
     writer.write_all(b",\"store\":")?;
@@ -171,7 +169,7 @@ fn print_held<W: Output>(imp: &Imp, writer: &mut W) -> Result<(), WriteFailed>
 /// Prints what an IMP knows of flows.
 fn print_known<W: Output>(imp: &Imp, writer: &mut W) -> Result<(), WriteFailed>
     requires { W.failed writer.old ≡ false }
-    ensures written { OnOk result (Appends (W.contents writer.old) (W.contents writer.new) (codes ",\"sources\":" ++ (array (map (source_text imp.now) (fin.entries imp.now.sources)) ++ (codes ",\"kept\":" ++ array (map kept_text (fin.entries imp.now.kept)))))) }
+    ensures written { OnOk result (Appends (W.contents writer.old) (W.contents writer.new) (noted_text imp.now)) }
     ensures failed { TellsFailure result (W.failed writer.new) }
 {
     writer.write_all(b",\"sources\":")?;
@@ -183,7 +181,7 @@ fn print_known<W: Output>(imp: &Imp, writer: &mut W) -> Result<(), WriteFailed>
 /// Prints what an IMP concludes of routes: its own distances, and the port that packets to each IMP take.
 fn print_concluded<W: Output>(imp: &Imp, writer: &mut W) -> Result<(), WriteFailed>
     requires { W.failed writer.old ≡ false }
-    ensures written { OnOk result (Appends (W.contents writer.old) (W.contents writer.new) (codes ",\"distances\":" ++ (distances_text (vector_of imp.now.routes) ++ (codes ",\"next\":" ++ (next_text imp.now.routes ++ codes "}"))))) }
+    ensures written { OnOk result (Appends (W.contents writer.old) (W.contents writer.new) (ways_text imp.now)) }
     ensures failed { TellsFailure result (W.failed writer.new) }
 {
     writer.write_all(b",\"distances\":")?;

@@ -4,7 +4,8 @@ ghost use Rattle.std.specs.Prelude.{◌≡◌, ◌∷◌, ◌++◌, [], IfOk, On
 ghost use Rattle.std.specs.Io.KnownBytes.{Appends};
 ghost use Rattle.replay.specs.Failing.{TellsFailure};
 ghost use Rattle.routing.specs.Vector.{infinite};
-ghost use Rattle.subnet_trace.specs.Printing.{distance_behind, next_behind, place_after, place_behind};
+ghost use Rattle.subnet_trace.specs.Printing.{distance_behind, next_behind, place_after};
+ghost use Rattle.trace.specs.Joined.{place_behind};
 ghost use Rattle.subnet_trace.specs.Texts.{bit_text, bits_text, content_members, distances_text, frame_text, kind_word, next_text, packet_text};
 ghost use Rattle.trace.specs.Texts.{further};
 

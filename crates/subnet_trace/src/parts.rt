@@ -1,13 +1,14 @@
 //! The parts of a subnet that an event can change, looked at and printed.
 
-ghost use Rattle.std.specs.Prelude.{◌≡◌, IfOk, OnOk, false};
+ghost use Rattle.std.specs.Prelude.{◌≡◌, ◌++◌, IfOk, OnOk, false};
 ghost use Rattle.std.specs.Io.KnownBytes.{Appends};
 ghost use Rattle.replay.specs.Failing.{TellsFailure};
 ghost use Rattle.script.specs.declared.event.RawEvent.TheVariants as raw;
-ghost use Rattle.subnet_trace.specs.Parts.{Imp, Line, far_end_of, imp_alone, imp_and_lines, line_alone, part_name, part_text, parts_of, parts_text, all_parts};
+ghost use Rattle.subnet_trace.specs.Parts.{Imp, Line, far_end_of, imp_alone, imp_and_lines, line_alone, part_name, part_text, parts_members, parts_of, parts_text, all_parts};
 ghost use Rattle.subnet.specs.Events.{is_imp};
-ghost use Rattle.subnet_trace.specs.Printing.{line_behind, named, part_behind, parts_in, place_behind};
+ghost use Rattle.subnet_trace.specs.Printing.{imp_members, line_behind, named, parts_in};
 ghost use Rattle.subnet_trace.specs.Texts.{line_text};
+ghost use Rattle.trace.specs.Joined.{part_behind, place_behind};
 ghost use Rattle.trace.specs.Texts.{member};
 
 use crate::imp::print_imp;
@@ -15,8 +16,10 @@ use crate::lists::InLine;
 use interface::{Direction, NetEvent};
 use replay::{Output, WriteFailed};
 use script::RawEvent;
+use std::alloc::{AllocError, Global};
 use subnet::{Subnet, Wire};
-use trace::json::{mark, print_array};
+use trace::Members;
+use trace::json::{Item, mark, print_array};
 
 /// Which parts an event can change.
 #[derive(Clone, Copy)]
@@ -110,6 +113,69 @@ fn print_named_line<W: Output>(
     writer.write_all(b",\"-\":")?;
     print_array(&InLine(line.frames(Direction::Back)), writer)?;
     writer.write_all(b"}")
+}
+
+/// An IMP with its name.
+#[derive(Drop)]
+struct ImpPart<'a> {
+    subnet: &'a Subnet,
+    number: u8,
+}
+
+impl Item for ImpPart<'_> {
+    ghost text = { λ part. named part.subnet.now.net (Imp part.number) };
+
+    fn print<W: Output>(&self, writer: &mut W) -> Result<(), WriteFailed> {
+        print_named_imp(self.subnet, self.number, writer)
+    }
+}
+
+/// A line with its name.
+#[derive(Drop)]
+struct LinePart<'a> {
+    number: usize,
+    line: &'a Wire,
+}
+
+impl Item for LinePart<'_> {
+    ghost text = { λ part. member (part_name (Line part.number)) (line_text part.line.now) };
+
+    fn print<W: Output>(&self, writer: &mut W) -> Result<(), WriteFailed> {
+        print_named_line(self.number, self.line, writer)
+    }
+}
+
+/// Adds an IMP to parts, if there is one of this number.
+fn push_imp(
+    alloc: Global,
+    subnet: &Subnet,
+    number: u8,
+    members: &mut Members,
+) -> Result<(), AllocError>
+    ensures { OnOk result (members.new ≡ members.old ++ imp_members subnet.now.net number) }
+{
+    if !subnet.is_imp(number) {
+        return Ok(());
+    }
+    members.push(alloc, &ImpPart { subnet, number })
+}
+
+/// Returns all parts, each with its name, as the members of an object: the IMPs by rising number, and the lines in order.
+///
+/// Errors: `AllocError`.
+pub(crate) fn all_members(alloc: Global, subnet: &Subnet) -> Result<Members, AllocError>
+    ensures { IfOk result (λ members. members ≡ parts_members subnet.now.net (all_parts subnet.now.net)) }
+{
+    let mut members = Members::new(alloc);
+    for imp in 0..subnet.imp_places() {
+        push_imp(alloc, subnet, imp, &mut members)?;
+    }
+    let lines = subnet.lines();
+    for number in 0..lines.len() {
+        let line = &lines[number];
+        members.push(alloc, &LinePart { number, line })?;
+    }
+    Ok(members)
 }
 
 /// Prints a line of an IMP after another part. It prints nothing for a line that doesn't end there.

@@ -7,14 +7,15 @@ ghost use Rattle.subnet_trace.specs.Traced.{subnet_inside};
 
 use crate::calm::next_in_calm;
 use crate::fates::fate_of;
-use crate::parts::{print_parts, print_whole};
+use crate::parts::{all_members, print_parts, print_whole};
 use crate::place::{Place, Stage};
 use interface::{Carrier, CarrierFault, Crossing, HostAddr, HostMessage, Inbound, NetEvent};
 use replay::{Output, WriteFailed};
 use script::RawEvent;
+use std::alloc::{AllocError, Global};
 use std::marker::Model;
 use subnet::Subnet;
-use trace::{Element, Fate, Inspect};
+use trace::{Element, Fate, Inspect, Members};
 
 /// A subnet whose inside can be traced: the subnet itself, and nothing else.
 ///
@@ -104,6 +105,10 @@ impl Inspect for TracedSubnet {
 
     fn print_whole<W: Output>(&self, writer: &mut W) -> Result<(), WriteFailed> {
         print_whole(&self.subnet, writer)
+    }
+
+    fn members(&self, alloc: Global) -> Result<Members, AllocError> {
+        all_members(alloc, &self.subnet)
     }
 
     /// What crossed in the event does not matter: an event only says which parts it can change.

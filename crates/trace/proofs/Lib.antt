@@ -11,12 +11,14 @@ pub mod Whole
 pub mod Each
 pub mod Rest
 pub mod Calms
+pub mod Changed
+pub mod Changing
 pub mod Courses
 pub mod Going
 pub mod Keeping
 pub mod TwoRounds
 pub mod Joined
-pub mod Members
+pub mod PartByPart
 pub mod lemmas
 pub mod Calling
 pub mod Telling

@@ -1,5 +1,6 @@
 -- The lemmas of this crate that others may use: the proofs of command_line, subnet_trace and world_trace do. All others in proofs/ are its own.
 pub use Rattle.trace.proofs.Calms.{elementary}
+pub use Rattle.trace.proofs.Changed.{none_changed}
 pub use Rattle.trace.proofs.Courses.{AllEvents, all_takings_events, idle_rounds, none_events, one_events, passes, rounds_events, takes_here, takings_all, then_events, then_twice}
 pub use Rattle.trace.proofs.Going.{AllRoundsGo, AllTakeSo, Goes, TakesSo, Traced, calm_holds, elementary_of, goes_all, goes_calmly, goes_chain, goes_none, goes_then, or_first, run_one}
 pub use Rattle.trace.proofs.Decimals.{decimal_closed, decimal_lacks, digits_lack, octets_lack, short_once}

@@ -1,5 +1,5 @@
 -- What the contracts of private functions say. No public clause cites this file.
-use Rattle.std.specs.Prelude.{ℕ, zero, suc, List, [], ◌∷◌, ◌++◌, Option, Some, None, codes, map, Result, Ok, Err}
+use Rattle.std.specs.Prelude.{ℕ, zero, suc, Bool, if◌then◌else◌, List, [], ◌∷◌, ◌++◌, Option, Some, None, codes, map, Result, Ok, Err}
 use Rattle.std.specs.Fmt.{decimal}
 use Rattle.leader1822.specs.Boxes.{Boxes}
 use Rattle.interface.specs.declared.carrier.CarrierFault.{CarrierFault}
@@ -37,6 +37,16 @@ begun b parts = codes "{" ++ joined_from 0 (map (λ p. member (part_name p) (par
 abbrev pub mark : List ℕ → List ℕ → ℕ → List ℕ
 mark first other zero = first
 mark first other (suc place) = other
+
+-- ---- items that may be missing
+
+-- an item after this many others, if it is there
+abbrev pub part_behind : Bool → ℕ → List ℕ → List ℕ
+part_behind there place text = if there then mark (codes "{") (codes ",") place ++ text else []
+
+-- the place after it
+abbrev pub place_behind : ℕ → Bool → ℕ
+place_behind place there = if there then 1 else place
 
 -- ---- lines
 

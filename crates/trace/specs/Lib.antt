@@ -1,3 +1,4 @@
+pub mod Changes
 pub mod Elements
 pub mod Joined
 pub mod Kept

@@ -116,16 +116,22 @@ abbrev pub part_text : Boxes → Part → List ℕ
 part_text b Down = array (map host_string b.down)
 part_text b (Waiting h) = queues_text (for_host b.messages h) (for_host b.answers h)
 
+abbrev pub parts_members : Boxes → List Part → List (List ℕ)
+parts_members b parts = map (λ p. member (part_name p) (part_text b p)) parts
+
 abbrev pub parts_text : Boxes → List Part → List ℕ
-parts_text b parts = object (map (λ p. member (part_name p) (part_text b p)) parts)
+parts_text b parts = object (parts_members b parts)
 
 -- those that an event can change in which this crossed
 abbrev pub changed_text : Boxes → RawEvent → List Crossing → List ℕ
 changed_text b e crossings = parts_text b (parts_of b.hosts e crossings)
 
 -- and all of them
+abbrev pub all_members : Boxes → List (List ℕ)
+all_members b = parts_members b (all_parts b.hosts)
+
 abbrev pub whole_text : Boxes → List ℕ
-whole_text b = parts_text b (all_parts b.hosts)
+whole_text b = object (all_members b)
 
 -- ---- the first line
 

@@ -13,19 +13,19 @@ use Rattle.trace.specs.declared.element.Element.{Element}
 use Rattle.trace.specs.declared.element.Spot.{Spot}
 use Rattle.trace.specs.declared.fate.Fate.{Fate}
 use Rattle.trace.specs.Elements.{calm_of, elements_in}
-use Rattle.trace.specs.Texts.{changed_text, opening_line, trace_line, whole_text}
+use Rattle.trace.specs.Texts.{all_members, changed_text, object, opening_line, trace_line}
 
--- what a carrier shows of its inside: the elementary events of a calm of this many rounds; the object of all parts, and that of the
--- parts that an event can change in which this crossed; and, before an event, what becomes of the frame that it delivers
+-- what a carrier shows of its inside: the elementary events of a calm of this many rounds; all parts, each with its name, as members of
+-- an object; the object of the parts that an event can change in which this crossed; and, before an event, what becomes of the frame that it delivers
 pub record Inside (C : Type 0) : Type 0 where
   pub calm : C → ℕ → List Element
-  pub whole : C → List ℕ
+  pub members : C → List (List ℕ)
   pub parts : C → RawEvent → List Crossing → List ℕ
   pub fate : C → RawEvent → Option Fate
 
 -- what plain mailboxes show. They have no frames
 abbrev pub plain_inside : Inside Boxes
-plain_inside = record { calm = calm_of; whole = whole_text; parts = changed_text; fate = λ b e. None }
+plain_inside = record { calm = calm_of; members = all_members; parts = changed_text; fate = λ b e. None }
 
 -- ---- lines of a script
 
@@ -60,7 +60,7 @@ Traces calls inside old events new lines = InTurn (TellsEvent calls inside) old 
 
 -- the lines after the first, which is the network with all parts at the opening
 abbrev pub AfterOpening : {C : Type 0} → Inside C → TopologyFields → C → (List (List ℕ) → Type 0) → List (List ℕ) → Type 0
-AfterOpening inside t opening AreLines lines = (others : List (List ℕ)) × (lines ≡ opening_line t (inside.whole opening) ∷ others) × AreLines others
+AfterOpening inside t opening AreLines lines = (others : List (List ℕ)) × (lines ≡ opening_line t (object (inside.members opening)) ∷ others) × AreLines others
 
 -- ---- a trace that ends early, in one of the elementary events
 

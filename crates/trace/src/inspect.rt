@@ -1,16 +1,19 @@
 //! Carriers whose inside can be traced.
 
-ghost use Rattle.std.specs.Prelude.{◌≡◌, List, OnOk, false};
+ghost use Rattle.std.specs.Prelude.{◌≡◌, IfOk, List, OnOk, false};
 ghost use Rattle.std.specs.Io.KnownBytes.{Appends};
 ghost use Rattle.replay.specs.Failing.{TellsFailure};
+ghost use Rattle.trace.specs.Texts.{object};
 ghost use Rattle.trace.specs.Traces.{GoesOnWith, Inside};
 ghost use Rattle.trace.specs.declared.element.Element.{Element};
 
 use crate::element::Element;
 use crate::fate::Fate;
+use crate::members::Members;
 use interface::{Carrier, Crossing};
 use replay::{Output, WriteFailed};
 use script::RawEvent;
+use std::alloc::{AllocError, Global};
 
 /// A carrier whose inside can be traced: it lists the elementary events of a calm one after another, and prints the parts
 /// that an event can change.
@@ -41,8 +44,14 @@ pub trait Inspect: Carrier {
     /// Errors: `WriteFailed`.
     fn print_whole<W: Output>(&self, writer: &mut W) -> Result<(), WriteFailed>
         requires { W.failed writer.old ≡ false }
-        ensures written { OnOk result (Appends (W.contents writer.old) (W.contents writer.new) (inside.whole self.now)) }
+        ensures written { OnOk result (Appends (W.contents writer.old) (W.contents writer.new) (object (inside.members self.now))) }
         ensures failed { TellsFailure result (W.failed writer.new) };
+
+    /// Returns all parts, each with its name, as the members of an object.
+    ///
+    /// Errors: `AllocError`.
+    fn members(&self, alloc: Global) -> Result<Members, AllocError>
+        ensures { IfOk result (λ members. members ≡ inside.members self.now) };
 
     /// Prints the parts that an event can change in which this crossed, as a JSON object.
     ///

@@ -1,13 +1,14 @@
 //! What traces promise, as laws over their definitions. The functions here do nothing: each clause is the law.
 
-ghost use Rattle.std.specs.Prelude.{◌≡◌, ℕ, List};
-ghost use Rattle.std.specs.List.{All};
+ghost use Rattle.std.specs.Prelude.{◌≡◌, ◌⊎◌, [], ℕ, List, length};
+ghost use Rattle.std.specs.List.{All, Contains};
 ghost use Rattle.leader1822.specs.Boxes.{Boxes, opening_boxes, plain_calls};
 ghost use Rattle.interface.specs.Host.{Host};
 ghost use Rattle.replay.specs.Output.{Shown};
 ghost use Rattle.replay.specs.Replay.{Happens, IsOneCall, Replays};
 ghost use Rattle.script.specs.Spelling.{IsEvent};
 ghost use Rattle.script.specs.declared.event.RawEvent.{RawEvent};
+ghost use Rattle.trace.specs.Changes.{changed};
 ghost use Rattle.trace.specs.Elements.{elements_of, events_of};
 ghost use Rattle.trace.specs.Kept.{IsTold};
 ghost use Rattle.topology.specs.Topology.{IsTopology, TopologyFields};
@@ -36,6 +37,17 @@ pub fn whole()
 
     // the events are those that a script may ask for
     ensures reached { (hosts : List Host) (events : List RawEvent) (new : Boxes) (shown : List Shown) → All IsEvent events → Replays plain_calls (opening_boxes hosts) events new shown → IsTold new }
+{}
+
+/// What a line says of a list of members, of which each has its place. A reader who puts those that have changed in the place of those before has all.
+pub fn changes()
+    // each member that is there now is among those that have changed, or was there before; and those that have changed are there now
+    ensures kept { (before now : List (List ℕ)) (member : List ℕ) → Contains now member → Contains (changed before now) member ⊎ Contains before member }
+    ensures only { (before now : List (List ℕ)) (member : List ℕ) → Contains (changed before now) member → Contains now member }
+
+    // where none has changed all are as they were, and where all are as they were none has changed
+    ensures none { (before now : List (List ℕ)) → length before ≡ length now → changed before now ≡ [] → now ≡ before }
+    ensures same { (now : List (List ℕ)) → changed now now ≡ [] }
 {}
 
 /// The first line of a trace describes the network: which carrier it has, its IMPs with their hosts, and its lines in their order.

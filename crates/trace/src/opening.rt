@@ -5,7 +5,7 @@ ghost use Rattle.std.specs.Io.KnownBytes.{Appends};
 ghost use Rattle.replay.specs.Failing.{TellsFailure};
 ghost use Rattle.script.specs.Input.{ended_line};
 ghost use Rattle.trace.specs.Joined.{network_front};
-ghost use Rattle.trace.specs.Texts.{carrier_word, ends_text, opening_line, pair_text, site_text};
+ghost use Rattle.trace.specs.Texts.{carrier_word, ends_text, object, opening_line, pair_text, site_text};
 
 use crate::inspect::Inspect;
 use crate::json::{Item, bool_word, print_array};
@@ -76,7 +76,7 @@ pub(crate) fn print_opening<C: Inspect, W: Output>(
     writer: &mut W,
 ) -> Result<(), WriteFailed>
     requires { W.failed writer.old ≡ false }
-    ensures written { OnOk result (Appends (W.contents writer.old) (W.contents writer.new) (ended_line (opening_line network.now (C.inside.whole carrier.now)))) }
+    ensures written { OnOk result (Appends (W.contents writer.old) (W.contents writer.new) (ended_line (opening_line network.now (object (C.inside.members carrier.now))))) }
     ensures failed { TellsFailure result (W.failed writer.new) }
 {
     print_network(network, writer)?;

@@ -1,18 +1,20 @@
 //! The parts of plain mailboxes that an event can change, looked at and printed.
 
-ghost use Rattle.std.specs.Prelude.{◌≡◌, ◌++◌, [], ◌∷◌, OnOk, false, if◌then◌else◌, codes};
+ghost use Rattle.std.specs.Prelude.{◌≡◌, ◌++◌, [], ◌∷◌, IfOk, OnOk, false, if◌then◌else◌, codes};
 ghost use Rattle.std.specs.Io.KnownBytes.{Appends};
 ghost use Rattle.replay.specs.Failing.{TellsFailure};
 ghost use Rattle.trace.specs.Joined.{begun};
 ghost use Rattle.trace.specs.Parts.{Down, Waiting, is_source, moves_host, reaches};
-ghost use Rattle.trace.specs.Texts.{changed_text, member, part_name, part_text, whole_text};
+ghost use Rattle.trace.specs.Texts.{all_members, changed_text, member, part_name, part_text, whole_text};
 
-use crate::json::print_array;
+use crate::json::{Item, print_array};
+use crate::members::Members;
 use crate::print::{print_comma, print_waiting};
 use interface::{Carrier, Crossing, HostAddr, NetEvent};
 use leader1822::PlainBoxes;
 use replay::{Output, WriteFailed};
 use script::RawEvent;
+use std::alloc::{AllocError, Global};
 
 /// Returns whether a host stops or starts.
 fn moves_host(event: &RawEvent) -> bool
@@ -65,6 +67,48 @@ fn print_host_part<W: Output>(
 {
     write!(writer, "\"host {host}\":")?;
     print_waiting(boxes, host, writer)
+}
+
+/// What waits for a host, with its name.
+#[derive(Drop)]
+struct WaitingPart<'a> {
+    boxes: &'a PlainBoxes,
+    host: &'a HostAddr,
+}
+
+impl Item for WaitingPart<'_> {
+    ghost text = { λ part. member (part_name (Waiting part.host.now)) (part_text part.boxes.now (Waiting part.host.now)) };
+
+    fn print<W: Output>(&self, writer: &mut W) -> Result<(), WriteFailed> {
+        print_host_part(self.boxes, self.host, writer)
+    }
+}
+
+/// The hosts that are down, with their name.
+#[derive(Drop)]
+struct DownPart<'a>(&'a PlainBoxes);
+
+impl Item for DownPart<'_> {
+    ghost text = { λ part. member (part_name Down) (part_text part.0.now Down) };
+
+    fn print<W: Output>(&self, writer: &mut W) -> Result<(), WriteFailed> {
+        writer.write_all(b"\"down\":")?;
+        print_array(&self.0.down(), writer)
+    }
+}
+
+/// Returns all parts, each with its name, as the members of an object.
+///
+/// Errors: `AllocError`.
+pub(crate) fn all_members(alloc: Global, boxes: &PlainBoxes) -> Result<Members, AllocError>
+    ensures { IfOk result (λ members. members ≡ all_members boxes.now) }
+{
+    let mut members = Members::new(alloc);
+    members.push(alloc, &DownPart(boxes))?;
+    for host in boxes.hosts() {
+        members.push(alloc, &WaitingPart { boxes, host })?;
+    }
+    Ok(members)
 }
 
 /// Opens the object of parts, and prints the hosts that are down, where one stopped or started.

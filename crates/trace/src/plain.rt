@@ -9,12 +9,14 @@ ghost use Rattle.trace.specs.Traces.{plain_inside};
 use crate::element::Element;
 use crate::fate::Fate;
 use crate::inspect::Inspect;
-use crate::parts::{print_parts, print_whole};
+use crate::members::Members;
+use crate::parts::{all_members, print_parts, print_whole};
 use crate::turn::Turn;
 use interface::{Carrier, Crossing, HostAddr};
 use leader1822::PlainBoxes;
 use replay::{Output, WriteFailed};
 use script::RawEvent;
+use std::alloc::{AllocError, Global};
 
 /// How often a host takes in one round at most.
 const TAKINGS: u8 = 16;
@@ -94,6 +96,10 @@ impl Inspect for PlainBoxes {
 
     fn print_whole<W: Output>(&self, writer: &mut W) -> Result<(), WriteFailed> {
         print_whole(self, writer)
+    }
+
+    fn members(&self, alloc: Global) -> Result<Members, AllocError> {
+        all_members(alloc, self)
     }
 
     fn print_parts<W: Output>(

@@ -7,6 +7,7 @@ ghost use Rattle.interface.specs.declared.crossing.Crossing.TheVariants as cross
 ghost use Rattle.interface.specs.declared.event.NetEvent.TheVariants as net;
 ghost use Rattle.leader1822.specs.Boxes.{host_stopped, opening_boxes, plain_calls, with_queue};
 ghost use Rattle.script.specs.declared.event.RawEvent.TheVariants as event;
+ghost use Rattle.trace.specs.Changes.{changed};
 ghost use Rattle.trace.specs.Elements.{elements_of};
 ghost use Rattle.trace.specs.Parts.{Down, Waiting, SamePart, is_named, parts_of};
 ghost use Rattle.trace.specs.Texts.{answer_object, crossing_object, part_name, part_text, queues_text, whole_text};
@@ -69,6 +70,17 @@ pub fn worked_names()
     ensures other_down { SamePart Down (with_down []) (with_down (first ∷ [])) → ⊥ }
     ensures other_messages { SamePart (Waiting third) (opening_boxes hosts) (record (opening_boxes hosts) { messages = with_queue map.empty third (short ∷ []) }) → ⊥ }
     ensures other_answers { SamePart (Waiting first) (opening_boxes hosts) (record (opening_boxes hosts) { answers = with_queue map.empty first ((answer.Rfnm, flow) ∷ []) }) → ⊥ }
+{}
+
+/// Which members of an object have changed.
+pub fn worked_changes()
+    // each is compared with the one at its place, and not with the others
+    ensures one { changed (codes "a" ∷ codes "b" ∷ codes "c" ∷ []) (codes "a" ∷ codes "x" ∷ codes "c" ∷ []) ≡ codes "x" ∷ [] }
+    ensures exchanged { changed (codes "a" ∷ codes "b" ∷ []) (codes "b" ∷ codes "a" ∷ []) ≡ codes "b" ∷ codes "a" ∷ [] }
+
+    // a text that only begins alike is another
+    ensures longer { changed (codes "a" ∷ codes "b" ∷ []) (codes "ab" ∷ codes "b" ∷ []) ≡ codes "ab" ∷ [] }
+    ensures more { changed (codes "a" ∷ []) (codes "a" ∷ codes "b" ∷ []) ≡ codes "b" ∷ [] }
 {}
 
 /// Lines of a trace.

@@ -1,14 +1,10 @@
 -- The pieces of a line.
 use Rattle.std.proofs.Common.{◌≡◌, ℕ, List, [], ◌∷◌, ◌++◌, codes, Option, ap, refl, subst, sym, ◌∙◌}
-use Rattle.std.proofs.lemmas.List.{append_assoc, append_cancel_left, append_cancel_right}
+use Rattle.std.proofs.lemmas.List.{append_assoc}
 use Rattle.std.specs.Io.KnownBytes.{Appends}
-use Rattle.net_sim.specs.World.{WorldState}
 use Rattle.replay.proofs.lemmas.{appends_more}
 use Rattle.script.specs.Input.{ended_line}
 use Rattle.trace.specs.Texts.{member, object, quoted}
-use Rattle.world_trace.specs.Steps.{ended_state}
-use Rattle.world_trace.specs.Texts.{programs_text, services_text}
-use Rattle.world_trace.specs.Traces.{SameText, state_of}
 
 -- programs and services, and the end of a line
 abbrev hosts : List ℕ → List ℕ → List ℕ
@@ -110,33 +106,3 @@ pub first_printed : (carrier raw imps lines parts programs services : List ℕ) 
 first_printed carrier raw imps lines parts programs services a b c first last =
     subst (Appends a c) (first_pieces carrier raw imps lines parts programs services ∙ first_words carrier raw imps lines parts programs services ∙ sym (first_end carrier raw imps lines parts programs services) ∙ first_object carrier raw imps lines parts programs services)
     (appends_more a b c (front carrier raw imps lines) (parts ++ hosts programs services) first last)
-
--- ---- the state
-
-abbrev closed_state : List ℕ → List ℕ → List ℕ → List ℕ
-closed_state parts programs services = codes "{\"parts\":" ++ (parts ++ (codes ",\"programs\":" ++ (programs ++ (codes ",\"services\":" ++ (services ++ (codes "}" ++ 10 ∷ []))))))
-
-state_words : (parts programs services : List ℕ) → codes "{\"parts\":" ++ (parts ++ hosts programs services) ≡ closed_state parts programs services
-state_words parts programs services = refl
-
-bare_end : (parts programs services : List ℕ) → (codes "{\"parts\":" ++ (parts ++ (codes ",\"programs\":" ++ (programs ++ (codes ",\"services\":" ++ (services ++ codes "}")))))) ++ 10 ∷ [] ≡ closed_state parts programs services
-bare_end parts programs services = simp append_assoc
-
-state_end : (parts programs services : List ℕ) → object (member (codes "parts") parts ∷ member (codes "programs") programs ∷ member (codes "services") services ∷ []) ++ 10 ∷ [] ≡ closed_state parts programs services
-state_end parts programs services = bare_end parts programs services
-
--- after `"parts":`, with the end of the line, and as an object
-ended_object : (parts programs services : List ℕ) → codes "{\"parts\":" ++ (parts ++ hosts programs services) ≡ object (member (codes "parts") parts ∷ member (codes "programs") programs ∷ member (codes "services") services ∷ []) ++ 10 ∷ []
-ended_object parts programs services = state_words parts programs services ∙ sym (state_end parts programs services)
-
-ended_is : {C : Type 0} (whole : C → List ℕ) (w : WorldState C) → codes "{\"parts\":" ++ ended_state whole w ≡ object (state_of whole w) ++ 10 ∷ []
-ended_is whole w = ended_object (whole w.carrier) (programs_text w.seats) (services_text w.services)
-
--- states of one text are written alike
-pub same_ended : {C : Type 0} (whole : C → List ℕ) (one other : WorldState C) → SameText whole one other → ended_state whole one ≡ ended_state whole other
-same_ended whole one other same =
-    append_cancel_left (codes "{\"parts\":") (ended_state whole one) (ended_state whole other) (ended_is whole one ∙ ap (λ xs. xs ++ 10 ∷ []) same ∙ sym (ended_is whole other))
-
-pub same_object : {C : Type 0} (whole : C → List ℕ) (one other : WorldState C) → ended_state whole one ≡ ended_state whole other → SameText whole one other
-same_object whole one other same =
-    append_cancel_right (object (state_of whole one)) (object (state_of whole other)) (10 ∷ []) (sym (ended_is whole one) ∙ ap (λ xs. codes "{\"parts\":" ++ xs) same ∙ ended_is whole other)

@@ -1,5 +1,5 @@
 -- Events are traced one after the other, and one of them may be the last.
-use Rattle.std.proofs.Common.{◌≡◌, inl, inr, ℕ, zero, suc, ◌<◌, ◌≤◌, ◌+◌, ◌-◌, List, [], ◌∷◌, ◌++◌, drop, get_or, length, reverse, Option, Some, Result, Ok, Err, arith, refl, sym, ap, subst, ◌∙◌}
+use Rattle.std.proofs.Common.{◌≡◌, inl, inr, ℕ, zero, suc, ◌<◌, ◌≤◌, ◌+◌, ◌-◌, List, [], ◌∷◌, ◌++◌, drop, get_or, length, reverse, Option, Some, Result, Ok, Err, arith, refl, sym, ap, ap₂, map, subst, ◌∙◌}
 use Rattle.std.proofs.lemmas.Bool.{cases_lt}
 use Rattle.std.proofs.lemmas.List.{append_assoc, append-nil, length-append, length-reverse, reverse-append, reverse-reverse}
 use Rattle.std.proofs.Math.Seq.{drop-append_seam}
@@ -21,10 +21,12 @@ use Rattle.world_replay.specs.Output.{Shown, Writes, output, shown_text}
 use Rattle.world_replay.specs.Replay.{BeginsWith, EndsIn, Happens, MayDo, Replays, StopsIn}
 use Rattle.world_script.specs.declared.event.WorldEvent.{WorldEvent}
 use Rattle.world_script.specs.declared.event.WorldEvent.TheVariants as world
-use Rattle.world_trace.specs.Steps.{EventEnds, HasPassed, OneEnds, RoundEnds, Shows, ended_state}
-use Rattle.world_trace.specs.Texts.{event_text, line_of, opening_text, world_line}
-use Rattle.world_trace.proofs.Lines.{same_ended, same_object}
-use Rattle.world_trace.specs.Traces.{AfterOpening, MayTell, StopsOne, TellsOne, TellsRound, first_rounds, state_of}
+use Rattle.world_trace.specs.Steps.{AreTextsOf, AreUnchanged, EventEnds, HasPassed, OneEnds, RoundEnds, Shows, changed_texts}
+use Rattle.world_trace.specs.Texts.{event_text, line_of, opening_text, seat_member, services_member, state_members, world_line}
+use Rattle.world_trace.specs.declared.texts.Texts.{Texts}
+use Rattle.trace.specs.Changes.{changed}
+use Rattle.trace.proofs.lemmas.{none_changed}
+use Rattle.world_trace.specs.Traces.{AfterOpening, IsUnchanged, MayTell, StopsOne, TellsOne, TellsRound, change_of, first_rounds, state_of}
 
 -- ---- one event
 
@@ -85,30 +87,49 @@ one_line line IsLine a b is written = record { shown = line ∷ []; is_shown = i
 pub no_line : (AreLines : List (List ℕ) → Type 0) (a : Option (List ℕ)) → AreLines [] → WritesTrace AreLines a a
 no_line AreLines a is = record { shown = []; is_shown = is; written = appends_none a }
 
+-- the texts of two states say what of the later one is other than before
+same_change : {C : Type 0} (members : C → List (List ℕ)) (old new : WorldState C) (before texts : Texts) → AreTextsOf members old before → AreTextsOf members new texts → changed_texts before texts ≡ change_of members old new
+same_change members old new before texts h k =
+    ap₂ (λ (a b : List (List ℕ)). state_members (changed a b) (changed before.programs texts.programs) (changed before.services texts.services)) h.parts k.parts
+    ∙ ap₂ (λ (a b : List (List ℕ)). state_members (changed (members old.carrier) (members new.carrier)) (changed a b) (changed before.services texts.services)) h.programs k.programs
+    ∙ ap₂ (λ (a b : List (List ℕ)). state_members (changed (members old.carrier) (members new.carrier)) (changed (map seat_member old.seats) (map seat_member new.seats)) (changed a b)) h.services k.services
+
+unchanged : {C : Type 0} (members : C → List (List ℕ)) (old new : WorldState C) (before texts : Texts) → AreTextsOf members old before → AreTextsOf members new texts → AreUnchanged before texts → IsUnchanged members old new
+unchanged members old new before texts h k u =
+    record { parts = sym (ap₂ changed h.parts k.parts) ∙ u.parts; programs = sym (ap₂ changed h.programs k.programs) ∙ u.programs; services = sym (ap₂ changed h.services k.services) ∙ u.services }
+
+texts_unchanged : {C : Type 0} (members : C → List (List ℕ)) (old new : WorldState C) (before texts : Texts) → AreTextsOf members old before → AreTextsOf members new texts → IsUnchanged members old new → AreUnchanged before texts
+texts_unchanged members old new before texts h k u =
+    record { parts = ap₂ changed h.parts k.parts ∙ u.parts; programs = ap₂ changed h.programs k.programs ∙ u.programs; services = ap₂ changed h.services k.services ∙ u.services }
+
 -- what crossed in an event that has passed
-crossed_in : {C : Type 0} (calls : Calls C) (whole : C → List ℕ) (old new : WorldState C) (e : WorldEvent) (event printed state : List ℕ) (crossed : ℕ) (h : HasPassed calls whole old e new event crossed printed state)
+crossed_in : {C : Type 0} (calls : Calls C) (members : C → List (List ℕ)) (old new : WorldState C) (e : WorldEvent) (event printed : List ℕ) (texts : Texts) (crossed : ℕ) (h : HasPassed calls members old e new event crossed printed texts)
     → drop crossed (reverse new.kept.book.crossings) ≡ h.shows.1.gains.crossings
-crossed_in calls whole old new e event printed state crossed h =
+crossed_in calls members old new e event printed texts crossed h =
     let gains = h.shows.1.gains in
     ap (λ n. drop n (reverse new.kept.book.crossings)) h.crossed ∙ crossings_gained old.kept.book.crossings new.kept.book.crossings gains.crossings gains.crossed
 
 -- the line of an event that has passed
-line_passed : {C : Type 0} (calls : Calls C) (whole : C → List ℕ) (spot : Spot) (round : ℕ) (old new : WorldState C) (e : WorldEvent) (event printed state : List ℕ) (crossed : ℕ) (h : HasPassed calls whole old e new event crossed printed state)
-    → line_of spot round event (drop crossed (reverse new.kept.book.crossings)) printed (state_of whole new) ≡ world_line spot round e h.shows.1.gains.crossings h.shows.0 (state_of whole new)
-line_passed calls whole spot round old new e event printed state crossed h =
-    ap (λ (cs : List Crossing). line_of spot round event cs printed (state_of whole new)) (crossed_in calls whole old new e event printed state crossed h)
-    ∙ ap (λ (t : List ℕ). line_of spot round t h.shows.1.gains.crossings printed (state_of whole new)) h.event
-    ∙ ap (λ (p : List ℕ). line_of spot round (event_text e) h.shows.1.gains.crossings p (state_of whole new)) h.shows.2
+line_passed : {C : Type 0} (calls : Calls C) (members : C → List (List ℕ)) (spot : Spot) (round : ℕ) (old new : WorldState C) (e : WorldEvent) (event printed : List ℕ) (before texts : Texts) (crossed : ℕ) (h : HasPassed calls members old e new event crossed printed texts)
+    → AreTextsOf members old before
+    → line_of spot round event (drop crossed (reverse new.kept.book.crossings)) printed (changed_texts before texts) ≡ world_line spot round e h.shows.1.gains.crossings h.shows.0 (change_of members old new)
+line_passed calls members spot round old new e event printed before texts crossed h was =
+    let state : List (List ℕ) = changed_texts before texts in
+    ap (λ (cs : List Crossing). line_of spot round event cs printed state) (crossed_in calls members old new e event printed texts crossed h)
+    ∙ ap (λ (t : List ℕ). line_of spot round t h.shows.1.gains.crossings printed state) h.event
+    ∙ ap (λ (p : List ℕ). line_of spot round (event_text e) h.shows.1.gains.crossings p state) h.shows.2
+    ∙ ap (λ (s : List (List ℕ)). world_line spot round e h.shows.1.gains.crossings h.shows.0 s) (same_change members old new before texts was h.state)
 
-pub tells : {C : Type 0} (calls : Calls C) (whole : C → List ℕ) (spot : Spot) (round : ℕ) (old new : WorldState C) (e : WorldEvent) (event printed state : List ℕ) (crossed : ℕ) (a b : Option (List ℕ)) → HasPassed calls whole old e new event crossed printed state
-    → Appends a b (ended_line (line_of spot round event (drop crossed (reverse new.kept.book.crossings)) printed (state_of whole new))) → WritesTrace (TellsOne calls whole spot round old e new) a b
-tells {C} calls whole spot round old new e event printed state crossed a b h written =
-    one_line (world_line spot round e h.shows.1.gains.crossings h.shows.0 (state_of whole new)) (TellsOne calls whole spot round old e new) a b (h.shows.0, h.shows.1, refl)
-    (subst (λ (line : List ℕ). Appends a b (ended_line line)) (line_passed calls whole spot round old new e event printed state crossed h) written)
+pub tells : {C : Type 0} (calls : Calls C) (members : C → List (List ℕ)) (spot : Spot) (round : ℕ) (old new : WorldState C) (e : WorldEvent) (event printed : List ℕ) (before texts : Texts) (crossed : ℕ) (a b : Option (List ℕ))
+    → HasPassed calls members old e new event crossed printed texts → AreTextsOf members old before
+    → Appends a b (ended_line (line_of spot round event (drop crossed (reverse new.kept.book.crossings)) printed (changed_texts before texts))) → WritesTrace (TellsOne calls members spot round old e new) a b
+tells {C} calls members spot round old new e event printed before texts crossed a b h was written =
+    one_line (world_line spot round e h.shows.1.gains.crossings h.shows.0 (change_of members old new)) (TellsOne calls members spot round old e new) a b (h.shows.0, h.shows.1, refl)
+    (subst (λ (line : List ℕ). Appends a b (ended_line line)) (line_passed calls members spot round old new e event printed before texts crossed h was) written)
 
 -- it may have happened, too, where its line was not written
-pub passed_may : {C : Type 0} (calls : Calls C) (whole : C → List ℕ) (old new : WorldState C) (e : WorldEvent) (event printed state : List ℕ) (crossed : ℕ) → HasPassed calls whole old e new event crossed printed state → MayTell calls old e new []
-passed_may calls whole old new e event printed state crossed h = (refl, record { processed = e; begins = whole_event e; outcome = h.shows.1.outcome; gives = h.shows.1.gives; unknown = refl })
+pub passed_may : {C : Type 0} (calls : Calls C) (members : C → List (List ℕ)) (old new : WorldState C) (e : WorldEvent) (event printed : List ℕ) (texts : Texts) (crossed : ℕ) → HasPassed calls members old e new event crossed printed texts → MayTell calls old e new []
+passed_may calls members old new e event printed texts crossed h = (refl, record { processed = e; begins = whole_event e; outcome = h.shows.1.outcome; gives = h.shows.1.gives; unknown = refl })
 
 -- ---- a round
 
@@ -121,31 +142,32 @@ none_shown (s ∷ shown) is =
     let end : length (ended_line (shown_text Sizes s)) ≡ length (shown_text Sizes s) + 1 = length-append (shown_text Sizes s) (10 ∷ []) in
     absurd (omega (arith, long, first, end))
 
--- a round that prints nothing and leaves the text of the state
-pub round_silent : {C : Type 0} (calls : Calls C) (whole : C → List ℕ) (spot : Spot) (round : ℕ) (old new : WorldState C) (event printed state text : List ℕ) (crossed : ℕ) (a : Option (List ℕ)) → HasPassed calls whole old (world.Calm 1) new event crossed printed state
-    → text ≡ ended_state whole old → printed ≡ [] → state ≡ text → WritesTrace (TellsRound calls whole spot old round new) a a
-round_silent {C} calls whole spot round old new event printed state text crossed a h was none same =
+-- a round that prints nothing and leaves all as it was
+pub round_silent : {C : Type 0} (calls : Calls C) (members : C → List (List ℕ)) (spot : Spot) (round : ℕ) (old new : WorldState C) (event printed : List ℕ) (before texts : Texts) (crossed : ℕ) (a : Option (List ℕ))
+    → HasPassed calls members old (world.Calm 1) new event crossed printed texts → AreTextsOf members old before → printed ≡ [] → AreUnchanged before texts → WritesTrace (TellsRound calls members spot old round new) a a
+round_silent {C} calls members spot round old new event printed before texts crossed a h was none same =
     let nothing : h.shows.0 ≡ [] = none_shown h.shows.0 (sym h.shows.2 ∙ none) in
-    no_line (TellsRound calls whole spot old round new) a (inl (
+    no_line (TellsRound calls members spot old round new) a (inl (
       subst (λ (shown : List Shown). Happens calls old (world.Calm 1) new shown) nothing h.shows.1,
-      same_object whole old new (sym was ∙ sym same ∙ h.state),
+      unchanged members old new before texts was h.state same,
       refl,
     ))
 
 -- any other round
-pub round_heard : {C : Type 0} (calls : Calls C) (whole : C → List ℕ) (spot : Spot) (round : ℕ) (old new : WorldState C) (event printed state text : List ℕ) (crossed : ℕ) (a b : Option (List ℕ)) → HasPassed calls whole old (world.Calm 1) new event crossed printed state
-    → text ≡ ended_state whole old → (printed ≡ [] → state ≡ text → ⊥) → Appends a b (ended_line (line_of spot round event (drop crossed (reverse new.kept.book.crossings)) printed (state_of whole new))) → WritesTrace (TellsRound calls whole spot old round new) a b
-round_heard {C} calls whole spot round old new event printed state text crossed a b h was heard written =
-    let line : List ℕ = world_line spot round (world.Calm 1) h.shows.1.gains.crossings h.shows.0 (state_of whole new) in
-    one_line line (TellsRound calls whole spot old round new) a b
-    (inr ((h.shows.0, h.shows.1, refl), λ none same. heard (h.shows.2 ∙ ap (output Sizes) none) (h.state ∙ sym (same_ended whole old new same) ∙ sym was)))
-    (subst (λ (line : List ℕ). Appends a b (ended_line line)) (line_passed calls whole spot round old new (world.Calm 1) event printed state crossed h) written)
+pub round_heard : {C : Type 0} (calls : Calls C) (members : C → List (List ℕ)) (spot : Spot) (round : ℕ) (old new : WorldState C) (event printed : List ℕ) (before texts : Texts) (crossed : ℕ) (a b : Option (List ℕ))
+    → HasPassed calls members old (world.Calm 1) new event crossed printed texts → AreTextsOf members old before → (printed ≡ [] → AreUnchanged before texts → ⊥)
+    → Appends a b (ended_line (line_of spot round event (drop crossed (reverse new.kept.book.crossings)) printed (changed_texts before texts))) → WritesTrace (TellsRound calls members spot old round new) a b
+round_heard {C} calls members spot round old new event printed before texts crossed a b h was heard written =
+    let line : List ℕ = world_line spot round (world.Calm 1) h.shows.1.gains.crossings h.shows.0 (change_of members old new) in
+    one_line line (TellsRound calls members spot old round new) a b
+    (inr ((h.shows.0, h.shows.1, refl), λ none same. heard (h.shows.2 ∙ ap (output Sizes) none) (texts_unchanged members old new before texts was h.state same)))
+    (subst (λ (line : List ℕ). Appends a b (ended_line line)) (line_passed calls members spot round old new (world.Calm 1) event printed before texts crossed h was) written)
 
 -- a round that leaves all as it was
-resting : {C : Type 0} (calls : Calls C) (whole : C → List ℕ) (spot : Spot) (round : ℕ) (now : WorldState C) (a : Option (List ℕ)) → CalmGives calls 1 now (Ok tt) now → WritesTrace (TellsRound calls whole spot now round now) a a
-resting calls whole spot round now a gives =
+resting : {C : Type 0} (calls : Calls C) (members : C → List (List ℕ)) (spot : Spot) (round : ℕ) (now : WorldState C) (a : Option (List ℕ)) → CalmGives calls 1 now (Ok tt) now → WritesTrace (TellsRound calls members spot now round now) a a
+resting calls members spot round now a gives =
     let book = now.kept.book in
-    no_line (TellsRound calls whole spot now round now) a (inl (
+    no_line (TellsRound calls members spot now round now) a (inl (
       record {
         outcome = Ok tt;
         gives = gives;
@@ -153,37 +175,37 @@ resting calls whole spot round now a gives =
         gains = record { crossings = []; notices = []; reports = []; crossed = refl; told = sym (append-nil book.notices); said = sym (append-nil book.reports) };
         lines = refl;
       },
-      refl,
+      record { parts = none_changed (members now.carrier); programs = none_changed (map seat_member now.seats); services = none_changed (map services_member now.services) },
       refl,
     ))
 
 -- ---- an event that is no calm
 
-pub happen_ends : {C : Type 0} (calls : Calls C) (whole : C → List ℕ) (spot : Spot) (old new : WorldState C) (e : Event) (r : Result (Unit {0}) ReplayFault) (a b : Option (List ℕ)) → OneEnds calls whole spot 0 old (world.Happen e) r new a b
-    → EventEnds calls whole spot old (world.Happen e) r new a b
-happen_ends calls whole spot old new e (Ok done) a b h = h
-happen_ends calls whole spot old new e (Err fault.OutOfMemory) a b h = h
-happen_ends calls whole spot old new e (Err fault.CannotWrite) a b h = h
+pub happen_ends : {C : Type 0} (calls : Calls C) (members : C → List (List ℕ)) (spot : Spot) (old new : WorldState C) (e : Event) (r : Result (Unit {0}) ReplayFault) (a b : Option (List ℕ)) → OneEnds calls members spot 0 old (world.Happen e) r new a b
+    → EventEnds calls members spot old (world.Happen e) r new a b
+happen_ends calls members spot old new e (Ok done) a b h = h
+happen_ends calls members spot old new e (Err fault.OutOfMemory) a b h = h
+happen_ends calls members spot old new e (Err fault.CannotWrite) a b h = h
 
 -- ---- a calm
 
 -- this many rounds have passed
-abbrev pub Passed : {C : Type 0} → Calls C → (C → List ℕ) → Spot → ℕ → WorldState C → WorldState C → Option (List ℕ) → Option (List ℕ) → Type 0
-Passed calls whole spot passed old now a b = WritesTrace (InTurn (TellsRound calls whole spot) old (first_rounds passed) now) a b
+abbrev pub Passed : {C : Type 0} → Calls C → (C → List (List ℕ)) → Spot → ℕ → WorldState C → WorldState C → Option (List ℕ) → Option (List ℕ) → Type 0
+Passed calls members spot passed old now a b = WritesTrace (InTurn (TellsRound calls members spot) old (first_rounds passed) now) a b
 
-pub none_passed : {C : Type 0} (calls : Calls C) (whole : C → List ℕ) (spot : Spot) (old : WorldState C) (a : Option (List ℕ)) → Passed calls whole spot 0 old old a a
-none_passed calls whole spot old a = no_line (InTurn (TellsRound calls whole spot) old [] old) a (refl, refl)
+pub none_passed : {C : Type 0} (calls : Calls C) (members : C → List (List ℕ)) (spot : Spot) (old : WorldState C) (a : Option (List ℕ)) → Passed calls members spot 0 old old a a
+none_passed calls members spot old a = no_line (InTurn (TellsRound calls members spot) old [] old) a (refl, refl)
 
 next_round : (passed : ℕ) → first_rounds (passed + 1) ≡ first_rounds passed ++ (passed + 1) ∷ []
 next_round passed =
     let is : suc passed ≡ passed + 1 = omega arith in
     ap first_rounds (sym is) ∙ ap (λ n. first_rounds passed ++ n ∷ []) is
 
-pub one_passed : {C : Type 0} (calls : Calls C) (whole : C → List ℕ) (spot : Spot) (passed : ℕ) (old mid new : WorldState C) (a b c : Option (List ℕ)) → Passed calls whole spot passed old mid a b
-    → WritesTrace (TellsRound calls whole spot mid (passed + 1) new) b c → Passed calls whole spot (passed + 1) old new a c
-one_passed {C} calls whole spot passed old mid new a b c h k =
-    subst (λ (rounds : List ℕ). WritesTrace (InTurn (TellsRound calls whole spot) old rounds new) a c) (sym (next_round passed))
-    (one_written (TellsRound calls whole spot) (λ line. line) old mid new (first_rounds passed) (passed + 1) a b c h k)
+pub one_passed : {C : Type 0} (calls : Calls C) (members : C → List (List ℕ)) (spot : Spot) (passed : ℕ) (old mid new : WorldState C) (a b c : Option (List ℕ)) → Passed calls members spot passed old mid a b
+    → WritesTrace (TellsRound calls members spot mid (passed + 1) new) b c → Passed calls members spot (passed + 1) old new a c
+one_passed {C} calls members spot passed old mid new a b c h k =
+    subst (λ (rounds : List ℕ). WritesTrace (InTurn (TellsRound calls members spot) old rounds new) a c) (sym (next_round passed))
+    (one_written (TellsRound calls members spot) (λ line. line) old mid new (first_rounds passed) (passed + 1) a b c h k)
 
 -- they are the first of more
 first_of : (passed rounds : ℕ) → passed < rounds → (left : List ℕ) × (first_rounds rounds ≡ first_rounds passed ++ (passed + 1) ∷ left)
@@ -199,39 +221,39 @@ first_of passed (suc rounds) lt = elim (cases_lt passed rounds) [
 ]
 
 -- further rounds, which leave all as it is
-rested : {C : Type 0} (calls : Calls C) (whole : C → List ℕ) (spot : Spot) (left passed rounds : ℕ) (old now : WorldState C) (a b : Option (List ℕ)) → passed + left ≡ rounds → CalmGives calls 1 now (Ok tt) now → Passed calls whole spot passed old now a b
-    → Passed calls whole spot rounds old now a b
-rested calls whole spot zero passed rounds old now a b all gives h =
+rested : {C : Type 0} (calls : Calls C) (members : C → List (List ℕ)) (spot : Spot) (left passed rounds : ℕ) (old now : WorldState C) (a b : Option (List ℕ)) → passed + left ≡ rounds → CalmGives calls 1 now (Ok tt) now → Passed calls members spot passed old now a b
+    → Passed calls members spot rounds old now a b
+rested calls members spot zero passed rounds old now a b all gives h =
     let same : passed ≡ rounds = omega (arith, all) in
-    subst (λ n. Passed calls whole spot n old now a b) same h
-rested calls whole spot (suc left) passed rounds old now a b all gives h =
+    subst (λ n. Passed calls members spot n old now a b) same h
+rested calls members spot (suc left) passed rounds old now a b all gives h =
     let more : passed + 1 + left ≡ rounds = omega (arith, all) in
-    rested calls whole spot left (passed + 1) rounds old now a b more gives (one_passed calls whole spot passed old now now a b b h (resting calls whole spot (passed + 1) now b gives))
+    rested calls members spot left (passed + 1) rounds old now a b more gives (one_passed calls members spot passed old now now a b b h (resting calls members spot (passed + 1) now b gives))
 
-pub calm_rests : {C : Type 0} (calls : Calls C) (whole : C → List ℕ) (spot : Spot) (passed rounds : ℕ) (old now : WorldState C) (a b : Option (List ℕ)) → passed ≤ rounds → CalmGives calls 1 now (Ok tt) now → Passed calls whole spot passed old now a b
-    → EventEnds calls whole spot old (world.Calm rounds) (Ok tt) now a b
-calm_rests calls whole spot passed rounds old now a b few gives h =
+pub calm_rests : {C : Type 0} (calls : Calls C) (members : C → List (List ℕ)) (spot : Spot) (passed rounds : ℕ) (old now : WorldState C) (a b : Option (List ℕ)) → passed ≤ rounds → CalmGives calls 1 now (Ok tt) now → Passed calls members spot passed old now a b
+    → EventEnds calls members spot old (world.Calm rounds) (Ok tt) now a b
+calm_rests calls members spot passed rounds old now a b few gives h =
     let all : passed + (rounds - passed) ≡ rounds = omega (arith, few) in
-    rested calls whole spot (rounds - passed) passed rounds old now a b all gives h
+    rested calls members spot (rounds - passed) passed rounds old now a b all gives h
 
-pub calm_passed : {C : Type 0} (calls : Calls C) (whole : C → List ℕ) (spot : Spot) (passed rounds : ℕ) (old now : WorldState C) (a b : Option (List ℕ)) → passed ≡ rounds → Passed calls whole spot passed old now a b → EventEnds calls whole spot old (world.Calm rounds) (Ok tt) now a b
-calm_passed calls whole spot passed rounds old now a b all h = subst (λ n. Passed calls whole spot n old now a b) all h
+pub calm_passed : {C : Type 0} (calls : Calls C) (members : C → List (List ℕ)) (spot : Spot) (passed rounds : ℕ) (old now : WorldState C) (a b : Option (List ℕ)) → passed ≡ rounds → Passed calls members spot passed old now a b → EventEnds calls members spot old (world.Calm rounds) (Ok tt) now a b
+calm_passed calls members spot passed rounds old now a b all h = subst (λ n. Passed calls members spot n old now a b) all h
 
-pub calm_early : {C : Type 0} (calls : Calls C) (whole : C → List ℕ) (spot : Spot) (passed rounds : ℕ) (old mid new : WorldState C) (f : ReplayFault) (a b c : Option (List ℕ)) → passed < rounds → Passed calls whole spot passed old mid a b
-    → RoundEnds calls whole spot (passed + 1) mid (Err f) new b c → EventEnds calls whole spot old (world.Calm rounds) (Err f) new a c
-calm_early {C} calls whole spot passed rounds old mid new fault.OutOfMemory a b c lt h k =
+pub calm_early : {C : Type 0} (calls : Calls C) (members : C → List (List ℕ)) (spot : Spot) (passed rounds : ℕ) (old mid new : WorldState C) (f : ReplayFault) (a b c : Option (List ℕ)) → passed < rounds → Passed calls members spot passed old mid a b
+    → RoundEnds calls members spot (passed + 1) mid (Err f) new b c → EventEnds calls members spot old (world.Calm rounds) (Err f) new a c
+calm_early {C} calls members spot passed rounds old mid new fault.OutOfMemory a b c lt h k =
     let (left, is) = first_of passed rounds lt in
-    last_written (TellsRound calls whole spot) (λ (o : WorldState C) (n : ℕ) (w : WorldState C) (ls : List (List ℕ)). StopsOne calls o (world.Calm 1) w ls) (λ line. line) old mid new (first_rounds rounds) (first_rounds passed) (passed + 1) left a b c is h k
-calm_early {C} calls whole spot passed rounds old mid new fault.CannotWrite a b c lt h (lines, k) =
+    last_written (TellsRound calls members spot) (λ (o : WorldState C) (n : ℕ) (w : WorldState C) (ls : List (List ℕ)). StopsOne calls o (world.Calm 1) w ls) (λ line. line) old mid new (first_rounds rounds) (first_rounds passed) (passed + 1) left a b c is h k
+calm_early {C} calls members spot passed rounds old mid new fault.CannotWrite a b c lt h (lines, k) =
     let (left, is) = first_of passed rounds lt in (
       h.shown ++ lines,
-      last_shown (TellsRound calls whole spot) (λ (o : WorldState C) (n : ℕ) (w : WorldState C) (ls : List (List ℕ)). MayTell calls o (world.Calm 1) w ls) old mid new (first_rounds rounds) (first_rounds passed) (passed + 1) left h.shown lines is h.is_shown k,
+      last_shown (TellsRound calls members spot) (λ (o : WorldState C) (n : ℕ) (w : WorldState C) (ls : List (List ℕ)). MayTell calls o (world.Calm 1) w ls) old mid new (first_rounds rounds) (first_rounds passed) (passed + 1) left h.shown lines is h.is_shown k,
     )
 
 -- memory ran out before the first round
-pub calm_unbegun : {C : Type 0} (calls : Calls C) (whole : C → List ℕ) (spot : Spot) (rounds : ℕ) (old : WorldState C) (a : Option (List ℕ)) → 0 < rounds → EventEnds calls whole spot old (world.Calm rounds) (Err fault.OutOfMemory) old a a
-calm_unbegun calls whole spot rounds old a some =
-    calm_early calls whole spot 0 rounds old old old fault.OutOfMemory a a a some (none_passed calls whole spot old a) (no_line (StopsOne calls old (world.Calm 1) old) a (inl (refl, refl)))
+pub calm_unbegun : {C : Type 0} (calls : Calls C) (members : C → List (List ℕ)) (spot : Spot) (rounds : ℕ) (old : WorldState C) (a : Option (List ℕ)) → 0 < rounds → EventEnds calls members spot old (world.Calm rounds) (Err fault.OutOfMemory) old a a
+calm_unbegun calls members spot rounds old a some =
+    calm_early calls members spot 0 rounds old old old fault.OutOfMemory a a a some (none_passed calls members spot old a) (no_line (StopsOne calls old (world.Calm 1) old) a (inl (refl, refl)))
 
 -- ---- all events
 
@@ -254,8 +276,8 @@ one_more Happens old mid new all left later e a b c is h k = record {
 
 pub all_done : {S E : Type 0} (Happens : Happening S E (List ℕ)) (old new : S) (all left : List E) (a b : Option (List ℕ)) → left ≡ [] → SoFar Happens old all left new a b → WritesTrace (InTurn Happens old all new) a b
 all_done {S} {E} Happens old new all left a b none h =
-    let whole : all ≡ h.done = h.parts ∙ ap (λ es. h.done ++ es) none ∙ append-nil h.done in
-    subst (λ (es : List E). WritesTrace (InTurn Happens old es new) a b) (sym whole) h.written
+    let members : all ≡ h.done = h.parts ∙ ap (λ es. h.done ++ es) none ∙ append-nil h.done in
+    subst (λ (es : List E). WritesTrace (InTurn Happens old es new) a b) (sym members) h.written
 
 pub ends_so : {S E : Type 0} (Happens Goes : Happening S E (List ℕ)) (old mid new : S) (all left later : List E) (e : E) (a b c : Option (List ℕ))
     → left ≡ e ∷ later → SoFar Happens old all left mid a b → WritesTrace (Goes mid e new) b c → WritesTrace (EndsInTurn Happens Goes old all new) a c
@@ -283,10 +305,10 @@ next_at passed left later e is =
 
 -- ---- after the first line
 
-pub after_opening : {C : Type 0} (whole : C → List ℕ) (t : TopologyFields) (opening : WorldState C) (AreLines : List (List ℕ) → Type 0) (a b c : Option (List ℕ)) → Appends a b (ended_line (opening_text t (state_of whole opening))) → WritesTrace AreLines b c
-    → WritesTrace (AfterOpening whole t opening AreLines) a c
-after_opening whole t opening AreLines a b c first h = record {
-  shown = opening_text t (state_of whole opening) ∷ h.shown;
+pub after_opening : {C : Type 0} (members : C → List (List ℕ)) (t : TopologyFields) (opening : WorldState C) (AreLines : List (List ℕ) → Type 0) (a b c : Option (List ℕ)) → Appends a b (ended_line (opening_text t (state_of members opening))) → WritesTrace AreLines b c
+    → WritesTrace (AfterOpening members t opening AreLines) a c
+after_opening members t opening AreLines a b c first h = record {
+  shown = opening_text t (state_of members opening) ∷ h.shown;
   is_shown = (h.shown, refl, h.is_shown);
-  written = appends_more a b c (ended_line (opening_text t (state_of whole opening))) (text_of (λ line. line) h.shown) first h.written;
+  written = appends_more a b c (ended_line (opening_text t (state_of members opening))) (text_of (λ line. line) h.shown) first h.written;
 }

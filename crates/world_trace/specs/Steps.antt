@@ -1,5 +1,5 @@
 -- What the contracts of private functions say. No public clause cites this file.
-use Rattle.std.specs.Prelude.{◌≡◌, ℕ, ◌≤◌, List, [], ◌∷◌, ◌++◌, Option, Result, Ok, Err, codes, length, map}
+use Rattle.std.specs.Prelude.{◌≡◌, ℕ, ◌≤◌, List, [], ◌∷◌, ◌++◌, Option, Result, Ok, Err, codes, drop, length, map, reverse}
 use Rattle.std.specs.Fmt.{decimal}
 use Rattle.std.specs.List.{flat_map}
 use Rattle.interface.specs.declared.crossing.Crossing.{Crossing}
@@ -16,11 +16,12 @@ use Rattle.world_replay.specs.Printed.{kind_text}
 use Rattle.replay.specs.declared.print.Detail.TheVariants.{Sizes}
 use Rattle.world_replay.specs.Output.{Shown, output}
 use Rattle.world_replay.specs.Replay.{Happens}
-use Rattle.world_trace.specs.Texts.{allocation_object, asked_object, closings_object, ends_object, event_text, lines_text, number_text, programs_text, requests_object, services_text, sockets_object}
-use Rattle.net_sim.specs.declared.seat.Seat.{Seat}
-use Rattle.net_sim.specs.declared.seat.ServiceSeat.{ServiceSeat}
+use Rattle.world_trace.specs.Texts.{allocation_object, asked_object, closings_object, ends_object, event_text, line_of, lines_text, number_text, requests_object, seat_member, services_member, sockets_object, state_members}
 use Rattle.world_script.specs.declared.event.WorldEvent.{WorldEvent}
 use Rattle.world_script.specs.declared.event.WorldEvent.TheVariants as world
+use Rattle.world_trace.specs.declared.line.Passed.{Passed}
+use Rattle.world_trace.specs.declared.texts.Texts.{Texts}
+use Rattle.trace.specs.Changes.{changed}
 use Rattle.world_trace.specs.Traces.{EndsAt, MayTell, StopsOne, TellsAt, TellsOne, TellsRound}
 use Rattle.trace.specs.declared.element.Spot.{Spot}
 
@@ -63,13 +64,36 @@ head_text spot round event = codes "{\"line\":" ++ (decimal spot.line ++ (codes 
 abbrev pub outcome_text : List Crossing → List ℕ → List ℕ
 outcome_text crossings printed = codes "\",\"crossed\":" ++ (array (map crossing_object crossings) ++ (codes ",\"printed\":" ++ lines_text printed))
 
--- programs and services after the parts, and the end of the line
-abbrev pub hosts_text : List Seat → List ServiceSeat → List ℕ
-hosts_text seats services = codes ",\"programs\":" ++ (programs_text seats ++ (codes ",\"services\":" ++ (services_text services ++ codes "}\n")))
+-- objects of programs and of services after the parts, and the end of the line
+abbrev pub hosts_text : List (List ℕ) → List (List ℕ) → List ℕ
+hosts_text programs services = codes ",\"programs\":" ++ (object programs ++ (codes ",\"services\":" ++ (object services ++ codes "}\n")))
 
--- the state of a world after `"parts":`, and the end of the line
-abbrev pub ended_state : {C : Type 0} → (C → List ℕ) → WorldState C → List ℕ
-ended_state whole w = whole w.carrier ++ hosts_text w.seats w.services
+-- and the object of the parts before them
+abbrev pub ended_state : List (List ℕ) → List (List ℕ) → List (List ℕ) → List ℕ
+ended_state parts programs services = object parts ++ hosts_text programs services
+
+-- all of a state so
+abbrev pub whole_end : {C : Type 0} → (C → List (List ℕ)) → WorldState C → List ℕ
+whole_end members w = ended_state (members w.carrier) (map seat_member w.seats) (map services_member w.services)
+
+-- these are the texts of a state
+pub record AreTextsOf {C : Type 0} (members : C → List (List ℕ)) (w : WorldState C) (t : Texts) : Type 0 where
+  pub parts : t.parts ≡ members w.carrier
+  pub programs : t.programs ≡ map seat_member w.seats
+  pub services : t.services ≡ map services_member w.services
+
+-- and what of these is other than before
+abbrev pub changed_texts : Texts → Texts → List (List ℕ)
+changed_texts old new = state_members (changed old.parts new.parts) (changed old.programs new.programs) (changed old.services new.services)
+
+abbrev pub changed_end : Texts → Texts → List ℕ
+changed_end old new = ended_state (changed old.parts new.parts) (changed old.programs new.programs) (changed old.services new.services)
+
+-- nothing is
+pub record AreUnchanged (old new : Texts) : Type 0 where
+  pub parts : changed old.parts new.parts ≡ []
+  pub programs : changed old.programs new.programs ≡ []
+  pub services : changed old.services new.services ≡ []
 
 -- ---- what happens
 
@@ -77,14 +101,18 @@ ended_state whole w = whole w.carrier ++ hosts_text w.seats w.services
 abbrev pub Shows : {C : Type 0} → Calls C → WorldState C → WorldEvent → WorldState C → List ℕ → Type 0
 Shows calls old e new text = (lines : List Shown) × Happens calls old e new lines × (text ≡ output Sizes lines)
 
--- it happened, with this many crossings in the book before it, and these are the texts of its line: the event, what a replay prints, and the
--- state after it
-pub record HasPassed {C : Type 0} (calls : Calls C) (whole : C → List ℕ) (old : WorldState C) (e : WorldEvent) (new : WorldState C) (name : List ℕ) (before : ℕ) (printed end : List ℕ) : Type 0 where
+-- it happened, with this many crossings in the book before it, and these are the texts of its line: the event, what a replay prints, and those
+-- of the state after it
+pub record HasPassed {C : Type 0} (calls : Calls C) (members : C → List (List ℕ)) (old : WorldState C) (e : WorldEvent) (new : WorldState C) (name : List ℕ) (before : ℕ) (printed : List ℕ) (texts : Texts) : Type 0 where
   pub event : name ≡ event_text e
   pub shows : Shows calls old e new printed
   pub crossed : before ≡ length old.kept.book.crossings
   pub few : before ≤ length new.kept.book.crossings
-  pub state : end ≡ ended_state whole new
+  pub state : AreTextsOf members new texts
+
+-- the line of an event that has passed, without its end, where the state had these texts before it
+abbrev pub passed_line : {C : Type 0} → Spot → ℕ → WorldState C → Texts → Passed → List ℕ
+passed_line spot round new before p = line_of spot round p.event.items (drop p.crossed (reverse new.kept.book.crossings)) p.printed.items (changed_texts before p.texts)
 
 -- ---- endings
 
@@ -95,12 +123,12 @@ EndsAs Happens Stops Fails old e (Err fault.OutOfMemory) new before after = Writ
 EndsAs Happens Stops Fails old e (Err fault.CannotWrite) new before after = (lines : List (List ℕ)) × Fails old e new lines
 
 -- an event that is no calm, a round, and any event
-abbrev pub OneEnds : {C : Type 0} → Calls C → (C → List ℕ) → Spot → ℕ → WorldState C → WorldEvent → Result (Unit {0}) ReplayFault → WorldState C → Option (List ℕ) → Option (List ℕ) → Type 0
-OneEnds calls whole spot round old e r new before after = EndsAs (TellsOne calls whole spot round) (StopsOne calls) (MayTell calls) old e r new before after
+abbrev pub OneEnds : {C : Type 0} → Calls C → (C → List (List ℕ)) → Spot → ℕ → WorldState C → WorldEvent → Result (Unit {0}) ReplayFault → WorldState C → Option (List ℕ) → Option (List ℕ) → Type 0
+OneEnds calls members spot round old e r new before after = EndsAs (TellsOne calls members spot round) (StopsOne calls) (MayTell calls) old e r new before after
 
-abbrev pub RoundEnds : {C : Type 0} → Calls C → (C → List ℕ) → Spot → ℕ → WorldState C → Result (Unit {0}) ReplayFault → WorldState C → Option (List ℕ) → Option (List ℕ) → Type 0
-RoundEnds calls whole spot round old r new before after =
-    EndsAs (λ old e new lines. TellsRound calls whole spot old round new lines) (StopsOne calls) (MayTell calls) old (world.Calm 1) r new before after
+abbrev pub RoundEnds : {C : Type 0} → Calls C → (C → List (List ℕ)) → Spot → ℕ → WorldState C → Result (Unit {0}) ReplayFault → WorldState C → Option (List ℕ) → Option (List ℕ) → Type 0
+RoundEnds calls members spot round old r new before after =
+    EndsAs (λ old e new lines. TellsRound calls members spot old round new lines) (StopsOne calls) (MayTell calls) old (world.Calm 1) r new before after
 
-abbrev pub EventEnds : {C : Type 0} → Calls C → (C → List ℕ) → Spot → WorldState C → WorldEvent → Result (Unit {0}) ReplayFault → WorldState C → Option (List ℕ) → Option (List ℕ) → Type 0
-EventEnds calls whole spot old e r new before after = EndsAs (TellsAt calls whole spot) (EndsAt calls whole (StopsOne calls) spot) (EndsAt calls whole (MayTell calls) spot) old e r new before after
+abbrev pub EventEnds : {C : Type 0} → Calls C → (C → List (List ℕ)) → Spot → WorldState C → WorldEvent → Result (Unit {0}) ReplayFault → WorldState C → Option (List ℕ) → Option (List ℕ) → Type 0
+EventEnds calls members spot old e r new before after = EndsAs (TellsAt calls members spot) (EndsAt calls members (StopsOne calls) spot) (EndsAt calls members (MayTell calls) spot) old e r new before after

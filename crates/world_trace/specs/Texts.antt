@@ -197,12 +197,12 @@ event_text (world.Happen (event.Server h listen base)) = world_spelling (world.H
 event_text (world.Happen (event.User h peer listen own)) = world_spelling (world.Happen (event.User h peer listen own))
 event_text (world.Calm rounds) = world_spelling (world.Calm rounds)
 
--- the state of a world: the object of all parts of its carrier, the programs, and the services
-abbrev pub state_members : List ℕ → List Seat → List ServiceSeat → List (List ℕ)
-state_members parts seats services = member (codes "parts") parts ∷ member (codes "programs") (programs_text seats) ∷ member (codes "services") (services_text services) ∷ []
+-- three objects: of parts of the carrier, of programs, and of services
+abbrev pub state_members : List (List ℕ) → List (List ℕ) → List (List ℕ) → List (List ℕ)
+state_members parts programs services = member (codes "parts") (object parts) ∷ member (codes "programs") (object programs) ∷ member (codes "services") (object services) ∷ []
 
 -- The line of an event, or of a round of a calm, without its end: where the script's event is; the round; the event, as a line of a
--- script; what crossed; the lines that a replay prints for it; and the state after it
+-- script; what crossed; the lines that a replay prints for it; and what of the state is other than before
 abbrev pub line_of : Spot → ℕ → List ℕ → List Crossing → List ℕ → List (List ℕ) → List ℕ
 line_of spot round event crossings printed state =
     object (member (codes "line") (decimal spot.line) ∷ member (codes "number") (decimal spot.number) ∷ member (codes "round") (decimal round) ∷ member (codes "event") (quoted event)

@@ -1,43 +1,49 @@
 -- What is written as the trace of a world, over any carrier whose inside can be traced.
-use Rattle.std.specs.Prelude.{◌≡◌, ◌⊎◌, ℕ, zero, suc, List, [], ◌∷◌, ◌++◌}
+use Rattle.std.specs.Prelude.{◌≡◌, ◌⊎◌, ℕ, zero, suc, List, [], ◌∷◌, ◌++◌, Option, map}
 use Rattle.net_sim.specs.World.{WorldState}
 use Rattle.interface.specs.Calls.{Calls}
 use Rattle.replay.specs.InTurn.{EndsInTurn, Happening, InTurn}
 use Rattle.topology.specs.Topology.{TopologyFields}
-use Rattle.trace.specs.Texts.{object}
-use Rattle.trace.specs.Traces.{numbered_from}
+use Rattle.trace.specs.Changes.{changed}
+use Rattle.trace.specs.Traces.{WritesTrace, numbered_from}
 use Rattle.trace.specs.declared.element.Spot.{Spot}
 use Rattle.world_replay.specs.Output.{Shown}
 use Rattle.world_replay.specs.Replay.{Happens, MayDo}
 use Rattle.world_script.specs.declared.event.WorldEvent.{WorldEvent}
 use Rattle.world_script.specs.declared.event.WorldEvent.TheVariants as world
-use Rattle.world_trace.specs.Texts.{opening_text, state_members, world_line}
+use Rattle.world_trace.specs.Texts.{opening_text, seat_member, services_member, state_members, world_line}
 
--- the state of a world, where a carrier has this object of all its parts
-abbrev pub state_of : {C : Type 0} → (C → List ℕ) → WorldState C → List (List ℕ)
-state_of whole w = state_members (whole w.carrier) w.seats w.services
+-- the state of a world, where a carrier shows all its parts as these members of an object
+abbrev pub state_of : {C : Type 0} → (C → List (List ℕ)) → WorldState C → List (List ℕ)
+state_of members w = state_members (members w.carrier) (map seat_member w.seats) (map services_member w.services)
 
--- an event that is no calm, or one round of a calm, happens as in a replay and has one line, over the state after it
-abbrev pub TellsOne : {C : Type 0} → Calls C → (C → List ℕ) → Spot → ℕ → Happening (WorldState C) WorldEvent (List ℕ)
-TellsOne calls whole spot round old e new lines =
-    (shown : List Shown) × (h : Happens calls old e new shown) × (lines ≡ world_line spot round e h.gains.crossings shown (state_of whole new) ∷ [])
+-- what of a state is other than before: the parts of the carrier, the programs and the services whose texts are
+abbrev pub change_of : {C : Type 0} → (C → List (List ℕ)) → WorldState C → WorldState C → List (List ℕ)
+change_of members old new = state_members (changed (members old.carrier) (members new.carrier)) (changed (map seat_member old.seats) (map seat_member new.seats)) (changed (map services_member old.services) (map services_member new.services))
 
--- the state has the text that another has
-abbrev pub SameText : {C : Type 0} → (C → List ℕ) → WorldState C → WorldState C → Type 0
-SameText whole one other = object (state_of whole one) ≡ object (state_of whole other)
+-- an event that is no calm, or one round of a calm, happens as in a replay and has one line, with what of the state is other than before
+abbrev pub TellsOne : {C : Type 0} → Calls C → (C → List (List ℕ)) → Spot → ℕ → Happening (WorldState C) WorldEvent (List ℕ)
+TellsOne calls members spot round old e new lines =
+    (shown : List Shown) × (h : Happens calls old e new shown) × (lines ≡ world_line spot round e h.gains.crossings shown (change_of members old new) ∷ [])
 
--- a round that prints nothing and leaves the text of the state as it was. It has no line
-abbrev pub IsSilent : {C : Type 0} → Calls C → (C → List ℕ) → WorldState C → WorldState C → List (List ℕ) → Type 0
-IsSilent calls whole old new lines = Happens calls old (world.Calm 1) new [] × SameText whole old new × (lines ≡ [])
+-- nothing of a state is other than before
+pub record IsUnchanged {C : Type 0} (members : C → List (List ℕ)) (old new : WorldState C) : Type 0 where
+  pub parts : changed (members old.carrier) (members new.carrier) ≡ []
+  pub programs : changed (map seat_member old.seats) (map seat_member new.seats) ≡ []
+  pub services : changed (map services_member old.services) (map services_member new.services) ≡ []
+
+-- a round that prints nothing and after which nothing is other than before. It has no line
+abbrev pub IsSilent : {C : Type 0} → Calls C → (C → List (List ℕ)) → WorldState C → WorldState C → List (List ℕ) → Type 0
+IsSilent calls members old new lines = Happens calls old (world.Calm 1) new [] × IsUnchanged members old new × (lines ≡ [])
 
 -- any other round has one
-abbrev pub IsHeard : {C : Type 0} → Calls C → (C → List ℕ) → Spot → Happening (WorldState C) ℕ (List ℕ)
-IsHeard calls whole spot old round new lines =
-    (told : TellsOne calls whole spot round old (world.Calm 1) new lines) × (told.0 ≡ [] → SameText whole old new → ⊥)
+abbrev pub IsHeard : {C : Type 0} → Calls C → (C → List (List ℕ)) → Spot → Happening (WorldState C) ℕ (List ℕ)
+IsHeard calls members spot old round new lines =
+    (told : TellsOne calls members spot round old (world.Calm 1) new lines) × (told.0 ≡ [] → IsUnchanged members old new → ⊥)
 
 -- a round of a calm, by its number
-abbrev pub TellsRound : {C : Type 0} → Calls C → (C → List ℕ) → Spot → Happening (WorldState C) ℕ (List ℕ)
-TellsRound calls whole spot old round new lines = IsSilent calls whole old new lines ⊎ IsHeard calls whole spot old round new lines
+abbrev pub TellsRound : {C : Type 0} → Calls C → (C → List (List ℕ)) → Spot → Happening (WorldState C) ℕ (List ℕ)
+TellsRound calls members spot old round new lines = IsSilent calls members old new lines ⊎ IsHeard calls members spot old round new lines
 
 -- the numbers of this many rounds, counted from 1
 abbrev pub first_rounds : ℕ → List ℕ
@@ -45,21 +51,21 @@ first_rounds zero = []
 first_rounds (suc rounds) = first_rounds rounds ++ suc rounds ∷ []
 
 -- a calm is its rounds, and any other event has one line
-abbrev pub TellsAt : {C : Type 0} → Calls C → (C → List ℕ) → Spot → Happening (WorldState C) WorldEvent (List ℕ)
-TellsAt calls whole spot old (world.Happen e) new lines = TellsOne calls whole spot 0 old (world.Happen e) new lines
-TellsAt calls whole spot old (world.Calm rounds) new lines = InTurn (TellsRound calls whole spot) old (first_rounds rounds) new lines
+abbrev pub TellsAt : {C : Type 0} → Calls C → (C → List (List ℕ)) → Spot → Happening (WorldState C) WorldEvent (List ℕ)
+TellsAt calls members spot old (world.Happen e) new lines = TellsOne calls members spot 0 old (world.Happen e) new lines
+TellsAt calls members spot old (world.Calm rounds) new lines = InTurn (TellsRound calls members spot) old (first_rounds rounds) new lines
 
 -- an event with where it is
-abbrev pub TellsIn : {C : Type 0} → Calls C → (C → List ℕ) → Happening (WorldState C) (Spot × WorldEvent) (List ℕ)
-TellsIn calls whole old e new lines = TellsAt calls whole e.0 old e.1 new lines
+abbrev pub TellsIn : {C : Type 0} → Calls C → (C → List (List ℕ)) → Happening (WorldState C) (Spot × WorldEvent) (List ℕ)
+TellsIn calls members old e new lines = TellsAt calls members e.0 old e.1 new lines
 
 -- the lines are those of these events, numbered from 1, each of which comes after the number of its line in a script
-abbrev pub TracesWorld : {C : Type 0} → Calls C → (C → List ℕ) → WorldState C → List (ℕ × WorldEvent) → WorldState C → List (List ℕ) → Type 0
-TracesWorld calls whole old events new lines = InTurn (TellsIn calls whole) old (numbered_from 1 events) new lines
+abbrev pub TracesWorld : {C : Type 0} → Calls C → (C → List (List ℕ)) → WorldState C → List (ℕ × WorldEvent) → WorldState C → List (List ℕ) → Type 0
+TracesWorld calls members old events new lines = InTurn (TellsIn calls members) old (numbered_from 1 events) new lines
 
 -- the lines after the first, which is the network with the state at the opening
-abbrev pub AfterOpening : {C : Type 0} → (C → List ℕ) → TopologyFields → WorldState C → (List (List ℕ) → Type 0) → List (List ℕ) → Type 0
-AfterOpening whole t opening AreLines lines = (others : List (List ℕ)) × (lines ≡ opening_text t (state_of whole opening) ∷ others) × AreLines others
+abbrev pub AfterOpening : {C : Type 0} → (C → List (List ℕ)) → TopologyFields → WorldState C → (List (List ℕ) → Type 0) → List (List ℕ) → Type 0
+AfterOpening members t opening AreLines lines = (others : List (List ℕ)) × (lines ≡ opening_text t (state_of members opening) ∷ others) × AreLines others
 
 -- ---- a trace that ends early, in an event or in a round
 
@@ -72,13 +78,31 @@ abbrev pub StopsOne : {C : Type 0} → Calls C → Happening (WorldState C) Worl
 StopsOne calls old e new lines = ((lines ≡ []) × (new ≡ old)) ⊎ MayTell calls old e new lines
 
 -- the rounds before one had their lines, and that one went as is said
-abbrev pub EndsAt : {C : Type 0} → Calls C → (C → List ℕ) → Happening (WorldState C) WorldEvent (List ℕ) → Spot → Happening (WorldState C) WorldEvent (List ℕ)
-EndsAt calls whole Goes spot old (world.Happen e) new lines = Goes old (world.Happen e) new lines
-EndsAt calls whole Goes spot old (world.Calm rounds) new lines = EndsInTurn (TellsRound calls whole spot) (λ old round new lines. Goes old (world.Calm 1) new lines) old (first_rounds rounds) new lines
+abbrev pub EndsAt : {C : Type 0} → Calls C → (C → List (List ℕ)) → Happening (WorldState C) WorldEvent (List ℕ) → Spot → Happening (WorldState C) WorldEvent (List ℕ)
+EndsAt calls members Goes spot old (world.Happen e) new lines = Goes old (world.Happen e) new lines
+EndsAt calls members Goes spot old (world.Calm rounds) new lines = EndsInTurn (TellsRound calls members spot) (λ old round new lines. Goes old (world.Calm 1) new lines) old (first_rounds rounds) new lines
 
-abbrev pub EndsIn : {C : Type 0} → Calls C → (C → List ℕ) → Happening (WorldState C) WorldEvent (List ℕ) → Happening (WorldState C) (Spot × WorldEvent) (List ℕ)
-EndsIn calls whole Goes old e new lines = EndsAt calls whole Goes e.0 old e.1 new lines
+abbrev pub EndsIn : {C : Type 0} → Calls C → (C → List (List ℕ)) → Happening (WorldState C) WorldEvent (List ℕ) → Happening (WorldState C) (Spot × WorldEvent) (List ℕ)
+EndsIn calls members Goes old e new lines = EndsAt calls members Goes e.0 old e.1 new lines
 
-abbrev pub WorldTraceEnds : {C : Type 0} → Calls C → (C → List ℕ) → Happening (WorldState C) WorldEvent (List ℕ) → WorldState C → List (ℕ × WorldEvent) → WorldState C → List (List ℕ) → Type 0
-WorldTraceEnds calls whole Goes old events new lines =
-    EndsInTurn (TellsIn calls whole) (EndsIn calls whole Goes) old (numbered_from 1 events) new lines
+abbrev pub WorldTraceEnds : {C : Type 0} → Calls C → (C → List (List ℕ)) → Happening (WorldState C) WorldEvent (List ℕ) → WorldState C → List (ℕ × WorldEvent) → WorldState C → List (List ℕ) → Type 0
+WorldTraceEnds calls members Goes old events new lines =
+    EndsInTurn (TellsIn calls members) (EndsIn calls members Goes) old (numbered_from 1 events) new lines
+
+-- a write failed for the line of one of them
+abbrev pub WorldTraceFails : {C : Type 0} → Calls C → (C → List (List ℕ)) → WorldState C → List (ℕ × WorldEvent) → WorldState C → Type 0
+WorldTraceFails calls members old events new = (others : List (List ℕ)) × WorldTraceEnds calls members (MayTell calls) old events new others
+
+-- ---- writing
+
+-- the network with the state at the opening is written, and then the lines of these events
+abbrev pub WritesWorld : {C : Type 0} → Calls C → (C → List (List ℕ)) → TopologyFields → WorldState C → List (ℕ × WorldEvent) → WorldState C → Option (List ℕ) → Option (List ℕ) → Type 0
+WritesWorld calls members t old events new before after = WritesTrace (AfterOpening members t old (TracesWorld calls members old events new)) before after
+
+-- memory ran out in one of the events, or for its line: those before it have theirs
+abbrev pub WritesStopped : {C : Type 0} → Calls C → (C → List (List ℕ)) → WorldState C → List (ℕ × WorldEvent) → WorldState C → Option (List ℕ) → Option (List ℕ) → Type 0
+WritesStopped calls members old events new before after = WritesTrace (WorldTraceEnds calls members (StopsOne calls) old events new) before after
+
+-- after the network with the state at the opening
+abbrev pub WritesPart : {C : Type 0} → Calls C → (C → List (List ℕ)) → TopologyFields → WorldState C → List (ℕ × WorldEvent) → WorldState C → Option (List ℕ) → Option (List ℕ) → Type 0
+WritesPart calls members t old events new before after = WritesTrace (AfterOpening members t old (WorldTraceEnds calls members (StopsOne calls) old events new)) before after

@@ -14,6 +14,7 @@ mod line;
 mod pairs;
 mod services;
 mod spelling;
+mod texts;
 mod traced;
 mod values;
 pub mod worked;

@@ -1,14 +1,15 @@
 //! The lines of a world's trace.
 
-ghost use Rattle.std.specs.Prelude.{◌≡◌, ◌≤◌, OnOk, drop, false, length, reverse};
+ghost use Rattle.std.specs.Prelude.{◌≡◌, ◌≤◌, OnOk, false, length, map};
 ghost use Rattle.std.specs.Io.KnownBytes.{Appends};
 ghost use Rattle.replay.specs.Failing.{TellsFailure};
 ghost use Rattle.script.specs.Input.{ended_line};
-ghost use Rattle.world_trace.specs.Steps.{ended_state, head_text, hosts_text, outcome_text};
-ghost use Rattle.world_trace.specs.Texts.{line_of, opening_text};
+ghost use Rattle.world_trace.specs.Steps.{head_text, hosts_text, outcome_text, passed_line, whole_end};
+ghost use Rattle.world_trace.specs.Texts.{opening_text, seat_member, services_member};
 ghost use Rattle.world_trace.specs.Traces.{state_of};
 
 use crate::spelling::print_lines;
+use crate::texts::{Texts, print_changes};
 use crate::values::Object;
 use interface::Crossing;
 use net_sim::World;
@@ -20,7 +21,7 @@ use trace::{Inspect, Spot, print_network};
 /// Prints the programs and the services of the hosts, after other members.
 fn print_hosts<C: Inspect, W: Output>(world: &World<C>, writer: &mut W) -> Result<(), WriteFailed>
     requires { W.failed writer.old ≡ false }
-    ensures written { OnOk result (Appends (W.contents writer.old) (W.contents writer.new) (hosts_text world.now.seats world.now.services)) }
+    ensures written { OnOk result (Appends (W.contents writer.old) (W.contents writer.new) (hosts_text (map seat_member world.now.seats) (map services_member world.now.services))) }
     ensures failed { TellsFailure result (W.failed writer.new) }
 {
     let (programs, services) = (Object(world.seats()), Object(world.services()));
@@ -66,12 +67,9 @@ fn print_outcome<W: Output>(
 }
 
 /// Prints the state of a world after other members, and the end of the line.
-pub(crate) fn print_state<C: Inspect, W: Output>(
-    world: &World<C>,
-    writer: &mut W,
-) -> Result<(), WriteFailed>
+fn print_state<C: Inspect, W: Output>(world: &World<C>, writer: &mut W) -> Result<(), WriteFailed>
     requires { W.failed writer.old ≡ false }
-    ensures written { OnOk result (Appends (W.contents writer.old) (W.contents writer.new) (ended_state C.inside.whole world.now)) }
+    ensures written { OnOk result (Appends (W.contents writer.old) (W.contents writer.new) (whole_end C.inside.members world.now)) }
     ensures failed { TellsFailure result (W.failed writer.new) }
 {
     world.carrier().print_whole(writer)?;
@@ -87,29 +85,29 @@ pub(crate) struct Passed {
     pub crossed: usize,
     /// The lines that a replay prints for it.
     pub printed: Vec<u8>,
-    /// The state after it, with the end of the line.
-    pub state: Vec<u8>,
+    /// The texts of the state after it.
+    pub texts: Texts,
 }
 
-/// Prints the line of an event that has just happened in a world, or of a round of a calm.
+/// Prints the line of an event that has just happened in a world, or of a round of a calm. The state had these texts before it.
 pub(crate) fn print_line<C: Inspect, W: Output>(
     world: &World<C>,
     spot: Spot,
     round: u32,
+    before: &Texts,
     passed: &Passed,
     writer: &mut W,
 ) -> Result<(), WriteFailed>
     requires crossed { passed.now.crossed ≤ length world.now.kept.book.crossings }
-    requires state { passed.now.state.items ≡ ended_state C.inside.whole world.now }
     requires whole { W.failed writer.old ≡ false }
-    ensures written { OnOk result (Appends (W.contents writer.old) (W.contents writer.new) (ended_line (line_of spot round passed.now.event.items (drop passed.now.crossed (reverse world.now.kept.book.crossings)) passed.now.printed.items (state_of C.inside.whole world.now)))) }
+    ensures written { OnOk result (Appends (W.contents writer.old) (W.contents writer.new) (ended_line (passed_line spot round world.now before.now passed.now))) }
     ensures failed { TellsFailure result (W.failed writer.new) }
 {
     let (_, crossings) = world.book().crossings().split_at(passed.crossed);
     print_head(spot, round, &passed.event, writer)?;
     print_outcome(crossings, &passed.printed, writer)?;
     writer.write_all(b",\"parts\":")?;
-    writer.write_all(&passed.state)
+    print_changes(before, &passed.texts, writer)
 }
 
 /// Prints the first line of a trace: the network, and the state of a world.
@@ -119,7 +117,7 @@ pub(crate) fn print_opening<C: Inspect, W: Output>(
     writer: &mut W,
 ) -> Result<(), WriteFailed>
     requires { W.failed writer.old ≡ false }
-    ensures written { OnOk result (Appends (W.contents writer.old) (W.contents writer.new) (ended_line (opening_text network.now (state_of C.inside.whole world.now)))) }
+    ensures written { OnOk result (Appends (W.contents writer.old) (W.contents writer.new) (ended_line (opening_text network.now (state_of C.inside.members world.now)))) }
     ensures failed { TellsFailure result (W.failed writer.new) }
 {
     print_network(network, writer)?;

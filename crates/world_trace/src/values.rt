@@ -7,8 +7,10 @@ ghost use Rattle.trace.specs.Texts.{array, bool_text, object, quoted};
 ghost use Rattle.world_trace.specs.Steps.{mark_after, marked};
 
 use interface::HostAddr;
+use replay::{Output, WriteFailed};
 use std::fmt;
 use std::fmt::Formatter;
+use trace::json::Item;
 
 /// What has a JSON text.
 pub(crate) trait Json {
@@ -57,6 +59,26 @@ impl<T: Json> fmt::Display for Array<'_, T> {
         f.write_str("[")?;
         show_each("", self.0, f)?;
         f.write_str("]")
+    }
+}
+
+/// What has a JSON text.
+#[derive(Drop)]
+pub(crate) struct Printed<'a, T>(pub &'a T);
+
+impl<T: Json> fmt::Display for Printed<'_, T> {
+    ghost output = { λ printed. Some (T.text printed.0.now) };
+
+    fn fmt<W: fmt::Write>(&self, f: &mut Formatter<W>) -> fmt::Result {
+        self.0.show(f)
+    }
+}
+
+impl<T: Json> Item for Printed<'_, T> {
+    ghost text = { λ printed. T.text printed.0.now };
+
+    fn print<W: Output>(&self, writer: &mut W) -> Result<(), WriteFailed> {
+        write!(writer, "{self}")
     }
 }
 

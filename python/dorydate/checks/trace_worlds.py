@@ -1,6 +1,7 @@
 """What ./check trace says of networks with host programs: each line of the program's trace is JSON, its lines and crossings are those
-of a replay and of its log, and after each event and each round network, programs and services are those of the independent model, by
-which a round has a line only where it prints something or changes some of this."""
+of a replay and of its log, and who puts what it has in the place of what was before has, after each event and each round, the network,
+programs and services of the independent model, by which a round has a line only where it prints something or changes some of this. What is
+as it was is in no line."""
 
 from __future__ import annotations
 
@@ -24,6 +25,7 @@ from dorydate.parts import ROOT
 
 MOST_ROUNDS = 400  # of calms in an example that the model follows
 EVENTS = 40  # of a random script, about
+KINDS = "parts", "programs", "services"  # what a line has of the state
 
 
 class WrongWorld(Exception):
@@ -113,7 +115,8 @@ def follow(network: Topology, lines: Sequence[str], first: Object, records: Sequ
     world = opened(network)
     assert isinstance(world, World)
     left = list(records)
-    compare(state_of(world), first, "the opening")
+    held: Object = {key: dict(first[key]) for key in KINDS}
+    compare(state_of(world), held, "the opening")
     for number, (line, event) in enumerate(events, 1):
         rounds: list[tuple[int, Event]] = [(place, ("calm", 1)) for place in range(1, event[1] + 1)] if event[0] == "calm" else [(0, event)]
         for place, happening in rounds:
@@ -125,13 +128,23 @@ def follow(network: Topology, lines: Sequence[str], first: Object, records: Sequ
             record = left.pop(0) if left else {}
             if (record.get("line"), record.get("number"), record.get("round")) != (line, number, place):
                 raise WrongWorld(f"line {line} has no line of its own in round {place}, or another round has one")
-            compare(after, record, f"line {line}, round {place}")
+            put_in(held, record, f"line {line}, round {place}")
+            compare(after, held, f"line {line}, round {place}")
     if left:
         raise WrongWorld("a round has a line that prints nothing and changes nothing")
 
 
+def put_in(held: Object, record: Object, where: str) -> None:
+    """Puts what a record has in the place of what was there, which has to be something else."""
+    for key in KINDS:
+        for name, value in record[key].items():
+            if name not in held[key] or held[key][name] == value:
+                raise WrongWorld(f"in {where} there is {name} among the {key}, which is new or as it was")
+            held[key][name] = value
+
+
 def compare(state: Object, record: Object, where: str) -> None:
-    """Compares what a record says with what the model has."""
+    """Compares what is known by a trace with what the model has."""
     owed = json.loads(json.dumps(state))
     if record["parts"] != owed["parts"]:
         raise WrongWorld(f"after {where} the network has other parts")
@@ -169,6 +182,18 @@ def of_services(change: Callable[[Object], Object]) -> Callable[[Object], Object
     return lambda record: {**record, "services": {host: change(it) for host, it in record["services"].items()}}
 
 
+class Repeating:
+    """Each record with what the one before it has, too."""
+
+    def __init__(self) -> None:
+        self.last: Object = {key: {} for key in KINDS}
+
+    def __call__(self, record: Object) -> Object:
+        found = {**record, **{key: {**self.last[key], **record[key]} for key in KINDS}}
+        self.last = record
+        return found
+
+
 BROKEN: dict[str, Callable[[Object], Object]] = {
     "an RRP that is owed": of_pairs(lambda pair: {**pair, "owed": False}),
     "a command that waits": of_pairs(lambda pair: {**pair, "commands": pair["commands"][1:]}),
@@ -177,8 +202,10 @@ BROKEN: dict[str, Callable[[Object], Object]] = {
     "the last service": of_services(lambda it: {**it, "running": it["running"][:-1]}),
     "that a service is over": of_services(lambda it: {**it, "running": [{**one, "over": False} if "over" in one else one for one in it["running"]]}),
     "where a typed line goes": of_services(lambda it: {**it, "typing": None}),
+    "leaving out what is as it was": Repeating(),
     "a part of the network": lambda record: {**record, "parts": dict([*record["parts"].items()][1:])},
 }
+
 WITH_ALL = "two-users-at-one-server", "a-reset-that-fails-and-one-that-works"  # in the traces of these examples is each of these
 
 

@@ -8,13 +8,13 @@ use Rattle.command_line.proofs.tracing.trace_hosts.Goals as goal
 pub returns-in-Ok-clause-traced : goal.returns-in-Ok-clause-traced
 returns-in-Ok-clause-traced g c =
     let calls : Calls g.row.C.Denot = shown g.C.Carrier.calls in
-    flushed_world calls g.C.Inspect.inside.whole c.args.network.now c.args.carrier c.in_ok-world.world c.trace_world.new.world c.args.events.items
+    flushed_world calls g.C.Inspect.inside.members c.args.network.now c.args.carrier c.in_ok-world.world c.trace_world.new.world c.args.events.items
     (g.W.Output.contents c.args.writer.now) (g.W.Output.contents c.trace_world.new.writer) (g.W.Output.contents c.flush.new.self) c.in_ok-world.ensures c.in-Ok.ensures.traced c.flush.ensures.kept
 
 pub returns-clause-stopped : goal.returns-clause-stopped
 returns-clause-stopped g c = λ e.
     let calls : Calls g.row.C.Denot = shown g.C.Carrier.calls in
-    inr (world_ends calls g.C.Inspect.inside.whole c.args.network.now c.args.carrier c.in_ok-world.world c.trace_world.new.world c.args.events.items
+    inr (world_ends calls g.C.Inspect.inside.members c.args.network.now c.args.carrier c.in_ok-world.world c.trace_world.new.world c.args.events.items
     (g.W.Output.contents c.args.writer.now) (g.W.Output.contents c.trace_world.new.writer) c.in_ok-world.ensures (c.in-Err.ensures.memory (ap Err (told_memory c.in-Err.fault c.from.result c.from.ensures e))))
 
 pub returns-clause-failed : goal.returns-clause-failed

@@ -1,7 +1,7 @@
 use Rattle.leader1822.specs.Boxes.{for_host}
 use Rattle.replay.proofs.lemmas.{on_ok}
 use Rattle.trace.specs.Texts.{queues_text}
-use Rattle.trace.proofs.Members.{host_member}
+use Rattle.trace.proofs.PartByPart.{host_member}
 use Rattle.trace.proofs.parts.print_host_part.Goals as goal
 
 pub returns-clause-written : goal.returns-clause-written

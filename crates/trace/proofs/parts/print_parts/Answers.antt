@@ -1,7 +1,7 @@
 use Rattle.std.proofs.Common.{◌+◌, take, sym, ◌∙◌}
 use Rattle.replay.proofs.lemmas.{on_ok}
 use Rattle.trace.specs.Parts.{parts_of, reaches}
-use Rattle.trace.proofs.Members.{parts_more, parts_printed, step_none, step_one}
+use Rattle.trace.proofs.PartByPart.{parts_more, parts_printed, step_none, step_one}
 use Rattle.trace.proofs.parts.print_parts.Goals.{then-reaches+in_ok-print_comma+in_ok-print_host_part, else-reaches}
 use Rattle.trace.proofs.parts.print_parts.Goals as goal
 

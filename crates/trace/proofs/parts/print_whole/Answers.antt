@@ -1,5 +1,5 @@
 use Rattle.replay.proofs.lemmas.{on_ok}
-use Rattle.trace.proofs.Members.{whole_more, whole_printed}
+use Rattle.trace.proofs.PartByPart.{whole_more, whole_printed}
 use Rattle.trace.proofs.parts.print_whole.Goals as goal
 
 pub loop-host-init : goal.loop-host-init

@@ -5,9 +5,11 @@ use Rattle.net_sim.specs.Book.{Kept}
 use Rattle.replay.proofs.lemmas.{on_ok}
 use Rattle.std.specs.Io.KnownBytes.{Appends}
 use Rattle.script.specs.Input.{ended_line}
-use Rattle.trace.specs.Texts.{array, crossing_object}
-use Rattle.world_trace.specs.Texts.{line_of, lines_text, programs_text, services_text}
-use Rattle.world_trace.specs.Traces.{state_of}
+use Rattle.trace.specs.Changes.{changed}
+use Rattle.trace.specs.Texts.{array, crossing_object, object}
+use Rattle.world_trace.specs.Steps.{changed_texts}
+use Rattle.world_trace.specs.Texts.{line_of, lines_text}
+use Rattle.world_trace.specs.declared.texts.Texts.{Texts}
 use Rattle.world_trace.proofs.Lines.{line_printed}
 use Rattle.world_trace.proofs.line.print_line.Goals as goal
 
@@ -15,18 +17,19 @@ pub returns-clause-written : goal.returns-clause-written
 returns-clause-written g c =
     let w = c.args.world.now in
     let a = g.W.Output.contents c.args.writer.now in
-    let e = g.W.Output.contents c.write_all-2.new.self in
-    let state : List (List ℕ) = state_of g.C.Inspect.inside.whole w in
+    let e = g.W.Output.contents c.print_changes.new.writer in
+    let was : Texts = c.args.before.now in
+    let texts : Texts = c.args.passed.now.texts in
+    let state : List (List ℕ) = changed_texts was texts in
     let crossings : c.split_at.result.1.now ≡ drop c.args.passed.now.crossed (reverse w.kept.book.crossings) =
     c.split_at.ensures.back ∙ ap (drop c.args.passed.now.crossed) (c.crossings.ensures ∙ ap (λ (k : Kept). reverse k.book.crossings) c.book.ensures.value) in
-    on_ok c.write_all-2.result
+    on_ok c.print_changes.result
     (λ end.
     subst (λ (name : List ℕ). Appends a e (ended_line (line_of c.args.spot c.args.round name (drop c.args.passed.now.crossed (reverse w.kept.book.crossings)) c.args.passed.now.printed.items state))) c.deref.ensures.value
     (subst (λ (printed : List ℕ). Appends a e (ended_line (line_of c.args.spot c.args.round c.deref.result.now (drop c.args.passed.now.crossed (reverse w.kept.book.crossings)) printed state))) c.deref-2.ensures.value
     (subst (λ (crossed : List Crossing). Appends a e (ended_line (line_of c.args.spot c.args.round c.deref.result.now crossed c.deref-2.result.now state))) crossings
     (line_printed (decimal c.args.spot.line) (decimal c.args.spot.number) (decimal c.args.round) c.deref.result.now (array (map crossing_object c.split_at.result.1.now)) (lines_text c.deref-2.result.now)
-    (g.C.Inspect.inside.whole w.carrier) (programs_text w.seats) (services_text w.services)
+    (object (changed was.parts texts.parts)) (object (changed was.programs texts.programs)) (object (changed was.services texts.services))
     a (g.W.Output.contents c.print_head.new.writer) (g.W.Output.contents c.print_outcome.new.writer) (g.W.Output.contents c.write_all.new.self) e
-    c.in_ok-print_head.ensures.written c.in_ok-print_outcome.ensures.written c.in_ok-write_all.ensures.written
-    (subst (λ (text : List ℕ). Appends (g.W.Output.contents c.write_all.new.self) e text) (c.deref-3.ensures.value ∙ c.requires.state) end)))))
-    c.write_all-2.ensures.written
+    c.in_ok-print_head.ensures.written c.in_ok-print_outcome.ensures.written c.in_ok-write_all.ensures.written end))))
+    c.print_changes.ensures.written

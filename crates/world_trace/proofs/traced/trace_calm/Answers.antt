@@ -10,13 +10,13 @@ use Rattle.world_trace.proofs.traced.trace_calm.Goals as goal
 pub loop-passed-init : goal.loop-passed-init
 loop-passed-init g c =
     let calls : Calls g.row.C.Denot = shown g.C.Carrier.calls in
-    (none_passed calls g.C.Inspect.inside.whole c.args.spot c.args.world.now (g.W.Output.contents c.args.writer.now), c.requires, omega arith, c.in_ok-text.ensures)
+    (none_passed calls g.C.Inspect.inside.members c.args.spot c.args.world.now (g.W.Output.contents c.args.writer.now), c.requires.whole, omega arith, c.in_ok-texts.ensures)
 
 pub loop-passed-preserved : goal.loop-passed-preserved
 loop-passed-preserved g c =
     let calls : Calls g.row.C.Denot = shown g.C.Carrier.calls in
     let l = c.loop-passed in (
-      one_passed calls g.C.Inspect.inside.whole c.args.spot l.passed c.args.world.now l.world c.trace_round.new.world (g.W.Output.contents c.args.writer.now) (g.W.Output.contents l.writer) (g.W.Output.contents c.trace_round.new.writer) l.invariant.0 c.in_ok-trace_round.ensures.ends,
+      one_passed calls g.C.Inspect.inside.members c.args.spot l.passed c.args.world.now l.world c.trace_round.new.world (g.W.Output.contents c.args.writer.now) (g.W.Output.contents l.writer) (g.W.Output.contents c.trace_round.new.writer) l.invariant.0 c.in_ok-trace_round.ensures.ends,
       c.in_ok-trace_round.ensures.failed,
       omega (arith, c.loop-passed-test.true),
       c.in_ok-trace_round.ensures.known,
@@ -27,28 +27,28 @@ returns-in_err-trace_round-clause-ends g c =
     let calls : Calls g.row.C.Denot = shown g.C.Carrier.calls in
     let l = c.loop-passed in
     let same : c.from_residual-in_err-trace_round.result ≡ Err c.in_err-trace_round.field-0.0 = search rules in
-    subst (λ r. EventEnds calls g.C.Inspect.inside.whole c.args.spot c.args.world.now (event.Calm c.args.rounds) r c.trace_round.new.world (g.W.Output.contents c.args.writer.now) (g.W.Output.contents c.trace_round.new.writer)) (sym same)
-    (calm_early calls g.C.Inspect.inside.whole c.args.spot l.passed c.args.rounds c.args.world.now l.world c.trace_round.new.world c.in_err-trace_round.field-0.0 (g.W.Output.contents c.args.writer.now) (g.W.Output.contents l.writer) (g.W.Output.contents c.trace_round.new.writer)
+    subst (λ r. EventEnds calls g.C.Inspect.inside.members c.args.spot c.args.world.now (event.Calm c.args.rounds) r c.trace_round.new.world (g.W.Output.contents c.args.writer.now) (g.W.Output.contents c.trace_round.new.writer)) (sym same)
+    (calm_early calls g.C.Inspect.inside.members c.args.spot l.passed c.args.rounds c.args.world.now l.world c.trace_round.new.world c.in_err-trace_round.field-0.0 (g.W.Output.contents c.args.writer.now) (g.W.Output.contents l.writer) (g.W.Output.contents c.trace_round.new.writer)
     c.loop-passed-test.true l.invariant.0 c.in_err-trace_round.ensures.ends)
 
-pub returns-in_err-text-clause-ends : goal.returns-in_err-text-clause-ends
-returns-in_err-text-clause-ends g c =
+pub returns-in_err-texts-clause-ends : goal.returns-in_err-texts-clause-ends
+returns-in_err-texts-clause-ends g c =
     let calls : Calls g.row.C.Denot = shown g.C.Carrier.calls in
     let same : c.from_residual.result ≡ Err fault.OutOfMemory = search rules in
     let some : 0 < c.args.rounds = omega (arith, c.if-rounds-eq0.false) in
-    subst (λ r. EventEnds calls g.C.Inspect.inside.whole c.args.spot c.args.world.now (event.Calm c.args.rounds) r c.args.world.now (g.W.Output.contents c.args.writer.now) (g.W.Output.contents c.args.writer.now)) (sym same)
-    (calm_unbegun calls g.C.Inspect.inside.whole c.args.spot c.args.rounds c.args.world.now (g.W.Output.contents c.args.writer.now) some)
+    subst (λ r. EventEnds calls g.C.Inspect.inside.members c.args.spot c.args.world.now (event.Calm c.args.rounds) r c.args.world.now (g.W.Output.contents c.args.writer.now) (g.W.Output.contents c.args.writer.now)) (sym same)
+    (calm_unbegun calls g.C.Inspect.inside.members c.args.spot c.args.rounds c.args.world.now (g.W.Output.contents c.args.writer.now) some)
 
 pub returns-then-has_calmed-clause-ends : goal.returns-then-has_calmed-clause-ends
 returns-then-has_calmed-clause-ends g c =
     let calls : Calls g.row.C.Denot = shown g.C.Carrier.calls in
     let l = c.loop-passed in
-    calm_rests calls g.C.Inspect.inside.whole c.args.spot (l.passed + 1) c.args.rounds c.args.world.now c.trace_round.new.world (g.W.Output.contents c.args.writer.now) (g.W.Output.contents c.trace_round.new.writer) (omega (arith, c.loop-passed-test.true))
+    calm_rests calls g.C.Inspect.inside.members c.args.spot (l.passed + 1) c.args.rounds c.args.world.now c.trace_round.new.world (g.W.Output.contents c.args.writer.now) (g.W.Output.contents c.trace_round.new.writer) (omega (arith, c.loop-passed-test.true))
     (c.has_calmed.ensures c.if-has_calmed.true 1)
-    (one_passed calls g.C.Inspect.inside.whole c.args.spot l.passed c.args.world.now l.world c.trace_round.new.world (g.W.Output.contents c.args.writer.now) (g.W.Output.contents l.writer) (g.W.Output.contents c.trace_round.new.writer) l.invariant.0 c.in_ok-trace_round.ensures.ends)
+    (one_passed calls g.C.Inspect.inside.members c.args.spot l.passed c.args.world.now l.world c.trace_round.new.world (g.W.Output.contents c.args.writer.now) (g.W.Output.contents l.writer) (g.W.Output.contents c.trace_round.new.writer) l.invariant.0 c.in_ok-trace_round.ensures.ends)
 
 pub returns-clause-ends : goal.returns-clause-ends
 returns-clause-ends g c =
     let calls : Calls g.row.C.Denot = shown g.C.Carrier.calls in
     let l = c.loop-passed in
-    calm_passed calls g.C.Inspect.inside.whole c.args.spot l.passed c.args.rounds c.args.world.now l.world (g.W.Output.contents c.args.writer.now) (g.W.Output.contents l.writer) (omega (arith, l.invariant.2, c.loop-passed-test.false)) l.invariant.0
+    calm_passed calls g.C.Inspect.inside.members c.args.spot l.passed c.args.rounds c.args.world.now l.world (g.W.Output.contents c.args.writer.now) (g.W.Output.contents l.writer) (omega (arith, l.invariant.2, c.loop-passed-test.false)) l.invariant.0

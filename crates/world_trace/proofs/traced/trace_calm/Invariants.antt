@@ -1,12 +1,12 @@
 use Rattle.std.proofs.Common.{◌≡◌, ◌≤◌, false}
 use Rattle.net_sim.specs.Carriers.{shown}
 use Rattle.interface.specs.Calls.{Calls}
-use Rattle.world_trace.specs.Steps.{ended_state}
+use Rattle.world_trace.specs.Steps.{AreTextsOf}
 use Rattle.world_trace.proofs.Telling.{Passed}
 use Rattle.world_trace.proofs.traced.trace_calm.Given as goal
 
--- this many rounds have passed, and their lines are written; the text is that of the state; no write has failed
+-- this many rounds have passed, and their lines are written; the texts are those of the state; no write has failed
 abbrev pub invariant-loop-passed : goal.invariant-loop-passed
 invariant-loop-passed g l =
     let calls : Calls g.row.C.Denot = shown g.C.Carrier.calls in
-    Passed calls g.C.Inspect.inside.whole l.spot l.passed l.fn.world l.world (g.W.Output.contents l.fn.writer) (g.W.Output.contents l.writer) × (g.W.Output.failed l.writer ≡ false) × (l.passed ≤ l.rounds) × (l.text.items ≡ ended_state g.C.Inspect.inside.whole l.world)
+    Passed calls g.C.Inspect.inside.members l.spot l.passed l.fn.world l.world (g.W.Output.contents l.fn.writer) (g.W.Output.contents l.writer) × (g.W.Output.failed l.writer ≡ false) × (l.passed ≤ l.rounds) × AreTextsOf g.C.Inspect.inside.members l.world l.texts

@@ -1,0 +1,53 @@
+-- All parts of a subnet are listed, one after the other.
+use Rattle.std.proofs.Common.{◌≡◌, ℕ, suc, ◌<◌, ◌≤◌, ◌+◌, ◌-◌, List, [], ◌∷◌, ◌++◌, filter, length, map, refl, sym, ap, ◌∙◌, arith}
+use Rattle.std.proofs.lemmas.List.{append_assoc, append-nil}
+use Rattle.std.specs.List.{range_with_len}
+use Rattle.subnet.specs.Events.{is_imp}
+use Rattle.subnet.specs.Net.{Net}
+use Rattle.subnet_trace.specs.Parts.{Part, Imp, Line, all_parts, parts_members}
+use Rattle.subnet_trace.specs.Printing.{imp_members, named}
+use Rattle.subnet_trace.proofs.PrintedParts.{one_imp}
+
+-- those that are left from an IMP on, and from a line on
+abbrev pub imps_left : Net → ℕ → List (List ℕ)
+imps_left n i = map (named n) (map (λ k. Imp k) (filter (is_imp n) (range_with_len i (length n.imps - i))) ++ map (λ l. Line l) (range_with_len 0 (length n.lines)))
+
+abbrev pub lines_left : Net → ℕ → List (List ℕ)
+lines_left n l = map (named n) (map (λ k. Line k) (range_with_len l (length n.lines - l)))
+
+pub none_listed : (n : Net) → [] ++ imps_left n 0 ≡ parts_members n (all_parts n)
+none_listed n =
+    let all : length n.imps - 0 ≡ length n.imps = omega arith in
+    ap (λ (m : ℕ). map (named n) (map (λ k. Imp k) (filter (is_imp n) (range_with_len 0 m)) ++ map (λ l. Line l) (range_with_len 0 (length n.lines)))) all
+
+-- one IMP more
+pub imp_listed : (n : Net) (i : ℕ) (front now whole : List (List ℕ)) → i < length n.imps → now ≡ front ++ imp_members n i → front ++ imps_left n i ≡ whole → now ++ imps_left n (i + 1) ≡ whole
+imp_listed n i front now whole lt is before =
+    let count : length n.imps - i ≡ suc (length n.imps - (i + 1)) = omega (arith, lt) in
+    let later : List ℕ = range_with_len (i + 1) (length n.imps - (i + 1)) in
+    let others : List Part = map (λ l. Line l) (range_with_len 0 (length n.lines)) in
+    let next : imps_left n i ≡ imp_members n i ++ imps_left n (i + 1) =
+    ap (λ (m : ℕ). map (named n) (map (λ k. Imp k) (filter (is_imp n) (range_with_len i m)) ++ others)) count ∙ one_imp n i later others in
+    ap (λ (xs : List (List ℕ)). xs ++ imps_left n (i + 1)) is ∙ append_assoc front (imp_members n i) (imps_left n (i + 1)) ∙ ap (λ (xs : List (List ℕ)). front ++ xs) (sym next) ∙ before
+
+pub imps_listed : (n : Net) (i : ℕ) (front whole : List (List ℕ)) → length n.imps ≤ i → front ++ imps_left n i ≡ whole → front ++ lines_left n 0 ≡ whole
+imps_listed n i front whole past before =
+    let none : length n.imps - i ≡ 0 = omega (arith, past) in
+    let all : length n.lines ≡ length n.lines - 0 = omega arith in
+    let here : imps_left n i ≡ lines_left n 0 =
+    ap (λ (m : ℕ). map (named n) (map (λ k. Imp k) (filter (is_imp n) (range_with_len i m)) ++ map (λ l. Line l) (range_with_len 0 (length n.lines)))) none
+    ∙ ap (λ (m : ℕ). map (named n) (map (λ l. Line l) (range_with_len 0 m))) all in
+    ap (λ (xs : List (List ℕ)). front ++ xs) (sym here) ∙ before
+
+-- one line more
+pub line_listed : (n : Net) (l : ℕ) (front now whole : List (List ℕ)) → l < length n.lines → now ≡ front ++ named n (Line l) ∷ [] → front ++ lines_left n l ≡ whole → now ++ lines_left n (l + 1) ≡ whole
+line_listed n l front now whole lt is before =
+    let count : length n.lines - l ≡ suc (length n.lines - (l + 1)) = omega (arith, lt) in
+    let next : lines_left n l ≡ named n (Line l) ∷ lines_left n (l + 1) = ap (λ (m : ℕ). map (named n) (map (λ k. Line k) (range_with_len l m))) count in
+    ap (λ (xs : List (List ℕ)). xs ++ lines_left n (l + 1)) is ∙ append_assoc front (named n (Line l) ∷ []) (lines_left n (l + 1)) ∙ ap (λ (xs : List (List ℕ)). front ++ xs) (sym next) ∙ before
+
+pub all_listed : (n : Net) (l : ℕ) (front whole : List (List ℕ)) → length n.lines ≤ l → front ++ lines_left n l ≡ whole → front ≡ whole
+all_listed n l front whole past before =
+    let none : length n.lines - l ≡ 0 = omega (arith, past) in
+    let here : lines_left n l ≡ [] = ap (λ (m : ℕ). map (named n) (map (λ k. Line k) (range_with_len l m))) none in
+    sym (append-nil front) ∙ ap (λ (xs : List (List ℕ)). front ++ xs) (sym here) ∙ before

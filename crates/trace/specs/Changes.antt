@@ -1,0 +1,17 @@
+-- Which members of an object are other than they were. The members are in the same order each time, so each is compared with the one at its place.
+use Rattle.std.specs.Prelude.{◌≡◌, ℕ, Bool, false, ◌++◌, ◌∷◌, List, [], MatchOption, if◌then◌else◌, nat_eq, slice_get, Option, Some, None}
+use Rattle.std.specs.Cmp.Lexicographic.{pointwise}
+
+-- the member at a place has this text
+abbrev pub has_text : Option (List ℕ) → List ℕ → Bool
+has_text None text = false
+has_text (Some member) text = pointwise nat_eq member text
+
+abbrev pub is_at : List (List ℕ) → ℕ → List ℕ → Bool
+is_at members place text = has_text (slice_get members place) text
+
+-- the members that are other than the ones that were at their places, in order
+abbrev pub changed : List (List ℕ) → List (List ℕ) → List (List ℕ)
+changed before [] = []
+changed [] (now ∷ later) = now ∷ changed [] later
+changed (was ∷ before) (now ∷ later) = if pointwise nat_eq was now then changed before later else now ∷ changed before later
