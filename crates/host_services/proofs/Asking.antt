@@ -222,16 +222,7 @@ closing_fine receive send false false = tt
 
 closed_fine : (receive send : ℕ) (n : Notice) → Fine (ends.closed_by receive send n)
 closed_fine receive send (notice.Ended socket peer foreign) = closing_fine receive send (socket == receive) (socket == send)
-closed_fine receive send (notice.Ready peer) = tt
-closed_fine receive send (notice.ContactFailed peer) = tt
-closed_fine receive send (notice.PairReset peer) = tt
-closed_fine receive send (notice.Opened socket peer foreign own partner) = tt
-closed_fine receive send (notice.Sent socket bits) = tt
-closed_fine receive send (notice.Arrived socket bits) = tt
-closed_fine receive send (notice.Returned socket messages bits) = tt
-closed_fine receive send (notice.Interrupt socket) = tt
-closed_fine receive send (notice.Echoed peer octet) = tt
-closed_fine receive send (notice.RemoteError peer code detail) = tt
+closed_fine receive send n = tt
 
 sending_fine : (send : ℕ) (bits : List Bool) → Fine (ends.sending send bits)
 sending_fine send [] = tt

@@ -70,55 +70,19 @@ no_truth e = grind arith
 
 not_opened : (k : ℕ) (n : Notice) → is_about k (subject_of n) ≡ false → notices.opened_on k n ≡ None
 not_opened k (notice.Opened x peer foreign own partner) away = rw away refl
-not_opened k (notice.Ready peer) away = refl
-not_opened k (notice.ContactFailed peer) away = refl
-not_opened k (notice.PairReset peer) away = refl
-not_opened k (notice.Ended x peer foreign) away = refl
-not_opened k (notice.Sent x bits) away = refl
-not_opened k (notice.Arrived x bits) away = refl
-not_opened k (notice.Returned x messages bits) away = refl
-not_opened k (notice.Interrupt x) away = refl
-not_opened k (notice.Echoed peer octet) away = refl
-not_opened k (notice.RemoteError peer code detail) away = refl
+not_opened k n away = refl
 
 not_ended : (k : ℕ) (n : Notice) → is_about k (subject_of n) ≡ false → notices.has_ended k n ≡ false
-not_ended k (notice.Opened x peer foreign own partner) away = refl
-not_ended k (notice.Ready peer) away = refl
-not_ended k (notice.ContactFailed peer) away = refl
-not_ended k (notice.PairReset peer) away = refl
 not_ended k (notice.Ended x peer foreign) away = away
-not_ended k (notice.Sent x bits) away = refl
-not_ended k (notice.Arrived x bits) away = refl
-not_ended k (notice.Returned x messages bits) away = refl
-not_ended k (notice.Interrupt x) away = refl
-not_ended k (notice.Echoed peer octet) away = refl
-not_ended k (notice.RemoteError peer code detail) away = refl
+not_ended k n away = refl
 
 not_arrived : (k : ℕ) (n : Notice) → is_about k (subject_of n) ≡ false → notices.arrived_on k n ≡ None
-not_arrived k (notice.Opened x peer foreign own partner) away = refl
-not_arrived k (notice.Ready peer) away = refl
-not_arrived k (notice.ContactFailed peer) away = refl
-not_arrived k (notice.PairReset peer) away = refl
-not_arrived k (notice.Ended x peer foreign) away = refl
-not_arrived k (notice.Sent x bits) away = refl
 not_arrived k (notice.Arrived x bits) away = rw away refl
-not_arrived k (notice.Returned x messages bits) away = refl
-not_arrived k (notice.Interrupt x) away = refl
-not_arrived k (notice.Echoed peer octet) away = refl
-not_arrived k (notice.RemoteError peer code detail) away = refl
+not_arrived k n away = refl
 
 not_reset : (h : Host) (n : Notice) → is_reset (subject_of n) ≡ false → notices.is_reset h n ≡ false
-not_reset h (notice.Opened x peer foreign own partner) away = refl
-not_reset h (notice.Ready peer) away = refl
-not_reset h (notice.ContactFailed peer) away = refl
 not_reset h (notice.PairReset peer) away = absurd (cc)
-not_reset h (notice.Ended x peer foreign) away = refl
-not_reset h (notice.Sent x bits) away = refl
-not_reset h (notice.Arrived x bits) away = refl
-not_reset h (notice.Returned x messages bits) away = refl
-not_reset h (notice.Interrupt x) away = refl
-not_reset h (notice.Echoed peer octet) away = refl
-not_reset h (notice.RemoteError peer code detail) away = refl
+not_reset h n away = refl
 
 not_reset_of : (o : Option Partner) (n : Notice) → is_reset (subject_of n) ≡ false → notices.is_reset_of o n ≡ false
 not_reset_of None n away = refl
@@ -218,30 +182,12 @@ user_passed s n over few reset own receive send =
 -- ---- what follows them
 
 arrived_elsewhere : (k : ℕ) (n : Notice) → is_about k (subject_of n) ≡ false → arrived_on k n ≡ None
-arrived_elsewhere k (notice.Opened x peer foreign own partner) away = refl
-arrived_elsewhere k (notice.Ready peer) away = refl
-arrived_elsewhere k (notice.ContactFailed peer) away = refl
-arrived_elsewhere k (notice.PairReset peer) away = refl
-arrived_elsewhere k (notice.Ended x peer foreign) away = refl
-arrived_elsewhere k (notice.Sent x bits) away = refl
 arrived_elsewhere k (notice.Arrived x bits) away = rw away refl
-arrived_elsewhere k (notice.Returned x messages bits) away = refl
-arrived_elsewhere k (notice.Interrupt x) away = refl
-arrived_elsewhere k (notice.Echoed peer octet) away = refl
-arrived_elsewhere k (notice.RemoteError peer code detail) away = refl
+arrived_elsewhere k n away = refl
 
 nothing_closed : (r t : ℕ) (n : Notice) → is_about r (subject_of n) ≡ false → is_about t (subject_of n) ≡ false → closed_by r t n ≡ []
-nothing_closed r t (notice.Opened x peer foreign own partner) receive send = refl
-nothing_closed r t (notice.Ready peer) receive send = refl
-nothing_closed r t (notice.ContactFailed peer) receive send = refl
-nothing_closed r t (notice.PairReset peer) receive send = refl
 nothing_closed r t (notice.Ended x peer foreign) receive send = rw (receive, send) refl
-nothing_closed r t (notice.Sent x bits) receive send = refl
-nothing_closed r t (notice.Arrived x bits) receive send = refl
-nothing_closed r t (notice.Returned x messages bits) receive send = refl
-nothing_closed r t (notice.Interrupt x) receive send = refl
-nothing_closed r t (notice.Echoed peer octet) receive send = refl
-nothing_closed r t (notice.RemoteError peer code detail) receive send = refl
+nothing_closed r t n receive send = refl
 
 quiet_echo : (n : Notice) (s : EchoState) (d : ServiceDeskState) → arrived_on s.receive n ≡ None → closed_by s.receive s.send n ≡ [] → heard_by n (service.Echo s) d ≡ (service.Echo s, d)
 unfolding echo_turn

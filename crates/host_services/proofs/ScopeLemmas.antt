@@ -102,10 +102,8 @@ no_resets s (ear.Begins a r t) h few none = absurd (no_truth (sym h.0 ∙ none))
 no_resets s (ear.Ends r t) h few none = refl
 
 not_all : (s : Scope) (e : Ear) → IsHeardIn s e → s.everything ≡ false → hears_all e ≡ false
-not_all s ear.Nothing h few = refl
 not_all s ear.Everything h few = absurd (cc)
-not_all s (ear.Begins a r t) h few = refl
-not_all s (ear.Ends r t) h few = refl
+not_all s e h few = refl
 
 out_of : (s : Scope) (e : Ear) (t : Subject) → IsHeardIn s e → s.everything ≡ false → has_room s t ≡ false → hears e t ≡ false
 out_of s e (subject.Socket x) h few away = unheard_of s e x h few away
