@@ -7,7 +7,7 @@ use Rattle.std.specs.declared.cmp.Ordering.TheVariants.{Less, Equal, Greater}
 use Rattle.std.proofs.lemmas.Bool.{eqb-true}
 use Rattle.host_pairs.specs.Entries.{changed_first, is_at}
 use Rattle.host_pairs.specs.Inside.Held.{none_but}
-use Rattle.host_pairs.specs.Inside.Index.{Ascend, AreFound, AreIndexed, AreKept, end_key, key_of, number_in}
+use Rattle.host_pairs.specs.Inside.Index.{Ascend, AreFound, AreIndexed, AreKept, Kept, end_key, key_of, number_in}
 use Rattle.host_pairs.specs.declared.entry.Entry.{Entry}
 use Rattle.host_pairs.specs.declared.index.Index.{Index}
 use Rattle.host_pairs.proofs.OpeningLemmas.{both, is_none}
@@ -211,9 +211,9 @@ found_set found (suc at) e y [] [] read same h = h
 found_set found zero e y (n ∷ ns) (f ∷ es) read same h = (ap found (same ∙ ap end_key (sym read)) ∙ h.0, h.1)
 found_set found (suc at) e y (n ∷ ns) (f ∷ es) read same h = (h.0, found_set found at e y ns es read same h.1)
 
-pub kept_set : (index : Option Index) (at : ℕ) (e y : Entry) (es : List Entry) → slice_index_or es at e ≡ e → end_key y ≡ end_key e → AreKept index es → AreKept index (slice_set es at y)
+pub kept_set : (index : Kept) (at : ℕ) (e y : Entry) (es : List Entry) → slice_index_or es at e ≡ e → end_key y ≡ end_key e → AreKept index es → AreKept index (slice_set es at y)
 kept_set None at e y es read same h = tt
-kept_set (Some x) at e y es read same h = record { ascending = h.ascending; found = found_set (number_in x) at e y _ es read same h.found }
+kept_set (Some x) at e y es read same h = record { ascending = h.ascending; found = found_set (number_in x.value) at e y _ es read same h.found }
 
 found_by : (found : ℕ → Option ℕ) (test : Entry → Bool) (change : Entry → Entry) (n : ℕ) (ns : List ℕ) (e : Entry) (es : List Entry) → KeepsKey change → AreFound found ns (changed_first test change es) → (b : Bool) → test e ≡ b
     → AreFound found (n ∷ ns) (e ∷ es) → AreFound found (n ∷ ns) (changed_first test change (e ∷ es))
@@ -226,9 +226,9 @@ found_changed found test change [] (e ∷ es) keeps h = absurd (h)
 found_changed found test change (n ∷ ns) [] keeps h = absurd (h)
 found_changed found test change (n ∷ ns) (e ∷ es) keeps h = found_by found test change n ns e es keeps (found_changed found test change ns es keeps h.1) (test e) refl h
 
-pub kept_changed : (index : Option Index) (test : Entry → Bool) (change : Entry → Entry) (es : List Entry) → KeepsKey change → AreKept index es → AreKept index (changed_first test change es)
+pub kept_changed : (index : Kept) (test : Entry → Bool) (change : Entry → Entry) (es : List Entry) → KeepsKey change → AreKept index es → AreKept index (changed_first test change es)
 kept_changed None test change es keeps h = tt
-kept_changed (Some x) test change es keeps h = record { ascending = h.ascending; found = found_changed (number_in x) test change _ es keeps h.found }
+kept_changed (Some x) test change es keeps h = record { ascending = h.ascending; found = found_changed (number_in x.value) test change _ es keeps h.found }
 
 found_mapped : (found : ℕ → Option ℕ) (change : Entry → Entry) (ns : List ℕ) (es : List Entry) → KeepsKey change → AreFound found ns es → AreFound found ns (map change es)
 found_mapped found change [] [] keeps h = h
@@ -236,6 +236,6 @@ found_mapped found change [] (e ∷ es) keeps h = absurd (h)
 found_mapped found change (n ∷ ns) [] keeps h = absurd (h)
 found_mapped found change (n ∷ ns) (e ∷ es) keeps h = (ap found (keeps e) ∙ h.0, found_mapped found change ns es keeps h.1)
 
-pub kept_mapped : (index : Option Index) (change : Entry → Entry) (es : List Entry) → KeepsKey change → AreKept index es → AreKept index (map change es)
+pub kept_mapped : (index : Kept) (change : Entry → Entry) (es : List Entry) → KeepsKey change → AreKept index es → AreKept index (map change es)
 kept_mapped None change es keeps h = tt
-kept_mapped (Some x) change es keeps h = record { ascending = h.ascending; found = found_mapped (number_in x) change _ es keeps h.found }
+kept_mapped (Some x) change es keeps h = record { ascending = h.ascending; found = found_mapped (number_in x.value) change _ es keeps h.found }

@@ -113,7 +113,7 @@ pub struct Ends {
     ends: Vec<Entry>,
     gone: usize,
     alloc: Global,
-    index: Option<Index>,
+    index: Option<Box<Index>>,
     due: Few,
     over: Few,
     bits: Few,

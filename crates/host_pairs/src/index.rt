@@ -113,7 +113,7 @@ impl Index {
 // ---- ends that may have an index
 
 /// Returns where the end of two sockets is.
-pub(crate) fn find_in(index: &Option<Index>, own: u32, foreign: u32) -> Few
+pub(crate) fn find_in(index: &Option<Box<Index>>, own: u32, foreign: u32) -> Few
     ensures { (es : List Entry) → AreKept index.now es → is_where (is_at own foreign) result es ≡ true }
 {
     match index {
@@ -123,7 +123,7 @@ pub(crate) fn find_in(index: &Option<Index>, own: u32, foreign: u32) -> Few
 }
 
 /// Adds an end after the others. Ends of which two have the same sockets are left without an index.
-pub(crate) fn add_to(index: &mut Option<Index>, own: u32, foreign: u32)
+pub(crate) fn add_to(index: &mut Option<Box<Index>>, own: u32, foreign: u32)
     ensures { (es : List Entry) (e : Entry) → e.own ≡ own → e.foreign ≡ foreign → AreKept index.old es → AreKept index.new (es ++ e ∷ []) }
 {
     let is_added = match index {
@@ -136,7 +136,7 @@ pub(crate) fn add_to(index: &mut Option<Index>, own: u32, foreign: u32)
 }
 
 /// Removes the end at a place, which has these sockets. Once there are none, there is no index either.
-pub(crate) fn remove_from(index: &mut Option<Index>, at: usize, own: u32, foreign: u32)
+pub(crate) fn remove_from(index: &mut Option<Box<Index>>, at: usize, own: u32, foreign: u32)
     ensures { (es : List Entry) (e : Entry) → at < length es → e ≡ slice_index_or es at e → e.own ≡ own → e.foreign ≡ foreign → AreKept index.old es → AreKept index.new (remove es at) }
 {
     let is_empty = match index {
@@ -152,7 +152,7 @@ pub(crate) fn remove_from(index: &mut Option<Index>, at: usize, own: u32, foreig
 }
 
 /// Returns the index of these ends, if no two of them have the same sockets.
-fn index_of(alloc: Global, ends: &[Entry]) -> Option<Index>
+fn index_of(alloc: Global, ends: &[Entry]) -> Option<Box<Index>>
     ensures { AreKept result ends.now }
 {
     let mut index = Index::new(alloc);
@@ -161,11 +161,11 @@ fn index_of(alloc: Global, ends: &[Entry]) -> Option<Index>
             return None;
         }
     }
-    Some(index)
+    Box::new(alloc, index).ok()
 }
 
 /// Makes an index of ends without one, where they are many: at 32 of them, and at twice as many each time.
-pub(crate) fn learn(index: &mut Option<Index>, alloc: Global, ends: &[Entry])
+pub(crate) fn learn(index: &mut Option<Box<Index>>, alloc: Global, ends: &[Entry])
     requires { AreKept index.old ends.now }
     ensures { AreKept index.new ends.now }
 {

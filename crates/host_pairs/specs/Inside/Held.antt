@@ -1,10 +1,9 @@
 -- Where the ends are that have a mark, as a pair of hosts remembers it beside its ends.
-use Rattle.std.specs.Prelude.{◌≡◌, ℕ, ◌≤◌, Bool, true, not, ◌==◌, ◌&&◌, List, [], ◌∷◌, Option, length, drop, zero, suc}
+use Rattle.std.specs.Prelude.{◌≡◌, ℕ, ◌≤◌, Bool, true, not, ◌==◌, ◌&&◌, List, [], ◌∷◌, length, drop, zero, suc}
 use Rattle.std.specs.List.{list_any}
 use Rattle.host_pairs.specs.Entries.{is_due, is_over}
 use Rattle.host_pairs.specs.declared.entry.Entry.{Entry}
-use Rattle.host_pairs.specs.Inside.Index.{AreKept}
-use Rattle.host_pairs.specs.declared.index.Index.{Index}
+use Rattle.host_pairs.specs.Inside.Index.{AreKept, Kept}
 use Rattle.host_pairs.specs.declared.held.Few.{Few}
 use Rattle.host_pairs.specs.declared.held.Few.TheVariants as few
 
@@ -28,7 +27,7 @@ is_where mark (few.At at) es = none_but mark at es
 is_where mark few.Anywhere es = true
 
 -- all that is remembered, of the ends after those that have gone
-pub record AreHeld (gone : ℕ) (index : Option Index) (due over bits : Few) (ends : List Entry) : Type 0 where
+pub record AreHeld (gone : ℕ) (index : Kept) (due over bits : Few) (ends : List Entry) : Type 0 where
   pub within : gone ≤ length ends
   pub indexed : AreKept index (drop gone ends)
   pub closing : is_where waits due (drop gone ends) ≡ true

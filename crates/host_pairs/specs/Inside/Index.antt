@@ -1,6 +1,7 @@
 -- Where the end of two sockets is, once a pair of hosts has many ends.
 use Rattle.std.specs.Prelude.{◌≡◌, ℕ, ◌+◌, ◌*◌, ◌≤◌, List, [], ◌∷◌, Option, Some, MatchOption, suc}
 use Rattle.std.specs.BTreeMap.{get}
+use Rattle.std.specs.Global.{Box}
 use Rattle.std.specs.Ordering.{nat_cmp}
 use Rattle.host_pairs.specs.declared.entry.Entry.{Entry}
 use Rattle.host_pairs.specs.declared.index.Index.{Index}
@@ -32,6 +33,10 @@ pub record AreIndexed (x : Index) (es : List Entry) : Type 0 where
   pub ascending : Ascend 0 x.numbers.items x.next
   pub found : AreFound (number_in x) x.numbers.items es
 
+-- an index, or none
+abbrev pub Kept : Type 0
+Kept = Option (Box Index)
+
 -- ends that have an index are in it
-abbrev pub AreKept : Option Index → List Entry → Type 0
-AreKept index es = MatchOption index (Unit {0}) (λ x. AreIndexed x es)
+abbrev pub AreKept : Kept → List Entry → Type 0
+AreKept index es = MatchOption index (Unit {0}) (λ x. AreIndexed x.value es)
