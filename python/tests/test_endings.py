@@ -52,6 +52,18 @@ class LosesGrants(Host):
         return super().take_open(pair, end, code, *((0, numbers[1]) if code == ALL and numbers[0] == 1 else numbers))
 
 
+class KeepsOpen(Host):
+    """An end that the partner closes doesn't close."""
+
+    def settle(self, pair: Pair) -> None:
+        ends = [end for end in pair.ends if end.close_taken and not end.close_asked]
+        for end in ends:
+            end.close_taken = False
+        super().settle(pair)
+        for end in ends:
+            end.close_taken = True
+
+
 def broken(host: type[Host], seeds: Iterable[int] = range(WORLDS)) -> set[str]:
     """What is broken first in random worlds of such hosts."""
     worlds = [some_script(seed, world=partial(EndingWorld, host_program=host))[1].world for seed in seeds]
@@ -73,6 +85,9 @@ class Endings(unittest.TestCase):
 
     def test_a_grant_that_is_lost(self) -> None:
         self.assertIn("open ends agree", broken(LosesGrants))
+
+    def test_an_end_that_stays_open(self) -> None:
+        self.assertIn("nobody has closed them there, but for a sender that drains", broken(KeepsOpen))
 
 
 if __name__ == "__main__":

@@ -102,24 +102,30 @@ module _ (number other : ℕ → ℕ → ℕ → ℕ) (tells : IsTelling number)
     | inr n ↦ (let w : (x.sender.end ≡ Some k) × (x.sender.opened ≡ true) × (x.sender.closed k ≡ false) × (x.sender.size k ≡ Some z) = rw e at j.inv_x.waiting in absurd (unlike (x.sender.closed k) (n.none k w.0 w.1) w.2))
   ]
 
-  module _ (same : (own foreign g : ℕ) → other own foreign g ≡ number foreign own g) (taker_open : is_open taker ≡ true) (giver_opened : has_opened giver ≡ true) (silent : a.pending ≡ []) (quiet : b.pending ≡ []) where
-    -- each has heard as many CLS as the other has said, so the giver's end is open too
+  -- each has heard as many CLS as the other has said
+  module _ (same : (own foreign g : ℕ) → other own foreign g ≡ number foreign own g) (silent : a.pending ≡ []) (quiet : b.pending ≡ []) where
     gone_same : a.gone o.own o.foreign ≡ b.gone o.foreign o.own
     gone_same = tells.gone o.own o.foreign (a.gone o.own o.foreign) o.own o.foreign (b.gone o.foreign o.own) (o.same ∙ same o.foreign o.own (b.gone o.foreign o.own))
 
-    unsaid : has_cls giver.closing ≡ false
-    unsaid =
+    pub taker_heard : has_cls giver.closing ≡ taker.partner_closed
+    taker_heard =
         count_same (b.gone o.foreign o.own) (has_cls giver.closing) taker.partner_closed
         (ap (λ (e : Option Entry). counted (has_said e) (b.gone o.foreign o.own)) (sym o.giver_found) ∙ j.told_a here there o.foreign o.own ∙ ap (λ (cs : List Command). closings_in cs (heard_by a) o.foreign o.own) quiet
         ∙ ap (λ (e : Option Entry). counted (has_heard e) (a.gone o.own o.foreign)) o.taker_found ∙ ap (λ (g : ℕ). counted taker.partner_closed g) gone_same)
-        ∙ (open_parts taker taker_open).unheard
+
+    pub giver_heard : has_cls taker.closing ≡ giver.partner_closed
+    giver_heard =
+        count_same (a.gone o.own o.foreign) (has_cls taker.closing) giver.partner_closed
+        (ap (λ (e : Option Entry). counted (has_said e) (a.gone o.own o.foreign)) (sym o.taker_found) ∙ j.told_b here there o.own o.foreign ∙ ap (λ (cs : List Command). closings_in cs (heard_by b) o.own o.foreign) silent
+        ∙ ap (λ (e : Option Entry). counted (has_heard e) (b.gone o.foreign o.own)) o.giver_found ∙ ap (λ (g : ℕ). counted giver.partner_closed g) (sym gone_same))
+
+  module _ (same : (own foreign g : ℕ) → other own foreign g ≡ number foreign own g) (taker_open : is_open taker ≡ true) (giver_opened : has_opened giver ≡ true) (silent : a.pending ≡ []) (quiet : b.pending ≡ []) where
+    -- so the giver's end is open too
+    unsaid : has_cls giver.closing ≡ false
+    unsaid = taker_heard same silent quiet ∙ (open_parts taker taker_open).unheard
 
     unheard : giver.partner_closed ≡ false
-    unheard =
-        sym (count_same (a.gone o.own o.foreign) (has_cls taker.closing) giver.partner_closed
-        (ap (λ (e : Option Entry). counted (has_said e) (a.gone o.own o.foreign)) (sym o.taker_found) ∙ j.told_b here there o.own o.foreign ∙ ap (λ (cs : List Command). closings_in cs (heard_by b) o.own o.foreign) silent
-        ∙ ap (λ (e : Option Entry). counted (has_heard e) (b.gone o.foreign o.own)) o.giver_found ∙ ap (λ (g : ℕ). counted giver.partner_closed g) (sym gone_same)))
-        ∙ (open_parts taker taker_open).unsaid
+    unheard = sym (giver_heard same silent quiet) ∙ (open_parts taker taker_open).unsaid
 
     giver_open : is_open giver ≡ true
     giver_open = rw (unsaid, unheard) (by (is_some giver.asked) (is_some giver.partner) giver_opened) where

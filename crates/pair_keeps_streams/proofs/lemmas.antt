@@ -1,6 +1,6 @@
 -- The lemmas of this crate that others may use: the proofs of world_keeps_streams do. All others in proofs/ are its own.
 pub use Rattle.pair_keeps_streams.proofs.After.{Stepped, after, x_after, y_after}
-pub use Rattle.pair_keeps_streams.proofs.Agree.{OfOne, agree, counters, linked, linked_waiting}
+pub use Rattle.pair_keeps_streams.proofs.Agree.{OfOne, agree, counters, giver_heard, linked, linked_waiting, taker_heard}
 pub use Rattle.pair_keeps_streams.proofs.AllSteps.{Steps, all_steps}
 pub use Rattle.pair_keeps_streams.proofs.Finds.{finds_free}
 pub use Rattle.pair_keeps_streams.proofs.Granted.{IsRequest, NotTaken, taken_gone}

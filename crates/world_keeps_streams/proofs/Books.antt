@@ -20,8 +20,10 @@ pub mod Lies
 pub mod One
 pub mod Parted
 pub mod Run
+pub mod Silent
 pub mod Source
 pub mod Starts
 pub mod Streams
 pub mod Unasked
+pub mod Unclosed
 pub mod Whole

@@ -7,5 +7,6 @@ pub mod Moments
 pub mod Heard
 pub mod Lives
 pub mod Requests
+pub mod Tidy
 pub mod Books
 pub mod lemmas

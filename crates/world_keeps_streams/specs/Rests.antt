@@ -5,7 +5,8 @@ use Rattle.interface.specs.Host.{Host}
 use Rattle.interface.specs.Mailboxes.{Empty, Waiting, box_of}
 use Rattle.interface.specs.declared.address.Flow.{Flow}
 use Rattle.interface.specs.declared.crossing.Crossing.{Crossing}
-use Rattle.host_pairs.specs.Entries.{is_open}
+use Rattle.host_pairs.specs.Entries.{is_open, was_closed}
+use Rattle.host_pairs.specs.Parcels.{sendable}
 use Rattle.host_pairs.specs.declared.entry.Entry.{Entry}
 use Rattle.sockets.specs.Pairs.{pair_with}
 use Rattle.sockets.specs.Sending.{next_out}
@@ -78,7 +79,7 @@ pub record AreIdle (a b : Host) (moments : List Moment) : Type 0 where
   pub mute : next_out (program a moments) ≡ None
   pub mute_back : next_out (program b moments) ≡ None
 
--- a receiving life whose end is open and the sending one that it matches aren't over, and between their hosts nothing is left to be done
+-- a receiving life and the sending one that it matches aren't over, and between their hosts nothing is left to be done
 pub record AreCalm (moments : List Moment) (receiver sender : Life) : Type 0 where
   pub there : Contains (kept_in moments).book.lives receiver
   pub sender_there : Contains (kept_in moments).book.lives sender
@@ -86,12 +87,18 @@ pub record AreCalm (moments : List Moment) (receiver sender : Life) : Type 0 whe
   pub goes : receiver.ended ≡ false
   pub sender_goes : sender.ended ≡ false
   pub end : HasOpenEnd (program receiver.host moments) receiver
-  pub opened : is_open end.end ≡ true
   pub giver : HasOpenEnd (program sender.host moments) sender
   pub idle : AreIdle receiver.host sender.host moments
 
--- then all that was sent was taken, and they agree, at every moment
+-- nobody has closed the receiving end, and the sending one at most its own user, while bits are queued there; none of which may go, as they wait for allocation
+pub record AreOpen (taker giver : Entry) : Type 0 where
+  pub unclosed : was_closed taker ≡ false
+  pub opened : is_open giver ≡ true
+  pub drains : was_closed giver ≡ true → giver.bits ≡ [] → ⊥
+  pub waits : sendable giver ≡ 0
+
+-- then all that was sent was taken, the ends agree, and they are open, at every moment
 abbrev pub AllCalm : List Moment → Type 0
 AllCalm moments =
     (later earlier : List Moment) → moments ≡ later ++ earlier → (receiver sender : Life) → (calm : AreCalm earlier receiver sender)
-    → (receiver.bits ≡ sender.bits) × (receiver.messages ≡ sender.messages) × Agree receiver calm.end.end calm.giver.end
+    → (receiver.bits ≡ sender.bits) × (receiver.messages ≡ sender.messages) × Agree receiver calm.end.end calm.giver.end × AreOpen calm.end.end calm.giver.end

@@ -3,15 +3,18 @@ use Rattle.std.specs.Prelude.{ℕ, true, List, [], ◌∷◌}
 use Rattle.interface.specs.declared.crossing.Answer.TheVariants as answer
 use Rattle.interface.specs.declared.crossing.Crossing.TheVariants as crossing
 use Rattle.interface.specs.declared.message.HostMessage.{HostMessage}
+use Rattle.host_pairs.specs.Commands.{asked_on_link, asked_with_size}
 use Rattle.host_pairs.specs.Entries.{receiving_end, sending_end}
+use Rattle.host_pairs.specs.Parcels.{asked_at}
+use Rattle.host_pairs.specs.declared.entry.Closing.TheVariants as closing
 use Rattle.host_pairs.specs.declared.entry.Entry.{Entry}
 use Rattle.sockets.specs.Worked.{control, first, on_link, second}
 use Rattle.sockets.specs.declared.request.Request.TheVariants as request
 use Rattle.net_sim.specs.Story.{Asked, Crossed, Moment}
-use Rattle.net_sim.specs.Worked.{eight, receiver}
-use Rattle.net_sim.specs.WorkedMoments.{bits_sent, eight_sent, sent_moments}
+use Rattle.net_sim.specs.Worked.{eight, receiver, sender}
+use Rattle.net_sim.specs.WorkedMoments.{bits_sent, connected, eight_sent, sent_moments}
 use Rattle.promise.specs.declared.life.Life.{Life}
-use Rattle.world_keeps_lives.specs.WorkedFormed.{gave}
+use Rattle.world_keeps_lives.specs.WorkedFormed.{gave, taken_moments}
 
 -- before anything was taken: the RTS of the first host's socket 16 went out at place 6, and the STR of the second's socket 33 came in at place 10. Two
 -- messages and 100 bits are granted
@@ -67,6 +70,32 @@ giving_end = sending_end 33 16 8
 
 abbrev pub left_at : ℕ → ℕ → Entry → Entry
 left_at messages bits e = record e { allocation = record { messages = messages; bits = bits } }
+
+-- ---- nothing is left to be done
+
+-- nothing was granted; eight bits were handed over, and then the sending user closed
+abbrev pub draining_moments : List Moment
+draining_moments = Asked second (request.Close 33) ∷ Asked second (request.Send 33 eight) ∷ connected
+
+abbrev pub took_none : Life
+took_none = record receiver { own_stamp = 6; partner_stamp = 10 }
+
+abbrev pub gave_none : Life
+gave_none = record sender { own_stamp = 8; partner_stamp = 7 }
+
+-- the two ends, opened by those requests; and the sending one as it drains
+abbrev pub taking_opened : Entry
+taking_opened = asked_with_size 10 8 (asked_at 6 taking_end)
+
+abbrev pub giving_opened : Entry
+giving_opened = asked_at 8 (asked_on_link 7 2 giving_end)
+
+abbrev pub draining_end : Entry
+draining_end = record giving_opened { closing = closing.Due; bits = eight }
+
+-- the CLS of the receiving user was taken and answered, and that of its partner waits to go out
+abbrev pub heard_moments : List Moment
+heard_moments = Crossed (crossing.Answer answer.Rfnm (on_link first second 0)) ∷ taken_moments
 
 -- ---- closing
 

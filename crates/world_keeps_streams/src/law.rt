@@ -89,7 +89,7 @@ pub fn lives()
     // returned
     ensures agree { LivesAgree }
 
-    // so it is where each message between the hosts was answered, and neither program has anything to say
+    // so it is where each message between the hosts was answered, and neither program has anything to say: no end closes then, but for a sender that drains
     ensures calm { (hosts : List Host) (moments : List Moment) → HaveAddresses hosts → mail.IsRun hosts (crossings_of moments) → IsTimeline hosts moments → AllCalm moments }
 
     // what a sending life sent that it matches, with what was returned, is within what it granted
@@ -175,7 +175,7 @@ pub fn worked_calm()
     ensures granting { AreCalm (Asked dialogue.first (request.Grant 16 1 8) ∷ calm_moments) granted_more gave → ⊥ }
     ensures returning { AreCalm asked_moments took_eight gave → ⊥ }
 
-    // the receiver's user has closed
+    // the receiver's user has closed, and its CLS is queued
     ensures closing { AreCalm (Asked dialogue.first (request.Close 16) ∷ calm_moments) took_eight gave → ⊥ }
 {}
 

@@ -4,5 +4,6 @@
 //! the lives of its book are the connections of that law. There is no code: the laws are the contracts of functions that do nothing.
 #![tactic(auto)]
 
+pub mod calm;
 pub mod law;
 pub mod worked;

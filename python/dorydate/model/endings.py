@@ -159,11 +159,18 @@ class EndingWorld(World):
             self.judge("open ends agree", self.have_same(taker, giver) and self.have_counters(taker, giver))
         if not between and all(self.is_silent(it) for it in (taker, giver)):
             self.judge("ends agree where nothing is outstanding nor to be sent", self.have_same(taker, giver) and self.have_counters(taker, giver))
+            self.judge("nobody has closed them there, but for a sender that drains", self.are_unclosed(taker.end, giver.end))
+            if giver.end.close_asked:
+                self.judge("a sender that drains there waits for allocation", giver.end.waiting != "" and giver.end.bytes_to_send() == 0)
 
     def is_silent(self, it: Going) -> bool:
         """Whether its program has nothing for the peer."""
         program = self.hosts[it.life.host]
         return program is None or program.next_of(it.pair) is None
+
+    def are_unclosed(self, taker: End, giver: End) -> bool:
+        """Whether nobody has closed two ends, but for the sender's user whose bits are still queued."""
+        return taker.is_open() and giver.is_open() and not taker.close_asked and (not giver.close_asked or giver.waiting != "")
 
     def have_same(self, taker: Going, giver: Going) -> bool:
         """Whether all that was sent was taken."""

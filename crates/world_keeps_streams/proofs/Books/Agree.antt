@@ -1,60 +1,34 @@
 -- Lives at rest whose ends are open, and between whose hosts no command is on its way, agree on what may still be sent.
-use Rattle.std.proofs.Common.{◌≡◌, ℕ, zero, suc, ◌==◌, Bool, true, false, List, [], ◌++◌, length, Some, refl, ap, sym, subst, ◌∙◌, arith}
+use Rattle.std.proofs.Common.{◌≡◌, ℕ, suc, ◌==◌, Bool, true, List, [], length, refl, ap, sym, subst, ◌∙◌, arith}
 use Rattle.std.proofs.lemmas.Bool.{eqb-true}
 use Rattle.interface.specs.Calls.{Seen}
 use Rattle.interface.specs.Host.{Host}
-use Rattle.interface.specs.Mailboxes as mail
-use Rattle.interface.specs.Mailboxes.{box_of}
 use Rattle.ncp_control.specs.declared.allocation.Allocation.{Allocation}
-use Rattle.ncp_control.specs.declared.command.Command.{Command}
 use Rattle.stream_law.specs.Agreed.{AreAgreed}
 use Rattle.stream_law.specs.Receivers.{Receiver}
 use Rattle.stream_law.specs.Within.{message_bits}
 use Rattle.host_pairs.specs.Entries.{is_link, sends_on}
-use Rattle.host_pairs.proofs.lemmas.{both}
 use Rattle.host_keeps_streams.specs.Ends.{has_opened}
 use Rattle.host_keeps_streams.specs.Histories.{numbered}
 use Rattle.host_keeps_streams.proofs.lemmas.{numbered_tells}
 use Rattle.pair_keeps_streams.proofs.lemmas.{OfOne, agree, counters, linked}
-use Rattle.reset_law.specs.Boxes.{boxes}
 use Rattle.reset_law.specs.Stays as stay
-use Rattle.sockets.specs.Pairs.{pair_with}
 use Rattle.net_sim.specs.Clean.{IsLawful}
-use Rattle.net_sim.specs.Story.{Moment, events_of, program}
-use Rattle.net_sim.specs.Timeline.{crossings_of, seen_box}
+use Rattle.net_sim.specs.Story.{Moment, events_of}
 use Rattle.net_sim.specs.World.{WorldState}
-use Rattle.net_sim.proofs.lemmas.{box_same, flow_of}
-use Rattle.promise.specs.Safe.{control_flow}
 use Rattle.promise.specs.declared.life.Life.{Life}
 use Rattle.world_keeps_lives.specs.Lives.{AddsUp}
-use Rattle.world_keeps_lives.proofs.lemmas.{linked_end}
 use Rattle.world_keeps_pairing.proofs.lemmas.{book_run}
 use Rattle.world_keeps_streams.specs.Calls.{numbered_by_peer}
-use Rattle.world_keeps_streams.specs.Rests.{Agree, AllAgree, AreSettled, NoneWaits}
+use Rattle.world_keeps_streams.specs.Rests.{Agree, AllAgree, AreSettled}
 use Rattle.world_keeps_streams.proofs.Books.Arrives.{rest_lawful}
 use Rattle.world_keeps_streams.proofs.Books.Closes as closes
-use Rattle.world_keeps_streams.proofs.Books.Firsts.{together}
-use Rattle.world_keeps_streams.proofs.Books.One as one
 use Rattle.world_keeps_streams.proofs.Books.One.{HasPartner}
+use Rattle.world_keeps_streams.proofs.Books.Silent as silent
 use Rattle.world_keeps_streams.proofs.Books.Streams.{all_bits_length}
 use Rattle.world_keeps_streams.proofs.Books.Whole.{GoesOn, PresentR, Whole}
 use Rattle.world_keeps_streams.proofs.Requests.Sides.{Heard, Lawful, Own}
-use Rattle.world_keeps_streams.proofs.Steps.Joined.{Joined, commands_in, party, turned_tells}
-
--- ---- small facts
-
--- no commands are in a box in which no message waits
-none_in : (a b : Host) (ms : List Moment) → NoneWaits (control_flow a b) (crossings_of ms) → commands_in (boxes a b (events_of ms) 0) ≡ []
-none_in a b ms none = ap commands_in (box_same a b ms 0) ∙ by (box_of (flow_of a b 0) (crossings_of ms)) refl where
-  by : (x : mail.Box) → box_of (flow_of a b 0) (crossings_of ms) ≡ x → commands_in (seen_box 0 x) ≡ []
-  by mail.Empty e = refl
-  by (mail.Taken there text) e = refl
-  by (mail.Waiting there text) e = absurd (none there text e)
-
--- a link that data may have
-off_zero : (link : ℕ) → (link == 0) ≡ false → (m : ℕ) × (link ≡ suc m)
-off_zero zero e = absurd (let no : true ≡ false = e in cc)
-off_zero (suc m) e = (m, refl)
+use Rattle.world_keeps_streams.proofs.Steps.Joined.{Joined, party, turned_tells}
 
 -- ---- two lives
 
@@ -65,49 +39,37 @@ module _ (hosts : List Host) (ms : List Moment) (l : Lawful hosts ms) (x s : Lif
   abbrev w : Whole x.host x.peer (Own x.host x.peer) (Heard x.host x.peer) ms
   w = closes.w hosts ms l x (closes.at_rest hosts ms l x s q.rest)
 
-  here : stay.stays x.host x.peer (events_of ms) ≡ true
-  here = one.here hosts ms l x s (closes.at_rest hosts ms l x s q.rest) partner
+  abbrev at : closes.AtLink ms x
+  at = closes.at_rest hosts ms l x s q.rest
 
-  there : stay.stays x.peer x.host (events_of ms) ≡ true
-  there = one.there hosts ms l x s (closes.at_rest hosts ms l x s q.rest) partner
+  abbrev here : stay.stays x.host x.peer (events_of ms) ≡ true
+  here = silent.here hosts ms l x s at partner
+
+  abbrev there : stay.stays x.peer x.host (events_of ms) ≡ true
+  there = silent.there hosts ms l x s at partner
 
   abbrev j : (m : ℕ) → Joined x.host x.peer (suc m) ms
-  j m = (closes.w hosts ms l x (closes.at_rest hosts ms l x s q.rest)).j m
+  j m = silent.j hosts ms l x s at partner m
 
-  of_one : (m : ℕ) → OfOne numbered numbered_by_peer (party x.host x.peer (suc m) (j m).rest_a ms) (party x.peer x.host (suc m) (j m).rest_b ms) q.rest.end.end q.giver.end
-  of_one m = one.of_one hosts ms l x s (closes.at_rest hosts ms l x s q.rest) partner (suc m) (j m)
+  abbrev of_one : (m : ℕ) → OfOne numbered numbered_by_peer (party x.host x.peer (suc m) (j m).rest_a ms) (party x.peer x.host (suc m) (j m).rest_b ms) q.rest.end.end q.giver.end
+  of_one m = silent.of_one hosts ms l x s at partner m
 
-  giver_opened : has_opened q.giver.end ≡ true
-  giver_opened = (let own : q.giver.end.asked ≡ Some s.own_stamp = q.giver.own in let partner_is : q.giver.end.partner ≡ Some s.partner_stamp = q.giver.partner in rw (own, partner_is) refl)
+  abbrev giver_opened : has_opened q.giver.end ≡ true
+  giver_opened = silent.giver_opened hosts ms l x s at partner
 
-  -- ---- nothing is on its way
+  abbrev silent_a : (m : ℕ) → (party x.host x.peer (suc m) (j m).rest_a ms).pending ≡ []
+  silent_a m = silent.silent_a hosts ms l x s at partner q.silent m
 
-  silent_a : (m : ℕ) → (party x.host x.peer (suc m) (j m).rest_a ms).pending ≡ []
-  silent_a m = ap (λ (cs : List Command). cs ++ (j m).rest_a) (none_in x.host x.peer ms none) ∙ (j m).queue_a here ∙ queue where
-    none : NoneWaits (control_flow x.host x.peer) (crossings_of ms)
-    none = subst (λ (h : Host). NoneWaits (control_flow x.host h) (crossings_of ms)) (sym q.rest.matches.peers.0) q.silent.there
-
-    queue : (pair_with x.peer (program x.host ms).peers).queue ≡ []
-    queue = subst (λ (h : Host). (pair_with h (program x.host ms).peers).queue ≡ []) (sym q.rest.matches.peers.0) q.silent.queue
-
-  silent_b : (m : ℕ) → (party x.peer x.host (suc m) (j m).rest_b ms).pending ≡ []
-  silent_b m = ap (λ (cs : List Command). cs ++ (j m).rest_b) (none_in x.peer x.host ms none) ∙ (j m).queue_b there ∙ queue where
-    none : NoneWaits (control_flow x.peer x.host) (crossings_of ms)
-    none = subst (λ (h : Host). NoneWaits (control_flow h x.host) (crossings_of ms)) (sym q.rest.matches.peers.0) q.silent.back
-
-    queue : (pair_with x.host (program x.peer ms).peers).queue ≡ []
-    queue = subst (λ (h : Host). (pair_with x.host (program h ms).peers).queue ≡ []) (sym q.rest.matches.peers.0) q.silent.queue_back
+  abbrev silent_b : (m : ℕ) → (party x.peer x.host (suc m) (j m).rest_b ms).pending ≡ []
+  silent_b m = silent.silent_b hosts ms l x s at partner q.silent m
 
   -- ---- on the link that both have
 
-  giver_link : (link : ℕ) × (q.giver.end.link ≡ Some link) × ((link == 0) ≡ false)
-  giver_link = linked_end hosts (together hosts) ms l s q.rest.sender_there q.rest.sender_goes q.giver
+  abbrev k : (m : ℕ) × ((silent.giver_link hosts ms l x s at partner).0 ≡ suc m)
+  k = silent.k hosts ms l x s at partner
 
-  k : (m : ℕ) × (giver_link.0 ≡ suc m)
-  k = off_zero giver_link.0 giver_link.2
-
-  sends : sends_on (suc k.0) q.giver.end ≡ true
-  sends = one.sends_on_it hosts ms l x s (closes.at_rest hosts ms l x s q.rest) partner (suc k.0) (j k.0) (giver_link.1 ∙ ap (λ (n : ℕ). Some n) k.1)
+  abbrev sends : sends_on (suc k.0) q.giver.end ≡ true
+  sends = silent.sends hosts ms l x s at partner
 
   same_link : k.0 ≡ closes.n hosts ms l x (closes.at_rest hosts ms l x s q.rest)
   same_link =

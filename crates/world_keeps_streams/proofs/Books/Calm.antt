@@ -1,24 +1,23 @@
 -- Lives whose hosts have nothing left to do agree.
-use Rattle.std.proofs.Common.{◌≡◌, ℕ, suc, ◌==◌, ◌||◌, nat_lt, if◌then◌else◌, Bool, true, false, List, [], ◌∷◌, length, Option, Some, None, is_some, refl, ap, sym, subst, ◌∙◌, arith, eq-eqb, lt-ltb}
+use Rattle.std.proofs.Common.{◌≡◌, ℕ, ◌==◌, true, false, List, [], Option, Some, None, is_some, ap, sym, subst, ◌∙◌}
+use Rattle.std.proofs.lemmas.Bool.{eqb-true}
 use Rattle.interface.specs.Calls.{Seen}
-use Rattle.interface.specs.Host.{Host, same_host}
+use Rattle.interface.specs.Host.{Host}
 use Rattle.interface.specs.Mailboxes as mail
+use Rattle.ncp_control.specs.Numbers.{is_receive_socket}
 use Rattle.ncp_control.specs.Phases as program_phases
-use Rattle.ncp_control.specs.declared.command.Command.{Command}
-use Rattle.ncp_control.specs.declared.phase.Phase as host
-use Rattle.ncp_control.specs.declared.phase.Phase.TheVariants as phase
-use Rattle.host_pairs.specs.Entries.{is_busy}
+use Rattle.host_pairs.specs.Entries.{is_busy, is_mine_on, is_open, is_receiving, was_closed}
 use Rattle.host_pairs.specs.Pair.{PairState}
-use Rattle.host_pairs.specs.Parcels.{Parcel, Commands, Reply, next_of, next_of_ready}
-use Rattle.ncp_control.specs.Packing.{packed_count}
+use Rattle.host_pairs.specs.Parcels.{next_of, sendable}
+use Rattle.host_pairs.specs.declared.entry.Entry.{Entry}
+use Rattle.host_pairs.proofs.lemmas.{both}
 use Rattle.reset_law.specs.Boxes.{boxes}
 use Rattle.reset_law.specs.Invariant.{kind_in}
 use Rattle.reset_law.specs.Pairs.{pair}
 use Rattle.reset_law.specs.Stays as stay
 use Rattle.reset_law.proofs.lemmas.{sound_run, stays_ready}
 use Rattle.sockets.specs.Pairs.{pair_with}
-use Rattle.sockets.specs.Sending.{message_for, message_of, next_in, next_out, parcel_for}
-use Rattle.sockets.specs.declared.peer.Peer.{Peer}
+use Rattle.sockets.specs.Sending.{next_in, next_out}
 use Rattle.net_sim.specs.Clean.{IsLawful}
 use Rattle.net_sim.specs.Projection.{Agrees}
 use Rattle.net_sim.specs.Story.{Moment, events_of, program}
@@ -27,50 +26,21 @@ use Rattle.net_sim.specs.World.{WorldState}
 use Rattle.net_sim.proofs.lemmas.{box_same, story_agrees}
 use Rattle.promise.specs.declared.life.Life.{Life}
 use Rattle.world_keeps_lives.proofs.lemmas.{linked_end}
-use Rattle.world_keeps_pairing.proofs.lemmas.{book_run}
-use Rattle.world_keeps_streams.specs.Rests.{Agree, AllCalm, AreAtRest, AreCalm, AreSettled, NoneOut, NoneWaits}
+use Rattle.world_keeps_pairing.proofs.lemmas.{book_run, send_odd}
+use Rattle.world_keeps_streams.specs.Rests.{Agree, AllCalm, AreAtRest, AreCalm, AreOpen, AreSilent, NoneOut, NoneWaits}
 use Rattle.world_keeps_streams.proofs.Books.Agree.{settled}
-use Rattle.world_keeps_streams.proofs.Books.Arrives.{rest_lawful, stays_of, unlike}
-use Rattle.world_keeps_streams.proofs.Books.Closes.{rests}
+use Rattle.world_keeps_streams.proofs.Books.Arrives.{end_at, rest_lawful, stays_of}
+use Rattle.world_keeps_streams.proofs.Books.Closes.{AtLink, rests}
 use Rattle.world_keeps_streams.proofs.Books.Firsts.{together}
+use Rattle.world_keeps_streams.proofs.Books.One.{HasPartner}
+use Rattle.world_keeps_streams.proofs.Books.Unclosed.{all_answered, taker_open, unclosed}
+use Rattle.world_keeps_streams.proofs.Deeds.Effects.{Among}
 use Rattle.world_keeps_streams.proofs.Requests.Sides.{Lawful, coupled_in}
 use Rattle.world_keeps_streams.proofs.Stays.Resets.{up_ready}
 use Rattle.world_keeps_streams.proofs.Steps.GoesOut.{ready_as, ready_phase}
+use Rattle.world_keeps_streams.proofs.Tidy.Mute.{none_in, none_next, none_queued, not_busy, nothing_goes}
 
 -- ---- a program that has nothing to say
-
--- has nothing for any of its peers
-none_next : (ps : List Peer) → next_in ps ≡ None → (h : Host) → next_of (pair_with h ps) ≡ None
-none_next [] e h = refl
-none_next (p ∷ ps) e h = by (next_of p.pair) refl e (none_next ps) where
-  by : (o : Option Parcel) → next_of p.pair ≡ o → parcel_for p o (next_in ps) ≡ None → (next_in ps ≡ None → (g : Host) → next_of (pair_with g ps) ≡ None) → next_of (pair_with h (p ∷ ps)) ≡ None
-  by (Some parcel) is f rest = absurd (cc)
-  by None is f rest = here (same_host h p.host) refl where
-    here : (v : Bool) → same_host h p.host ≡ v → next_of (pair_with h (p ∷ ps)) ≡ None
-    here true t = rw t is
-    here false t = rw t (rest f h)
-
-none_in : (own : Host) (o : Option (Peer × Parcel)) → message_of own o ≡ None → o ≡ None
-none_in own None e = refl
-none_in own (Some (p, parcel)) e = absurd (let no : Some (message_for own p parcel) ≡ None = e in cc)
-
-not_busy : (ls : List ℕ) → ((l : ℕ) → is_busy ls l ≡ false) → ls ≡ []
-not_busy [] free = refl
-not_busy (l ∷ ls) free = absurd (unlike (l == l) (eq-eqb l l refl) (first (l == l) (is_busy ls l) (free l))) where
-  first : (u v : Bool) → (u || v) ≡ false → u ≡ false
-  first true v e = e
-  first false v e = refl
-
--- so it has none where each message was answered, and it is through a reset
-none_queued : (q : PairState) → q.phase ≡ phase.Ready → q.busy ≡ [] → next_of q ≡ None → q.queue ≡ []
-none_queued q ready busy none = by q.owed refl where
-  ready_none : next_of_ready q ≡ None → (cs : List Command) → q.queue ≡ cs → cs ≡ []
-  ready_none e [] is = refl
-  ready_none e (c ∷ cs) is = absurd (let more : nat_lt 0 (suc (length cs)) ≡ true = lt-ltb 0 (suc (length cs)) (omega arith) in let some : Some (Commands (packed_count (c ∷ cs))) ≡ None = rw (is, busy, more) at e in cc)
-
-  by : (v : Bool) → q.owed ≡ v → q.queue ≡ []
-  by true owed = absurd (let some : Some Reply ≡ None = rw (ready, owed, busy) at none in cc)
-  by false owed = (let next : next_of_ready q ≡ None = rw (ready, owed) at none in ready_none next q.queue refl)
 
 module _ (hosts : List Host) (ms : List Moment) (l : Lawful hosts ms) (h p : Host) (stays : stay.stays h p (events_of ms) ≡ true) (out : NoneOut h p (crossings_of ms)) (mute : next_out (program h ms) ≡ None) where
   abbrev q : PairState
@@ -82,7 +52,7 @@ module _ (hosts : List Host) (ms : List Moment) (l : Lawful hosts ms) (h p : Hos
   is_ready : program_phases.is_ready (pair_with p (program h ms).peers).phase ≡ true
   is_ready = sym (ready_as h p ms (coupled_in hosts ms l).story) ∙ stays_ready (events_of ms) h p stays
 
-  free : (k : ℕ) → is_busy (pair_with p (program h ms).peers).busy k ≡ false
+  pub free : (k : ℕ) → is_busy (pair_with p (program h ms).peers).busy k ≡ false
   free k =
       let up : (pair h p (events_of ms)).out k ≡ kind_in (boxes h p (events_of ms) k) =
       (sound_run hosts (events_of ms) (coupled_in hosts ms l).run h p (up_ready hosts (events_of ms) (coupled_in hosts ms l).run h p (stays_ready (events_of ms) h p stays))).outstanding.boxed k in
@@ -94,6 +64,12 @@ module _ (hosts : List Host) (ms : List Moment) (l : Lawful hosts ms) (h p : Hos
 
   pub nothing_queued : (pair_with p (program h ms).peers).queue ≡ []
   nothing_queued = none_queued (pair_with p (program h ms).peers) (ready_phase (pair_with p (program h ms).peers).phase is_ready) (not_busy (pair_with p (program h ms).peers).busy free) next
+
+  -- no open end may send
+  pub nothing_more : (e : Entry) → Among e (pair_with p (program h ms).peers).entries → is_receiving e ≡ false → is_open e ≡ true → is_some e.link ≡ true → sendable e ≡ 0
+  nothing_more e i sends opened linked =
+      nothing_goes (pair_with p (program h ms).peers) (ready_phase (pair_with p (program h ms).peers).phase is_ready) (not_busy (pair_with p (program h ms).peers).busy free) next e i sends opened linked
+      (all_answered (pair_with p (program h ms).peers).busy free e.link)
 
 -- no message waits where each was answered
 none_waits : (h p : Host) (ms : List Moment) → NoneOut h p (crossings_of ms) → (link : ℕ) → NoneWaits (record { source = h; destination = p; link = record { 0 = link } }) (crossings_of ms)
@@ -113,6 +89,43 @@ module _ (hosts : List Host) (ms : List Moment) (l : Lawful hosts ms) (x s : Lif
   own_link : (k : ℕ) × (c.end.end.link ≡ Some k) × ((k == 0) ≡ false)
   own_link = linked_end hosts (together hosts) ms l x c.there c.goes c.end
 
+  abbrev at : AtLink ms x
+  at = record { there = c.there; receiving = c.matches.receiving; goes = c.goes; end = c.end; link = own_link.0; linked = own_link.1 }
+
+  abbrev partner : HasPartner ms x s
+  partner = record { there = c.sender_there; matches = c.matches; goes = c.sender_goes; end = c.giver }
+
+  abbrev quiet : AreSilent x.host s.host ms
+  quiet = record {
+    there = none_waits x.host s.host ms c.idle.there 0;
+    back = none_waits s.host x.host ms c.idle.back 0;
+    queue = nothing_queued hosts ms l x.host s.host here c.idle.there c.idle.mute;
+    queue_back = nothing_queued hosts ms l s.host x.host there c.idle.back c.idle.mute_back;
+  }
+
+  -- all that the sender sent is answered
+  sender_stays : stay.stays s.host s.peer (events_of ms) ≡ true
+  sender_stays = stays_of hosts ms l s c.sender_there c.sender_goes
+
+  out : NoneOut s.host s.peer (crossings_of ms)
+  out = subst (λ (h : Host). NoneOut s.host h (crossings_of ms)) (sym c.matches.peers.1) c.idle.back
+
+  answered : (k : ℕ) → is_busy (pair_with s.peer (program s.host ms).peers).busy k ≡ false
+  answered = free hosts ms l s.host s.peer sender_stays out c.idle.mute_back
+
+  -- and it may send no more
+  sender_link : (k : ℕ) × (c.giver.end.link ≡ Some k) × ((k == 0) ≡ false)
+  sender_link = linked_end hosts (together hosts) ms l s c.sender_there c.sender_goes c.giver
+
+  sender_end : Among c.giver.end (pair_with s.peer (program s.host ms).peers).entries × (is_mine_on s.socket c.giver.end ≡ true)
+  sender_end = end_at s (program s.host ms) c.giver
+
+  sending : is_receiving c.giver.end ≡ false
+  sending = ap is_receive_socket (eqb-true c.giver.end.own s.socket (both c.giver.end.mine (c.giver.end.own == s.socket) sender_end.1).1) ∙ send_odd s.socket c.matches.sending
+
+  waits : is_open c.giver.end ≡ true → sendable c.giver.end ≡ 0
+  waits opened = nothing_more hosts ms l s.host s.peer sender_stays out c.idle.mute_back c.giver.end sender_end.0 sending opened (ap (λ (o : Option ℕ). is_some o) sender_link.1)
+
   abbrev rest : AreAtRest ms x s
   rest = record {
     there = c.there;
@@ -121,26 +134,19 @@ module _ (hosts : List Host) (ms : List Moment) (l : Lawful hosts ms) (x s : Lif
     goes = c.goes;
     sender_goes = c.sender_goes;
     end = c.end;
-    opened = c.opened;
+    opened = taker_open hosts ms l x s at partner quiet answered;
     link = own_link.0;
     linked = own_link.1;
     silent = subst (λ (h : Host). NoneWaits (record { source = h; destination = x.host; link = record { 0 = own_link.0 } }) (crossings_of ms)) (sym c.matches.peers.0) (none_waits s.host x.host ms c.idle.back own_link.0);
   }
 
-  abbrev both_settled : AreSettled ms x s
-  both_settled = record {
-    rest = rest;
-    giver = c.giver;
-    silent = record {
-      there = none_waits x.host s.host ms c.idle.there 0;
-      back = none_waits s.host x.host ms c.idle.back 0;
-      queue = nothing_queued hosts ms l x.host s.host here c.idle.there c.idle.mute;
-      queue_back = nothing_queued hosts ms l s.host x.host there c.idle.back c.idle.mute_back;
-    };
-  }
+  both_open : AreOpen c.end.end c.giver.end
+  both_open =
+      let are : (was_closed c.end.end ≡ false) × (is_open c.giver.end ≡ true) × (was_closed c.giver.end ≡ true → c.giver.end.bits ≡ [] → ⊥) = unclosed hosts ms l x s at partner quiet answered in
+      record { unclosed = are.0; opened = are.1; drains = are.2; waits = waits are.1 }
 
-  pub calm : (x.bits ≡ s.bits) × (x.messages ≡ s.messages) × Agree x c.end.end c.giver.end
-  calm = let same : (x.bits ≡ s.bits) × (x.messages ≡ s.messages) = rests hosts ms l x s rest in (same.0, same.1, settled hosts ms l x s both_settled)
+  pub calm : (x.bits ≡ s.bits) × (x.messages ≡ s.messages) × Agree x c.end.end c.giver.end × AreOpen c.end.end c.giver.end
+  calm = let same : (x.bits ≡ s.bits) × (x.messages ≡ s.messages) = rests hosts ms l x s rest in (same.0, same.1, settled hosts ms l x s (record { rest = rest; giver = c.giver; silent = quiet }), both_open)
 
 -- ---- at all moments, and in worlds
 

@@ -112,7 +112,7 @@ module _ (hosts : List Host) (ms : List Moment) (l : Lawful hosts ms) (x s : Lif
   -- ---- on any link
 
   module _ (link : ℕ) (j : Joined x.host x.peer link ms) where
-    taker_found : entry_at x.socket x.foreign (pair_with x.peer (program x.host ms).peers).entries ≡ Some f.end.end
+    pub taker_found : entry_at x.socket x.foreign (pair_with x.peer (program x.host ms).peers).entries ≡ Some f.end.end
     taker_found =
         among_found x.socket x.foreign f.end.end (pair_with x.peer (program x.host ms).peers).entries
         (separate (name_of numbered (gone_now x.peer (own_calls x.host x.peer ms))) (pair_with x.peer (program x.host ms).peers).entries (j.joint.mine here).holds.sound.apart)

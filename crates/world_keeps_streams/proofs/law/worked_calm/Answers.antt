@@ -1,4 +1,4 @@
-use Rattle.std.proofs.Common.{◌≡◌, ℕ, zero, suc, ◌==◌, Bool, true, false, List, [], ◌∷◌, Option, is_some, refl, ap, ◌∙◌, arith}
+use Rattle.std.proofs.Common.{◌≡◌, ℕ, zero, suc, ◌==◌, Bool, true, false, Option, is_some, refl, ap, arith}
 use Rattle.std.proofs.lemmas.Bool.{ne_eqb}
 use Rattle.bit_messages.specs.Octets.{octets_of}
 use Rattle.interface.specs.Mailboxes.{Box, Empty, Taken, Waiting}
@@ -8,9 +8,8 @@ use Rattle.ncp_control.specs.Reading.{read_of, command_of}
 use Rattle.host_pairs.specs.Control.{orders_of}
 use Rattle.host_pairs.specs.Commands.{asked_on_link, asked_with_size, granted}
 use Rattle.host_pairs.specs.Data.{spent}
-use Rattle.host_pairs.specs.Entries.{is_open, receiving_end, sending_end}
+use Rattle.host_pairs.specs.Entries.{receiving_end, sending_end}
 use Rattle.host_pairs.specs.Parcels.{asked_at}
-use Rattle.host_pairs.specs.declared.entry.Entry.{Entry}
 use Rattle.sockets.specs.Accepting.{accepted}
 use Rattle.sockets.specs.Requests.{refusal, served, served_notices}
 use Rattle.sockets.specs.Sending.{next_out, offered}
@@ -21,10 +20,6 @@ use Rattle.world_keeps_lives.proofs.lemmas.{none_there}
 use Rattle.world_keeps_streams.specs.Rests.{NoneOut}
 use Rattle.world_keeps_streams.specs.Worked.{calm_moments}
 use Rattle.world_keeps_streams.proofs.law.worked_calm.Goals as goal
-
-first_open : List Entry → Bool
-first_open [] = true
-first_open (e ∷ es) = is_open e
 
 is_empty : Box → Bool
 is_empty Empty = true
@@ -71,7 +66,6 @@ returns-clause-calm c = record {
     own = refl;
     partner = refl;
   };
-  opened = refl;
   giver = record {
     end = spent 8 (granted 2 100 (asked_at 8 (asked_on_link 7 2 (sending_end 33 16 8))));
     one = refl;
@@ -100,5 +94,5 @@ unfolding octets_of orders_of read_of command_of packed_count accepted refusal s
 returns-clause-returning c f = not_some (ap (λ (o : Option HostMessage). is_some o) f.idle.mute_back)
 
 pub returns-clause-closing : goal.returns-clause-closing
-unfolding octets_of orders_of read_of command_of packed_count accepted refusal served served_notices next_out offered first_open
-returns-clause-closing c f = not_both (ap first_open f.end.one ∙ f.opened)
+unfolding octets_of orders_of read_of command_of packed_count accepted refusal served served_notices next_out offered
+returns-clause-closing c f = not_some (ap (λ (o : Option HostMessage). is_some o) f.idle.mute)
