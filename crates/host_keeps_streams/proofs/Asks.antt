@@ -47,7 +47,7 @@ module _ (name : ℕ → ℕ → ℕ) (link l : ℕ) (text : List Bool) (d : Des
   data_by : (r : Receiver) → HasReceiver name link d.entries r → (o : Option DataHeader) → header_of text ≡ o → (v : Bool) → (l == link) ≡ v → Received name link (data_received link l text o) (data_taken l text d).entries r
   data_by r h None e v t = (tt, subst (λ (es : List Entry). HasReceiver name link es r) (sym (headless_by l text d (receiver_on l d) e)) h)
   data_by r h (Some x) e true t =
-      rw t ((tt, tt), subst (λ (n : ℕ). HasReceiver name link (data_taken n text d).entries (receivers.takes x.size (data_of (data_bits x) text) r.end r)) (sym (eqb-true l link t)) (data_receives name link text x d r e h))
+      rw t ((tt, tt), subst (λ (n : ℕ). HasReceiver name link (data_taken n text d).entries (receivers.moved (receivers.Take x.size (data_of (data_bits x) text)) r)) (sym (eqb-true l link t)) (data_receives name link text x d r e h))
   data_by r h (Some x) e false t = rw t (tt, subst (λ (xs : List Entry). AreReceiver name xs r) (sym (receiver_elsewhere link l text d t)) h)
 
   pub takes_data : (r : Receiver) → HasReceiver name link d.entries r → Received name link (data_received link l text (header_of text)) (data_taken l text d).entries r

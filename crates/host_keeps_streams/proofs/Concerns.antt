@@ -60,7 +60,7 @@ module _ (P : ℕ → Type 0) (c : ℕ) (out : P c → ⊥) where
   moved_one (receivers.Ask k) r p u = let away : (c == k) ≡ false = other k p in record { unasked = (rw away u.unasked); untold = u.untold; unheard = u.unheard }
   moved_one (receivers.AskBack k m n) r p u = u
   moved_one (receivers.Hear w) r p u = heard_one w r p u
-  moved_one (receivers.Take z bits) r p u = data_taken z bits r.end r u
+  moved_one (receivers.Take z bits) r p u = let t : IsUnknown c (receivers.takes z bits r.end r) = data_taken z bits r.end r u in record { unasked = t.unasked; untold = t.untold; unheard = t.unheard }
   moved_one m r p u = record { unasked = u.unasked; untold = u.untold; unheard = u.unheard }
 
   -- what is unknown stays so by moves of others

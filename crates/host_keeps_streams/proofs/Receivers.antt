@@ -116,6 +116,12 @@ none_told : (d : DeskState) → d.notices ≡ [] → (ms : List (List Bool)) →
 none_told d silent ms = ap (λ (ns : List Notice). ms ++ arrivals ns) silent ∙ append-nil ms
 
 module _ (name : ℕ → ℕ → ℕ) (link : ℕ) where
+  -- no end looks at how many messages came
+  with_came : (xs : List Entry) (r : Receiver) (came : ℕ → ℕ) → AreReceiver name xs r → AreReceiver name xs (record r { came = came })
+  with_came [] r came h = h
+  with_came (e ∷ []) r came h = record { end = h.end; opened = h.opened; closed = h.closed; over = h.over; size = h.size; allocation = h.allocation; due = h.due; live = h.live }
+  with_came (e ∷ f ∷ more) r came h = absurd h
+
   taken_by : (text : List Bool) (h : DataHeader) (bits : List Bool) (d : DeskState) (r : Receiver) (x : Entry) → length bits ≡ data_bits h → find (receives_on link) d.entries ≡ Some x → filter (receives_on link) d.entries ≡ x ∷ []
       → IsReceiver (name x.own x.foreign) x r → (v : Bool) → is_acceptable x h ≡ v
       → (receivers.is_open (name x.own x.foreign) r && words.is_size h.size (r.size (name x.own x.foreign)) && covers r.allocation (length bits)) ≡ v
@@ -128,15 +134,20 @@ module _ (name : ℕ → ℕ → ℕ) (link : ℕ) where
       (rw g (record { end = i.end; opened = i.opened; closed = i.closed; over = i.over; size = i.size; allocation = spends; due = i.due; live = i.live }))
   taken_by text h bits d r x size f one i false e g = subst (λ (es : List Entry). AreReceiver name es (receivers.takes h.size bits (Some (name x.own x.foreign)) r)) (sym one) (rw g i)
 
-  pub data_receives : (text : List Bool) (h : DataHeader) (d : DeskState) (r : Receiver) → header_of text ≡ Some h → HasReceiver name link d.entries r
+  data_takes : (text : List Bool) (h : DataHeader) (d : DeskState) (r : Receiver) → header_of text ≡ Some h → HasReceiver name link d.entries r
       → HasReceiver name link (data_taken link text d).entries (receivers.takes h.size (data_of (data_bits h) text) r.end r)
-  data_receives text h d r is k =
+  data_takes text h d r is k =
       at_link name link d.entries r (λ w q. HasReceiver name link (data_found link text w d).entries q) (λ o. receivers.takes h.size (data_of (data_bits h) text) o r) k k refl
       (shut_takes h.size (data_of (data_bits h) text) r)
       (λ x f one i o.
       subst (λ (p : Option DataHeader). HasReceiver name link (arrived_if link x text p d).entries (receivers.takes h.size (data_of (data_bits h) text) (Some (name x.own x.foreign)) r)) (sym is)
       (taken_by text h (data_of (data_bits h) text) d r x (bits_there text h is) f one i (is_acceptable x h) refl (accept_same (name x.own x.foreign) x r h (data_of (data_bits h) text) i o (bits_there text h is))))
       k
+
+  pub data_receives : (text : List Bool) (h : DataHeader) (d : DeskState) (r : Receiver) → header_of text ≡ Some h → HasReceiver name link d.entries r
+      → HasReceiver name link (data_taken link text d).entries (receivers.moved (receivers.Take h.size (data_of (data_bits h) text)) r)
+  data_receives text h d r is k =
+      with_came (filter (receives_on link) (data_taken link text d).entries) (receivers.takes h.size (data_of (data_bits h) text) r.end r) (receivers.one_more r.end r.came) (data_takes text h d r is k)
 
   -- what is reported as taken is what the law takes
   told_by : (text : List Bool) (h : DataHeader) (bits : List Bool) (d : DeskState) (r : Receiver) (x : Entry) → data_of (data_bits h) text ≡ bits → IsReceiver (name x.own x.foreign) x r → (v : Bool) → is_acceptable x h ≡ v

@@ -1,5 +1,5 @@
 -- While both ends of a connection are open nothing that was granted is lost.
-use Rattle.std.proofs.Common.{◌≡◌, ◌≢◌, ℕ, ◌+◌, ◌-◌, ◌≤◌, ◌==◌, Bool, true, false, ◌&&◌, List, [], ◌∷◌, ◌++◌, length, Option, Some, None, refl, ap, sym, subst, ◌∙◌, inl, inr, if◌then◌else◌, eq-eqb, append-nil, nat_le, ◌⊎◌, arith}
+use Rattle.std.proofs.Common.{◌≡◌, ◌≢◌, ℕ, suc, ◌+◌, ◌-◌, ◌≤◌, ◌==◌, Bool, true, false, ◌&&◌, List, [], ◌∷◌, ◌++◌, length, Option, Some, None, refl, ap, sym, subst, ◌∙◌, inl, inr, if◌then◌else◌, eq-eqb, append-nil, nat_le, ◌⊎◌, arith}
 use Rattle.std.proofs.lemmas.Bool.{eqb-true, le-leb}
 use Rattle.std.proofs.Math.Nat.{min-eq_left}
 use Rattle.ncp_control.specs.Allocation as counters
@@ -210,7 +210,7 @@ module _ (lost : Bool) (r : Receiver) (s : Sender) (d u : List Word) (c z : ℕ)
   end_is = waits_of (made r s d u (Waiting c z bits)) h c z bits refl
 
   exact_taken_if : (v : Bool) → (receivers.is_open c r && is_size z (r.size c) && covers r.allocation (length bits)) ≡ v
-      → Exact lost (made (if v then record r { allocation = counters.spent r.allocation (length bits); taken = for c (r.taken c ++ bits ∷ []) r.taken } else r) s d u Taken)
+      → Exact lost (made (record (if v then record r { allocation = counters.spent r.allocation (length bits); taken = for c (r.taken c ++ bits ∷ []) r.taken } else r) { came = for c (suc (r.came c)) r.came }) s d u Taken)
   exact_taken_if true e = record {
     holds = λ u' k i. (
         let l : number u' r.allocation + total u' (r.taken k) + number u' (r.returned k) ≤ number u' (r.granted k) = x.holds u' k i in
@@ -222,11 +222,11 @@ module _ (lost : Bool) (r : Receiver) (s : Sender) (d u : List Word) (c z : ℕ)
     fits = ((let l : r.allocation.messages ≤ 65535 = x.fits.0 in omega (arith, l)), (let l : r.allocation.bits ≤ 4294967295 = x.fits.1 in omega (arith, l)));
     all = λ u' k o. x.all u' k (record { end = o.end; receiver = o.receiver; sender = o.sender; unshut = o.unshut; opened = o.opened });
   }
-  exact_taken_if false e = record { holds = x.holds; fits = x.fits; all = x.all }
+  exact_taken_if false e = record { holds = x.holds; fits = x.fits; all = λ u' k o. x.all u' k (record { end = o.end; receiver = o.receiver; sender = o.sender; unshut = o.unshut; opened = o.opened }) }
 
-  exact_take : Exact lost (made (receivers.takes z bits r.end r) s d u Taken)
+  exact_take : Exact lost (made (receivers.moved (receivers.Take z bits) r) s d u Taken)
   exact_take =
-      subst (λ (o : Option ℕ). Exact lost (made (receivers.takes z bits o r) s d u Taken)) (sym end_is)
+      subst (λ (o : Option ℕ). Exact lost (made (record (receivers.takes z bits o r) { came = receivers.one_more o r.came }) s d u Taken)) (sym end_is)
       (exact_taken_if (receivers.is_open c r && is_size z (r.size c) && covers r.allocation (length bits)) refl)
 
 -- ---- what the sender does
@@ -467,7 +467,7 @@ exact_kept lost (Receives (receivers.Hear w)) y m p h x =
     subst (λ (u : List Word). Inv (made y.receiver y.sender y.to_sender u y.box) → Exact lost (made y.receiver y.sender y.to_sender u y.box) → Exact lost (made (receivers.hears w y.receiver) y.sender y.to_sender (behind u) y.box)) (sym m.1.1)
     (exact_heard lost y.receiver y.sender y.to_sender m.1.0 y.box w) h x
 exact_kept lost (Receives (receivers.Take z bits)) y m p h x =
-    subst (λ (b : Box). Inv (made y.receiver y.sender y.to_sender y.to_receiver b) → Exact lost (made y.receiver y.sender y.to_sender y.to_receiver b) → Exact lost (made (receivers.takes z bits y.receiver.end y.receiver) y.sender y.to_sender y.to_receiver Taken)) (sym m.1.1)
+    subst (λ (b : Box). Inv (made y.receiver y.sender y.to_sender y.to_receiver b) → Exact lost (made y.receiver y.sender y.to_sender y.to_receiver b) → Exact lost (made (receivers.moved (receivers.Take z bits) y.receiver) y.sender y.to_sender y.to_receiver Taken)) (sym m.1.1)
     (exact_take lost y.receiver y.sender y.to_sender y.to_receiver m.1.0 z bits) h x
 exact_kept lost (Sends (senders.Ask c z)) y m p h x = exact_asks lost y.receiver y.sender y.to_sender y.to_receiver y.box x c z
 exact_kept lost (Sends (senders.Open c)) y m p h x = exact_opens lost y.receiver y.sender y.to_sender y.to_receiver y.box x c m.0.0 p

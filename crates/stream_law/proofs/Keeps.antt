@@ -1,5 +1,5 @@
 -- What the two hosts of a link keep, through all that happens.
-use Rattle.std.proofs.Common.{◌≡◌, ◌⊎◌, ℕ, ◌+◌, ◌≤◌, Bool, true, false, ◌&&◌, List, [], ◌∷◌, ◌++◌, length, Option, Some, None, is_some, refl, ap, sym, subst, ◌∙◌, inl, inr, eq-eqb, nat_lt, nat_le, arith}
+use Rattle.std.proofs.Common.{◌≡◌, ◌⊎◌, ℕ, ◌+◌, ◌≤◌, ◌==◌, if◌then◌else◌, Bool, true, false, ◌&&◌, List, [], ◌∷◌, ◌++◌, length, Option, Some, None, is_some, refl, ap, sym, subst, ◌∙◌, inl, inr, eq-eqb, nat_lt, nat_le, arith}
 use Rattle.std.proofs.lemmas.Bool.{le-leb, lt-ltb}
 use Rattle.stream_law.specs.Words.{Word, Rts, covers, is_size}
 use Rattle.stream_law.specs.Receivers as receivers
@@ -75,6 +75,15 @@ Settled r s = (c : ℕ) → r.over c ≡ true → r.first c ≡ false → r.take
 abbrev pub Fronts : Receiver → Sender → Type 0
 Fronts r s = (c : ℕ) → IsPrefix (r.taken c) (s.sent c)
 
+-- each message that was sent waits, or it came
+abbrev pub waiting_of : ℕ → Box → ℕ
+waiting_of c Empty = 0
+waiting_of c (Waiting k size bits) = if c == k then 1 else 0
+waiting_of c Taken = 0
+
+abbrev pub Came : Receiver → Sender → Box → Type 0
+Came r s box = (c : ℕ) → length (s.sent c) ≡ r.came c + waiting_of c box
+
 abbrev pub Unsent : Receiver → Sender → Type 0
 Unsent r s = (c : ℕ) → r.asked c ≡ false → s.sent c ≡ []
 
@@ -112,6 +121,7 @@ pub record Inv (x : Stream) : Type 0 where
   pub settled : Settled x.receiver x.sender
   pub fronts : Fronts x.receiver x.sender
   pub unsent : Unsent x.receiver x.sender
+  pub came : Came x.receiver x.sender x.box
   pub account : (u : Counter) (c : ℕ) → Account u c x.receiver x.sender x.to_sender x.to_receiver
   pub left : (u : Counter) (c : ℕ) → Left u c x.receiver
   pub unopened : (u : Counter) (c : ℕ) → Unopened u c x.receiver

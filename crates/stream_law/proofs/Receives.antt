@@ -1,5 +1,5 @@
 -- What the receiver does keeps all of it.
-use Rattle.std.proofs.Common.{◌≡◌, ℕ, ◌+◌, ◌-◌, ◌≤◌, Bool, true, false, not, ◌&&◌, List, [], ◌∷◌, ◌++◌, length, Option, Some, None, is_some, refl, ap, sym, subst, ◌∙◌, inl, inr, if◌then◌else◌, append-nil, arith}
+use Rattle.std.proofs.Common.{◌≡◌, ℕ, suc, ◌==◌, ◌+◌, ◌-◌, ◌≤◌, Bool, true, false, not, ◌&&◌, List, [], ◌∷◌, ◌++◌, length, Option, Some, None, is_some, refl, ap, sym, subst, ◌∙◌, inl, inr, if◌then◌else◌, append-nil, eqb-true, arith}
 use Rattle.ncp_control.specs.Allocation as counters
 use Rattle.stream_law.specs.Words.{Word, Rts, Str, All, Gvb, Ret, Cls, for, covers, holds, is_size}
 use Rattle.stream_law.specs.Receivers as receivers
@@ -99,6 +99,7 @@ module _ (r : Receiver) (s : Sender) (d u : List Word) (b : Box) (h : Inv (made 
     firsts = λ k e f g. absurd (cc);
     settled = h.settled;
     fronts = h.fronts;
+    came = h.came;
     unsent = λ k e. h.unsent k (for_less c r.asked k e);
     account = λ u' k. (let a : Account u' k r s d u = h.account u' k in let g : granted_in u' k (d ++ Rts c ∷ []) ≡ granted_in u' k d + 0 = granted_more u' k d (Rts c) in omega (arith, a, g));
     left = λ u' k e. (let g : number u' (r.granted k) ≡ 0 = subst (λ (j : ℕ). number u' (r.granted j) ≡ 0) (some_is c k e) (h.ungranted u' c fresh) in omega (arith, g));
@@ -131,6 +132,7 @@ module _ (r : Receiver) (s : Sender) (d u : List Word) (b : Box) (h : Inv (made 
     firsts = h.firsts;
     settled = h.settled;
     fronts = h.fronts;
+    came = h.came;
     unsent = h.unsent;
     account = h.account;
     left = h.left;
@@ -156,6 +158,7 @@ module _ (r : Receiver) (s : Sender) (d u : List Word) (b : Box) (h : Inv (made 
     firsts = h.firsts;
     settled = h.settled;
     fronts = h.fronts;
+    came = h.came;
     unsent = h.unsent;
     account = λ u' k. (
         let a : Account u' k r s d u = h.account u' k in
@@ -194,6 +197,7 @@ module _ (r : Receiver) (s : Sender) (d u : List Word) (b : Box) (h : Inv (made 
     firsts = h.firsts;
     settled = h.settled;
     fronts = h.fronts;
+    came = h.came;
     unsent = h.unsent;
     account = λ u' k. (let a : Account u' k r s d u = h.account u' k in let g : granted_in u' k (d ++ Gvb c m n ∷ []) ≡ granted_in u' k d + 0 = granted_more u' k d (Gvb c m n) in omega (arith, a, g));
     left = h.left;
@@ -220,6 +224,7 @@ module _ (r : Receiver) (s : Sender) (d u : List Word) (b : Box) (h : Inv (made 
     firsts = firsts_closed c r end;
     settled = settled_closed c r s h.settled;
     fronts = h.fronts;
+    came = h.came;
     unsent = h.unsent;
     account = λ u' k. (let a : Account u' k r s d u = h.account u' k in let g : granted_in u' k (d ++ Cls c ∷ []) ≡ granted_in u' k d + 0 = granted_more u' k d (Cls c) in omega (arith, a, g));
     left = h.left;
@@ -247,6 +252,7 @@ module _ (r : Receiver) (s : Sender) (d u : List Word) (b : Box) (h : Inv (made 
     firsts = λ k e f g. absurd (cc);
     settled = h.settled;
     fronts = h.fronts;
+    came = h.came;
     unsent = h.unsent;
     account = h.account;
     left = λ u' k e. absurd (cc);
@@ -279,6 +285,7 @@ module _ (r : Receiver) (s : Sender) (d rest : List Word) (b : Box) where
     firsts = h.firsts;
     settled = h.settled;
     fronts = h.fronts;
+    came = h.came;
     unsent = h.unsent;
     account = h.account;
     left = h.left;
@@ -306,6 +313,7 @@ module _ (r : Receiver) (s : Sender) (d rest : List Word) (b : Box) where
       | inr t ↦ h.settled k (sym t.1 ∙ e) f
     ];
     fronts = h.fronts;
+    came = h.came;
     unsent = h.unsent;
     account = h.account;
     left = h.left;
@@ -331,6 +339,7 @@ module _ (r : Receiver) (s : Sender) (d rest : List Word) (b : Box) where
     firsts = h.firsts;
     settled = h.settled;
     fronts = h.fronts;
+    came = h.came;
     unsent = h.unsent;
     account = λ u' k. (
         let a : Account u' k r s d (Ret c m n ∷ rest) = h.account u' k in
@@ -362,6 +371,7 @@ module _ (r : Receiver) (s : Sender) (d rest : List Word) (b : Box) where
     firsts = h.firsts;
     settled = h.settled;
     fronts = h.fronts;
+    came = h.came;
     unsent = h.unsent;
     account = λ u' k. (let a : Account u' k r s d (Ret c m n ∷ rest) = h.account u' k in omega (arith, a));
     left = h.left;
@@ -384,8 +394,14 @@ module _ (r : Receiver) (s : Sender) (d u : List Word) (c z : ℕ) (bits : List 
   end_is : r.end ≡ Some c
   end_is = waits_of (made r s d u (Waiting c z bits)) h c z bits refl
 
+  came_one : (k : ℕ) → length (s.sent k) ≡ for c (suc (r.came c)) r.came k + 0
+  came_one k = by (k == c) refl (h.came k) where
+    by : (v : Bool) → (k == c) ≡ v → length (s.sent k) ≡ r.came k + (if v then 1 else 0) → length (s.sent k) ≡ (if v then suc (r.came c) else r.came k) + 0
+    by true same e = let one : r.came k ≡ r.came c = ap r.came (eqb-true k c same) in omega (arith, e, one)
+    by false same e = e
+
   taken_if : (v : Bool) → (receivers.is_open c r && is_size z (r.size c) && covers r.allocation (length bits)) ≡ v
-      → Inv (made (if v then record r { allocation = counters.spent r.allocation (length bits); taken = for c (r.taken c ++ bits ∷ []) r.taken } else r) s d u Taken)
+      → Inv (made (record (if v then record r { allocation = counters.spent r.allocation (length bits); taken = for c (r.taken c ++ bits ∷ []) r.taken } else r) { came = for c (suc (r.came c)) r.came }) s d u Taken)
   taken_if true e = record {
     known = h.known;
     own = h.own;
@@ -408,6 +424,7 @@ module _ (r : Receiver) (s : Sender) (d u : List Word) (c z : ℕ) (bits : List 
       | inl t ↦ ([], append-nil (for c (r.taken c ++ bits ∷ []) r.taken k) ∙ sym (same k t.0))
       | inr t ↦ subst (λ (l : List (List Bool)). IsPrefix l (s.sent k)) (sym t.1) (h.fronts k)
     ];
+    came = came_one;
     unsent = h.unsent;
     account = h.account;
     left = λ u' k i. (
@@ -447,6 +464,7 @@ module _ (r : Receiver) (s : Sender) (d u : List Word) (c z : ℕ) (bits : List 
     firsts = h.firsts;
     settled = h.settled;
     fronts = h.fronts;
+    came = came_one;
     unsent = h.unsent;
     account = h.account;
     left = h.left;
@@ -454,6 +472,6 @@ module _ (r : Receiver) (s : Sender) (d u : List Word) (c z : ℕ) (bits : List 
     ungranted = h.ungranted;
   }
 
-  pub kept_take : Inv (made (receivers.takes z bits r.end r) s d u Taken)
+  pub kept_take : Inv (made (receivers.moved (receivers.Take z bits) r) s d u Taken)
   kept_take =
-      subst (λ (o : Option ℕ). Inv (made (receivers.takes z bits o r) s d u Taken)) (sym end_is) (taken_if (receivers.is_open c r && is_size z (r.size c) && covers r.allocation (length bits)) refl)
+      subst (λ (o : Option ℕ). Inv (made (record (receivers.takes z bits o r) { came = receivers.one_more o r.came }) s d u Taken)) (sym end_is) (taken_if (receivers.is_open c r && is_size z (r.size c) && covers r.allocation (length bits)) refl)

@@ -32,6 +32,7 @@ inv_opening = record {
   settled = λ c e f. absurd (cc);
   fronts = λ c. ([], refl);
   unsent = λ c e. refl;
+  came = λ c. refl;
   account = λ u c. (let none : number u counters.nothing ≡ 0 = number_nothing u in omega (arith, none));
   left = λ u c e. absurd (cc);
   unopened = λ u c e f. absurd (cc);
@@ -66,7 +67,7 @@ kept (Receives (receivers.Hear w)) x m h =
     subst (λ (u : List Word). Inv (made x.receiver x.sender x.to_sender u x.box) → Inv (made (receivers.hears w x.receiver) x.sender x.to_sender (behind u) x.box)) (sym m.1.1)
     (heard x.receiver x.sender x.to_sender m.1.0 x.box w) h
 kept (Receives (receivers.Take z bits)) x m h =
-    subst (λ (b : Box). Inv (made x.receiver x.sender x.to_sender x.to_receiver b) → Inv (made (receivers.takes z bits x.receiver.end x.receiver) x.sender x.to_sender x.to_receiver Taken)) (sym m.1.1)
+    subst (λ (b : Box). Inv (made x.receiver x.sender x.to_sender x.to_receiver b) → Inv (made (receivers.moved (receivers.Take z bits) x.receiver) x.sender x.to_sender x.to_receiver Taken)) (sym m.1.1)
     (receives.kept_take x.receiver x.sender x.to_sender x.to_receiver m.1.0 z bits) h
 kept (Sends (senders.Ask c z)) x m h = sends.kept_ask x.receiver x.sender x.to_sender x.to_receiver x.box h c z m.0
 kept (Sends (senders.Open c)) x m h = sends.kept_open x.receiver x.sender x.to_sender x.to_receiver x.box h

@@ -1,7 +1,7 @@
 -- What the sender does keeps all of it.
 use Rattle.std.proofs.Common.{◌≡◌, ◌≢◌, ℕ, ◌+◌, ◌≤◌, ◌==◌, Bool, true, false, not, ◌&&◌, List, [], ◌∷◌, ◌++◌, length, Option, Some, None, refl, ap, sym, subst, ◌∙◌, inl, inr, if◌then◌else◌, eq-eqb, append-nil, arith}
 use Rattle.std.proofs.lemmas.Bool.{eqb-true}
-use Rattle.std.proofs.lemmas.List.{append_assoc}
+use Rattle.std.proofs.lemmas.List.{append_assoc, length-append}
 use Rattle.ncp_control.specs.Allocation as counters
 use Rattle.ncp_control.specs.declared.allocation.Allocation.{Allocation}
 use Rattle.stream_law.specs.Words.{Word, Rts, Str, All, Gvb, Ret, Cls, for, covers}
@@ -133,6 +133,7 @@ module _ (r : Receiver) (s : Sender) (d u : List Word) (b : Box) (h : Inv (made 
     firsts = h.firsts;
     settled = h.settled;
     fronts = h.fronts;
+    came = h.came;
     unsent = h.unsent;
     account = λ u' k. (let a : Account u' k r s d u = h.account u' k in let g : returned_in u' k (u ++ Str c z ∷ []) ≡ returned_in u' k u + 0 = returned_more u' k u (Str c z) in omega (arith, a, g));
     left = h.left;
@@ -157,6 +158,7 @@ module _ (r : Receiver) (s : Sender) (d u : List Word) (b : Box) (h : Inv (made 
     firsts = h.firsts;
     settled = h.settled;
     fronts = h.fronts;
+    came = h.came;
     unsent = h.unsent;
     account = h.account;
     left = h.left;
@@ -189,6 +191,7 @@ module _ (r : Receiver) (s : Sender) (d u : List Word) (b : Box) (h : Inv (made 
     firsts = h.firsts;
     settled = h.settled;
     fronts = h.fronts;
+    came = h.came;
     unsent = h.unsent;
     account = λ u' k. (
         let a : Account u' k r s d u = h.account u' k in
@@ -231,6 +234,7 @@ module _ (r : Receiver) (s : Sender) (d u : List Word) (h : Inv (made r s d u Em
       | inl t ↦ subst (λ (l : List (List Bool)). IsPrefix (r.taken k) l) (ap (λ (j : ℕ). s.sent j ++ bits ∷ []) t.0 ∙ sym t.1) (front_more (r.taken k) (s.sent k) bits (h.fronts k))
       | inr t ↦ subst (λ (l : List (List Bool)). IsPrefix (r.taken k) l) (sym t.1) (h.fronts k)
     ];
+    came = came_one;
     unsent = λ k e. elim (at c (s.sent c ++ bits ∷ []) s.sent k) [
       | inl t ↦ absurd (unlike (r.asked k) (ap r.asked t.0 ∙ h.heard c end) e)
       | inr t ↦ (t.1 ∙ h.unsent k e)
@@ -247,6 +251,16 @@ module _ (r : Receiver) (s : Sender) (d u : List Word) (h : Inv (made r s d u Em
     unopened = h.unopened;
     ungranted = h.ungranted;
   } where
+    came_one : (k : ℕ) → length (for c (s.sent c ++ bits ∷ []) s.sent k) ≡ r.came k + (if k == c then 1 else 0)
+    came_one k = by (k == c) refl where
+      by : (v : Bool) → (k == c) ≡ v → length (if v then s.sent c ++ bits ∷ [] else s.sent k) ≡ r.came k + (if v then 1 else 0)
+      by true same =
+          let old : length (s.sent k) ≡ r.came k + 0 = h.came k in
+          let one : length (s.sent k) ≡ length (s.sent c) = ap (λ (j : ℕ). length (s.sent j)) (eqb-true k c same) in
+          let more : length (s.sent c ++ bits ∷ []) ≡ length (s.sent c) + 1 = length-append (s.sent c) (bits ∷ []) in
+          omega (arith, old, one, more)
+      by false same = h.came k
+
     not_closed : s.closed c ≡ false
     not_closed = (opens c s is_open).2
 
@@ -271,6 +285,7 @@ kept_told r s d u h = record {
   firsts = h.firsts;
   settled = h.settled;
   fronts = h.fronts;
+  came = h.came;
   unsent = h.unsent;
   account = h.account;
   left = h.left;
@@ -300,6 +315,7 @@ module _ (r : Receiver) (s : Sender) (rest u : List Word) (b : Box) where
     firsts = h.firsts;
     settled = h.settled;
     fronts = h.fronts;
+    came = h.came;
     unsent = h.unsent;
     account = λ u' k. (
         let a : Account u' k r s (Rts c ∷ rest) u = h.account u' k in
@@ -336,6 +352,7 @@ module _ (r : Receiver) (s : Sender) (rest u : List Word) (b : Box) where
     firsts = h.firsts;
     settled = h.settled;
     fronts = h.fronts;
+    came = h.came;
     unsent = h.unsent;
     account = λ u' k. (
         let a : Account u' k r s (All c m n ∷ rest) u = h.account u' k in
@@ -364,6 +381,7 @@ module _ (r : Receiver) (s : Sender) (rest u : List Word) (b : Box) where
     firsts = h.firsts;
     settled = h.settled;
     fronts = h.fronts;
+    came = h.came;
     unsent = h.unsent;
     account = λ u' k. (let a : Account u' k r s (All c m n ∷ rest) u = h.account u' k in omega (arith, a));
     left = h.left;
@@ -398,6 +416,7 @@ module _ (r : Receiver) (s : Sender) (rest u : List Word) (b : Box) where
     firsts = h.firsts;
     settled = h.settled;
     fronts = h.fronts;
+    came = h.came;
     unsent = h.unsent;
     account = λ u' k. (
         let a : Account u' k r s (Gvb c m n ∷ rest) u = h.account u' k in
@@ -431,6 +450,7 @@ module _ (r : Receiver) (s : Sender) (rest u : List Word) (b : Box) where
     firsts = h.firsts;
     settled = h.settled;
     fronts = h.fronts;
+    came = h.came;
     unsent = h.unsent;
     account = h.account;
     left = h.left;
@@ -462,6 +482,7 @@ module _ (r : Receiver) (s : Sender) (rest u : List Word) (b : Box) where
     firsts = h.firsts;
     settled = h.settled;
     fronts = h.fronts;
+    came = h.came;
     unsent = h.unsent;
     account = λ u' k. (let a : Account u' k r s (Cls c ∷ rest) u = h.account u' k in omega (arith, a));
     left = h.left;
@@ -484,6 +505,7 @@ module _ (r : Receiver) (s : Sender) (rest u : List Word) (b : Box) where
     firsts = h.firsts;
     settled = h.settled;
     fronts = h.fronts;
+    came = h.came;
     unsent = h.unsent;
     account = h.account;
     left = h.left;

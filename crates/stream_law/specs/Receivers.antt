@@ -1,5 +1,5 @@
 -- The host that receives on a link.
-use Rattle.std.specs.Prelude.{◌≡◌, ℕ, ◌+◌, ◌≤◌, ◌-◌, Bool, true, false, not, ◌&&◌, List, [], ◌∷◌, ◌++◌, length, Option, Some, None, is_some, if◌then◌else◌}
+use Rattle.std.specs.Prelude.{◌≡◌, ℕ, suc, ◌+◌, ◌≤◌, ◌-◌, Bool, true, false, not, ◌&&◌, List, [], ◌∷◌, ◌++◌, length, Option, Some, None, is_some, if◌then◌else◌}
 use Rattle.ncp_control.specs.Allocation as counters
 use Rattle.ncp_control.specs.declared.allocation.Allocation.{Allocation}
 use Rattle.stream_law.specs.Words.{Word, Rts, Str, All, Gvb, Ret, Cls, for, covers, holds, is_size}
@@ -17,10 +17,11 @@ pub record Receiver : Type 0 where
   pub size : ℕ → Option ℕ
   pub over : ℕ → Bool
   pub first : ℕ → Bool
-  -- and what was granted in it and what was returned; and the messages that were taken, the oldest first
+  -- and what was granted in it and what was returned; the messages that were taken, the oldest first; and how many came, taken or dropped
   pub granted : ℕ → Allocation
   pub returned : ℕ → Allocation
   pub taken : ℕ → List (List Bool)
+  pub came : ℕ → ℕ
 
 abbrev pub opening_receiver : Receiver
 opening_receiver = record {
@@ -35,6 +36,7 @@ opening_receiver = record {
   granted = λ c. counters.nothing;
   returned = λ c. counters.nothing;
   taken = λ c. [];
+  came = λ c. 0;
 }
 
 -- the end of this connection is open: it has opened, and no CLS was said or heard
@@ -105,6 +107,11 @@ takes size bits (Some c) r =
     then record r { allocation = counters.spent r.allocation (length bits); taken = for c (r.taken c ++ bits ∷ []) r.taken }
     else r
 
+-- a message that comes is one of the connection whose end has the link
+abbrev pub one_more : Option ℕ → (ℕ → ℕ) → ℕ → ℕ
+one_more None came = came
+one_more (Some c) came = for c (suc (came c)) came
+
 abbrev pub moved : Move → Receiver → Receiver
 moved (Ask c) r = asks c r
 moved (Open c) r = record r { opened = true }
@@ -113,7 +120,7 @@ moved (AskBack c messages bits) r = r
 moved (Close c) r = closes c r
 moved (Free c) r = record r { end = None }
 moved (Hear w) r = hears w r
-moved (Take size bits) r = takes size bits r.end r
+moved (Take size bits) r = record (takes size bits r.end r) { came = one_more r.end r.came }
 
 -- ---- what it may do by its own rules
 

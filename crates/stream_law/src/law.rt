@@ -7,13 +7,12 @@ ghost use Rattle.stream_law.specs.Receivers as receivers;
 ghost use Rattle.stream_law.specs.Senders as senders;
 ghost use Rattle.stream_law.specs.Streams.{Event, Receives, Sends, stream, IsRun};
 ghost use Rattle.stream_law.specs.Within.{IsPrefix, message_bits, AreGranted, IsSafe, NoneReturned, NothingLeft};
-ghost use Rattle.stream_law.specs.Came.{came};
 ghost use Rattle.stream_law.specs.Agreed.{ArePrompt, IsAtRest, AreAgreed};
 ghost use Rattle.stream_law.specs.Example.{two, three, opened_events, granted_events, sent_events, taken_events, returned_events, closed_events, ended_events, quit_events, rested_events, late_events};
 ghost use Rattle.stream_law.specs.Example.{next, hasty, early};
 ghost use Rattle.stream_law.specs.Laws.Streams.{StreamsAccepted, StreamsCaughtUp};
 ghost use Rattle.stream_law.specs.Laws.Owners.{OwnersData};
-ghost use Rattle.stream_law.specs.Laws.WorkedStream.{WorkedStreamOpened, WorkedStreamReturned, WorkedStreamSent, WorkedStreamSettled, WorkedStreamTaken};
+ghost use Rattle.stream_law.specs.Laws.WorkedStream.{WorkedStreamCame, WorkedStreamOpened, WorkedStreamReturned, WorkedStreamSent, WorkedStreamSettled, WorkedStreamTaken};
 
 /// Whatever the two hosts of a link do while they stay together, connection after connection. What is assumed of them is in
 /// `IsRun`: their own rules, and that what one said is heard in order.
@@ -30,7 +29,7 @@ pub fn streams()
     ensures caught_up { StreamsCaughtUp }
 
     // once a receiver has heard the sender's CLS, all messages that were sent in the connection have come, whether it took them or dropped them
-    ensures came { (events : List Event) (c : ℕ) → IsRun events → (stream events).receiver.over c ≡ true → length ((stream events).sender.sent c) ≡ came c events }
+    ensures came { (events : List Event) (c : ℕ) → IsRun events → (stream events).receiver.over c ≡ true → length ((stream events).sender.sent c) ≡ (stream events).receiver.came c }
 
     // where nothing is in transit the two open ends of a connection agree, if no ALL was heard before the sender's end opened
     ensures agreed { (events : List Event) (c : ℕ) → IsRun events → ArePrompt events → IsAtRest (stream events) c → AreAgreed (stream events) c }
@@ -62,7 +61,7 @@ pub fn worked_stream()
 
     ensures settled { WorkedStreamSettled }
     ensures quit { ((stream quit_events).receiver.first 1 ≡ true) × ((stream quit_events).receiver.over 1 ≡ true) }
-    ensures quit_came { (came 1 quit_events ≡ 1) × (came 1 ended_events ≡ 1) × (came 1 sent_events ≡ 0) × (came 2 quit_events ≡ 0) }
+    ensures quit_came { WorkedStreamCame }
     ensures quit_drops { (stream quit_events).receiver.taken 1 ≡ (stream quit_events).sender.sent 1 → ⊥ }
 
     // the late grant is nobody's, and the next end doesn't open, since it was closed before its request was heard

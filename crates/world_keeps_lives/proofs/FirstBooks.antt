@@ -1,5 +1,5 @@
 -- The messages of each life are the first on its link, over all moments.
-use Rattle.std.proofs.Common.{◌≡◌, inl, inr, ℕ, ◌*◌, ◌==◌, Bool, true, false, if◌then◌else◌, List, [], ◌∷◌, ◌++◌, take, drop, length, Option, Some, None, is_some, refl, ap, sym, subst, ◌∙◌, eq-eqb}
+use Rattle.std.proofs.Common.{◌≡◌, ◌⊎◌, ◌<◌, inl, inr, ℕ, ◌*◌, ◌==◌, Bool, true, false, if◌then◌else◌, List, [], ◌∷◌, ◌++◌, take, drop, length, Option, Some, None, is_some, refl, ap, sym, subst, ◌∙◌, eq-eqb}
 use Rattle.std.specs.List.{Contains}
 use Rattle.std.proofs.lemmas.Bool.{eqb-true}
 use Rattle.std.proofs.Math.Seq.{drop-append_seam}
@@ -41,11 +41,11 @@ use Rattle.net_sim.specs.World.{WorldState}
 use Rattle.promise.specs.declared.life.Life.{Life}
 use Rattle.net_sim.proofs.lemmas.{coupled, places_same}
 use Rattle.world_keeps_pairing.proofs.lemmas.{book_lives, book_run}
-use Rattle.world_keeps_lives.specs.Firsts.{AreAfter, AreApart, FirstBook, Linked, data_in, text_of}
+use Rattle.world_keeps_lives.specs.Firsts.{AreAfter, AreApart, FirstBook, Linked, begun, data_in, text_of}
 use Rattle.world_keeps_lives.proofs.Facts.{no}
 use Rattle.world_keeps_lives.proofs.Calms.{Calm, calm_moment}
 use Rattle.world_keeps_lives.proofs.DataTold.{TakesIf, answer_told, asking_told, bytes_told, control_told, message_takes, offer_told}
-use Rattle.world_keeps_lives.proofs.FirstEnds.{Apart, AtEnd, Together, Good, Lawful, Tracked, all_due, at_end, ends_in, flow_link, is_end, lives_in}
+use Rattle.world_keeps_lives.proofs.FirstEnds.{Apart, AtEnd, IsGrown, Together, Good, Lawful, Tracked, all_due, answered_before, asked_before, at_end, ends_in, flow_link, is_end, lives_in}
 use Rattle.world_keeps_lives.specs.Lives.{HasOpenEnd}
 use Rattle.world_keeps_lives.proofs.FirstLists.{After, From, Pairwise, from_map, life_of}
 use Rattle.world_keeps_lives.proofs.Firsts.{good_calm, good_data}
@@ -314,7 +314,7 @@ module _ (hosts : List Host) (given : Together hosts) where
   -- ---- all moments
 
   pub good : (ms : List Moment) → Lawful hosts ms → Good ms
-  good [] l = record { links = []; all = refl; tracked = tt; apart = tt; sent = λ place m i off. absurd i }
+  good [] l = record { links = []; all = refl; tracked = tt; grown = tt; apart = tt; sent = λ place m i off. absurd i }
   good (Crossed c ∷ ms) l =
       let before : Lawful hosts ms = (l.0, l.1.1, l.2.1) in
       crossed_good ms before (good ms before) c l (coupled hosts l.0 (Crossed c ∷ ms) l.1 l.2).story.0
@@ -354,6 +354,58 @@ module _ (hosts : List Host) (given : Together hosts) where
       (let i : AtEnd ms f.one = at_end hosts given ms l f.one (subst (λ (z : Life). Contains (lives_in ms) z) (sym f.is) there) t goes in
       let same : i.end ≡ o.end = is_end hosts given ms l f.one.life o i.end i.there i.mine i.own in
       (f.one.link, ap (λ (e : Entry). e.link) (sym same) ∙ i.link, t.other)))
+
+  -- a life that isn't over was there before the last moment, with its end on the same link, or one of its requests crossed in that
+  pub record WasAt (ms : List Moment) (x : Life) (link : ℕ) : Type 0 where
+    pub life : Life
+    pub there : Contains (lives_in ms) life
+    pub host : x.host ≡ life.host
+    pub peer : x.peer ≡ life.peer
+    pub socket : x.socket ≡ life.socket
+    pub foreign : x.foreign ≡ life.foreign
+    pub own : x.own_stamp ≡ life.own_stamp
+    pub partner : x.partner_stamp ≡ life.partner_stamp
+    pub goes : life.ended ≡ false
+    pub end : HasOpenEnd (program life.host ms) life
+    pub linked : end.end.link ≡ Some link
+    pub asked : life.own_stamp < length (crossings_of ms)
+    pub answered : life.partner_stamp < length (crossings_of ms)
+
+  abbrev WasOrBegins : Moment → List Moment → Life → Type 0
+  WasOrBegins y ms x =
+      x.ended ≡ false → (o : HasOpenEnd (program x.host (y ∷ ms)) x) → (link : ℕ) → o.end.link ≡ Some link → WasAt ms x link ⊎ (begun x ≡ length (crossings_of ms))
+
+  pub was_or_begins : (y : Moment) (ms : List Moment) → Lawful hosts ms → Lawful hosts (y ∷ ms) → (x : Life) → Contains (lives_in (y ∷ ms)) x → WasOrBegins y ms x
+  was_or_begins y ms l late x there =
+      let g : Good (y ∷ ms) = good (y ∷ ms) late in
+      let f : From life_of g.links x = from_map life_of g.links x (subst (λ (ls : List Life). Contains ls x) (sym g.all) there) in
+      let t : Tracked (y ∷ ms) f.one = each_in (Tracked (y ∷ ms)) g.links f.one f.there g.tracked in
+      subst (WasOrBegins y ms) f.is (from f.one (subst (λ (z : Life). Contains (lives_in (y ∷ ms)) z) (sym f.is) there) t (each_in (IsGrown (y ∷ ms)) g.links f.one f.there g.grown)) where
+        from : (p : Linked) → Contains (lives_in (y ∷ ms)) p.life → Tracked (y ∷ ms) p → IsGrown (y ∷ ms) p → WasOrBegins y ms p.life
+        from p here t (inr now) goes o link linked = inr now
+        from p here t (inl w) goes o link linked =
+            let i : AtEnd (y ∷ ms) p = at_end hosts given (y ∷ ms) late p here t goes in
+            let same : i.end ≡ o.end = is_end hosts given (y ∷ ms) late p.life o i.end i.there i.mine i.own in
+            let on : p.link ≡ link = same_link p.link link (sym i.link ∙ ap (λ (e : Entry). e.link) same ∙ linked) in
+            let also : w.one.life.ended ≡ false = w.goes goes in
+            let k : AtEnd ms w.one = at_end hosts given ms l w.one w.there w.tracked also in
+            let v : HasOpenEnd (program w.one.life.host ms) w.one.life = live hosts ms l.0 l.1 l.2 w.one.life w.there also in
+            let its : k.end ≡ v.end = is_end hosts given ms l w.one.life v k.end k.there k.mine k.own in
+            inl (record {
+              life = w.one.life;
+              there = w.there;
+              host = w.host;
+              peer = w.peer;
+              socket = w.socket;
+              foreign = w.foreign;
+              own = w.own;
+              partner = w.partner;
+              goes = also;
+              end = v;
+              linked = ap (λ (e : Entry). e.link) (sym its) ∙ k.link ∙ ap (λ (n : ℕ). Some n) (sym w.link ∙ on);
+              asked = asked_before ms w.one w.tracked;
+              answered = answered_before ms w.one w.tracked;
+            })
 
   -- ---- worlds
 

@@ -160,6 +160,25 @@ pub record Tracked (ms : List Moment) (p : Linked) : Type 0 where
   pub other : (p.link == 0) ≡ false
   pub held : p.life.ended ≡ false → Each (Held p.life p.link (IsFull (crossings_of ms) p.life p.link)) (ends_in p.life.host p.life.peer ms)
 
+-- a life with its link that was there before, with the same requests
+pub record Was (ms : List Moment) (p : Linked) : Type 0 where
+  pub one : Linked
+  pub there : Contains (lives_in ms) one.life
+  pub tracked : Tracked ms one
+  pub link : p.link ≡ one.link
+  pub host : p.life.host ≡ one.life.host
+  pub peer : p.life.peer ≡ one.life.peer
+  pub socket : p.life.socket ≡ one.life.socket
+  pub foreign : p.life.foreign ≡ one.life.foreign
+  pub own : p.life.own_stamp ≡ one.life.own_stamp
+  pub partner : p.life.partner_stamp ≡ one.life.partner_stamp
+  pub goes : p.life.ended ≡ false → one.life.ended ≡ false
+
+-- each life was there before the last moment, or one of its requests crossed in that
+abbrev pub IsGrown : List Moment → Linked → Type 0
+IsGrown [] p = ⊥
+IsGrown (y ∷ ms) p = Was ms p ⊎ (begun p.life ≡ length (crossings_of ms))
+
 -- of two sending lives on one flow the earlier one is over, or the later one is and has nothing
 abbrev pub Apart : List Crossing → Linked → Linked → Type 0
 Apart log p q =
@@ -170,6 +189,7 @@ pub record Good (ms : List Moment) : Type 0 where
   pub links : List Linked
   pub all : map life_of links ≡ lives_in ms
   pub tracked : Each (Tracked ms) links
+  pub grown : Each (IsGrown ms) links
   pub apart : Pairwise (Apart (crossings_of ms)) links
   pub sent : (place : ℕ) (m : HostMessage) → CrossedAt place (crossing.Out m) (crossings_of ms) → (m.flow.link.0 == 0) ≡ false → (p : Linked) × Contains links p × IsSentIn (crossings_of ms) place m p
 

@@ -27,7 +27,7 @@ use Rattle.world_keeps_lives.specs.Lives.{HasOpenEnd, mine_on}
 use Rattle.world_keeps_lives.proofs.Facts.{no}
 use Rattle.world_keeps_lives.proofs.Calms.{Born, Calm, kept_as, kept_so}
 use Rattle.world_keeps_lives.proofs.FirstLists.{After, AreDistinct, From, Pairwise, after_all, all_distinct, each_changed, each_two, from_map, life_of, map_life, mapped, pairs_all, pairs_append, pairs_both, pairs_changed, two_in}
-use Rattle.world_keeps_lives.proofs.FirstEnds.{Apart, Together, Good, Held, Lawful, Owner, Tracked, answered_before, asked_before, at_end, begun_before, ends_in, held_begins, held_may, held_rules, is_end, linked_off, lives_in, never_two, owned}
+use Rattle.world_keeps_lives.proofs.FirstEnds.{Apart, Together, Good, Held, IsGrown, Lawful, Owner, Tracked, answered_before, asked_before, at_end, begun_before, ends_in, held_begins, held_may, held_rules, is_end, linked_off, lives_in, never_two, owned}
 use Rattle.world_keeps_lives.proofs.Formed.{Bound, Made, in_filter, mine_true, nobody, none_carried, whole}
 use Rattle.world_keeps_lives.proofs.Grounds.{Nothing, crossed_below, step_ends}
 use Rattle.world_keeps_lives.proofs.Laws.{live}
@@ -143,12 +143,13 @@ module _ (hosts : List Host) (given : Together hosts) (y : Moment) (ms : List Mo
       → (((q.life.messages ≡ 0) × (q.life.ended ≡ true)) ⊎ ((p.life.ended ≡ true) × (p.life.messages ≤ length (texts_for p.life p.link (before (begun q.life) (crossings_of (y ∷ ms)))))))
       ⊎ ((q.life.messages ≡ 0) × (p.life.messages ≤ length (texts_for p.life p.link (before (begun q.life) (crossings_of (y ∷ ms))))))
 
-  finish : (links : List Linked) → map life_of links ≡ lives_in (y ∷ ms) → Each (Tracked (y ∷ ms)) links → Pairwise Pre links
+  finish : (links : List Linked) → map life_of links ≡ lives_in (y ∷ ms) → Each (Tracked (y ∷ ms)) links → Each (IsGrown (y ∷ ms)) links → Pairwise Pre links
       → ((place : ℕ) (m : HostMessage) → CrossedAt place (crossing.Out m) (crossings_of (y ∷ ms)) → (m.flow.link.0 == 0) ≡ false → (p : Linked) × Contains links p × IsSentIn (crossings_of (y ∷ ms)) place m p) → Good (y ∷ ms)
-  finish links all tracked pairs sent = record {
+  finish links all tracked grown pairs sent = record {
     links = links;
     all = all;
     tracked = tracked;
+    grown = grown;
     apart = pairs_both Pre AreDistinct (Apart (crossings_of (y ∷ ms))) Now_known links resolved known pairs apart;
     sent = sent;
   } where
@@ -303,6 +304,24 @@ module _ (hosts : List Host) (given : Together hosts) (y : Moment) (ms : List Mo
     new_pair : (p q : Linked) → Newest p → Newest q → Pre p q
     new_pair p q m n kind like flow = let e : p.life.messages ≡ 0 = m.0 in inr (n.0, omega (arith, e))
 
+    calm_grown : (p : Linked) → Known p → IsGrown (y ∷ ms) (calm_one p)
+    calm_grown p k = inl (record {
+      one = p;
+      there = k.0;
+      tracked = k.1;
+      link = refl;
+      host = refl;
+      peer = refl;
+      socket = refl;
+      foreign = refl;
+      own = refl;
+      partner = refl;
+      goes = λ e. by p.life.ended refl e;
+    }) where
+      by : (v : Bool) → p.life.ended ≡ v → c.over p.life ≡ false → v ≡ false
+      by true f e = no (c.over p.life) (c.still p.life f) e
+      by false f e = refl
+
     abbrev calm_links : List Linked
     calm_links = map calm_one g.links ++ new.ones
 
@@ -327,6 +346,7 @@ module _ (hosts : List Host) (given : Together hosts) (y : Moment) (ms : List Mo
     good_calm =
         finish calm_links calm_all
         (each_append (Tracked (y ∷ ms)) (map calm_one g.links) new.ones (each_changed Known (Tracked (y ∷ ms)) calm_one g.links calm_tracked all_known) new.tracked)
+        (each_append (IsGrown (y ∷ ms)) (map calm_one g.links) new.ones (each_changed Known (IsGrown (y ∷ ms)) calm_one g.links calm_grown all_known) (each_weaker Newest (IsGrown (y ∷ ms)) new.ones (λ q n. inr n.1) new.newest))
         (pairs_append Pre (map calm_one g.links) new.ones (pairs_changed (Apart (crossings_of ms)) Pre Known calm_one g.links old_pair all_known g.apart) (pairs_all Pre Newest new.ones new_pair new.newest)
         (each_changed Known (λ p. After Pre p new.ones) calm_one g.links (λ p k. after_all Pre Newest (calm_one p) new.ones (λ q n. cross_pair p q k n) new.newest) all_known)) calm_sent
 
@@ -455,7 +475,12 @@ module _ (hosts : List Host) (given : Together hosts) (y : Moment) (ms : List Mo
           let s : (owner.life.socket == e.own) ≡ true = eq-eqb owner.life.socket e.own (sym owner.socket) in
           rw (a, s, owner.goes) refl
 
+    one_grown : (p : Linked) → Known p → (v : Bool) → IsGrown (y ∷ ms) (record p { life = changed_when v (carried bits) p.life })
+    one_grown p k true = inl (record { one = p; there = k.0; tracked = k.1; link = refl; host = refl; peer = refl; socket = refl; foreign = refl; own = refl; partner = refl; goes = λ e. e })
+    one_grown p k false = inl (record { one = p; there = k.0; tracked = k.1; link = refl; host = refl; peer = refl; socket = refl; foreign = refl; own = refl; partner = refl; goes = λ e. e })
+
     pub good_data : Good (y ∷ ms)
     good_data =
         finish (map data_one g.links) data_all (each_changed Known (Tracked (y ∷ ms)) data_one g.links (λ p k. one_tracked p k (lives_at h e.own p.life) refl) all_known)
+        (each_changed Known (IsGrown (y ∷ ms)) data_one g.links (λ p k. one_grown p k (lives_at h e.own p.life)) all_known)
         (pairs_changed (Apart (crossings_of ms)) Pre Known data_one g.links (λ p q j k a. pair_one p q j k a (lives_at h e.own p.life) (lives_at h e.own q.life) refl refl) all_known g.apart) data_sent

@@ -3,7 +3,7 @@ pub use Rattle.world_keeps_lives.proofs.Books.{all_told_append}
 pub use Rattle.world_keeps_lives.proofs.Desks.{AreAside, At, Elsewhere, IsLess, Near, Place, at_aside, clash, open_mine, open_parts}
 pub use Rattle.world_keeps_lives.proofs.Drained.{drained, world_drained}
 pub use Rattle.world_keeps_lives.proofs.Ends.{IsRefusing, found_changed, none_changed, refusing_found}
-pub use Rattle.world_keeps_lives.proofs.FirstBooks.{firsts, linked_end, world_firsts}
+pub use Rattle.world_keeps_lives.proofs.FirstBooks.{WasAt, firsts, linked_end, was_or_begins, world_firsts}
 pub use Rattle.world_keeps_lives.proofs.FirstEnds.{HasOwner, Together}
 pub use Rattle.world_keeps_lives.proofs.Formed.{world_formed}
 pub use Rattle.world_keeps_lives.proofs.Goes.{IsOfTwo, Waits, all_go, unasked_by}
@@ -15,4 +15,5 @@ pub use Rattle.world_keeps_lives.proofs.Owners.{owner_found}
 pub use Rattle.world_keeps_lives.proofs.Rows.{none_there}
 pub use Rattle.world_keeps_lives.proofs.Steps.{called_less, closed_less, good_queued, heard_less, sent_less}
 pub use Rattle.world_keeps_lives.proofs.Takes.{G, good_data, good_taken}
+pub use Rattle.world_keeps_lives.proofs.Texts.{texts_none, texts_one, texts_same}
 pub use Rattle.world_keeps_lives.proofs.Turns.{GoodTurn, good_ready, good_reset}

@@ -7,6 +7,8 @@ pub mod Arrives
 pub mod Books
 pub mod Clauses
 pub mod Calm
+pub mod Came
+pub mod CameIn
 pub mod Closes
 pub mod Comes
 pub mod Counts

@@ -4,6 +4,7 @@
 pub mod Allowed
 pub mod CallSizes
 pub mod Chain
+pub mod Counted
 pub mod Leads
 pub mod May
 pub mod MayAll

@@ -1,6 +1,6 @@
 //! What two programs of a world do on each link. The functions here do nothing: each clause is a law.
 
-ghost use Rattle.std.specs.Prelude.{◌≡◌, ℕ, true, List, [], ◌∷◌, ◌++◌, None, Some};
+ghost use Rattle.std.specs.Prelude.{◌≡◌, ℕ, true, List, [], ◌∷◌, ◌++◌, length, None, Some};
 ghost use Rattle.interface.specs.Host.{Host};
 ghost use Rattle.interface.specs.Mailboxes as mail;
 ghost use Rattle.interface.specs.declared.crossing.Crossing.TheVariants as crossing;
@@ -10,16 +10,17 @@ ghost use Rattle.sockets.specs.declared.request.Request.TheVariants as request;
 ghost use Rattle.net_sim.specs.Clean.{HaveAddresses, IsLawful};
 ghost use Rattle.net_sim.specs.Story.{Asked, Crossed, Moment};
 ghost use Rattle.net_sim.specs.Timeline.{IsTimeline, crossings_of};
-ghost use Rattle.net_sim.specs.Told.{notices_by};
+ghost use Rattle.net_sim.specs.Told.{kept_in, notices_by};
 ghost use Rattle.net_sim.specs.World.{WorldState};
 ghost use Rattle.net_sim.specs.Worked.{eight};
 ghost use Rattle.net_sim.specs.WorkedMoments.{all_given, bits_sent, connected, eight_sent, sent_moments};
-ghost use Rattle.world_keeps_lives.specs.Firsts.{FirstBook};
+ghost use Rattle.world_keeps_lives.specs.Firsts.{FirstBook, texts_for};
 ghost use Rattle.world_keeps_streams.specs.Worked.{close_back, ended_moments, over_eight, over_gave, quit_moments, stopped_moments, took, took_eight};
 ghost use Rattle.world_keeps_streams.specs.Worked.{asked_moments, calm_moments, giving_end, granted_moments, granted_more, granting_moments, left_at, returned_moments, returning_moments, taking_end};
 ghost use Rattle.world_keeps_streams.specs.Answered.{AllAnswered, HasArrived};
 ghost use Rattle.world_keeps_streams.specs.Arrivals.{AllArrive, AllCome, Arrives, ComesBetween, ComesFor};
 ghost use Rattle.world_keeps_streams.specs.Calls.{own_calls, numbered_by_peer};
+ghost use Rattle.world_keeps_streams.specs.Came.{AllCame, CameAll, HasTakenCls};
 ghost use Rattle.world_keeps_streams.specs.Rests.{Agree, AllAgree, AllCalm, AllRest, AreAtRest, AreCalm, AreSettled};
 ghost use Rattle.world_keeps_lives.specs.WorkedFormed.{gave};
 ghost use Rattle.world_keeps_streams.specs.Closes.{AllClose, AllHanded, EachHanded, IsClosedByPartner, TookHanded, WasClosedBy, WasClosedByPartner};
@@ -66,6 +67,9 @@ pub fn lives()
     // a receiving life whose end its partner has closed, and no user of its host, took all that its partner sent; it stays so whatever becomes of both lives
     ensures closes { LivesCloses }
 
+    // where its end has taken the partner's CLS, as many messages came in on its link as its partner sent, also if its host dropped some of them
+    ensures came { (hosts : List Host) (moments : List Moment) → HaveAddresses hosts → mail.IsRun hosts (crossings_of moments) → IsTimeline hosts moments → AllCame moments }
+
     // and all that was handed over in the life that it matches, if that had begun when the CLS was taken
     ensures handed { (hosts : List Host) (moments : List Moment) → HaveAddresses hosts → mail.IsRun hosts (crossings_of moments) → IsTimeline hosts moments → EachHanded moments }
 
@@ -100,6 +104,7 @@ pub fn lives()
 pub fn worlds<C: Carrier>()
     ensures source { WorldsSource C.calls.seen }
     ensures closes { (hosts : List Host) (w : WorldState C) → (lawful : IsLawful C.calls.seen hosts w) → AllClose lawful.whole.moments }
+    ensures came { (hosts : List Host) (w : WorldState C) → (lawful : IsLawful C.calls.seen hosts w) → AllCame lawful.whole.moments }
     ensures handed { (hosts : List Host) (w : WorldState C) → (lawful : IsLawful C.calls.seen hosts w) → AllHanded lawful.whole.moments }
     ensures firsts { (hosts : List Host) (w : WorldState C) → IsLawful C.calls.seen hosts w → FirstBook w.kept.book.crossings w.kept.book.lives }
     ensures arrives { (hosts : List Host) (w : WorldState C) → (lawful : IsLawful C.calls.seen hosts w) → AllArrive lawful.whole.moments }
@@ -194,6 +199,20 @@ pub fn worked_closes()
     ensures handed { TookHanded ended_moments took_eight (gave ∷ []) (eight ∷ []) }
     ensures unsent { TookHanded ended_moments took_eight (gave ∷ []) ((eight ++ true ∷ []) ∷ []) → ⊥ }
     ensures quit { IsClosedByPartner quit_moments took → ⊥ }
+{}
+
+/// What came in for a receiver before its end took the sender's CLS: eight bits that were taken, and that were dropped since its user had closed.
+pub fn worked_came()
+    ensures taken { HasTakenCls ended_moments took_eight }
+    ensures closing { HasTakenCls quit_moments took }
+    ensures open { HasTakenCls sent_moments took_eight → ⊥ }
+
+    // one message came in and one was sent, though none was taken
+    ensures dropped { (length (texts_for took 2 (crossings_of quit_moments)) ≡ 1) × (gave.messages ≡ 1) × (took.messages ≡ 0) }
+
+    // it isn't so while the message waits to be taken, nor of another link
+    ensures waits { CameAll (crossings_of bits_sent) (kept_in bits_sent).book.lives took 2 → ⊥ }
+    ensures link { CameAll (crossings_of quit_moments) (kept_in quit_moments).book.lives took 3 → ⊥ }
 {}
 
 /// The calls of two programs: the first asks for a connection, and the second's socket listens. Here a connection is given by its receiving socket.

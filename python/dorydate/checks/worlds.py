@@ -19,9 +19,9 @@ from __future__ import annotations
 import copy
 import sys
 from collections import Counter
-from collections.abc import Iterable, Iterator
+from collections.abc import Callable, Iterable, Iterator
 from dataclasses import replace
-from typing import Any, NamedTuple
+from typing import Any, NamedTuple, TypeVar
 
 from dorydate.model.audit import CONTROL, Lives, Log, audit, match, partners_are_kept
 from dorydate.model.book import Life
@@ -31,6 +31,7 @@ from dorydate.model.crossings import Answered, Carrier, Crossing, Passed
 from dorydate.model.endings import EndingWorld
 from dorydate.model.firsts import determined
 from dorydate.model.host import Host
+from dorydate.model.misread_endings import MISREADINGS as MISREAD_ENDINGS
 from dorydate.model.misreadings import MISREADINGS
 from dorydate.model.names import Flow, HostName
 from dorydate.model.runs import opened_carrier
@@ -59,15 +60,30 @@ GOOD = [
 ]
 
 
+# connections that their senders close: a message comes after the receiver's user has closed; one is the second on its link, and of two at once each has its link
+CLOSED = ["grant 0/1 16 2 100", "send 0/2 33 8 41", "calm 2", "close 0/2 33", "calm 3"]
+ENDINGS = [
+    [*OPENING, "grant 0/1 16 2 100", "calm 2", "close 0/1 16", "send 0/2 33 8 41", "offer 0/2", "take 0/1", "take 0/2", "close 0/2 33", "offer 0/2", "take 0/1"],
+    [*OPENING, *CLOSED, *OPENING[2:], *CLOSED],
+    [*OPENING[:3], *TWICE, "grant 0/1 18 2 100", "send 0/2 35 8 42", *CLOSED],
+]
+
 FIRST, SECOND, THIRD = HostName(0, 1), HostName(0, 2), HostName(0, 3)
+W = TypeVar("W", bound=World)
 Judged = tuple[list[Crossing], list[Life]]  # a book, as it is judged: its log and its lives
+
+
+def world_of(lines: Iterable[str], kind: Callable[[Carrier], W]) -> W:
+    """The world that a script leads to."""
+    world = kind(opened_carrier(Topology("plain", False, [(1, 1), (2, 1)], [])))
+    for line in lines:
+        world.happen(*read_event(line, raw=False))
+    return world
 
 
 def book_of(lines: Iterable[str]) -> Judged:
     """The log and the lives that a script leads to."""
-    world = World(opened_carrier(Topology("plain", False, [(1, 1), (2, 1)], [])))
-    for line in lines:
-        world.happen(*read_event(line, raw=False))
+    world = world_of(lines, World)
     return world.carrier.log, world.book.lives
 
 
@@ -143,6 +159,13 @@ def unnoticed() -> Iterator[str]:
     for kind in MISREADINGS:
         reading = kind()
         if all(reading.audit(*book) == wanted for wanted, book in books) and not any(reading.partners_are_kept(*book) for book in wrong_partners()):
+            yield str(kind.__doc__)
+
+
+def unnoticed_endings() -> Iterator[str]:
+    """The wrong readings of endings that judge each script by hand as it should be judged."""
+    for kind in MISREAD_ENDINGS:
+        if not any(world_of(lines, kind).judged() for lines in ENDINGS):
             yield str(kind.__doc__)
 
 
@@ -232,6 +255,9 @@ def main() -> int:
     if missed := [*unnoticed()]:
         print("check worlds: no book by hand tells these wrong readings of the promise:", *missed, sep="\n")
         return 1
+    if any(world_of(lines, EndingWorld).judged() for lines in ENDINGS) or [*unnoticed_endings()]:
+        print("check worlds: a script by hand ends wrongly, or none tells these wrong readings of endings:", *unnoticed_endings(), sep="\n")
+        return 1
     came_to: Counter[str] = Counter()
     tried: Counter[str] = Counter()
     runs = int(sys.argv[1]) if len(sys.argv) > 1 else RUNS
@@ -243,6 +269,7 @@ def main() -> int:
         came_to += ran.reached
         tried += ran.tried
     print(f"check worlds: {len([*wrong_books(), *wrong_partners()])} books written by hand, each judged rightly, and by {len(MISREADINGS)} wrong readings of the promise not all")
+    print(f"check worlds: {len(ENDINGS)} scripts written by hand, each ends rightly, and by {len(MISREAD_ENDINGS)} wrong readings of endings not all")
     print("check worlds: the runs came to", ", ".join(f"{count} {name}" for name, count in sorted(came_to.items())))
     for kind, count in sorted(tried.items()):
         print(f"check worlds: {kind}: {count} times")

@@ -40,6 +40,7 @@ class EndingWorld(World):
         self.tried: Counter[str] = Counter()
         self.closed: set[int] = set()  # lives that a user of their host closed, by their places in the book
         self.whole: set[int] = set()  # receiving lives whose partner's CLS was taken, and that no user of their host had closed
+        self.came: dict[int, int] = {}  # of each receiving life whose partner's CLS was taken, the messages that had come in for it
         self.outstanding: dict[Flow, str] = {}  # of each flow with a message that has no answer: "out" while that waits to be taken
         self.seen = 0  # the crossings that this is made of
         self.matched: dict[tuple[int, int], bool] = {}
@@ -107,12 +108,20 @@ class EndingWorld(World):
     def judge_close(self, at: int) -> None:
         """A receiving life takes its sender's CLS: each message of the sending life has come in. It has all of them where no user closed it."""
         life, senders = self.book.lives[at], [self.book.lives[it] for it in self.senders(at)]
-        came = len(messages_of(self.carrier.log, life))
-        self.judge("all that was sent has come in", came == sum(it.messages for it in senders))
+        came = self.came[at] = self.came_in(life)
+        self.judge("all that was sent has come in", came == self.sent(at))
         self.judge("a life has all where it has as many messages as came", (life.messages == came) == all(it.bits == life.bits and it.messages == life.messages for it in senders))
         if at not in self.closed:
             self.whole.add(at)
             self.judge("the sender's CLS follows all that was handed over", self.is_whole(at))
+
+    def came_in(self, life: Life) -> int:
+        """How many messages came in on a life's link after both its requests. `misread_endings` has readings that are wrong."""
+        return len(messages_of(self.carrier.log, life))
+
+    def sent(self, at: int) -> int:
+        """How many messages were sent for a receiving life."""
+        return sum(self.book.lives[it].messages for it in self.senders(at))
 
     def is_whole(self, at: int) -> bool:
         """Whether a receiving life has all that its partner sent, and all that was handed over there."""
@@ -123,6 +132,8 @@ class EndingWorld(World):
         """At the end of all: what was broken first. What was whole is."""
         for at in self.whole:
             self.judge("it stays so", self.is_whole(at))
+        for at, came in self.came.items():
+            self.judge("nothing is sent once its CLS was taken", came == self.sent(at))
         return self.wrong
 
     # ---- rest

@@ -3,7 +3,7 @@ use Rattle.std.specs.Prelude.{◌≡◌, true, false, [], ◌∷◌, Some}
 use Rattle.stream_law.specs.Receivers as receivers
 use Rattle.stream_law.specs.Senders as senders
 use Rattle.stream_law.specs.Streams.{Waiting, Taken, stream}
-use Rattle.stream_law.specs.Example.{two, opened_events, sent_events, taken_events, returned_events, ended_events}
+use Rattle.stream_law.specs.Example.{two, opened_events, sent_events, taken_events, returned_events, ended_events, quit_events}
 
 -- both ends are of connection 1, and open
 abbrev pub WorkedStreamOpened : Type 0
@@ -39,3 +39,9 @@ abbrev pub WorkedStreamSettled : Type 0
 WorkedStreamSettled =
     ((stream ended_events).receiver.first 1 ≡ false) × ((stream ended_events).receiver.over 1 ≡ true) ×
     ((stream ended_events).receiver.taken 1 ≡ (stream ended_events).sender.sent 1)
+
+-- one message came to a receiver that took it, and to one that had closed and dropped it; none while it waits, nor in another connection
+abbrev pub WorkedStreamCame : Type 0
+WorkedStreamCame =
+    ((stream quit_events).receiver.came 1 ≡ 1) × ((stream ended_events).receiver.came 1 ≡ 1) ×
+    ((stream sent_events).receiver.came 1 ≡ 0) × ((stream quit_events).receiver.came 2 ≡ 0)

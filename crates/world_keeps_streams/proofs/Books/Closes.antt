@@ -40,7 +40,7 @@ use Rattle.world_keeps_streams.proofs.Books.Source.{one_matches}
 use Rattle.world_keeps_streams.proofs.Books.Whole.{GoesOn, HasR, HasS, PresentR, PresentS, Whole, present_in, since}
 use Rattle.world_keeps_streams.proofs.Carried.Streams.{all_bits}
 use Rattle.world_keeps_streams.proofs.Deeds.Effects.{Among, among_kept}
-use Rattle.world_keeps_streams.proofs.Lives.Lists.{IsOf, is_of, of_drop, of_parts}
+use Rattle.world_keeps_streams.proofs.Lives.Lists.{IsOf, contains, is_of, of_drop, of_parts}
 use Rattle.world_keeps_streams.proofs.Requests.Sides.{Heard, Lawful, Own, lives_in}
 use Rattle.world_keeps_streams.proofs.Steps.Joined.{post_in}
 use Rattle.world_keeps_streams.proofs.Steps.Streams.{has_receiver}
@@ -136,100 +136,106 @@ module _ (hosts : List Host) (ms : List Moment) (l : Lawful hosts ms) (x : Life)
       ap (λ (k : ℕ). name_now numbered x.peer (own_calls x.host x.peer ms) k f.end.end.foreign) own
       ∙ ap (λ (k : ℕ). name_now numbered x.peer (own_calls x.host x.peer ms) x.socket k) f.end.foreign ∙ sym place.1
 
-  -- ---- so all was taken
-
-  abbrev sent : List (List Bool)
-  sent = (w.j n).x.sender.sent c
-
   pub same : (w.j n).x.receiver ≡ receiver_now numbered x.peer (suc n) (own_calls x.host x.peer ms)
   same = (w.j n).received_a stays
 
+  -- ---- the sending life
+
+  some_sent : (ts : List (List Bool)) → (ts ≡ [] → ⊥) → 1 ≤ length ts
+  some_sent [] some = absurd (some refl)
+  some_sent (t ∷ ts) some = omega arith
+
+  -- where something was sent in the connection there is one
+  pub giver : ((w.j n).x.sender.sent c ≡ [] → ⊥) → (s : Life) × Contains (lives_in ms) s × Match (crossings_of ms) x s
+  giver some =
+      let h : HasS x.host x.peer (Own x.host x.peer) (Heard x.host x.peer) ms w.j n c = w.has_sender n c some in (
+        h.life,
+        contains h.life (lives_in ms) (of_drop (since x.host x.peer ms) h.life (lives_in ms) h.there),
+        one_matches x.host x.peer (Own x.host x.peer) (Heard x.host x.peer) ms (given.matched ms l) w x h.life known.g h.is.g late h.there (refl, refl) (h.host, h.peer) f.receiving h.name known.own h.is.heard,
+      )
+
+  module _ (s : Life) (there : Contains (lives_in ms) s) (m : Match (crossings_of ms) x s) where
+    s_in : IsOf s (lives_in ms)
+    s_in = is_of s (lives_in ms) there
+
+    only : (r : Life) → IsOf r (lives_in ms) → Match (crossings_of ms) r s → x ≡ r
+    only r i k = one_receiver hosts Own Heard (λ a b. all_given hosts a b) ms l x r s here i m k
+
+    -- where something was sent in the connection
+    some_there : (((w.j n).x.sender.sent c) ≡ [] → ⊥) → (s.bits ≡ all_bits ((w.j n).x.sender.sent c)) × (s.messages ≡ length ((w.j n).x.sender.sent c))
+    some_there some =
+        let h : HasS x.host x.peer (Own x.host x.peer) (Heard x.host x.peer) ms w.j n c = w.has_sender n c some in
+        let matches : Match (crossings_of ms) x h.life =
+        one_matches x.host x.peer (Own x.host x.peer) (Heard x.host x.peer) ms (given.matched ms l) w x h.life known.g h.is.g late h.there (refl, refl) (h.host, h.peer) f.receiving h.name known.own h.is.heard in
+        let one : h.life ≡ s = one_sender hosts Own Heard (λ a b. all_given hosts a b) ms l x h.life s (of_drop (since x.host x.peer ms) h.life (lives_in ms) h.there) s_in matches m in
+        let bits : h.life.bits ≡ all_bits ((w.j n).x.sender.sent c) = h.is.gave.bits ∙ ap (λ (k : ℕ). all_bits ((w.j k).x.sender.sent (numbered h.life.foreign h.life.socket h.is.g))) h.link ∙ ap (λ (k : ℕ). all_bits ((w.j n).x.sender.sent k)) h.name in
+        let messages : h.life.messages ≡ length ((w.j n).x.sender.sent c) =
+        h.is.gave.messages ∙ ap (λ (k : ℕ). length ((w.j k).x.sender.sent (numbered h.life.foreign h.life.socket h.is.g))) h.link ∙ ap (λ (k : ℕ). length ((w.j n).x.sender.sent k)) h.name in
+        (ap (λ (y : Life). y.bits) (sym one) ∙ bits, ap (λ (y : Life). y.messages) (sym one) ∙ messages)
+
+    -- a sending life that sent something did so in the connection of the life
+    module _ (p : PresentS x.host x.peer (Own x.host x.peer) (Heard x.host x.peer) ms w.j s) (i : IsOf s (present_in x.host x.peer ms)) (some : (w.j p.link).x.sender.sent (numbered s.foreign s.socket p.g) ≡ [] → ⊥) where
+      granter : HasR x.host x.peer (Own x.host x.peer) (Heard x.host x.peer) ms w.j p.link (numbered s.foreign s.socket p.g)
+      granter =
+          let safe : IsSafe (w.j p.link).x (numbered s.foreign s.socket p.g) = safe_inv (w.j p.link).x (w.j p.link).joint.inv_x (numbered s.foreign s.socket p.g) in
+          let one : 1 ≤ length ((w.j p.link).x.sender.sent (numbered s.foreign s.socket p.g)) = some_sent ((w.j p.link).x.sender.sent (numbered s.foreign s.socket p.g)) some in
+          let in_messages : length ((w.j p.link).x.sender.sent (numbered s.foreign s.socket p.g)) + ((w.j p.link).x.receiver.returned (numbered s.foreign s.socket p.g)).messages ≤ ((w.j p.link).x.receiver.granted (numbered s.foreign s.socket p.g)).messages
+          = safe.sent.in_messages in
+          w.has_receiver p.link (numbered s.foreign s.socket p.g) (omega (arith, one, in_messages))
+
+      it_is : x ≡ granter.life
+      it_is =
+          only granter.life (of_drop (since x.host x.peer ms) granter.life (lives_in ms) granter.there)
+          (one_matches x.host x.peer (Own x.host x.peer) (Heard x.host x.peer) ms (given.matched ms l) w granter.life s granter.is.g p.g granter.there i (granter.host, granter.peer) (sym m.peers.0, m.peers.1) granter.kind (sym granter.name) granter.is.own p.heard)
+
+      found : (link k : ℕ) (y : Life) → x ≡ y → GoesOn x.host x.peer (Own x.host x.peer) (Heard x.host x.peer) ms w.j link k y → (f.link ≡ suc link) × (numbered y.socket y.foreign k ≡ name_now numbered x.peer (own_calls x.host x.peer ms) x.socket x.foreign)
+      found link k y e o =
+          subst (λ (z : Life). GoesOn x.host x.peer (Own x.host x.peer) (Heard x.host x.peer) ms w.j link k z → (f.link ≡ suc link) × (numbered z.socket z.foreign k ≡ name_now numbered x.peer (own_calls x.host x.peer ms) x.socket x.foreign)) e (is_here link k) o
+
+      at : (f.link ≡ suc granter.is.link) × (numbered granter.life.socket granter.life.foreign granter.is.g ≡ name_now numbered x.peer (own_calls x.host x.peer ms) x.socket x.foreign)
+      at = found granter.is.link granter.is.g granter.life it_is (granter.is.going (ap (λ (y : Life). y.ended) (sym it_is) ∙ f.goes))
+
+      link_same : p.link ≡ n
+      link_same = sym granter.link ∙ suc_is granter.is.link n (sym at.0 ∙ place.0)
+
+      name_same : numbered s.foreign s.socket p.g ≡ c
+      name_same = sym granter.name ∙ at.1 ∙ sym place.1
+
+      some_here : (w.j n).x.sender.sent c ≡ [] → ⊥
+      some_here none = some (ap (λ (k : ℕ). (w.j k).x.sender.sent (numbered s.foreign s.socket p.g)) link_same ∙ ap (λ (k : ℕ). (w.j n).x.sender.sent k) name_same ∙ none)
+
+    -- where nothing was
+    none_there : (w.j n).x.sender.sent c ≡ [] → (s.messages ≡ 0) × (s.bits ≡ [])
+    none_there none = elim (of_parts (since x.host x.peer ms) s (lives_in ms) s_in) [
+      | inl early ↦ old (settled_s hosts x.host x.peer (Own x.host x.peer) (Heard x.host x.peer) given ms l s early (sym m.peers.0) m.peers.1 m.sending).granted
+      | inr i ↦ new (w.sending s i (sym m.peers.0) m.peers.1 m.sending) i
+    ] where
+      old : ((s.messages ≡ 0) × (s.bits ≡ [])) ⊎ OldGranter ms s → (s.messages ≡ 0) × (s.bits ≡ [])
+      old (inl e) = e
+      old (inr o) = absurd (unlike x.ended (ap (λ (y : Life). y.ended) (only o.receiver o.there o.matches) ∙ o.over) f.goes)
+
+      new : (p : PresentS x.host x.peer (Own x.host x.peer) (Heard x.host x.peer) ms w.j s) → IsOf s (present_in x.host x.peer ms) → (s.messages ≡ 0) × (s.bits ≡ [])
+      new p i = by ((w.j p.link).x.sender.sent (numbered s.foreign s.socket p.g)) refl where
+        by : (ts : List (List Bool)) → (w.j p.link).x.sender.sent (numbered s.foreign s.socket p.g) ≡ ts → (s.messages ≡ 0) × (s.bits ≡ [])
+        by [] e = (p.gave.messages ∙ ap (λ (ts : List (List Bool)). length ts) e, p.gave.bits ∙ ap all_bits e)
+        by (t ∷ ts) e = absurd (some_here p i (λ empty. absurd (let no : t ∷ ts ≡ [] = sym e ∙ empty in cc)) none)
+
+    -- it has what the law's sender has of the connection
+    pub gave : (s.bits ≡ all_bits ((w.j n).x.sender.sent c)) × (s.messages ≡ length ((w.j n).x.sender.sent c))
+    gave = by ((w.j n).x.sender.sent c) refl where
+      by : (ts : List (List Bool)) → (w.j n).x.sender.sent c ≡ ts → (s.bits ≡ all_bits ((w.j n).x.sender.sent c)) × (s.messages ≡ length ((w.j n).x.sender.sent c))
+      by [] e =
+          let z : (s.messages ≡ 0) × (s.bits ≡ []) = none_there e in
+          (z.1 ∙ sym (ap all_bits e), z.0 ∙ sym (ap (λ (ts : List (List Bool)). length ts) e))
+      by (t ∷ ts) e = some_there (λ empty. absurd (let no : t ∷ ts ≡ [] = sym e ∙ empty in cc))
+
+  -- ---- so all was taken
+
   module _ (all : (w.j n).x.receiver.taken c ≡ (w.j n).x.sender.sent c) where
-    bits_are : x.bits ≡ all_bits ((w.j n).x.sender.sent c)
-    bits_are = going.bits ∙ ap all_bits all
-
-    messages_are : x.messages ≡ length ((w.j n).x.sender.sent c)
-    messages_are = going.messages ∙ ap (λ (ts : List (List Bool)). length ts) all
-
-    -- ---- the sending life
-
-    some_sent : (ts : List (List Bool)) → (ts ≡ [] → ⊥) → 1 ≤ length ts
-    some_sent [] some = absurd (some refl)
-    some_sent (t ∷ ts) some = omega arith
-
-    module _ (s : Life) (there : Contains (lives_in ms) s) (m : Match (crossings_of ms) x s) where
-      s_in : IsOf s (lives_in ms)
-      s_in = is_of s (lives_in ms) there
-
-      only : (r : Life) → IsOf r (lives_in ms) → Match (crossings_of ms) r s → x ≡ r
-      only r i k = one_receiver hosts Own Heard (λ a b. all_given hosts a b) ms l x r s here i m k
-
-      -- where something was sent in the connection
-      some_there : (((w.j n).x.sender.sent c) ≡ [] → ⊥) → (x.bits ≡ s.bits) × (x.messages ≡ s.messages)
-      some_there some =
-          let h : HasS x.host x.peer (Own x.host x.peer) (Heard x.host x.peer) ms w.j n c = w.has_sender n c some in
-          let matches : Match (crossings_of ms) x h.life =
-          one_matches x.host x.peer (Own x.host x.peer) (Heard x.host x.peer) ms (given.matched ms l) w x h.life known.g h.is.g late h.there (refl, refl) (h.host, h.peer) f.receiving h.name known.own h.is.heard in
-          let one : h.life ≡ s = one_sender hosts Own Heard (λ a b. all_given hosts a b) ms l x h.life s (of_drop (since x.host x.peer ms) h.life (lives_in ms) h.there) s_in matches m in
-          let bits : h.life.bits ≡ all_bits ((w.j n).x.sender.sent c) = h.is.gave.bits ∙ ap (λ (k : ℕ). all_bits ((w.j k).x.sender.sent (numbered h.life.foreign h.life.socket h.is.g))) h.link ∙ ap (λ (k : ℕ). all_bits ((w.j n).x.sender.sent k)) h.name in
-          let messages : h.life.messages ≡ length ((w.j n).x.sender.sent c) =
-          h.is.gave.messages ∙ ap (λ (k : ℕ). length ((w.j k).x.sender.sent (numbered h.life.foreign h.life.socket h.is.g))) h.link ∙ ap (λ (k : ℕ). length ((w.j n).x.sender.sent k)) h.name in
-          (bits_are ∙ sym bits ∙ ap (λ (y : Life). y.bits) one, messages_are ∙ sym messages ∙ ap (λ (y : Life). y.messages) one)
-
-      -- a sending life that sent something did so in the connection of the life
-      module _ (p : PresentS x.host x.peer (Own x.host x.peer) (Heard x.host x.peer) ms w.j s) (i : IsOf s (present_in x.host x.peer ms)) (some : (w.j p.link).x.sender.sent (numbered s.foreign s.socket p.g) ≡ [] → ⊥) where
-        granter : HasR x.host x.peer (Own x.host x.peer) (Heard x.host x.peer) ms w.j p.link (numbered s.foreign s.socket p.g)
-        granter =
-            let safe : IsSafe (w.j p.link).x (numbered s.foreign s.socket p.g) = safe_inv (w.j p.link).x (w.j p.link).joint.inv_x (numbered s.foreign s.socket p.g) in
-            let one : 1 ≤ length ((w.j p.link).x.sender.sent (numbered s.foreign s.socket p.g)) = some_sent ((w.j p.link).x.sender.sent (numbered s.foreign s.socket p.g)) some in
-            let in_messages : length ((w.j p.link).x.sender.sent (numbered s.foreign s.socket p.g)) + ((w.j p.link).x.receiver.returned (numbered s.foreign s.socket p.g)).messages ≤ ((w.j p.link).x.receiver.granted (numbered s.foreign s.socket p.g)).messages
-            = safe.sent.in_messages in
-            w.has_receiver p.link (numbered s.foreign s.socket p.g) (omega (arith, one, in_messages))
-
-        it_is : x ≡ granter.life
-        it_is =
-            only granter.life (of_drop (since x.host x.peer ms) granter.life (lives_in ms) granter.there)
-            (one_matches x.host x.peer (Own x.host x.peer) (Heard x.host x.peer) ms (given.matched ms l) w granter.life s granter.is.g p.g granter.there i (granter.host, granter.peer) (sym m.peers.0, m.peers.1) granter.kind (sym granter.name) granter.is.own p.heard)
-
-        found : (link k : ℕ) (y : Life) → x ≡ y → GoesOn x.host x.peer (Own x.host x.peer) (Heard x.host x.peer) ms w.j link k y → (f.link ≡ suc link) × (numbered y.socket y.foreign k ≡ name_now numbered x.peer (own_calls x.host x.peer ms) x.socket x.foreign)
-        found link k y e o =
-            subst (λ (z : Life). GoesOn x.host x.peer (Own x.host x.peer) (Heard x.host x.peer) ms w.j link k z → (f.link ≡ suc link) × (numbered z.socket z.foreign k ≡ name_now numbered x.peer (own_calls x.host x.peer ms) x.socket x.foreign)) e (is_here link k) o
-
-        at : (f.link ≡ suc granter.is.link) × (numbered granter.life.socket granter.life.foreign granter.is.g ≡ name_now numbered x.peer (own_calls x.host x.peer ms) x.socket x.foreign)
-        at = found granter.is.link granter.is.g granter.life it_is (granter.is.going (ap (λ (y : Life). y.ended) (sym it_is) ∙ f.goes))
-
-        link_same : p.link ≡ n
-        link_same = sym granter.link ∙ suc_is granter.is.link n (sym at.0 ∙ place.0)
-
-        name_same : numbered s.foreign s.socket p.g ≡ c
-        name_same = sym granter.name ∙ at.1 ∙ sym place.1
-
-        some_here : (w.j n).x.sender.sent c ≡ [] → ⊥
-        some_here none = some (ap (λ (k : ℕ). (w.j k).x.sender.sent (numbered s.foreign s.socket p.g)) link_same ∙ ap (λ (k : ℕ). (w.j n).x.sender.sent k) name_same ∙ none)
-
-      -- where nothing was
-      none_there : (w.j n).x.sender.sent c ≡ [] → (s.messages ≡ 0) × (s.bits ≡ [])
-      none_there none = elim (of_parts (since x.host x.peer ms) s (lives_in ms) s_in) [
-        | inl early ↦ old (settled_s hosts x.host x.peer (Own x.host x.peer) (Heard x.host x.peer) given ms l s early (sym m.peers.0) m.peers.1 m.sending).granted
-        | inr i ↦ new (w.sending s i (sym m.peers.0) m.peers.1 m.sending) i
-      ] where
-        old : ((s.messages ≡ 0) × (s.bits ≡ [])) ⊎ OldGranter ms s → (s.messages ≡ 0) × (s.bits ≡ [])
-        old (inl e) = e
-        old (inr o) = absurd (unlike x.ended (ap (λ (y : Life). y.ended) (only o.receiver o.there o.matches) ∙ o.over) f.goes)
-
-        new : (p : PresentS x.host x.peer (Own x.host x.peer) (Heard x.host x.peer) ms w.j s) → IsOf s (present_in x.host x.peer ms) → (s.messages ≡ 0) × (s.bits ≡ [])
-        new p i = by ((w.j p.link).x.sender.sent (numbered s.foreign s.socket p.g)) refl where
-          by : (ts : List (List Bool)) → (w.j p.link).x.sender.sent (numbered s.foreign s.socket p.g) ≡ ts → (s.messages ≡ 0) × (s.bits ≡ [])
-          by [] e = (p.gave.messages ∙ ap (λ (ts : List (List Bool)). length ts) e, p.gave.bits ∙ ap all_bits e)
-          by (t ∷ ts) e = absurd (some_here p i (λ empty. absurd (let no : t ∷ ts ≡ [] = sym e ∙ empty in cc)) none)
-
-      one_close : (x.bits ≡ s.bits) × (x.messages ≡ s.messages)
-      one_close = by ((w.j n).x.sender.sent c) refl where
-        by : (ts : List (List Bool)) → (w.j n).x.sender.sent c ≡ ts → (x.bits ≡ s.bits) × (x.messages ≡ s.messages)
-        by [] e =
-            let z : (s.messages ≡ 0) × (s.bits ≡ []) = none_there e in
-            (bits_are ∙ ap all_bits e ∙ sym z.1, messages_are ∙ ap (λ (ts : List (List Bool)). length ts) e ∙ sym z.0)
-        by (t ∷ ts) e = some_there (λ empty. absurd (let no : t ∷ ts ≡ [] = sym e ∙ empty in cc))
+    one_close : (s : Life) → Contains (lives_in ms) s → Match (crossings_of ms) x s → (x.bits ≡ s.bits) × (x.messages ≡ s.messages)
+    one_close s there m =
+        let g : (s.bits ≡ all_bits ((w.j n).x.sender.sent c)) × (s.messages ≡ length ((w.j n).x.sender.sent c)) = gave s there m in
+        (going.bits ∙ ap all_bits all ∙ sym g.0, going.messages ∙ ap (λ (ts : List (List Bool)). length ts) all ∙ sym g.1)
 
 -- ---- a receiving life at rest
 

@@ -90,11 +90,11 @@ module _ (hosts : List Host) (a b : Host) where
     safe = safe_inv ((at_now ms l).j m).x ((at_now ms l).j m).joint.inv_x c
 
   -- a request is that of one connection
-  one_number : (ms : List Moment) → Lawful hosts ms → (receive send stamp g k : ℕ) → Own a b ms receive send stamp g → Own a b ms receive send stamp k → g ≡ k
+  pub one_number : (ms : List Moment) → Lawful hosts ms → (receive send stamp g k : ℕ) → Own a b ms receive send stamp g → Own a b ms receive send stamp k → g ≡ k
   one_number ms l receive send stamp g k o p =
       asks_once g k stamp (receiver (record { receive = receive; send = send }) (steps a b (law_events ms))).said (law_joined hosts ms l a b (record { receive = receive; send = send })).here.grows o p
 
-  one_stamp : (ms : List Moment) → Lawful hosts ms → (receive send p q g : ℕ) → Own a b ms receive send p g → Own a b ms receive send q g → p ≡ q
+  pub one_stamp : (ms : List Moment) → Lawful hosts ms → (receive send p q g : ℕ) → Own a b ms receive send p g → Own a b ms receive send q g → p ≡ q
   one_stamp ms l receive send p q g o r = (law_joined hosts ms l a b (record { receive = receive; send = send })).here.balanced.single g p q o r
 
   -- a sending life of the peer answers this request

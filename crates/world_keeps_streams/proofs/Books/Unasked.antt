@@ -104,12 +104,19 @@ life_of_link x (p ∷ links) (inr i) =
     let r : (v : Linked) × Contains links v × (v.life ≡ x) = life_of_link x links i in
     (r.0, (suc r.1.0, (let l : r.1.0 < length links = r.1.1 in omega (arith, l)), r.1.2), r.2)
 
-own_below : (hosts : List Host) (ms : List Moment) → Lawful hosts ms → (x : Life) → IsOf x (lives_in ms) → x.own_stamp < length (crossings_of ms)
+pub own_below : (hosts : List Host) (ms : List Moment) → Lawful hosts ms → (x : Life) → IsOf x (lives_in ms) → x.own_stamp < length (crossings_of ms)
 own_below hosts ms l x i =
     let b : FirstBook (crossings_of ms) (lives_in ms) = firsts hosts ms l in
     let r : (p : Linked) × Contains b.links p × (p.life ≡ x) = life_of_link x b.links (subst (λ (ys : List Life). IsOf x ys) (sym b.all) i) in
     let c : CrossedAt r.0.life.own_stamp (crossing.Out (b.first r.0 r.1).own.message) (crossings_of ms) = (b.first r.0 r.1).own.crossed in
     subst (λ (y : Life). y.own_stamp < length (crossings_of ms)) r.2 (crossed_less r.0.life.own_stamp (crossing.Out (b.first r.0 r.1).own.message) (crossings_of ms) c)
+
+pub partner_below : (hosts : List Host) (ms : List Moment) → Lawful hosts ms → (x : Life) → IsOf x (lives_in ms) → x.partner_stamp < length (crossings_of ms)
+partner_below hosts ms l x i =
+    let b : FirstBook (crossings_of ms) (lives_in ms) = firsts hosts ms l in
+    let r : (p : Linked) × Contains b.links p × (p.life ≡ x) = life_of_link x b.links (subst (λ (ys : List Life). IsOf x ys) (sym b.all) i) in
+    let c : CrossedAt r.0.life.partner_stamp (crossing.In (b.first r.0 r.1).partner.message) (crossings_of ms) = (b.first r.0 r.1).partner.crossed in
+    subst (λ (y : Life). y.partner_stamp < length (crossings_of ms)) r.2 (crossed_less r.0.life.partner_stamp (crossing.In (b.first r.0 r.1).partner.message) (crossings_of ms) c)
 
 -- ---- lives from before both met last
 

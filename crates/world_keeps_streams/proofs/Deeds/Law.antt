@@ -33,13 +33,13 @@ use Rattle.world_keeps_streams.proofs.Deeds.Kinds.{arrives, arrives_if, closings
 
 -- ---- moves that count nothing
 
-abbrev IsStill : receivers.Move → Type 0
+abbrev pub IsStill : receivers.Move → Type 0
 IsStill (receivers.Grant c m n) = ⊥
 IsStill (receivers.Take z bits) = ⊥
 IsStill (receivers.Hear (words.Ret c m n)) = ⊥
 IsStill m = Unit {0}
 
-abbrev AreStill : List receivers.Move → Type 0
+abbrev pub AreStill : List receivers.Move → Type 0
 AreStill [] = Unit {0}
 AreStill (m ∷ ms) = IsStill m × AreStill ms
 
@@ -128,11 +128,11 @@ module _ (name : ℕ → ℕ → ℕ) (link : ℕ) where
   answers_still c (Some l) None = tt
   answers_still c (Some l) (Some other) = still_if (other == link) (receivers.Ask c ∷ []) [] (tt, tt) tt
 
-  str_still : (c z : ℕ) (l : Option Listener) (free : Option ℕ) (o : Option Entry) → AreStill (str_received link c z l free o)
+  pub str_still : (c z : ℕ) (l : Option Listener) (free : Option ℕ) (o : Option Entry) → AreStill (str_received link c z l free o)
   str_still c z l free None = (tt, answers_still c l free)
   str_still c z l free (Some e) = still_if (is_some e.partner) [] (receivers.Hear (words.Str c z) ∷ received_open (receives_on link e && is_some e.asked) c) tt (tt, opens_still (receives_on link e && is_some e.asked) c)
 
-  cls_still : (c : ℕ) (o : Option Entry) → AreStill (cls_received link c o)
+  pub cls_still : (c : ℕ) (o : Option Entry) → AreStill (cls_received link c o)
   cls_still c None = tt
   cls_still c (Some e) = still_if (is_receiving e && not e.partner_closed) _ [] (tt, still_if (receives_on link e) (received_close e.closing c) [] (close_still e.closing c) tt) tt
 
@@ -144,7 +144,7 @@ module _ (name : ℕ → ℕ → ℕ) (link : ℕ) where
   closed_still None = tt
   closed_still (Some e) = still_if (receives_on link e) (received_gone e.partner_closed (named name e)) [] (gone_still e.partner_closed (named name e)) tt
 
-  out_still : (c : Command) (es : List Entry) → AreStill (received_out name link c es)
+  pub out_still : (c : Command) (es : List Entry) → AreStill (received_out name link c es)
   out_still (command.Rts receive send l) es = asked_still (entry_at receive send es)
   out_still (command.Str send receive size) es = asked_still (entry_at send receive es)
   out_still (command.Cls own foreign) es = closed_still (entry_at own foreign es)
@@ -155,7 +155,7 @@ module _ (name : ℕ → ℕ → ℕ) (link : ℕ) where
   plain_says stamp (command.Str send receive size) q = plain_opens (entry_at send receive (changed_at send receive (asked_at stamp) q.entries))
   plain_says stamp c q = tt
 
-  asks_still : (c : ℕ) (free : Option ℕ) → AreStill (asks_for link c free)
+  pub asks_still : (c : ℕ) (free : Option ℕ) → AreStill (asks_for link c free)
   asks_still c None = tt
   asks_still c (Some other) = still_if (other == link) (receivers.Ask c ∷ []) [] (tt, tt) tt
 
@@ -218,7 +218,8 @@ module _ (name : ℕ → ℕ → ℕ) (link : ℕ) where
         (takes_by text h r x (find_passes (receives_on link) x es f) (is_acceptable x h) refl (accept_same (named name x) x r h (data_of (data_bits h) text) i o (bits_there text h is)))) has
 
     by : (v : Bool) → (l == link) ≡ v → Receives name link (arrives text (found_in (find (receives_on l) es))) r (all_received (if v then receivers.Take h.size (data_of (data_bits h) text) ∷ [] else []) r)
-    by true e = subst (λ (n : ℕ). Receives name link (arrives text (found_in (find (receives_on n) es))) r (receivers.takes h.size (data_of (data_bits h) text) r.end r)) (sym (eqb-true l link e)) here
+    by true e = subst (λ (n : ℕ). Receives name link (arrives text (found_in (find (receives_on n) es))) r (receivers.moved (receivers.Take h.size (data_of (data_bits h) text)) r)) (sym (eqb-true l link e))
+        (record { taken = here.taken; granted = here.granted; returned = here.returned })
     by false e = off_by (arrives text (found_in (find (receives_on l) es))) r
         (off_found (arrives text) (find (receives_on l) es) tt tt
         (λ x f. subst (λ (o : Option DataHeader). IsOff (arrives_if x text o)) (sym is)

@@ -100,6 +100,7 @@ fetched_inv y free h = by (subst (λ (box : Box). Inv (boxed y box)) free h) whe
     settled = i.settled;
     fronts = i.fronts;
     unsent = i.unsent;
+    came = i.came;
     account = i.account;
     left = i.left;
     unopened = i.unopened;

@@ -216,7 +216,7 @@ module _ (number other : ℕ → ℕ → ℕ → ℕ) (tells : IsTelling number)
               granted = λ e c. r.granted c;
               returned = λ e c. r.returned c;
               taken = λ e c. r.taken c;
-              settled = λ e c. r.settled c;
+              settled = λ e c. record { over = (r.settled c).over; first = (r.settled c).first; taken = (r.settled c).taken };
               said = λ e c. refl;
             }
 

@@ -240,7 +240,7 @@ module _ (r : Receiver) (c : ℕ) (o : r.over c ≡ true) where
   kept_move (receivers.AskBack k m n) may = itself
   kept_move (receivers.Close k) may = record { over = o; first = kept_close k (r.over k) refl; granted = refl }
   kept_move (receivers.Free k) may = record { over = o; first = refl; granted = refl }
-  kept_move (receivers.Take z bits) may = kept_taken z bits r.end
+  kept_move (receivers.Take z bits) may = let t : Kept r (receivers.takes z bits r.end r) c = kept_taken z bits r.end in record { over = t.over; first = t.first; granted = t.granted }
   kept_move (receivers.Hear (Str k z)) may = record { over = o; first = refl; granted = refl }
   kept_move (receivers.Hear (Ret k m n)) may = kept_back m n r.end
   kept_move (receivers.Hear (Cls k)) may = record { over = kept_cls k; first = refl; granted = refl }

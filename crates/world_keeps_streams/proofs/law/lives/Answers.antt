@@ -3,6 +3,7 @@ use Rattle.world_keeps_streams.proofs.Books.All.{sent, source}
 use Rattle.world_keeps_streams.proofs.Books.Answered.{answered}
 use Rattle.world_keeps_streams.proofs.Books.Arrives.{arrives}
 use Rattle.world_keeps_streams.proofs.Books.Calm.{all_calm}
+use Rattle.world_keeps_streams.proofs.Books.Came.{all_came}
 use Rattle.world_keeps_streams.proofs.Books.Closes.{rests}
 use Rattle.world_keeps_streams.proofs.Books.Comes.{all_come}
 use Rattle.world_keeps_streams.proofs.Books.Handed.{took_handed}
@@ -42,3 +43,6 @@ returns-clause-comes c hosts moments addresses run time = all_come hosts moments
 
 pub returns-clause-calm : goal.returns-clause-calm
 returns-clause-calm c hosts moments addresses run time = all_calm hosts moments (addresses, run, time)
+
+pub returns-clause-came : goal.returns-clause-came
+returns-clause-came c hosts moments addresses run time = all_came hosts moments (addresses, run, time)

@@ -3,6 +3,7 @@ use Rattle.world_keeps_streams.proofs.Books.All.{world_sent, world_source}
 use Rattle.world_keeps_streams.proofs.Books.Answered.{world_answered}
 use Rattle.world_keeps_streams.proofs.Books.Arrives.{world_arrives}
 use Rattle.world_keeps_streams.proofs.Books.Calm.{world_calms}
+use Rattle.world_keeps_streams.proofs.Books.Came.{world_came}
 use Rattle.world_keeps_streams.proofs.Books.Closes.{world_rests}
 use Rattle.world_keeps_streams.proofs.Books.Comes.{world_comes}
 use Rattle.world_keeps_streams.proofs.Books.Handed.{world_handed_over}
@@ -42,3 +43,6 @@ returns-clause-comes g c hosts w lawful = world_comes g.C.Carrier.calls.seen hos
 
 pub returns-clause-calm : goal.returns-clause-calm
 returns-clause-calm g c hosts w lawful = world_calms g.C.Carrier.calls.seen hosts w lawful
+
+pub returns-clause-came : goal.returns-clause-came
+returns-clause-came g c hosts w lawful = world_came g.C.Carrier.calls.seen hosts w lawful
