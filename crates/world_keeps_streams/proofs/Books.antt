@@ -22,6 +22,7 @@ pub mod Lies
 pub mod One
 pub mod Parted
 pub mod Run
+pub mod Silent
 pub mod Source
 pub mod Starts
 pub mod Streams
