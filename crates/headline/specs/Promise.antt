@@ -20,7 +20,7 @@ use Rattle.world_keeps_streams.specs.Rests.{AllAgree, AllCalm, AllRest}
 -- And crossings, notices and lives are what the programs of all hosts make of one list of moments, over a carrier whose log is a run of the mailboxes. In these moments data that were taken where they came for a receiving life whose
 -- end was open arrived there, all of them, and data on the link of a sending life came for the one that it matches; where a host gets RFNM of data they were taken before, once; a receiving life whose end its partner had closed, and no user of its host, took all that its partner sent, also once it was over; and so did one whose end was open while nothing waited for it and its partner continued. While no command was on its way between their hosts either,
 -- what its partner might still send was what it might still take: what was granted and neither used nor returned; so it was of all between hosts that had nothing left to do, where no end closed, but for a sender that drained.
--- Where the end of a receiving life had taken its partner's CLS, as many messages had come in on its link as its partner had sent, also if its host dropped some.
+-- When the end of a receiving life took its partner's CLS, as many messages had come in on its link as its partner ever sent, also if its host dropped some.
 -- A sending life whose CLS was queued before its partner's was taken has sent all that was handed over in it, also once it was over.
 -- The crossings determine the bits of all lives: a life's messages are the first on its link after both of its requests, and each message that went out is one of a sending life
 pub record KeepsPromise {C : Type 0} (seen : C → Seen) (w : WorldState C) : Type 0 where
@@ -41,7 +41,7 @@ pub record KeepsPromise {C : Type 0} (seen : C → Seen) (w : WorldState C) : Ty
   pub handed : AllHanded lawful.whole.moments
   pub firsts : FirstBook w.kept.book.crossings w.kept.book.lives
 
--- what `Promised` leaves: the world is lawful, in its moments data arrive, and RFNM of data means that they did where they came, lives agree where their ends close and where they rest, all that was sent has come in where a CLS was taken, and what was handed
+-- what `Promised` leaves: the world is lawful, in its moments data arrive, and RFNM of data means that they did where they came, lives agree where their ends close and where they rest, all that was ever sent had come in when a CLS was taken, and what was handed
 -- over was sent where a sender closes first; and the crossings determine the bits of all lives
 pub record IsExact {C : Type 0} (seen : C → Seen) (w : WorldState C) : Type 0 where
   pub lawful : IsLawful seen (seen w.carrier).hosts w

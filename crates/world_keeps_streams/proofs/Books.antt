@@ -13,6 +13,7 @@ pub mod Closes
 pub mod Comes
 pub mod Counts
 pub mod Ended
+pub mod Finished
 pub mod Firsts
 pub mod Given
 pub mod Goes

@@ -10,6 +10,7 @@ pub mod GoesAsked
 pub mod GoesHeard
 pub mod GoesOut
 pub mod GoesSaid
+pub mod Closed
 pub mod Going
 pub mod Held
 pub mod Joined

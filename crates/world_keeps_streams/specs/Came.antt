@@ -20,13 +20,20 @@ pub record HasTakenCls (moments : List Moment) (receiver : Life) : Type 0 where
   pub link : ℕ
   pub linked : end.end.link ≡ Some link
 
--- as many messages came in on its link, after both its requests, as the life that it matches has sent. Where any came there is such a life
-pub record CameAll (log : List Crossing) (lives : List Life) (receiver : Life) (link : ℕ) : Type 0 where
-  pub all : (sender : Life) → Contains lives sender → Match log receiver sender → sender.messages ≡ length (texts_for receiver link log)
-  pub source : (length (texts_for receiver link log) ≡ 0 → ⊥) → (sender : Life) × Contains lives sender × Match log receiver sender
+-- at some moment up to now it was so of a life, as that was then
+pub record HadTakenCls (moments : List Moment) (receiver : Life) : Type 0 where
+  pub later : List Moment
+  pub earlier : List Moment
+  pub is : moments ≡ later ++ earlier
+  pub then : HasTakenCls earlier receiver
 
--- so it is at every moment
+-- as many messages had come in on its link `before`, after both its requests, as the life that it matches has sent. Where any came there is such a life
+pub record CameAll (before log : List Crossing) (lives : List Life) (receiver : Life) (link : ℕ) : Type 0 where
+  pub all : (sender : Life) → Contains lives sender → Match log receiver sender → sender.messages ≡ length (texts_for receiver link before)
+  pub source : (length (texts_for receiver link before) ≡ 0 → ⊥) → (sender : Life) × Contains lives sender × Match log receiver sender
+
+-- so it is at every moment: of what had come in when the CLS was taken, and of lives as they are since
 abbrev pub AllCame : List Moment → Type 0
 AllCame moments =
-    (later earlier : List Moment) → moments ≡ later ++ earlier → (receiver : Life) → (taken : HasTakenCls earlier receiver)
-    → CameAll (crossings_of earlier) (kept_in earlier).book.lives receiver taken.link
+    (later earlier : List Moment) → moments ≡ later ++ earlier → (receiver : Life) → (taken : HadTakenCls earlier receiver)
+    → CameAll (crossings_of taken.earlier) (crossings_of earlier) (kept_in earlier).book.lives receiver taken.then.link

@@ -20,7 +20,7 @@ ghost use Rattle.world_keeps_streams.specs.Worked.{asked_moments, calm_moments, 
 ghost use Rattle.world_keeps_streams.specs.Answered.{AllAnswered, HasArrived};
 ghost use Rattle.world_keeps_streams.specs.Arrivals.{AllArrive, AllCome, Arrives, ComesBetween, ComesFor};
 ghost use Rattle.world_keeps_streams.specs.Calls.{own_calls, numbered_by_peer};
-ghost use Rattle.world_keeps_streams.specs.Came.{AllCame, CameAll, HasTakenCls};
+ghost use Rattle.world_keeps_streams.specs.Came.{AllCame, CameAll, HadTakenCls, HasTakenCls};
 ghost use Rattle.world_keeps_streams.specs.Rests.{Agree, AllAgree, AllCalm, AllRest, AreAtRest, AreCalm, AreSettled};
 ghost use Rattle.world_keeps_lives.specs.WorkedFormed.{gave};
 ghost use Rattle.world_keeps_streams.specs.Closes.{AllClose, AllHanded, EachHanded, IsClosedByPartner, TookHanded, WasClosedBy, WasClosedByPartner};
@@ -67,7 +67,8 @@ pub fn lives()
     // a receiving life whose end its partner has closed, and no user of its host, took all that its partner sent; it stays so whatever becomes of both lives
     ensures closes { LivesCloses }
 
-    // where its end has taken the partner's CLS, as many messages came in on its link as its partner sent, also if its host dropped some of them
+    // once its end has taken the partner's CLS, as many messages had come in on its link as its partner sent then and ever since, also if its host dropped
+    // some of them
     ensures came { (hosts : List Host) (moments : List Moment) → HaveAddresses hosts → mail.IsRun hosts (crossings_of moments) → IsTimeline hosts moments → AllCame moments }
 
     // and all that was handed over in the life that it matches, if that had begun when the CLS was taken
@@ -207,12 +208,15 @@ pub fn worked_came()
     ensures closing { HasTakenCls quit_moments took }
     ensures open { HasTakenCls sent_moments took_eight → ⊥ }
 
+    // it was so of the life as it was then, once the sender's host has stopped
+    ensures had { HadTakenCls (Crossed (crossing.Down dialogue.second) ∷ quit_moments) took }
+
     // one message came in and one was sent, though none was taken
     ensures dropped { (length (texts_for took 2 (crossings_of quit_moments)) ≡ 1) × (gave.messages ≡ 1) × (took.messages ≡ 0) }
 
     // it isn't so while the message waits to be taken, nor of another link
-    ensures waits { CameAll (crossings_of bits_sent) (kept_in bits_sent).book.lives took 2 → ⊥ }
-    ensures link { CameAll (crossings_of quit_moments) (kept_in quit_moments).book.lives took 3 → ⊥ }
+    ensures waits { CameAll (crossings_of bits_sent) (crossings_of bits_sent) (kept_in bits_sent).book.lives took 2 → ⊥ }
+    ensures link { CameAll (crossings_of quit_moments) (crossings_of quit_moments) (kept_in quit_moments).book.lives took 3 → ⊥ }
 {}
 
 /// The calls of two programs: the first asks for a connection, and the second's socket listens. Here a connection is given by its receiving socket.

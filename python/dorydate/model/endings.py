@@ -119,6 +119,10 @@ class EndingWorld(World):
         """How many messages came in on a life's link after both its requests. `misread_endings` has readings that are wrong."""
         return len(messages_of(self.carrier.log, life))
 
+    def came_before(self, at: int) -> int:
+        """How many had come in for a receiving life when its partner's CLS was taken."""
+        return self.came[at]
+
     def sent(self, at: int) -> int:
         """How many messages were sent for a receiving life."""
         return sum(self.book.lives[it].messages for it in self.senders(at))
@@ -132,8 +136,8 @@ class EndingWorld(World):
         """At the end of all: what was broken first. What was whole is."""
         for at in self.whole:
             self.judge("it stays so", self.is_whole(at))
-        for at, came in self.came.items():
-            self.judge("nothing is sent once its CLS was taken", came == self.sent(at))
+        for at in self.came:
+            self.judge("nothing is sent once its CLS was taken", self.came_before(at) == self.sent(at))
         return self.wrong
 
     # ---- rest

@@ -40,4 +40,11 @@ class WentOut(EndingWorld):
         return sum(isinstance(it, Passed) and it.flow == flow for it in later)
 
 
-MISREADINGS = OnlyTaken, OfOlder, OfAnyLink, WentOut
+class UpToNow(EndingWorld):
+    """What comes in on the link after the partner's CLS comes in for the life too."""
+
+    def came_before(self, at: int) -> int:
+        return self.came_in(self.book.lives[at])
+
+
+MISREADINGS = OnlyTaken, OfOlder, OfAnyLink, WentOut, UpToNow

@@ -235,7 +235,7 @@ module _ (hosts : List Host) (addresses : HaveAddresses hosts) (m : HostMessage)
 
 -- ---- over a list of moments
 
-pub rest_lawful : (hosts : List Host) (later ms : List Moment) → Lawful hosts (later ++ ms) → Lawful hosts ms
+unfoldable pub rest_lawful : (hosts : List Host) (later ms : List Moment) → Lawful hosts (later ++ ms) → Lawful hosts ms
 rest_lawful hosts [] ms l = l
 rest_lawful hosts (y ∷ later) ms l = rest_lawful hosts later ms (below hosts y (later ++ ms) l)
 

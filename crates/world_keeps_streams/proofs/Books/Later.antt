@@ -71,7 +71,7 @@ module _ (hosts : List Host) (a b : Host) where
   given : Given hosts a b (Own a b) (Heard a b)
   given = all_given hosts a b
 
-  abbrev at_now : (ms : List Moment) → Lawful hosts ms → Whole a b (Own a b) (Heard a b) ms
+  abbrev pub at_now : (ms : List Moment) → Lawful hosts ms → Whole a b (Own a b) (Heard a b) ms
   at_now ms l = whole hosts a b (Own a b) (Heard a b) (all_given hosts a b) ms l
 
   -- on each link the law's receiver has heard the connection's CLS; and it did not say its own before, or nothing was granted there
@@ -98,13 +98,13 @@ module _ (hosts : List Host) (a b : Host) where
   one_stamp ms l receive send p q g o r = (law_joined hosts ms l a b (record { receive = receive; send = send })).here.balanced.single g p q o r
 
   -- a sending life of the peer answers this request
-  record Answers (ms : List Moment) (s : Life) (name : Name) : Type 0 where
-    sending : sends s ≡ true
-    host : s.host ≡ b
-    peer : s.peer ≡ a
-    is : partner_request (crossings_of ms) s ≡ Some name
+  pub record Answers (ms : List Moment) (s : Life) (name : Name) : Type 0 where
+    pub sending : sends s ≡ true
+    pub host : s.host ≡ b
+    pub peer : s.peer ≡ a
+    pub is : partner_request (crossings_of ms) s ≡ Some name
 
-  abbrev IsNothing : Life → Type 0
+  abbrev pub IsNothing : Life → Type 0
   IsNothing s = (s.messages ≡ 0) × (s.bits ≡ [])
 
   -- the life's connection is shut, or the life is of before both met last
@@ -244,21 +244,21 @@ module _ (hosts : List Host) (a b : Host) where
 
   module _ (z : Moment) (ms : List Moment) (l : Lawful hosts (z ∷ ms)) where
     -- requests stay
-    request_on : (s : Life) → IsOf s (lives_in ms) → partner_request (crossings_of (z ∷ ms)) s ≡ partner_request (crossings_of ms) s
+    pub request_on : (s : Life) → IsOf s (lives_in ms) → partner_request (crossings_of (z ∷ ms)) s ≡ partner_request (crossings_of ms) s
     request_on s i = by z (below hosts z ms l) where
       by : (y : Moment) → Lawful hosts ms → partner_request (crossings_of (y ∷ ms)) s ≡ partner_request (crossings_of ms) s
       by (Asked h r) k = refl
       by (Crossed c) k = request_grows hosts ms k (c ∷ []) s (contains s (lives_in ms) i)
 
-    fresh : stay.begins a b (event_in z) (events_of ms) ≡ true → Fresh a b (event_in z) (events_of ms)
+    pub fresh : stay.begins a b (event_in z) (events_of ms) ≡ true → Fresh a b (event_in z) (events_of ms)
     fresh new = begins_fresh hosts (event_in z) (events_of ms) (coupled_in hosts (z ∷ ms) l).run a b new
 
     -- a sending life of the peer that is of before both met last was over before, so it is as it was
-    record Before (s : Life) : Type 0 where
-      there : IsOf s (lives_in ms)
-      early : stay.begins a b (event_in z) (events_of ms) ≡ false → IsOf s (take (since a b ms) (lives_in ms))
+    pub record Before (s : Life) : Type 0 where
+      pub there : IsOf s (lives_in ms)
+      pub early : stay.begins a b (event_in z) (events_of ms) ≡ false → IsOf s (take (since a b ms) (lives_in ms))
 
-    before : (s : Life) → s.host ≡ b → s.peer ≡ a → sends s ≡ true → IsOf s (take (since a b (z ∷ ms)) (lives_in (z ∷ ms))) → Before s
+    pub before : (s : Life) → s.host ≡ b → s.peer ≡ a → sends s ≡ true → IsOf s (take (since a b (z ∷ ms)) (lives_in (z ∷ ms))) → Before s
     before s host peer kind i = by (stay.begins a b (event_in z) (events_of ms)) refl where
       was : (n : ℕ) (o : Older n ms z s) → o.life.ended ≡ true → (stay.begins a b (event_in z) (events_of ms) ≡ false → IsOf o.life (take (since a b ms) (lives_in ms))) → Before s
       was n o over early =
@@ -280,12 +280,13 @@ module _ (hosts : List Host) (a b : Host) where
           ])
           (λ e. absurd (let no : true ≡ false = sym new ∙ e in cc))
 
-    answers_before : (s : Life) (name : Name) → IsOf s (lives_in ms) → Answers (z ∷ ms) s name → Answers ms s name
+    pub answers_before : (s : Life) (name : Name) → IsOf s (lives_in ms) → Answers (z ∷ ms) s name → Answers ms s name
     answers_before s name i k = record { sending = k.sending; host = k.host; peer = k.peer; is = sym (request_on s i) ∙ k.is }
 
     -- no life that answers one of before both met last has sent anything if none had
-    nothing_on : (t : Life) → IsOf t (take (since a b (z ∷ ms)) (lives_in (z ∷ ms))) → Nothing ms t → Nothing (z ∷ ms) t
-    nothing_on t early n = record { none = n.none; all = λ s i k. each s k (of_parts (since a b (z ∷ ms)) s (lives_in (z ∷ ms)) i) } where
+    pub none_on : (t : Life) → IsOf t (take (since a b (z ∷ ms)) (lives_in (z ∷ ms))) → ((s : Life) → IsOf s (lives_in ms) → Answers ms s (own_request t) → IsNothing s)
+        → (s : Life) → IsOf s (lives_in (z ∷ ms)) → Answers (z ∷ ms) s (own_request t) → IsNothing s
+    none_on t early n s i k = each s k (of_parts (since a b (z ∷ ms)) s (lives_in (z ∷ ms)) i) where
       new : (s : Life) → Answers (z ∷ ms) s (own_request t) → IsNothing s ⊎ Granter a b (Own a b) (Heard a b) (z ∷ ms) (at_now (z ∷ ms) l).j s → IsNothing s
       new s k (inl none) = none
       new s k (inr o) =
@@ -295,8 +296,11 @@ module _ (hosts : List Host) (a b : Host) where
           absurd (one_place hosts Own Heard (λ v w. all_given hosts v w) (z ∷ ms) l (since a b (z ∷ ms)) t early (subst (λ (v : Life). IsOf v (drop (since a b (z ∷ ms)) (lives_in (z ∷ ms)))) same o.there))
 
       each : (s : Life) → Answers (z ∷ ms) s (own_request t) → IsOf s (take (since a b (z ∷ ms)) (lives_in (z ∷ ms))) ⊎ IsOf s (drop (since a b (z ∷ ms)) (lives_in (z ∷ ms))) → IsNothing s
-      each s k (inl old) = let o : Before s = before s k.host k.peer k.sending old in n.all s o.there (answers_before s (own_request t) o.there k)
+      each s k (inl old) = let o : Before s = before s k.host k.peer k.sending old in n s o.there (answers_before s (own_request t) o.there k)
       each s k (inr late) = new s k (granted_of a b (Own a b) (Heard a b) (z ∷ ms) (given.matched (z ∷ ms) l) (at_now (z ∷ ms) l) s late k.host k.peer k.sending)
+
+    nothing_on : (t : Life) → IsOf t (take (since a b (z ∷ ms)) (lives_in (z ∷ ms))) → Nothing ms t → Nothing (z ∷ ms) t
+    nothing_on t early n = record { none = n.none; all = none_on t early n.all }
 
     source_on : (t : Life) → IsOf t (lives_in ms) → (o : Source ms t) → o.sender.ended ≡ true → (n : Source (z ∷ ms) t) × (n.sender.ended ≡ true)
     source_on t i o over = (
@@ -323,7 +327,7 @@ module _ (hosts : List Host) (a b : Host) where
         subst (λ (ys : List Life). IsOf t ys) (sym (ap (take n) g.is ∙ take_grown g.change n (lives_in ms) g.more less))
         (subst (λ (v : Life). IsOf v (map g.change (take n (lives_in ms)))) (g.still t over) (of_map g.change t (take n (lives_in ms)) i))
 
-    early_on : (t : Life) → t.ended ≡ true → IsOf t (lives_in ms) → (stay.begins a b (event_in z) (events_of ms) ≡ false → IsOf t (take (since a b ms) (lives_in ms))) → IsOf t (take (since a b (z ∷ ms)) (lives_in (z ∷ ms)))
+    pub early_on : (t : Life) → t.ended ≡ true → IsOf t (lives_in ms) → (stay.begins a b (event_in z) (events_of ms) ≡ false → IsOf t (take (since a b ms) (lives_in ms))) → IsOf t (take (since a b (z ∷ ms)) (lives_in (z ∷ ms)))
     early_on t over i early = by (stay.begins a b (event_in z) (events_of ms)) refl where
       by : (v : Bool) → stay.begins a b (event_in z) (events_of ms) ≡ v → IsOf t (take (since a b (z ∷ ms)) (lives_in (z ∷ ms)))
       by false none = subst (λ (n : ℕ). IsOf t (take n (lives_in (z ∷ ms)))) (sym (since_on a b z ms none)) (still_early (since a b ms) t (since_bound a b ms) over (early none))
@@ -422,6 +426,57 @@ module _ (hosts : List Host) (a b : Host) where
     by (inl h) = either (through ms l t host peer kind h)
     by (inr d) = either d.done
 
+-- ---- a receiving life that isn't over, on its link
+
+module _ (hosts : List Host) (ms : List Moment) (l : Lawful hosts ms) (x : Life) (f : AtLink ms x) where
+  abbrev own_link : ℕ
+  own_link = closes.n hosts ms l x f
+
+  abbrev own_name : ℕ
+  own_name = closes.c hosts ms l x f
+
+  it_in : IsOf x (lives_in ms)
+  it_in = is_of x (lives_in ms) f.there
+
+  abbrev g : ℕ
+  g = (closes.known hosts ms l x f).g
+
+  -- on another link nothing was granted in its connection
+  pub same_link : (m : ℕ) → 1 ≤ (((at_now hosts x.host x.peer ms l).j m).x.receiver.granted own_name).messages → m ≡ own_link
+  same_link m some =
+      subst (λ (z : Life). (q : PresentR x.host x.peer (Own x.host x.peer) (Heard x.host x.peer) ms (at_now hosts x.host x.peer ms l).j z) → q.link ≡ m → m ≡ own_link) (sym it_is) on r.is r.link where
+        r : HasR x.host x.peer (Own x.host x.peer) (Heard x.host x.peer) ms (at_now hosts x.host x.peer ms l).j m own_name
+        r = (at_now hosts x.host x.peer ms l).has_receiver m own_name some
+
+        socket : r.life.socket ≡ x.socket
+        socket = numbered_tells.own r.life.socket r.life.foreign r.is.g x.socket x.foreign g r.name
+
+        foreign : r.life.foreign ≡ x.foreign
+        foreign = numbered_tells.foreign r.life.socket r.life.foreign r.is.g x.socket x.foreign g r.name
+
+        gone : r.is.g ≡ g
+        gone = numbered_tells.gone r.life.socket r.life.foreign r.is.g x.socket x.foreign g r.name
+
+        own : Own x.host x.peer ms x.socket x.foreign r.life.own_stamp g
+        own =
+            subst (λ (k : ℕ). Own x.host x.peer ms k x.foreign r.life.own_stamp g) socket
+            (subst (λ (k : ℕ). Own x.host x.peer ms r.life.socket k r.life.own_stamp g) foreign (subst (λ (k : ℕ). Own x.host x.peer ms r.life.socket r.life.foreign r.life.own_stamp k) gone r.is.own))
+
+        stamp : r.life.own_stamp ≡ x.own_stamp
+        stamp = one_stamp hosts x.host x.peer ms l x.socket x.foreign r.life.own_stamp x.own_stamp g own (closes.known hosts ms l x f).own
+
+        request : own_request r.life ≡ own_request x
+        request =
+            ap (λ (k : ℕ). let v : Name = record { place = k; own = r.life.socket; foreign = r.life.foreign } in v) stamp
+            ∙ ap (λ (k : ℕ). let v : Name = record { place = x.own_stamp; own = k; foreign = r.life.foreign } in v) socket
+            ∙ ap (λ (k : ℕ). let v : Name = record { place = x.own_stamp; own = x.socket; foreign = k } in v) foreign
+
+        it_is : r.life ≡ x
+        it_is = one_own hosts Own Heard (λ v w. all_given hosts v w) ms l r.life x (of_drop (since x.host x.peer ms) r.life (lives_in ms) r.there) it_in request
+
+        on : (q : PresentR x.host x.peer (Own x.host x.peer) (Heard x.host x.peer) ms (at_now hosts x.host x.peer ms l).j x) → q.link ≡ m → m ≡ own_link
+        on q is = sym is ∙ closes.suc_is q.link own_link (sym (closes.is_here hosts ms l x f q.link q.g (q.going f.goes)).0 ∙ (closes.place hosts ms l x f).0)
+
 -- ---- where its end has taken the CLS
 
 module _ (hosts : List Host) (ms : List Moment) (l : Lawful hosts ms) (x : Life) (f : IsClosedByPartner ms x) where
@@ -452,45 +507,6 @@ module _ (hosts : List Host) (ms : List Moment) (l : Lawful hosts ms) (x : Life)
   x_in : IsOf x (lives_in ms)
   x_in = is_of x (lives_in ms) f.there
 
-  abbrev g : ℕ
-  g = (closes.known hosts ms l x at_link).g
-
-  -- on another link nothing was granted in its connection
-  same_link : (m : ℕ) → 1 ≤ (((at_now hosts x.host x.peer ms l).j m).x.receiver.granted name_here).messages → m ≡ link_now
-  same_link m some =
-      subst (λ (z : Life). (q : PresentR x.host x.peer (Own x.host x.peer) (Heard x.host x.peer) ms (at_now hosts x.host x.peer ms l).j z) → q.link ≡ m → m ≡ link_now) (sym it_is) on r.is r.link where
-        r : HasR x.host x.peer (Own x.host x.peer) (Heard x.host x.peer) ms (at_now hosts x.host x.peer ms l).j m name_here
-        r = (at_now hosts x.host x.peer ms l).has_receiver m name_here some
-
-        socket : r.life.socket ≡ x.socket
-        socket = numbered_tells.own r.life.socket r.life.foreign r.is.g x.socket x.foreign g r.name
-
-        foreign : r.life.foreign ≡ x.foreign
-        foreign = numbered_tells.foreign r.life.socket r.life.foreign r.is.g x.socket x.foreign g r.name
-
-        gone : r.is.g ≡ g
-        gone = numbered_tells.gone r.life.socket r.life.foreign r.is.g x.socket x.foreign g r.name
-
-        own : Own x.host x.peer ms x.socket x.foreign r.life.own_stamp g
-        own =
-            subst (λ (k : ℕ). Own x.host x.peer ms k x.foreign r.life.own_stamp g) socket
-            (subst (λ (k : ℕ). Own x.host x.peer ms r.life.socket k r.life.own_stamp g) foreign (subst (λ (k : ℕ). Own x.host x.peer ms r.life.socket r.life.foreign r.life.own_stamp k) gone r.is.own))
-
-        stamp : r.life.own_stamp ≡ x.own_stamp
-        stamp = one_stamp hosts x.host x.peer ms l x.socket x.foreign r.life.own_stamp x.own_stamp g own (closes.known hosts ms l x at_link).own
-
-        request : own_request r.life ≡ own_request x
-        request =
-            ap (λ (k : ℕ). let v : Name = record { place = k; own = r.life.socket; foreign = r.life.foreign } in v) stamp
-            ∙ ap (λ (k : ℕ). let v : Name = record { place = x.own_stamp; own = k; foreign = r.life.foreign } in v) socket
-            ∙ ap (λ (k : ℕ). let v : Name = record { place = x.own_stamp; own = x.socket; foreign = k } in v) foreign
-
-        it_is : r.life ≡ x
-        it_is = one_own hosts Own Heard (λ v w. all_given hosts v w) ms l r.life x (of_drop (since x.host x.peer ms) r.life (lives_in ms) r.there) x_in request
-
-        on : (q : PresentR x.host x.peer (Own x.host x.peer) (Heard x.host x.peer) ms (at_now hosts x.host x.peer ms l).j x) → q.link ≡ m → m ≡ link_now
-        on q is = sym is ∙ closes.suc_is q.link link_now (sym (closes.is_here hosts ms l x at_link q.link q.g (q.going f.goes)).0 ∙ (closes.place hosts ms l x at_link).0)
-
   shut : IsShut hosts x.host x.peer ms l name_here
   shut m = (heard, by (((at_now hosts x.host x.peer ms l).j m).x.receiver.granted name_here).messages refl) where
     law_is : (k : ℕ) → ((at_now hosts x.host x.peer ms l).j k).x.receiver ≡ receiver_now numbered x.peer (suc k) (own_calls x.host x.peer ms)
@@ -504,7 +520,7 @@ module _ (hosts : List Host) (ms : List Moment) (l : Lawful hosts ms) (x : Life)
         → (((at_now hosts x.host x.peer ms l).j m).x.receiver.first name_here ≡ false) ⊎ ((((at_now hosts x.host x.peer ms l).j m).x.receiver.granted name_here).messages ≡ 0)
     by zero e = inr e
     by (suc k) e =
-        inl (ap (λ (r : Receiver). r.first name_here) (law_is m) ∙ ap (λ (v : ℕ). (receiver_now numbered x.peer (suc v) (own_calls x.host x.peer ms)).first name_here) (same_link m (omega (arith, e))) ∙ late_cls)
+        inl (ap (λ (r : Receiver). r.first name_here) (law_is m) ∙ ap (λ (v : ℕ). (receiver_now numbered x.peer (suc v) (own_calls x.host x.peer ms)).first name_here) (same_link hosts ms l x at_link m (omega (arith, e))) ∙ late_cls)
 
   shut_now : Through hosts x.host x.peer ms l x
   shut_now = record {

@@ -13,10 +13,12 @@ use Rattle.sockets.specs.Accepting.{accepted}
 use Rattle.sockets.specs.Requests.{refusal, served, served_notices}
 use Rattle.sockets.specs.Sending.{next_out, offered}
 use Rattle.sockets.specs.Worked.{first, second}
-use Rattle.net_sim.specs.Story.{program}
+use Rattle.interface.specs.declared.crossing.Crossing.TheVariants as crossing
+use Rattle.net_sim.specs.Story.{Crossed, program}
 use Rattle.world_keeps_lives.specs.WorkedFormed.{gave}
 use Rattle.world_keeps_lives.proofs.lemmas.{none_there}
-use Rattle.world_keeps_streams.specs.Worked.{ended_moments, quit_moments}
+use Rattle.world_keeps_streams.specs.Came.{HasTakenCls}
+use Rattle.world_keeps_streams.specs.Worked.{ended_moments, quit_moments, took}
 use Rattle.world_keeps_streams.proofs.law.worked_came.Goals as goal
 
 first_closed : List Entry → Bool
@@ -42,9 +44,9 @@ returns-clause-taken c = record {
   linked = refl;
 }
 
-pub returns-clause-closing : goal.returns-clause-closing
+quit : HasTakenCls quit_moments took
 unfolding octets_of orders_of read_of command_of packed_count accepted refusal served served_notices next_out offered
-returns-clause-closing c = record {
+quit = record {
   there = (1, omega arith, refl);
   receiving = refl;
   goes = refl;
@@ -60,6 +62,12 @@ returns-clause-closing c = record {
   link = 2;
   linked = refl;
 }
+
+pub returns-clause-closing : goal.returns-clause-closing
+returns-clause-closing c = quit
+
+pub returns-clause-had : goal.returns-clause-had
+returns-clause-had c = record { later = Crossed (crossing.Down second) ∷ []; earlier = quit_moments; is = refl; then = quit }
 
 pub returns-clause-open : goal.returns-clause-open
 unfolding octets_of orders_of read_of command_of packed_count accepted refusal served served_notices next_out offered first_closed
