@@ -16,4 +16,5 @@ pub mod Joined
 pub mod JoinedAll
 pub mod Joining
 pub mod Overs
+pub mod Shut
 pub mod Streams
