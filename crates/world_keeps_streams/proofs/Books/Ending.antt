@@ -29,23 +29,25 @@ use Rattle.host_keeps_streams.proofs.lemmas.{closed_first, find_passes, numbered
 use Rattle.reset_law.specs.Stays as stay
 use Rattle.sockets.specs.Accepting.{turn_of}
 use Rattle.sockets.specs.Pairs.{owner_of, pair_with}
+use Rattle.sockets.specs.Requests.{served_notices}
 use Rattle.sockets.specs.Sending.{next_in}
 use Rattle.sockets.specs.declared.peer.Peer.{Peer}
 use Rattle.sockets.specs.declared.request.Request.{Request}
 use Rattle.sockets.specs.declared.request.Request.TheVariants as request
 use Rattle.pairing_law.proofs.lemmas.{begins_fresh}
-use Rattle.promise.specs.Fates.{IsBeside}
-use Rattle.promise.specs.Safe.{Match, own_request, receives}
+use Rattle.promise.specs.Fates.{IsBeside, is_over}
+use Rattle.promise.specs.Safe.{IsGranted, Match, own_request, receives}
+use Rattle.promise.specs.declared.life.Amount.{Amount}
 use Rattle.promise.specs.declared.life.Fate.{Fate}
 use Rattle.promise.specs.declared.life.Fate.TheVariants as fate
 use Rattle.promise.specs.declared.life.Life.{Life}
-use Rattle.net_sim.specs.Book.{lives_at}
+use Rattle.net_sim.specs.Book.{lives_at, nothing}
 use Rattle.net_sim.specs.Story.{Asked, Crossed, Moment, event_in, events_of, places, program}
 use Rattle.net_sim.specs.Timeline.{crossings_of}
 use Rattle.net_sim.specs.Told.{host_in, kept_in, notices_by}
 use Rattle.net_sim.proofs.lemmas.{kept_fated}
 use Rattle.world_keeps_lives.specs.Lives.{HasOpenEnd}
-use Rattle.world_keeps_lives.proofs.lemmas.{live}
+use Rattle.world_keeps_lives.proofs.lemmas.{live, taken}
 use Rattle.world_keeps_pairing.specs.Steps.{keeps}
 use Rattle.world_keeps_streams.specs.Calls.{answer_calls, called, calls_by, commands_said, message_calls, next_calls, orders_heard, own_calls, owner_calls, parcel_calls, request_calls}
 use Rattle.world_keeps_streams.proofs.Calls.Chain.{chain}
@@ -60,7 +62,7 @@ use Rattle.world_keeps_streams.proofs.Steps.Shut.{IsBare, IsShut, asked_calls, b
 use Rattle.world_keeps_streams.proofs.Steps.Streams.{all_allowed, has_receiver}
 use Rattle.world_keeps_streams.proofs.Books.All.{all_given}
 use Rattle.world_keeps_streams.proofs.Books.Arrives.{end_at, stays_of, unlike}
-use Rattle.world_keeps_streams.proofs.Books.Books.{one_own, same_name}
+use Rattle.world_keeps_streams.proofs.Books.Books.{one_own, same_name, sent}
 use Rattle.world_keeps_streams.proofs.Books.Clauses.{OldGranter, settled_r, settled_s}
 use Rattle.world_keeps_streams.proofs.Books.Closes as closes
 use Rattle.world_keeps_streams.proofs.Books.Closes.{AtLink}
@@ -148,7 +150,7 @@ module _ (a b : Host) (ms : List Moment) (x : Life) (host : x.host ≡ a) (goes 
   closes_it : (h : Host) (socket : ℕ) (e : Entry) → same_host a h ≡ true → find (is_mine_on socket) (pair_with b (program a ms).peers).entries ≡ Some e
       → calls.IsClosing (name_now numbered b (own_calls a b ms)) link (numbered x.socket x.foreign g) (Closes socket e) → lives_at h socket x ≡ true
   closes_it h socket e same found i =
-      let mine : (e.mine && e.own == socket) ≡ true = find_passes (is_mine_on socket) (pair_with b (program a ms).peers).entries e found in
+      let mine : (e.mine && e.own == socket) ≡ true = find_passes (is_mine_on socket) e (pair_with b (program a ms).peers).entries found in
       let at : e.own ≡ socket = eqb-true e.own socket (both e.mine (e.own == socket) mine).1 in
       let is : e.own ≡ x.socket = numbered_tells.own e.own e.foreign (gone_now b (own_calls a b ms) e.own e.foreign) x.socket x.foreign g i.1 in
       let here : same_host h x.host ≡ true = subst (λ (v : Host). same_host h v ≡ true) (sym (host ∙ same_host-true a h same)) (same_host-refl h) in
@@ -168,38 +170,38 @@ module _ (a b : Host) (ms : List Moment) (x : Life) (host : x.host ≡ a) (goes 
     close_one : (socket : ℕ) (v : Bool) (e : Entry) → same_host a h ≡ true → ((lives_at h socket x ≡ true) → ⊥)
         → AreAllowed numbered b link ((if v then called (Closes socket e) (pair_with b (program a ms).peers) (program a ms).listening ∷ [] else []) ++ own_calls a b ms)
         → Closed (if v then called (Closes socket e) (pair_with b (program a ms).peers) (program a ms).listening ∷ [] else []) → HasClosed numbered b link (numbered x.socket x.foreign g) (own_calls a b ms)
-    close_one socket true e same no may (inl here) = absurd (no (closes_it h socket e same may.0.0 here))
-    close_one socket true e same no may (inr older) = older
-    close_one socket false e same no may j = j
+    close_one socket true e same none may (inl here) = absurd (none (closes_it h socket e same may.0.0 here))
+    close_one socket true e same none may (inr older) = older
+    close_one socket false e same none may j = j
 
     close_owner : (socket : ℕ) (o : Option (Host × Entry)) → same_host a h ≡ true → ((lives_at h socket x ≡ true) → ⊥)
         → AreAllowed numbered b link (owner_calls b (Closes socket) (pair_with b (program a ms).peers) (program a ms).listening o ++ own_calls a b ms)
         → Closed (owner_calls b (Closes socket) (pair_with b (program a ms).peers) (program a ms).listening o) → HasClosed numbered b link (numbered x.socket x.foreign g) (own_calls a b ms)
-    close_owner socket None same no may j = j
-    close_owner socket (Some (k, e)) same no may j = close_one socket (same_host b k) e same no may j
+    close_owner socket None same none may j = j
+    close_owner socket (Some (k, e)) same none may j = close_one socket (same_host b k) e same none may j
 
     close_listens : (socket : ℕ) (v : Bool) → same_host a h ≡ true → ((lives_at h socket x ≡ true) → ⊥)
         → AreAllowed numbered b link ((if v then [] else owner_calls b (Closes socket) (pair_with b (program a ms).peers) (program a ms).listening (owner_of socket (program a ms).peers)) ++ own_calls a b ms)
         → Closed (if v then [] else owner_calls b (Closes socket) (pair_with b (program a ms).peers) (program a ms).listening (owner_of socket (program a ms).peers)) → HasClosed numbered b link (numbered x.socket x.foreign g) (own_calls a b ms)
-    close_listens socket true same no may j = j
-    close_listens socket false same no may j = close_owner socket (owner_of socket (program a ms).peers) same no may j
+    close_listens socket true same none may j = j
+    close_listens socket false same none may j = close_owner socket (owner_of socket (program a ms).peers) same none may j
 
     of_request : (q : Request) → same_host a h ≡ true → (IsClose (Asked h q) x → ⊥) → AreAllowed numbered b link (request_calls b (program a ms) q ++ own_calls a b ms) → Closed (request_calls b (program a ms) q)
         → HasClosed numbered b link (numbered x.socket x.foreign g) (own_calls a b ms)
-    of_request (request.Close socket) same no may j = close_listens socket (listens_on socket (program a ms).listening) same no may j
-    of_request (request.OpenSend host k foreign size) same no may j =
+    of_request (request.Close socket) same none may j = close_listens socket (listens_on socket (program a ms).listening) same none may j
+    of_request (request.OpenSend host k foreign size) same none may j =
         plain (request_calls b (program a ms) (request.OpenSend host k foreign size))
         (none_if (same_host b host) (called (calls.OpensSender k foreign size) (pair_with b (program a ms).peers) (program a ms).listening ∷ []) [] (tt, tt) tt) j
-    of_request (request.OpenReceive host k foreign) same no may j =
+    of_request (request.OpenReceive host k foreign) same none may j =
         plain (request_calls b (program a ms) (request.OpenReceive host k foreign))
         (none_if (same_host b host) (called (calls.OpensReceiver k foreign) (pair_with b (program a ms).peers) (program a ms).listening ∷ []) [] (tt, tt) tt) j
-    of_request (request.Send socket bits) same no may j =
+    of_request (request.Send socket bits) same none may j =
         plain (request_calls b (program a ms) (request.Send socket bits)) (none_owner b (calls.Gives socket bits) (pair_with b (program a ms).peers) (program a ms).listening (owner_of socket (program a ms).peers) (λ e. tt)) j
-    of_request (request.Grant socket m n) same no may j =
+    of_request (request.Grant socket m n) same none may j =
         plain (request_calls b (program a ms) (request.Grant socket m n)) (none_owner b (calls.Grants socket m n) (pair_with b (program a ms).peers) (program a ms).listening (owner_of socket (program a ms).peers) (λ e. tt)) j
-    of_request (request.AskBack socket m n) same no may j =
+    of_request (request.AskBack socket m n) same none may j =
         plain (request_calls b (program a ms) (request.AskBack socket m n)) (none_owner b (calls.AsksBack socket m n) (pair_with b (program a ms).peers) (program a ms).listening (owner_of socket (program a ms).peers) (λ e. tt)) j
-    of_request q same no may j = j
+    of_request q same none may j = j
 
     by : (v : Bool) → same_host a h ≡ v → AreAllowed numbered b link ((if v then request_calls b (program a ms) r else []) ++ own_calls a b ms) → Closed (if v then request_calls b (program a ms) r else [])
         → HasClosed numbered b link (numbered x.socket x.foreign g) (own_calls a b ms)
@@ -303,26 +305,29 @@ module _ (hosts : List Host) (y : Moment) (ms : List Moment) (l : Lawful hosts (
   may m = subst (λ (cs : List calls.Moment). AreAllowed numbered x.peer (suc m) cs) own_is (all_allowed hosts l.0 (suc m) (off m) x.host x.peer (y ∷ ms) l.1 l.2)
 
   -- the number of its connection
-  abbrev g : ℕ
-  g = (closes.known hosts ms (below hosts y ms l) x (at_link hosts ms (below hosts y ms l) x i goes kind)).g
+  abbrev its_g : ℕ
+  its_g = (closes.known hosts ms (below hosts y ms l) x (at_link hosts ms (below hosts y ms l) x i goes kind)).g
 
-  abbrev c : ℕ
-  c = numbered x.socket x.foreign (closes.known hosts ms (below hosts y ms l) x (at_link hosts ms (below hosts y ms l) x i goes kind)).g
+  abbrev its_c : ℕ
+  its_c = numbered x.socket x.foreign (closes.known hosts ms (below hosts y ms l) x (at_link hosts ms (below hosts y ms l) x i goes kind)).g
 
-  name_is : numbered x.socket x.foreign (closes.known hosts ms (below hosts y ms l) x (at_link hosts ms (below hosts y ms l) x i goes kind)).g ≡ name_of ms x
+  abbrev its_n : ℕ
+  its_n = closes.n hosts ms (below hosts y ms l) x (at_link hosts ms (below hosts y ms l) x i goes kind)
+
+  name_is : its_c ≡ name_of ms x
   name_is = (closes.place hosts ms (below hosts y ms l) x (at_link hosts ms (below hosts y ms l) x i goes kind)).1
 
   -- it stays clear, where no user closes it
-  clear_on : IsOpen ms x → (IsClose y x → ⊥) → IsClear x.host x.peer (y ∷ ms) (numbered x.socket x.foreign (closes.known hosts ms (below hosts y ms l) x (at_link hosts ms (below hosts y ms l) x i goes kind)).g)
+  clear_on : IsOpen ms x → (IsClose y x → ⊥) → IsClear x.host x.peer (y ∷ ms) its_c
   unfolding IsOpen
-  clear_on clear no m = elim (clear m) [
+  clear_on clear un m = elim (clear m) [
     | inl never ↦
         inl (λ h. never (subst (λ (j : ℕ). HasClosed numbered x.peer (suc m) j (own_calls x.host x.peer ms)) name_is
-        (closed_by x.host x.peer ms x refl goes (closes.known hosts ms (below hosts y ms l) x (at_link hosts ms (below hosts y ms l) x i goes kind)).g (suc m) y (may m) no
-        (subst (λ (cs : List calls.Moment). HasClosed numbered x.peer (suc m) (numbered x.socket x.foreign (closes.known hosts ms (below hosts y ms l) x (at_link hosts ms (below hosts y ms l) x i goes kind)).g) cs) own_is h))))
+        (closed_by x.host x.peer ms x refl goes its_g (suc m) y (may m) un
+        (subst (λ (cs : List calls.Moment). HasClosed numbered x.peer (suc m) its_c cs) own_is h))))
     | inr bare ↦
-        inr (subst (λ (cs : List calls.Moment). IsBare (receiver_now numbered x.peer (suc m) cs) (numbered x.socket x.foreign (closes.known hosts ms (below hosts y ms l) x (at_link hosts ms (below hosts y ms l) x i goes kind)).g)) (sym own_is)
-        (bare_calls numbered numbered_tells x.peer (suc m) (numbered x.socket x.foreign (closes.known hosts ms (below hosts y ms l) x (at_link hosts ms (below hosts y ms l) x i goes kind)).g) (calls_by x.host x.peer y ms) (own_calls x.host x.peer ms) history (may m)
+        inr (subst (λ (cs : List calls.Moment). IsBare (receiver_now numbered x.peer (suc m) cs) its_c) (sym own_is)
+        (bare_calls numbered numbered_tells x.peer (suc m) its_c (calls_by x.host x.peer y ms) (own_calls x.host x.peer ms) history (may m)
         (subst (λ (j : ℕ). IsBare (receiver_now numbered x.peer (suc m) (own_calls x.host x.peer ms)) j) (sym name_is) bare)))
   ]
 
@@ -347,28 +352,28 @@ module _ (hosts : List Host) (y : Moment) (ms : List Moment) (l : Lawful hosts (
   rc : Receives x.host x.peer (Own x.host x.peer) (Heard x.host x.peer) (y ∷ ms) ((grown y ms).change x)
   rc = (all_given hosts x.host x.peer).carried_r (y ∷ ms) l on ((grown y ms).change x) late_next names.host names.peer kind_next
 
-  number : rc.g ≡ (closes.known hosts ms (below hosts y ms l) x (at_link hosts ms (below hosts y ms l) x i goes kind)).g
+  number : rc.g ≡ its_g
   number =
-      let before : Own x.host x.peer (y ∷ ms) x.socket x.foreign x.own_stamp (closes.known hosts ms (below hosts y ms l) x (at_link hosts ms (below hosts y ms l) x i goes kind)).g =
-      (all_given hosts x.host x.peer).own_on y ms l none x.socket x.foreign x.own_stamp (closes.known hosts ms (below hosts y ms l) x (at_link hosts ms (below hosts y ms l) x i goes kind)).g
+      let before : Own x.host x.peer (y ∷ ms) x.socket x.foreign x.own_stamp its_g =
+      (all_given hosts x.host x.peer).own_on y ms l none x.socket x.foreign x.own_stamp its_g
       (closes.known hosts ms (below hosts y ms l) x (at_link hosts ms (below hosts y ms l) x i goes kind)).own in
       let now : Own x.host x.peer (y ∷ ms) x.socket x.foreign x.own_stamp rc.g =
       subst (λ (n : ℕ). Own x.host x.peer (y ∷ ms) n x.foreign x.own_stamp rc.g) names.socket
       (subst (λ (n : ℕ). Own x.host x.peer (y ∷ ms) ((grown y ms).change x).socket n x.own_stamp rc.g) names.foreign
       (subst (λ (n : ℕ). Own x.host x.peer (y ∷ ms) ((grown y ms).change x).socket ((grown y ms).change x).foreign n rc.g) names.own rc.own)) in
-      later.one_number hosts x.host x.peer (y ∷ ms) l x.socket x.foreign x.own_stamp rc.g (closes.known hosts ms (below hosts y ms l) x (at_link hosts ms (below hosts y ms l) x i goes kind)).g now before
+      later.one_number hosts x.host x.peer (y ∷ ms) l x.socket x.foreign x.own_stamp rc.g its_g now before
 
   -- it continues, so it is open still
   open_on : ((grown y ms).change x).ended ≡ false → IsOpen ms x → (IsClose y x → ⊥) → IsOpen (y ∷ ms) ((grown y ms).change x)
   unfolding IsOpen
-  open_on t clear no =
-      let gone : gone_now x.peer (own_calls x.host x.peer (y ∷ ms)) ((grown y ms).change x).socket ((grown y ms).change x).foreign ≡ (closes.known hosts ms (below hosts y ms l) x (at_link hosts ms (below hosts y ms l) x i goes kind)).g =
+  open_on t clear un =
+      let gone : gone_now x.peer (own_calls x.host x.peer (y ∷ ms)) ((grown y ms).change x).socket ((grown y ms).change x).foreign ≡ its_g =
       sym (rc.gone t) ∙ number in
-      let gone_x : gone_now x.peer (own_calls x.host x.peer (y ∷ ms)) x.socket x.foreign ≡ (closes.known hosts ms (below hosts y ms l) x (at_link hosts ms (below hosts y ms l) x i goes kind)).g =
+      let gone_x : gone_now x.peer (own_calls x.host x.peer (y ∷ ms)) x.socket x.foreign ≡ its_g =
       ap (λ (n : ℕ). gone_now x.peer (own_calls x.host x.peer (y ∷ ms)) n x.foreign) (sym names.socket)
       ∙ ap (λ (n : ℕ). gone_now x.peer (own_calls x.host x.peer (y ∷ ms)) ((grown y ms).change x).socket n) (sym names.foreign) ∙ gone in
       let here : IsClear x.host x.peer (y ∷ ms) (name_now numbered x.peer (own_calls x.host x.peer (y ∷ ms)) x.socket x.foreign) =
-      subst (λ (n : ℕ). IsClear x.host x.peer (y ∷ ms) (numbered x.socket x.foreign n)) (sym gone_x) (clear_on clear no) in
+      subst (λ (n : ℕ). IsClear x.host x.peer (y ∷ ms) (numbered x.socket x.foreign n)) (sym gone_x) (clear_on clear un) in
       subst (λ (h : Host). IsClear h ((grown y ms).change x).peer (y ∷ ms) (name_now numbered ((grown y ms).change x).peer (own_calls h ((grown y ms).change x).peer (y ∷ ms)) ((grown y ms).change x).socket ((grown y ms).change x).foreign)) (sym names.host)
       (subst (λ (p : Host). IsClear x.host p (y ∷ ms) (name_now numbered p (own_calls x.host p (y ∷ ms)) ((grown y ms).change x).socket ((grown y ms).change x).foreign)) (sym names.peer)
       (subst (λ (n : ℕ). IsClear x.host x.peer (y ∷ ms) (name_now numbered x.peer (own_calls x.host x.peer (y ∷ ms)) n ((grown y ms).change x).foreign)) (sym names.socket)
@@ -377,40 +382,34 @@ module _ (hosts : List Host) (y : Moment) (ms : List Moment) (l : Lawful hosts (
   -- ---- or it is over
 
   module _ (t : ((grown y ms).change x).ended ≡ true) where
-    gone : suc (closes.known hosts ms (below hosts y ms l) x (at_link hosts ms (below hosts y ms l) x i goes kind)).g ≤ gone_now x.peer (own_calls x.host x.peer (y ∷ ms)) x.socket x.foreign
+    gone : suc its_g ≤ gone_now x.peer (own_calls x.host x.peer (y ∷ ms)) x.socket x.foreign
     gone =
-        subst (λ (n : ℕ). suc (closes.known hosts ms (below hosts y ms l) x (at_link hosts ms (below hosts y ms l) x i goes kind)).g ≤ gone_now x.peer (own_calls x.host x.peer (y ∷ ms)) n x.foreign) names.socket
-        (subst (λ (n : ℕ). suc (closes.known hosts ms (below hosts y ms l) x (at_link hosts ms (below hosts y ms l) x i goes kind)).g ≤ gone_now x.peer (own_calls x.host x.peer (y ∷ ms)) ((grown y ms).change x).socket n) names.foreign
+        subst (λ (n : ℕ). suc its_g ≤ gone_now x.peer (own_calls x.host x.peer (y ∷ ms)) n x.foreign) names.socket
+        (subst (λ (n : ℕ). suc its_g ≤ gone_now x.peer (own_calls x.host x.peer (y ∷ ms)) ((grown y ms).change x).socket n) names.foreign
         (subst (λ (n : ℕ). suc n ≤ gone_now x.peer (own_calls x.host x.peer (y ∷ ms)) ((grown y ms).change x).socket ((grown y ms).change x).foreign) number (rc.over t)))
 
-    abbrev n : ℕ
-    n = closes.n hosts ms (below hosts y ms l) x (at_link hosts ms (below hosts y ms l) x i goes kind)
-
-    abbrev r : Receiver
-    r = receiver_now numbered x.peer (suc (closes.n hosts ms (below hosts y ms l) x (at_link hosts ms (below hosts y ms l) x i goes kind))) (own_calls x.host x.peer (y ∷ ms))
-
     -- its connection was asked for
-    asked : (receiver_now numbered x.peer (suc (closes.n hosts ms (below hosts y ms l) x (at_link hosts ms (below hosts y ms l) x i goes kind))) (own_calls x.host x.peer (y ∷ ms))).asked
-        (numbered x.socket x.foreign (closes.known hosts ms (below hosts y ms l) x (at_link hosts ms (below hosts y ms l) x i goes kind)).g) ≡ true
+    asked : (receiver_now numbered x.peer (suc its_n) (own_calls x.host x.peer (y ∷ ms))).asked
+        its_c ≡ true
     asked =
-        subst (λ (cs : List calls.Moment). (receiver_now numbered x.peer (suc (closes.n hosts ms (below hosts y ms l) x (at_link hosts ms (below hosts y ms l) x i goes kind))) cs).asked (numbered x.socket x.foreign (closes.known hosts ms (below hosts y ms l) x (at_link hosts ms (below hosts y ms l) x i goes kind)).g) ≡ true) (sym own_is)
-        (asked_calls numbered numbered_tells x.peer (suc (closes.n hosts ms (below hosts y ms l) x (at_link hosts ms (below hosts y ms l) x i goes kind))) (numbered x.socket x.foreign (closes.known hosts ms (below hosts y ms l) x (at_link hosts ms (below hosts y ms l) x i goes kind)).g) (calls_by x.host x.peer y ms) (own_calls x.host x.peer ms)
-        (known_calls numbered numbered_tells x.peer (suc (closes.n hosts ms (below hosts y ms l) x (at_link hosts ms (below hosts y ms l) x i goes kind))) (own_calls x.host x.peer ms) (numbered x.socket x.foreign (closes.known hosts ms (below hosts y ms l) x (at_link hosts ms (below hosts y ms l) x i goes kind)).g)
+        subst (λ (cs : List calls.Moment). (receiver_now numbered x.peer (suc its_n) cs).asked its_c ≡ true) (sym own_is)
+        (asked_calls numbered numbered_tells x.peer (suc its_n) its_c (calls_by x.host x.peer y ms) (own_calls x.host x.peer ms)
+        (known_calls numbered numbered_tells x.peer (suc its_n) (own_calls x.host x.peer ms) its_c
         ((closes.law hosts ms (below hosts y ms l) x (at_link hosts ms (below hosts y ms l) x i goes kind)).end
         ∙ ap (λ (j : ℕ). Some j) (closes.name_is hosts ms (below hosts y ms l) x (at_link hosts ms (below hosts y ms l) x i goes kind)))))
 
     -- and its end has gone
-    no_end : (es : List Entry) (v : Receiver) → AreReceiver (name_now numbered x.peer (own_calls x.host x.peer (y ∷ ms))) es v → v.end ≡ Some (numbered x.socket x.foreign (closes.known hosts ms (below hosts y ms l) x (at_link hosts ms (below hosts y ms l) x i goes kind)).g) → ⊥
-    no_end [] v h e = let no : None ≡ Some _ = sym h ∙ e in absurd (cc)
+    no_end : (es : List Entry) (v : Receiver) → AreReceiver (name_now numbered x.peer (own_calls x.host x.peer (y ∷ ms))) es v → v.end ≡ Some its_c → ⊥
+    no_end [] v h e = let not : None ≡ Some its_c = sym h ∙ e in absurd (cc)
     no_end (f ∷ []) v h e =
-        let same : name_now numbered x.peer (own_calls x.host x.peer (y ∷ ms)) f.own f.foreign ≡ numbered x.socket x.foreign (closes.known hosts ms (below hosts y ms l) x (at_link hosts ms (below hosts y ms l) x i goes kind)).g = some_is _ _ (sym h.end ∙ e) in
-        let own : f.own ≡ x.socket = numbered_tells.own f.own f.foreign (gone_now x.peer (own_calls x.host x.peer (y ∷ ms)) f.own f.foreign) x.socket x.foreign (closes.known hosts ms (below hosts y ms l) x (at_link hosts ms (below hosts y ms l) x i goes kind)).g same in
-        let foreign : f.foreign ≡ x.foreign = numbered_tells.foreign f.own f.foreign (gone_now x.peer (own_calls x.host x.peer (y ∷ ms)) f.own f.foreign) x.socket x.foreign (closes.known hosts ms (below hosts y ms l) x (at_link hosts ms (below hosts y ms l) x i goes kind)).g same in
-        let count : gone_now x.peer (own_calls x.host x.peer (y ∷ ms)) f.own f.foreign ≡ (closes.known hosts ms (below hosts y ms l) x (at_link hosts ms (below hosts y ms l) x i goes kind)).g =
-        numbered_tells.gone f.own f.foreign (gone_now x.peer (own_calls x.host x.peer (y ∷ ms)) f.own f.foreign) x.socket x.foreign (closes.known hosts ms (below hosts y ms l) x (at_link hosts ms (below hosts y ms l) x i goes kind)).g same in
-        let here : gone_now x.peer (own_calls x.host x.peer (y ∷ ms)) x.socket x.foreign ≡ (closes.known hosts ms (below hosts y ms l) x (at_link hosts ms (below hosts y ms l) x i goes kind)).g =
+        let same : name_now numbered x.peer (own_calls x.host x.peer (y ∷ ms)) f.own f.foreign ≡ its_c = some_is _ _ (sym h.end ∙ e) in
+        let own : f.own ≡ x.socket = numbered_tells.own f.own f.foreign (gone_now x.peer (own_calls x.host x.peer (y ∷ ms)) f.own f.foreign) x.socket x.foreign its_g same in
+        let foreign : f.foreign ≡ x.foreign = numbered_tells.foreign f.own f.foreign (gone_now x.peer (own_calls x.host x.peer (y ∷ ms)) f.own f.foreign) x.socket x.foreign its_g same in
+        let count : gone_now x.peer (own_calls x.host x.peer (y ∷ ms)) f.own f.foreign ≡ its_g =
+        numbered_tells.gone f.own f.foreign (gone_now x.peer (own_calls x.host x.peer (y ∷ ms)) f.own f.foreign) x.socket x.foreign its_g same in
+        let here : gone_now x.peer (own_calls x.host x.peer (y ∷ ms)) x.socket x.foreign ≡ its_g =
         ap (λ (j : ℕ). gone_now x.peer (own_calls x.host x.peer (y ∷ ms)) j x.foreign) (sym own) ∙ ap (λ (j : ℕ). gone_now x.peer (own_calls x.host x.peer (y ∷ ms)) f.own j) (sym foreign) ∙ count in
-        let more : suc (closes.known hosts ms (below hosts y ms l) x (at_link hosts ms (below hosts y ms l) x i goes kind)).g ≤ gone_now x.peer (own_calls x.host x.peer (y ∷ ms)) x.socket x.foreign = gone in
+        let more : suc its_g ≤ gone_now x.peer (own_calls x.host x.peer (y ∷ ms)) x.socket x.foreign = gone in
         absurd (omega (arith, here, more))
     no_end (f ∷ z ∷ zs) v h e = h
 
@@ -418,43 +417,40 @@ module _ (hosts : List Host) (y : Moment) (ms : List Moment) (l : Lawful hosts (
     law_is m = ((later.at_now hosts x.host x.peer (y ∷ ms) l).j m).received_a on
 
     -- so the sender's CLS was heard
-    over : (receiver_now numbered x.peer (suc (closes.n hosts ms (below hosts y ms l) x (at_link hosts ms (below hosts y ms l) x i goes kind))) (own_calls x.host x.peer (y ∷ ms))).over
-        (numbered x.socket x.foreign (closes.known hosts ms (below hosts y ms l) x (at_link hosts ms (below hosts y ms l) x i goes kind)).g) ≡ true
-    over = elim (inv.known (numbered x.socket x.foreign (closes.known hosts ms (below hosts y ms l) x (at_link hosts ms (below hosts y ms l) x i goes kind)).g)
-    (ap (λ (v : Receiver). v.asked (numbered x.socket x.foreign (closes.known hosts ms (below hosts y ms l) x (at_link hosts ms (below hosts y ms l) x i goes kind)).g)) (law_is (closes.n hosts ms (below hosts y ms l) x (at_link hosts ms (below hosts y ms l) x i goes kind))) ∙ asked)) [
-      | inl e ↦
-          absurd (no_end (filter (receives_on (suc (closes.n hosts ms (below hosts y ms l) x (at_link hosts ms (below hosts y ms l) x i goes kind)))) (pair_with x.peer (program x.host (y ∷ ms)).peers).entries)
-          (receiver_now numbered x.peer (suc (closes.n hosts ms (below hosts y ms l) x (at_link hosts ms (below hosts y ms l) x i goes kind))) (own_calls x.host x.peer (y ∷ ms)))
-          (has_receiver hosts l.0 (suc (closes.n hosts ms (below hosts y ms l) x (at_link hosts ms (below hosts y ms l) x i goes kind))) (off (closes.n hosts ms (below hosts y ms l) x (at_link hosts ms (below hosts y ms l) x i goes kind))) x.host x.peer (y ∷ ms) l.1 l.2)
-          (ap (λ (v : Receiver). v.end) (sym (law_is (closes.n hosts ms (below hosts y ms l) x (at_link hosts ms (below hosts y ms l) x i goes kind)))) ∙ e))
-      | inr e ↦ ap (λ (v : Receiver). v.over (numbered x.socket x.foreign (closes.known hosts ms (below hosts y ms l) x (at_link hosts ms (below hosts y ms l) x i goes kind)).g)) (sym (law_is (closes.n hosts ms (below hosts y ms l) x (at_link hosts ms (below hosts y ms l) x i goes kind)))) ∙ e
-    ] where
-      inv : Inv ((later.at_now hosts x.host x.peer (y ∷ ms) l).j (closes.n hosts ms (below hosts y ms l) x (at_link hosts ms (below hosts y ms l) x i goes kind))).x
-      inv = ((later.at_now hosts x.host x.peer (y ∷ ms) l).j (closes.n hosts ms (below hosts y ms l) x (at_link hosts ms (below hosts y ms l) x i goes kind))).joint.inv_x
+    over : (receiver_now numbered x.peer (suc its_n) (own_calls x.host x.peer (y ∷ ms))).over
+        its_c ≡ true
+    over = by (inv.known its_c (ap (λ (v : Receiver). v.asked its_c) (law_is its_n) ∙ asked)) where
+      inv : Inv ((later.at_now hosts x.host x.peer (y ∷ ms) l).j its_n).x
+      inv = ((later.at_now hosts x.host x.peer (y ∷ ms) l).j its_n).joint.inv_x
 
-    shut : IsClear x.host x.peer (y ∷ ms) (numbered x.socket x.foreign (closes.known hosts ms (below hosts y ms l) x (at_link hosts ms (below hosts y ms l) x i goes kind)).g)
-        → later.IsShut hosts x.host x.peer (y ∷ ms) l (numbered x.socket x.foreign (closes.known hosts ms (below hosts y ms l) x (at_link hosts ms (below hosts y ms l) x i goes kind)).g)
+      by : (((later.at_now hosts x.host x.peer (y ∷ ms) l).j its_n).x.receiver.end ≡ Some its_c) ⊎ (((later.at_now hosts x.host x.peer (y ∷ ms) l).j its_n).x.receiver.over its_c ≡ true)
+          → (receiver_now numbered x.peer (suc its_n) (own_calls x.host x.peer (y ∷ ms))).over its_c ≡ true
+      by (inl e) =
+          absurd (no_end (filter (receives_on (suc its_n)) (pair_with x.peer (program x.host (y ∷ ms)).peers).entries) (receiver_now numbered x.peer (suc its_n) (own_calls x.host x.peer (y ∷ ms)))
+          (has_receiver hosts l.0 (suc its_n) (off its_n) x.host x.peer (y ∷ ms) l.1 l.2) (ap (λ (v : Receiver). v.end) (sym (law_is its_n)) ∙ e))
+      by (inr e) = ap (λ (v : Receiver). v.over its_c) (sym (law_is its_n)) ∙ e
+
+    shut : IsClear x.host x.peer (y ∷ ms) its_c
+        → later.IsShut hosts x.host x.peer (y ∷ ms) l its_c
     shut clear m = (heard, by (clear m)) where
-      heard : ((later.at_now hosts x.host x.peer (y ∷ ms) l).j m).x.receiver.over (numbered x.socket x.foreign (closes.known hosts ms (below hosts y ms l) x (at_link hosts ms (below hosts y ms l) x i goes kind)).g) ≡ true
+      heard : ((later.at_now hosts x.host x.peer (y ∷ ms) l).j m).x.receiver.over its_c ≡ true
       heard =
-          ap (λ (v : Receiver). v.over (numbered x.socket x.foreign (closes.known hosts ms (below hosts y ms l) x (at_link hosts ms (below hosts y ms l) x i goes kind)).g)) (law_is m)
-          ∙ ap (λ (f : ℕ → Bool). f (numbered x.socket x.foreign (closes.known hosts ms (below hosts y ms l) x (at_link hosts ms (below hosts y ms l) x i goes kind)).g))
-          (over_alike numbered x.peer (suc m) (suc (closes.n hosts ms (below hosts y ms l) x (at_link hosts ms (below hosts y ms l) x i goes kind))) (own_calls x.host x.peer (y ∷ ms))) ∙ over
+          ap (λ (v : Receiver). v.over its_c) (law_is m)
+          ∙ ap (λ (f : ℕ → Bool). f its_c)
+          (over_alike numbered x.peer (suc m) (suc its_n) (own_calls x.host x.peer (y ∷ ms))) ∙ over
 
-      late_cls : (v : Bool) → (HasClosed numbered x.peer (suc m) (numbered x.socket x.foreign (closes.known hosts ms (below hosts y ms l) x (at_link hosts ms (below hosts y ms l) x i goes kind)).g) (own_calls x.host x.peer (y ∷ ms)) → ⊥)
-          → (receiver_now numbered x.peer (suc m) (own_calls x.host x.peer (y ∷ ms))).first (numbered x.socket x.foreign (closes.known hosts ms (below hosts y ms l) x (at_link hosts ms (below hosts y ms l) x i goes kind)).g) ≡ v → v ≡ false
-      late_cls true never e = absurd (never (closed_first numbered x.peer (suc m) (numbered x.socket x.foreign (closes.known hosts ms (below hosts y ms l) x (at_link hosts ms (below hosts y ms l) x i goes kind)).g) (own_calls x.host x.peer (y ∷ ms)) e))
+      late_cls : (v : Bool) → (HasClosed numbered x.peer (suc m) its_c (own_calls x.host x.peer (y ∷ ms)) → ⊥)
+          → (receiver_now numbered x.peer (suc m) (own_calls x.host x.peer (y ∷ ms))).first its_c ≡ v → v ≡ false
+      late_cls true never e = absurd (never (closed_first numbered x.peer (suc m) its_c (own_calls x.host x.peer (y ∷ ms)) e))
       late_cls false never e = refl
 
-      by : (HasClosed numbered x.peer (suc m) (numbered x.socket x.foreign (closes.known hosts ms (below hosts y ms l) x (at_link hosts ms (below hosts y ms l) x i goes kind)).g) (own_calls x.host x.peer (y ∷ ms)) → ⊥)
-          ⊎ IsBare (receiver_now numbered x.peer (suc m) (own_calls x.host x.peer (y ∷ ms))) (numbered x.socket x.foreign (closes.known hosts ms (below hosts y ms l) x (at_link hosts ms (below hosts y ms l) x i goes kind)).g)
-          → (((later.at_now hosts x.host x.peer (y ∷ ms) l).j m).x.receiver.first (numbered x.socket x.foreign (closes.known hosts ms (below hosts y ms l) x (at_link hosts ms (below hosts y ms l) x i goes kind)).g) ≡ false)
-          ⊎ ((((later.at_now hosts x.host x.peer (y ∷ ms) l).j m).x.receiver.granted (numbered x.socket x.foreign (closes.known hosts ms (below hosts y ms l) x (at_link hosts ms (below hosts y ms l) x i goes kind)).g)).messages ≡ 0)
-      by (inl never) = inl
-      (ap (λ (v : Receiver). v.first (numbered x.socket x.foreign (closes.known hosts ms (below hosts y ms l) x (at_link hosts ms (below hosts y ms l) x i goes kind)).g)) (law_is m)
-      ∙ late_cls ((receiver_now numbered x.peer (suc m) (own_calls x.host x.peer (y ∷ ms))).first (numbered x.socket x.foreign (closes.known hosts ms (below hosts y ms l) x (at_link hosts ms (below hosts y ms l) x i goes kind)).g)) never refl)
-      by (inr bare) = inr
-      (ap (λ (v : Receiver). (v.granted (numbered x.socket x.foreign (closes.known hosts ms (below hosts y ms l) x (at_link hosts ms (below hosts y ms l) x i goes kind)).g)).messages) (law_is m) ∙ bare.none)
+      by : (HasClosed numbered x.peer (suc m) its_c (own_calls x.host x.peer (y ∷ ms)) → ⊥)
+          ⊎ IsBare (receiver_now numbered x.peer (suc m) (own_calls x.host x.peer (y ∷ ms))) its_c
+          → (((later.at_now hosts x.host x.peer (y ∷ ms) l).j m).x.receiver.first its_c ≡ false)
+          ⊎ ((((later.at_now hosts x.host x.peer (y ∷ ms) l).j m).x.receiver.granted its_c).messages ≡ 0)
+      by (inl never) =
+          inl (ap (λ (v : Receiver). v.first its_c) (law_is m) ∙ late_cls ((receiver_now numbered x.peer (suc m) (own_calls x.host x.peer (y ∷ ms))).first its_c) never refl)
+      by (inr bare) = inr (ap (λ (v : Receiver). (v.granted its_c).messages) (law_is m) ∙ bare.none)
 
     -- no life of before both met last that answers its request has sent anything
     early : (s : Life) → IsOf s (take (since x.host x.peer (y ∷ ms)) (lives_in (y ∷ ms))) → later.Answers hosts x.host x.peer (y ∷ ms) s (own_request ((grown y ms).change x)) → later.IsNothing hosts x.host x.peer s
@@ -475,13 +471,142 @@ module _ (hosts : List Host) (y : Moment) (ms : List Moment) (l : Lawful hosts (
           absurd (unlike x.ended (ap (λ (z : Life). z.ended) (sym same) ∙ o.over) goes)
 
     through : IsOpen ms x → (IsClose y x → ⊥) → later.Through hosts x.host x.peer (y ∷ ms) l ((grown y ms).change x)
-    through clear no = record {
+    through clear un = record {
       late = late_next;
       g = rc.g;
       own = rc.own;
       shut =
           subst (λ (v : ℕ). later.IsShut hosts x.host x.peer (y ∷ ms) l (numbered v ((grown y ms).change x).foreign rc.g)) (sym names.socket)
           (subst (λ (v : ℕ). later.IsShut hosts x.host x.peer (y ∷ ms) l (numbered x.socket v rc.g)) (sym names.foreign)
-          (subst (λ (v : ℕ). later.IsShut hosts x.host x.peer (y ∷ ms) l (numbered x.socket x.foreign v)) (sym number) (shut (clear_on clear no))));
+          (subst (λ (v : ℕ). later.IsShut hosts x.host x.peer (y ∷ ms) l (numbered x.socket x.foreign v)) (sym number) (shut (clear_on clear un))));
       early = early;
     }
+
+-- ---- at every moment
+
+abbrev Passed : (hosts : List Host) (a b : Host) (ms : List Moment) → Lawful hosts ms → Life → Type 0
+Passed hosts a b ms l x = later.Through hosts a b ms l x ⊎ later.Done hosts a b ms x
+
+-- one that ended so has taken all, or nothing was granted in it
+record IsFated (hosts : List Host) (ms : List Moment) (l : Lawful hosts ms) (x : Life) (f : Fate) : Type 0 where
+  opened : f ≡ fate.Open → IsOpen ms x
+  ended : f ≡ fate.Ended → (x.granted ≡ nothing) ⊎ Passed hosts x.host x.peer ms l x
+
+no_close : (y : Moment) (ms : List Moment) (p : Host) (x : Life) → TellsEnd p (notices_by y ms) → IsClose y x → ⊥
+unfolding served_notices
+no_close (Asked h (request.Close socket)) ms p x t i = t
+no_close y ms p x t i = i
+
+renamed : (hosts : List Host) (ms : List Moment) (l : Lawful hosts ms) (a b : Host) (x : Life) → x.host ≡ a → x.peer ≡ b → Passed hosts a b ms l x → Passed hosts x.host x.peer ms l x
+renamed hosts ms l a b x host peer s =
+    subst (λ (h : Host). Passed hosts h x.peer ms l x) (sym host) (subst (λ (p : Host). Passed hosts a p ms l x) (sym peer) s)
+
+module _ (hosts : List Host) (y : Moment) (ms : List Moment) (l : Lawful hosts (y ∷ ms)) (z : Life) (g : Fate) (i : IsBeside z g (kept_in (y ∷ ms)).book.lives (kept_in (y ∷ ms)).fates) (kind : receives z ≡ true) where
+  z_in : IsOf z (lives_in (y ∷ ms))
+  z_in = beside_of (lives_in (y ∷ ms)) (kept_in (y ∷ ms)).fates z g i
+
+  z_over : z.ended ≡ is_over g
+  z_over = beside_over (lives_in (y ∷ ms)) (kept_in (y ∷ ms)).fates z g (kept_fated (y ∷ ms)) i
+
+  fated_new : z.granted ≡ nothing → IsFated hosts (y ∷ ms) l z g
+  fated_new none = record {
+    opened = λ e. clear_new hosts (y ∷ ms) l z (at_link hosts (y ∷ ms) l z z_in (z_over ∙ ap is_over e) kind) (ap (λ (v : Amount). v.messages) none);
+    ended = λ e. inl none;
+  }
+
+  module _ (x : Life) (f : Fate) (j : IsBeside x f (kept_in ms).book.lives (kept_in ms).fates) (m : Moved y ms x f z g) (before : IsFated hosts ms (below hosts y ms l) x f) where
+    x_in : IsOf x (lives_in ms)
+    x_in = beside_of (lives_in ms) (kept_in ms).fates x f j
+
+    x_over : x.ended ≡ is_over f
+    x_over = beside_over (lives_in ms) (kept_in ms).fates x f (kept_fated ms) j
+
+    kind_x : receives x ≡ true
+    kind_x = ap is_receive_socket (sym m.named.socket) ∙ kind
+
+    changed : Life
+    changed = (grown y ms).change x
+
+    changed_in : IsOf ((grown y ms).change x) (lives_in (y ∷ ms))
+    changed_in =
+        subst (λ (ys : List Life). IsOf ((grown y ms).change x) ys) (sym (grown y ms).is)
+        (of_left ((grown y ms).change x) (map (grown y ms).change (lives_in ms)) (grown y ms).more (of_map (grown y ms).change x (lives_in ms) x_in))
+
+    same : (grown y ms).change x ≡ z
+    same =
+        one_own hosts Own Heard (λ v w. all_given hosts v w) (y ∷ ms) l ((grown y ms).change x) z changed_in z_in
+        (named_request x ((grown y ms).change x) ((grown y ms).names x) ∙ sym (named_request x z m.named))
+
+    of_z : Passed hosts x.host x.peer (y ∷ ms) l ((grown y ms).change x) → Passed hosts z.host z.peer (y ∷ ms) l z
+    of_z s =
+        subst (λ (v : Life). Passed hosts v.host v.peer (y ∷ ms) l v) same
+        (renamed hosts (y ∷ ms) l x.host x.peer ((grown y ms).change x) ((grown y ms).names x).host ((grown y ms).names x).peer s)
+
+    fated_old : IsFated hosts (y ∷ ms) l z g
+    fated_old = record { opened = opens; ended = ends } where
+      opens : g ≡ fate.Open → IsOpen (y ∷ ms) z
+      opens e =
+          let was : f ≡ fate.Open = m.opens e in
+          let goes : x.ended ≡ false = x_over ∙ ap is_over was in
+          let goes_z : z.ended ≡ false = z_over ∙ ap is_over e in
+          let on : stay.stays x.host x.peer (events_of (y ∷ ms)) ≡ true =
+          subst (λ (h : Host). stay.stays h x.peer (events_of (y ∷ ms)) ≡ true) m.named.host
+          (subst (λ (p : Host). stay.stays z.host p (events_of (y ∷ ms)) ≡ true) m.named.peer (stays_of hosts (y ∷ ms) l z (contains z (lives_in (y ∷ ms)) z_in) goes_z)) in
+          subst (λ (v : Life). IsOpen (y ∷ ms) v) same
+          (open_on hosts y ms l x x_in goes kind_x on (ap (λ (v : Life). v.ended) same ∙ goes_z) (before.opened was) (m.unclosed e))
+
+      older : (x.granted ≡ nothing) ⊎ Passed hosts x.host x.peer ms (below hosts y ms l) x → x.ended ≡ true → (z.granted ≡ nothing) ⊎ Passed hosts z.host z.peer (y ∷ ms) l z
+      older (inl none) done = inl (ap (λ (v : Life). v.granted) (m.still done) ∙ none)
+      older (inr s) done = inr (of_z (later.next_is hosts x.host x.peer y ms l x refl refl kind_x x_in s))
+
+      now : (f ≡ fate.Open) × (host_in y ≡ x.host) × TellsEnd x.peer (notices_by y ms) → z.ended ≡ true → Passed hosts z.host z.peer (y ∷ ms) l z
+      now t over_z =
+          let goes : x.ended ≡ false = x_over ∙ ap is_over t.0 in
+          let was : stay.stays (host_in y) x.peer (events_of ms) ≡ true =
+          subst (λ (h : Host). stay.stays h x.peer (events_of ms) ≡ true) (sym t.1) (stays_of hosts ms (below hosts y ms l) x (contains x (lives_in ms) x_in) goes) in
+          let on : stay.stays x.host x.peer (events_of (y ∷ ms)) ≡ true = subst (λ (h : Host). stay.stays h x.peer (events_of (y ∷ ms)) ≡ true) t.1 (still_stays hosts x.peer y ms l was t.2) in
+          of_z (inl (through hosts y ms l x x_in goes kind_x on (ap (λ (v : Life). v.ended) same ∙ over_z) (before.opened t.0) (no_close y ms x.peer x t.2)))
+
+      ends : g ≡ fate.Ended → (z.granted ≡ nothing) ⊎ Passed hosts z.host z.peer (y ∷ ms) l z
+      ends e = elim (m.ends e) [
+        | inl was ↦ older (before.ended was) (x_over ∙ ap is_over was)
+        | inr t ↦ inr (now t (z_over ∙ ap is_over e))
+      ]
+
+fated_next : (hosts : List Host) (y : Moment) (ms : List Moment) (l : Lawful hosts (y ∷ ms)) (z : Life) (g : Fate) → IsBeside z g (kept_in (y ∷ ms)).book.lives (kept_in (y ∷ ms)).fates → receives z ≡ true
+    → ((x : Life) (f : Fate) → IsBeside x f (kept_in ms).book.lives (kept_in ms).fates → receives x ≡ true → IsFated hosts ms (below hosts y ms l) x f) → Came y ms z g → IsFated hosts (y ∷ ms) l z g
+fated_next hosts y ms l z g i kind before (inr none) = fated_new hosts y ms l z g i kind none
+fated_next hosts y ms l z g i kind before (inl o) = fated_old hosts y ms l z g i kind o.0 o.1 o.2 o.3 (before o.0 o.1 o.2 (ap is_receive_socket (sym o.3.named.socket) ∙ kind))
+
+fated : (hosts : List Host) (ms : List Moment) (l : Lawful hosts ms) (z : Life) (g : Fate) → IsBeside z g (kept_in ms).book.lives (kept_in ms).fates → receives z ≡ true → IsFated hosts ms l z g
+fated hosts [] l z g i kind = absurd i
+fated hosts (y ∷ ms) l z g i kind = fated_next hosts y ms l z g i kind (λ x f j k. fated hosts ms (below hosts y ms l) x f j k) (came y ms z g i)
+
+-- ---- so it took all
+
+no_bits : (bs : List Bool) → length bs ≤ 0 → bs ≡ []
+no_bits [] e = refl
+no_bits (b ∷ bs) e = absurd (omega (arith, e))
+
+-- where nothing was granted nothing was sent
+took_nothing : (hosts : List Host) (ms : List Moment) → Lawful hosts ms → (x s : Life) → Contains (lives_in ms) x → Contains (lives_in ms) s → Match (crossings_of ms) x s → x.granted ≡ nothing
+    → (x.bits ≡ s.bits) × (x.messages ≡ s.messages)
+took_nothing hosts ms l x s here there m none =
+    let t : IsGranted x x.messages (length x.bits) = taken hosts ms l.0 l.1 l.2 x here m.receiving in
+    let u : IsGranted x s.messages (length s.bits) = sent hosts Own Heard (λ v w. all_given hosts v w) ms l x s here there m in
+    let gm : x.granted.messages ≡ 0 = ap (λ (v : Amount). v.messages) none in
+    let gb : x.granted.bits ≡ 0 = ap (λ (v : Amount). v.bits) none in
+    let tm : x.messages + x.returned.messages ≤ x.granted.messages = t.messages in
+    let tb : length x.bits + x.returned.bits ≤ x.granted.bits = t.bits in
+    let um : s.messages + x.returned.messages ≤ x.granted.messages = u.messages in
+    let ub : length s.bits + x.returned.bits ≤ x.granted.bits = u.bits in
+    (no_bits x.bits (omega (arith, tb, gb)) ∙ sym (no_bits s.bits (omega (arith, ub, gb))), omega (arith, tm, um, gm))
+
+pub ended_whole : (hosts : List Host) (ms : List Moment) → Lawful hosts ms → (x s : Life) → IsBeside x fate.Ended (kept_in ms).book.lives (kept_in ms).fates → Contains (lives_in ms) s → Match (crossings_of ms) x s
+    → (x.bits ≡ s.bits) × (x.messages ≡ s.messages)
+ended_whole hosts ms l x s i there m = elim ((fated hosts ms l x fate.Ended i m.receiving).ended refl) [
+  | inl none ↦ took_nothing hosts ms l x s (contains x (lives_in ms) x_in) there m none
+  | inr state ↦ took_all hosts x.host x.peer ms l x refl refl m.receiving x_in state s there m
+] where
+  x_in : IsOf x (lives_in ms)
+  x_in = beside_of (lives_in ms) (kept_in ms).fates x fate.Ended i

@@ -10,14 +10,13 @@ use Rattle.sockets.specs.declared.request.Request.{Request}
 use Rattle.sockets.specs.declared.request.Request.TheVariants as request
 use Rattle.interface.proofs.lemmas.{same_host-true}
 use Rattle.promise.specs.Fates.{AreFated, IsBeside, is_over}
-use Rattle.promise.specs.declared.life.Amount.{Amount}
 use Rattle.promise.specs.declared.life.Fate.{Fate}
 use Rattle.promise.specs.declared.life.Fate.TheVariants as fate
 use Rattle.promise.specs.declared.life.Life.{Life}
-use Rattle.net_sim.specs.Book.{Kept, all_told, book_told, carried, changed_when, closing, fates_asked, fates_crossed, fates_told, fates_where, granted, life_ended, lives_asked, lives_at, lives_between, lives_crossed, lives_on, lives_told, lives_with, new_life, over_by_cls, returned, where_it}
+use Rattle.net_sim.specs.Book.{Kept, all_told, book_told, carried, changed_when, closing, fates_asked, fates_crossed, fates_told, fates_where, granted, life_ended, lives_asked, lives_at, lives_between, lives_crossed, lives_on, lives_told, lives_with, new_life, nothing, over_by_cls, returned, where_it}
 use Rattle.net_sim.specs.Story.{Moment, Crossed, Asked}
 use Rattle.net_sim.specs.Told.{host_in, kept_by, kept_in, notices_by}
-use Rattle.net_sim.proofs.lemmas.{all_fated, by_fated, kept_fated, told_fated}
+use Rattle.net_sim.proofs.lemmas.{by_fated, kept_fated, told_fated}
 use Rattle.world_keeps_streams.proofs.Lives.Lists.{IsOf, Named, named_itself}
 
 -- ---- lists that are changed
@@ -203,7 +202,7 @@ closing_ended g e = e
 
 -- a life and its fate come from such that were there, or nothing is granted in a new life
 abbrev pub Comes : Host → List Notice → List Life → List Fate → Life → Fate → Type 0
-Comes h ns lives fates y g = ((x : Life) × (f : Fate) × IsBeside x f lives fates × Turned h ns x f y g) ⊎ (y.granted.messages ≡ 0)
+Comes h ns lives fates y g = ((x : Life) × (f : Fate) × IsBeside x f lives fates × Turned h ns x f y g) ⊎ (y.granted ≡ nothing)
 
 lives_come : (h : Host) (ns : List Notice) (test : Life → Bool) (change : Life → Life) (lives : List Life) (fates : List Fate) (y : Life) (g : Fate) → ((z : Life) → Named z (change z)) → ((z : Life) → (change z).granted ≡ z.granted)
     → ((z : Life) → test z ≡ true → z.ended ≡ false) → IsBeside y g (where_it test change lives) fates → Comes h ns lives fates y g
@@ -223,7 +222,7 @@ over_comes h ns test turn lives fates y g goes never ends i =
 told_comes : (h : Host) (n : Notice) (lives : List Life) (fates : List Fate) (y : Life) (g : Fate) → AreFated lives fates → IsBeside y g (lives_told h n lives) (fates_told h n lives fates) → Comes h (n ∷ []) lives fates y g
 told_comes h (notice.Opened socket peer foreign own partner) lives fates y g a i = elim (was_more lives fates (new_life h socket peer foreign own partner) fate.Open y g a i) [
   | inl old ↦ inl (y, g, old, turned_same h (notice.Opened socket peer foreign own partner ∷ []) y g)
-  | inr new ↦ inr (ap (λ (z : Life). z.granted.messages) new)
+  | inr new ↦ inr (ap (λ (z : Life). z.granted) new)
 ]
 told_comes h (notice.Ended socket peer foreign) lives fates y g a i =
     over_comes h (notice.Ended socket peer foreign ∷ []) (lives_between h socket peer foreign) over_by_cls lives fates y g (λ z e. at_goes h socket z (between_at h socket peer foreign z e).0) over_never
@@ -247,7 +246,7 @@ all_come h [] k y g a i = inl (y, g, i, turned_same h [] y g)
 all_come h (n ∷ ns) k y g a i = by (all_come h ns (book_told h n k) y g (told_fated h n k.book.lives k.fates a) i) where
   first : (x : Life) (f : Fate) → Turned h ns x f y g → Comes h (n ∷ []) k.book.lives k.fates x f → Comes h (n ∷ ns) k.book.lives k.fates y g
   first x f t (inl o) = inl (o.0, o.1, o.2, turned_then h n ns o.0 x y o.1 f g o.3 t)
-  first x f t (inr none) = inr (ap (λ (v : Amount). v.messages) t.granted ∙ none)
+  first x f t (inr none) = inr (t.granted ∙ none)
 
   by : Comes h ns (lives_told h n k.book.lives) (fates_told h n k.book.lives k.fates) y g → Comes h (n ∷ ns) k.book.lives k.fates y g
   by (inl o) = first o.0 o.1 o.3 (told_comes h n k.book.lives k.fates o.0 o.1 a o.2)
@@ -342,7 +341,7 @@ pub record Moved (m : Moment) (ms : List Moment) (x : Life) (f : Fate) (y : Life
   pub still : x.ended ≡ true → y ≡ x
 
 abbrev pub Came : Moment → List Moment → Life → Fate → Type 0
-Came m ms y g = ((x : Life) × (f : Fate) × IsBeside x f (kept_in ms).book.lives (kept_in ms).fates × Moved m ms x f y g) ⊎ (y.granted.messages ≡ 0)
+Came m ms y g = ((x : Life) × (f : Fate) × IsBeside x f (kept_in ms).book.lives (kept_in ms).fates × Moved m ms x f y g) ⊎ (y.granted ≡ nothing)
 
 pub came : (m : Moment) (ms : List Moment) (y : Life) (g : Fate) → IsBeside y g (kept_in (m ∷ ms)).book.lives (kept_in (m ∷ ms)).fates → Came m ms y g
 came m ms y g i = by (all_come (host_in m) (notices_by m ms) (kept_by m (kept_in ms)) y g (by_fated m (kept_in ms) (kept_fated ms)) i) where

@@ -79,9 +79,9 @@ known_move (receivers.Grant k m n) r h c e = h c e
 known_move (receivers.AskBack k m n) r h c e = h c e
 known_move (receivers.Close k) r h c e = h c e
 known_move (receivers.Free k) r h c e = absurd (let no : None ≡ Some c = e in cc)
-known_move (receivers.Take z bits) r h = known_same r (receivers.takes z bits r.end r) (same_taken z bits r.end r) h
+known_move (receivers.Take z bits) r h c e = known_same r (receivers.takes z bits r.end r) (same_taken z bits r.end r) h c e
 known_move (receivers.Hear (Str k z)) r h c e = h c e
-known_move (receivers.Hear (Ret k m n)) r h = known_same r (receivers.takes_back m n r.end r) (same_back m n r.end r) h
+known_move (receivers.Hear (Ret k m n)) r h c e = known_same r (receivers.takes_back m n r.end r) (same_back m n r.end r) h c e
 known_move (receivers.Hear (Cls k)) r h c e = h c e
 known_move (receivers.Hear w) r h c e = h c e
 
@@ -126,7 +126,7 @@ bare_move (receivers.Grant k m n) r c may h = record {
   other : (c == k) ≡ true → ⊥
   other e =
       let same : c ≡ k = eqb-true c k e in
-      unlike r.closed (h.shut.closed (may.0 ∙ ap (λ (j : ℕ). Some j) (sym same))) (open_unclosed r.opened r.closed (r.over k) may.1.0)
+      unlike r.closed (h.shut.closed (may.0 ∙ ap (λ (j : ℕ). Some j) (sym same))) (open_unclosed r.opened r.closed (r.over k) may.1)
 bare_move (receivers.Take z bits) r c may h = bare_same r (receivers.takes z bits r.end r) c (same_taken z bits r.end r) h
 bare_move (receivers.Hear (Ret k m n)) r c may h = bare_same r (receivers.takes_back m n r.end r) c (same_back m n r.end r) h
 bare_move (receivers.Ask k) r c may h = record { shut = shut_move (receivers.Ask k) r c may h.shut; none = h.none }
@@ -185,7 +185,7 @@ module _ (number : ℕ → ℕ → ℕ → ℕ) (tells : IsTelling number) (peer
 
   pub known_calls : (own : List calls.Moment) → Known (receiver_now number peer link own)
   known_calls [] c e = absurd (let no : None ≡ Some c = e in cc)
-  known_calls (m ∷ own) = known_moves (received_at (name_now number peer own) link m.call m.pair m.listening) (receiver_now number peer link own) (known_calls own)
+  known_calls (m ∷ own) c e = known_moves (received_at (name_now number peer own) link m.call m.pair m.listening) (receiver_now number peer link own) (known_calls own) c e
 
   pub asked_calls : (c : ℕ) (more own : List calls.Moment) → (receiver_now number peer link own).asked c ≡ true → (receiver_now number peer link (more ++ own)).asked c ≡ true
   asked_calls c [] own h = h
