@@ -18,3 +18,4 @@ pub mod Joining
 pub mod Overs
 pub mod Shut
 pub mod Streams
+pub mod Unsaid
