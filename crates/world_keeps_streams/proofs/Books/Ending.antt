@@ -10,7 +10,8 @@ use Rattle.interface.proofs.lemmas.{same_host-refl, same_host-true}
 use Rattle.ncp_control.specs.Numbers.{is_receive_socket}
 use Rattle.ncp_control.specs.declared.command.Command.{Command}
 use Rattle.stream_law.specs.Receivers.{Receiver}
-use Rattle.stream_law.proofs.lemmas.{Inv, some_is}
+use Rattle.stream_law.specs.Within.{IsSafe}
+use Rattle.stream_law.proofs.lemmas.{Inv, safe_inv, some_is}
 use Rattle.host_pairs.specs.Control.{Order, Legal, Wrong, orders_of}
 use Rattle.host_pairs.specs.Desk.{desk_of, listens_on}
 use Rattle.host_pairs.specs.Entries.{is_busy, is_mine_on, receives_on}
@@ -28,7 +29,7 @@ use Rattle.host_keeps_streams.specs.Histories.{AreAllowed, Call, Closes, HasClos
 use Rattle.host_keeps_streams.proofs.lemmas.{closed_first, find_passes, numbered_tells}
 use Rattle.reset_law.specs.Stays as stay
 use Rattle.sockets.specs.Accepting.{turn_of}
-use Rattle.sockets.specs.Pairs.{owner_of, pair_with}
+use Rattle.sockets.specs.Pairs.{NcpState, owner_of, pair_with}
 use Rattle.sockets.specs.Requests.{served_notices}
 use Rattle.sockets.specs.Sending.{next_in}
 use Rattle.sockets.specs.declared.peer.Peer.{Peer}
@@ -50,16 +51,19 @@ use Rattle.world_keeps_lives.specs.Lives.{HasOpenEnd}
 use Rattle.world_keeps_lives.proofs.lemmas.{live, taken}
 use Rattle.world_keeps_pairing.specs.Steps.{keeps}
 use Rattle.world_keeps_streams.specs.Calls.{answer_calls, called, calls_by, commands_said, message_calls, next_calls, orders_heard, own_calls, owner_calls, parcel_calls, request_calls}
+use Rattle.world_keeps_streams.specs.Closes.{IsClosedByPartner, WasClosedByPartner}
+use Rattle.world_keeps_streams.proofs.Carried.Streams.{all_bits}
 use Rattle.world_keeps_streams.proofs.Calls.Chain.{chain}
 use Rattle.world_keeps_streams.proofs.Deeds.Effects.{Among}
-use Rattle.world_keeps_streams.proofs.Lives.Fates.{Came, IsClose, Moved, TellsEnd, beside_of, beside_over, came}
+use Rattle.world_keeps_streams.proofs.Lives.Fates.{Came, IsClose, IsGrant, Moved, TellsEnd, beside_of, beside_over, came}
 use Rattle.world_keeps_streams.proofs.Lives.LeavesEnds.{still_stays}
 use Rattle.world_keeps_streams.proofs.Lives.Lists.{IsOf, Named, contains, drop_grown, grown, is_of, of_drop, of_left, of_map, of_parts}
 use Rattle.world_keeps_streams.proofs.Requests.Sides.{Heard, Lawful, Own, coupled_in, lives_in}
 use Rattle.world_keeps_streams.proofs.Stays.Resets.{stays_on}
-use Rattle.world_keeps_streams.proofs.Steps.Overs.{over_alike}
+use Rattle.world_keeps_streams.proofs.Steps.Overs.{AllHearNone, HearsNone, kept_calls, over_alike, over_same}
 use Rattle.world_keeps_streams.proofs.Steps.Shut.{IsBare, IsShut, asked_calls, bare_calls, closed_shut, has_closed, known_calls}
 use Rattle.world_keeps_streams.proofs.Steps.Streams.{all_allowed, has_receiver}
+use Rattle.world_keeps_streams.proofs.Steps.Unsaid.{AllHear, IsHere, here_calls}
 use Rattle.world_keeps_streams.proofs.Books.All.{all_given}
 use Rattle.world_keeps_streams.proofs.Books.Arrives.{end_at, stays_of, unlike}
 use Rattle.world_keeps_streams.proofs.Books.Books.{one_own, same_name, sent}
@@ -136,6 +140,74 @@ none_crossed a b (crossing.Up h) ms = tt
 none_owner : (peer : Host) (call : Entry → Call) (q : PairState) (listening : List Listener) (o : Option (Host × Entry)) → ((e : Entry) → NoClose (call e)) → NoneClose (owner_calls peer call q listening o)
 none_owner peer call q listening None n = tt
 none_owner peer call q listening (Some (h, e)) n = none_if (same_host peer h) (called (call e) q listening ∷ []) [] (n e, tt) tt
+
+-- ---- calls of one moment either hear commands, or none does
+
+orders_hear : (peer : Host) (stamp : ℕ) (orders : List Order) (t : TurnState) (older : List calls.Moment) → AllHear older → AllHear (orders_heard peer stamp orders t older)
+orders_hear peer stamp [] t older n = n
+orders_hear peer stamp (Legal c ∷ orders) t older n = orders_hear peer stamp orders (order_taken peer stamp (Legal c) t) (called (Hears stamp 0 c) t.pair t.listening ∷ older) (tt, n)
+orders_hear peer stamp (Wrong code octets ∷ orders) t older n = orders_hear peer stamp orders (order_taken peer stamp (Wrong code octets) t) older n
+
+said_hear : (peer : Host) (stamp : ℕ) (cs : List Command) (q : PairState) (listening : List Listener) (older : List calls.Moment) → AllHearNone older → AllHearNone (commands_said peer stamp cs q listening older)
+said_hear peer stamp [] q listening older n = n
+said_hear peer stamp (c ∷ cs) q listening older n =
+    said_hear peer stamp cs (with_connections q (command_gone peer stamp c (desk_of q listening))) listening (called (Says stamp c) q listening ∷ older) (tt, n)
+
+hear_if : (v : Bool) (xs : List calls.Moment) → AllHearNone xs → AllHearNone (if v then xs else [])
+hear_if true xs n = n
+hear_if false xs n = tt
+
+parcel_hears : (peer : Host) (stamp : ℕ) (x : Parcel) (q : PairState) (listening : List Listener) → AllHearNone (parcel_calls peer stamp x q listening)
+parcel_hears peer stamp parcel.Reset q listening = tt
+parcel_hears peer stamp parcel.Reply q listening = tt
+parcel_hears peer stamp (parcel.Commands count) q listening = said_hear peer stamp (take count q.queue) q listening [] tt
+parcel_hears peer stamp (parcel.Bytes e size count) q listening = (tt, tt)
+
+next_hears : (peer : Host) (stamp : ℕ) (listening : List Listener) (o : Option (Peer × Parcel)) → AllHearNone (next_calls peer stamp listening o)
+next_hears peer stamp listening None = tt
+next_hears peer stamp listening (Some (p, x)) = hear_if (same_host peer p.host) (parcel_calls peer stamp x p.pair listening) (parcel_hears peer stamp x p.pair listening)
+
+owner_hears : (peer : Host) (call : Entry → Call) (q : PairState) (listening : List Listener) (o : Option (Host × Entry)) → ((e : Entry) → HearsNone (call e)) → AllHearNone (owner_calls peer call q listening o)
+owner_hears peer call q listening None n = tt
+owner_hears peer call q listening (Some (h, e)) n = hear_if (same_host peer h) (called (call e) q listening ∷ []) (n e, tt)
+
+request_hears : (b : Host) (s : NcpState) (q : Request) → AllHearNone (request_calls b s q)
+request_hears b s (request.OpenSend host k foreign size) = hear_if (same_host b host) (called (calls.OpensSender k foreign size) (pair_with b s.peers) s.listening ∷ []) (tt, tt)
+request_hears b s (request.OpenReceive host k foreign) = hear_if (same_host b host) (called (calls.OpensReceiver k foreign) (pair_with b s.peers) s.listening ∷ []) (tt, tt)
+request_hears b s (request.Send socket bits) = owner_hears b (calls.Gives socket bits) (pair_with b s.peers) s.listening (owner_of socket s.peers) (λ e. tt)
+request_hears b s (request.Grant socket m n) = owner_hears b (calls.Grants socket m n) (pair_with b s.peers) s.listening (owner_of socket s.peers) (λ e. tt)
+request_hears b s (request.AskBack socket m n) = owner_hears b (calls.AsksBack socket m n) (pair_with b s.peers) s.listening (owner_of socket s.peers) (λ e. tt)
+request_hears b s (request.Close socket) = by (listens_on socket s.listening) where
+  by : (v : Bool) → AllHearNone (if v then [] else owner_calls b (Closes socket) (pair_with b s.peers) s.listening (owner_of socket s.peers))
+  by true = tt
+  by false = owner_hears b (Closes socket) (pair_with b s.peers) s.listening (owner_of socket s.peers) (λ e. tt)
+request_hears b s q = tt
+
+kinds : (a b : Host) (y : Moment) (ms : List Moment) → AllHearNone (calls_by a b y ms) ⊎ AllHear (calls_by a b y ms)
+kinds a b (Crossed (crossing.Out m)) ms =
+    inl (hear_if (same_host a m.flow.source) (next_calls b (places ms) (program a ms).listening (next_in (program a ms).peers)) (next_hears b (places ms) (program a ms).listening (next_in (program a ms).peers)))
+kinds a b (Crossed (crossing.In m)) ms = at (same_host a m.flow.destination && same_host b m.flow.source) where
+  on : (v : Bool) → AllHearNone (if v then orders_heard b (places ms) (orders_of m.text) (turn_of (program a ms) b) [] else called (calls.Takes m.flow.link.0 m.text) (pair_with b (program a ms).peers) (program a ms).listening ∷ [])
+      ⊎ AllHear (if v then orders_heard b (places ms) (orders_of m.text) (turn_of (program a ms) b) [] else called (calls.Takes m.flow.link.0 m.text) (pair_with b (program a ms).peers) (program a ms).listening ∷ [])
+  on true = inr (orders_hear b (places ms) (orders_of m.text) (turn_of (program a ms) b) [] tt)
+  on false = inl (tt, tt)
+
+  ready : (v : Bool)
+      → AllHearNone (if v then (if m.flow.link.0 == 0 then orders_heard b (places ms) (orders_of m.text) (turn_of (program a ms) b) [] else called (calls.Takes m.flow.link.0 m.text) (pair_with b (program a ms).peers) (program a ms).listening ∷ []) else [])
+      ⊎ AllHear (if v then (if m.flow.link.0 == 0 then orders_heard b (places ms) (orders_of m.text) (turn_of (program a ms) b) [] else called (calls.Takes m.flow.link.0 m.text) (pair_with b (program a ms).peers) (program a ms).listening ∷ []) else [])
+  ready true = on (m.flow.link.0 == 0)
+  ready false = inl tt
+
+  at : (v : Bool) → AllHearNone (if v then message_calls b (places ms) m.flow.link.0 m.text (turn_of (program a ms) b) else []) ⊎ AllHear (if v then message_calls b (places ms) m.flow.link.0 m.text (turn_of (program a ms) b) else [])
+  at true = ready (is_ready (pair_with b (program a ms).peers).phase)
+  at false = inl tt
+kinds a b (Crossed (crossing.Answer kind f)) ms =
+    inl
+    (hear_if (same_host a f.source && same_host b f.destination) (answer_calls f.link.0 (pair_with b (program a ms).peers) (program a ms).listening)
+    (hear_if (is_busy (pair_with b (program a ms).peers).busy f.link.0) (called (calls.Answered f.link.0) (pair_with b (program a ms).peers) (program a ms).listening ∷ []) (tt, tt)))
+kinds a b (Crossed (crossing.Down h)) ms = inl tt
+kinds a b (Crossed (crossing.Up h)) ms = inl tt
+kinds a b (Asked h q) ms = inl (hear_if (same_host a h) (request_calls b (program a ms) q) (request_hears b (program a ms) q))
 
 -- ---- a user who closes the end of a life
 
@@ -273,13 +345,17 @@ clear_new hosts ms l x k none m = by (has_closed numbered numbered_tells x.peer 
     none = ungranted;
   })
 
+none_long : (ts : List (List Bool)) → length ts ≤ 0 → ts ≡ []
+none_long [] e = refl
+none_long (t ∷ ts) e = absurd (omega (arith, e))
+
 -- ---- a moment more, while its host stays
 
 module _ (hosts : List Host) (y : Moment) (ms : List Moment) (l : Lawful hosts (y ∷ ms)) (x : Life) (i : IsOf x (lives_in ms)) (goes : x.ended ≡ false) (kind : receives x ≡ true) (on : stay.stays x.host x.peer (events_of (y ∷ ms)) ≡ true) where
   old : Lawful hosts ms
   old = below hosts y ms l
 
-  k : AtLink ms x
+  abbrev k : AtLink ms x
   k = at_link hosts ms (below hosts y ms l) x i goes kind
 
   was : stay.stays x.host x.peer (events_of ms) ≡ true
@@ -482,20 +558,146 @@ module _ (hosts : List Host) (y : Moment) (ms : List Moment) (l : Lawful hosts (
       early = early;
     }
 
+    -- ---- while it continued its end had taken the sender's CLS
+
+    law_was : (m : ℕ) → ((later.at_now hosts x.host x.peer ms (below hosts y ms l)).j m).x.receiver ≡ receiver_now numbered x.peer (suc m) (own_calls x.host x.peer ms)
+    law_was m = ((later.at_now hosts x.host x.peer ms (below hosts y ms l)).j m).received_a was
+
+    end_was : (receiver_now numbered x.peer (suc its_n) (own_calls x.host x.peer ms)).end ≡ Some its_c
+    end_was =
+        (closes.law hosts ms (below hosts y ms l) x (at_link hosts ms (below hosts y ms l) x i goes kind)).end
+        ∙ ap (λ (j : ℕ). Some j) (closes.name_is hosts ms (below hosts y ms l) x (at_link hosts ms (below hosts y ms l) x i goes kind))
+
+    module _ (never : HasClosed numbered x.peer (suc its_n) its_c (own_calls x.host x.peer ms) → ⊥) where
+      unsaid : (receiver_now numbered x.peer (suc its_n) (own_calls x.host x.peer ms)).over its_c ≡ false → (receiver_now numbered x.peer (suc its_n) (own_calls x.host x.peer ms)).closed ≡ true → ⊥
+      unsaid unheard said =
+          let inv : Inv ((later.at_now hosts x.host x.peer ms (below hosts y ms l)).j its_n).x = ((later.at_now hosts x.host x.peer ms (below hosts y ms l)).j its_n).joint.inv_x in
+          let first : ((later.at_now hosts x.host x.peer ms (below hosts y ms l)).j its_n).x.receiver.first its_c ≡ true =
+          inv.firsts its_c (ap (λ (v : Receiver). v.end) (law_was its_n) ∙ end_was) (ap (λ (v : Receiver). v.closed) (law_was its_n) ∙ said) (ap (λ (v : Receiver). v.over its_c) (law_was its_n) ∙ unheard) in
+          never (closed_first numbered x.peer (suc its_n) its_c (own_calls x.host x.peer ms) (ap (λ (v : Receiver). v.first its_c) (sym (law_was its_n)) ∙ first))
+
+      over_was : (receiver_now numbered x.peer (suc its_n) (own_calls x.host x.peer ms)).over its_c ≡ true
+      over_was = by ((receiver_now numbered x.peer (suc its_n) (own_calls x.host x.peer ms)).over its_c) refl where
+        now : (receiver_now numbered x.peer (suc its_n) (calls_by x.host x.peer y ms ++ own_calls x.host x.peer ms)).over its_c ≡ true
+        now = subst (λ (cs : List calls.Moment). (receiver_now numbered x.peer (suc its_n) cs).over its_c ≡ true) own_is over
+
+        heard : (receiver_now numbered x.peer (suc its_n) (own_calls x.host x.peer ms)).over its_c ≡ false → AllHearNone (calls_by x.host x.peer y ms) ⊎ AllHear (calls_by x.host x.peer y ms) → ⊥
+        heard unheard (inl none) =
+            unlike ((receiver_now numbered x.peer (suc its_n) (own_calls x.host x.peer ms)).over its_c)
+            (ap (λ (f : ℕ → Bool). f its_c) (sym (over_same numbered x.peer (suc its_n) (calls_by x.host x.peer y ms) (own_calls x.host x.peer ms) none)) ∙ now) unheard
+        heard unheard (inr all) =
+            let here : IsHere (receiver_now numbered x.peer (suc its_n) (calls_by x.host x.peer y ms ++ own_calls x.host x.peer ms)) its_c =
+            here_calls numbered numbered_tells x.peer (suc its_n) its_c (calls_by x.host x.peer y ms) (own_calls x.host x.peer ms) all history (may its_n)
+            (record { end = end_was; late = λ said. absurd (unsaid unheard said) }) in
+            no_end (filter (receives_on (suc its_n)) (pair_with x.peer (program x.host (y ∷ ms)).peers).entries) (receiver_now numbered x.peer (suc its_n) (own_calls x.host x.peer (y ∷ ms)))
+            (has_receiver hosts l.0 (suc its_n) (off its_n) x.host x.peer (y ∷ ms) l.1 l.2) (ap (λ (cs : List calls.Moment). (receiver_now numbered x.peer (suc its_n) cs).end) own_is ∙ here.end)
+
+        by : (v : Bool) → (receiver_now numbered x.peer (suc its_n) (own_calls x.host x.peer ms)).over its_c ≡ v → (receiver_now numbered x.peer (suc its_n) (own_calls x.host x.peer ms)).over its_c ≡ true
+        by true e = e
+        by false e = absurd (heard e (kinds x.host x.peer y ms))
+
+      closed_then : IsClosedByPartner ms x
+      closed_then = record {
+        there = contains x (lives_in ms) i;
+        receiving = kind;
+        goes = goes;
+        end = k.end;
+        closed =
+            sym (closes.law hosts ms (below hosts y ms l) x k).over
+            ∙ ap (λ (j : ℕ). (receiver_now numbered x.peer (suc its_n) (own_calls x.host x.peer ms)).over j) (closes.name_is hosts ms (below hosts y ms l) x k) ∙ over_was;
+        link = k.link;
+        linked = k.linked;
+        unclosed = λ h.
+            never
+            (subst (λ (j : ℕ). HasClosed numbered x.peer j its_c (own_calls x.host x.peer ms)) (closes.place hosts ms (below hosts y ms l) x k).0
+            (subst (λ (j : ℕ). HasClosed numbered x.peer k.link j (own_calls x.host x.peer ms)) (sym name_is) h));
+      }
+
+      -- after that it took nothing more
+      taken_was : (m : ℕ) → (receiver_now numbered x.peer (suc m) (own_calls x.host x.peer (y ∷ ms))).taken its_c ≡ (receiver_now numbered x.peer (suc m) (own_calls x.host x.peer ms)).taken its_c
+      taken_was m =
+          ap (λ (cs : List calls.Moment). (receiver_now numbered x.peer (suc m) cs).taken its_c) own_is
+          ∙ (kept_calls numbered numbered_tells x.peer (suc m) its_c (calls_by x.host x.peer y ms) (own_calls x.host x.peer ms) history (may m)
+          (ap (λ (f : ℕ → Bool). f its_c) (over_alike numbered x.peer (suc m) (suc its_n) (own_calls x.host x.peer ms)) ∙ over_was)).taken
+
+      bits_next : ((grown y ms).change x).bits ≡ all_bits ((receiver_now numbered x.peer (suc rc.link) (own_calls x.host x.peer ms)).taken its_c)
+      bits_next =
+          rc.took.bits
+          ∙ ap (λ (j : ℕ). all_bits ((receiver_now numbered x.peer (suc rc.link) (own_calls x.host x.peer (y ∷ ms))).taken (numbered j ((grown y ms).change x).foreign rc.g))) names.socket
+          ∙ ap (λ (j : ℕ). all_bits ((receiver_now numbered x.peer (suc rc.link) (own_calls x.host x.peer (y ∷ ms))).taken (numbered x.socket j rc.g))) names.foreign
+          ∙ ap (λ (j : ℕ). all_bits ((receiver_now numbered x.peer (suc rc.link) (own_calls x.host x.peer (y ∷ ms))).taken (numbered x.socket x.foreign j))) number ∙ ap all_bits (taken_was rc.link)
+
+      -- so it had no bits then only if it has none now
+      none_then : x.bits ≡ [] → ((grown y ms).change x).bits ≡ []
+      none_then empty = bits_next ∙ by (((later.at_now hosts x.host x.peer ms (below hosts y ms l)).j rc.link).x.receiver.granted its_c).messages refl where
+        here : all_bits ((receiver_now numbered x.peer (suc its_n) (own_calls x.host x.peer ms)).taken its_c) ≡ []
+        here = ap (λ (v : Receiver). all_bits (v.taken its_c)) (sym (law_was its_n)) ∙ sym (closes.going hosts ms (below hosts y ms l) x k).bits ∙ empty
+
+        by : (j : ℕ) → (((later.at_now hosts x.host x.peer ms (below hosts y ms l)).j rc.link).x.receiver.granted its_c).messages ≡ j
+            → all_bits ((receiver_now numbered x.peer (suc rc.link) (own_calls x.host x.peer ms)).taken its_c) ≡ []
+        by zero e =
+            let safe : IsSafe ((later.at_now hosts x.host x.peer ms (below hosts y ms l)).j rc.link).x its_c =
+            safe_inv ((later.at_now hosts x.host x.peer ms (below hosts y ms l)).j rc.link).x ((later.at_now hosts x.host x.peer ms (below hosts y ms l)).j rc.link).joint.inv_x its_c in
+            let within : length (((later.at_now hosts x.host x.peer ms (below hosts y ms l)).j rc.link).x.receiver.taken its_c) + (((later.at_now hosts x.host x.peer ms (below hosts y ms l)).j rc.link).x.receiver.returned its_c).messages
+            ≤ (((later.at_now hosts x.host x.peer ms (below hosts y ms l)).j rc.link).x.receiver.granted its_c).messages = safe.taken.in_messages in
+            ap (λ (v : Receiver). all_bits (v.taken its_c)) (sym (law_was rc.link)) ∙ ap all_bits (none_long (((later.at_now hosts x.host x.peer ms (below hosts y ms l)).j rc.link).x.receiver.taken its_c) (omega (arith, within, e)))
+        by (suc j) e =
+            let same : rc.link ≡ its_n = same_link hosts ms (below hosts y ms l) x k rc.link (omega (arith, e)) in
+            ap (λ (m : ℕ). all_bits ((receiver_now numbered x.peer (suc m) (own_calls x.host x.peer ms)).taken its_c)) same ∙ here
+
+    -- where nothing was granted in it, it has no bits
+    bare_bits : ((grown y ms).change x).granted.messages ≡ 0 → ((grown y ms).change x).bits ≡ []
+    bare_bits none =
+        let t : IsGranted ((grown y ms).change x) ((grown y ms).change x).messages (length ((grown y ms).change x).bits) =
+        taken hosts (y ∷ ms) l.0 l.1 l.2 ((grown y ms).change x)
+        (contains ((grown y ms).change x) (lives_in (y ∷ ms)) (of_drop (since x.host x.peer (y ∷ ms)) ((grown y ms).change x) (lives_in (y ∷ ms)) late_next)) kind_next in
+        let tm : ((grown y ms).change x).messages + ((grown y ms).change x).returned.messages ≤ ((grown y ms).change x).granted.messages = t.messages in
+        let long : ((grown y ms).change x).messages ≡ length ((receiver_now numbered x.peer (suc rc.link) (own_calls x.host x.peer (y ∷ ms))).taken (numbered ((grown y ms).change x).socket ((grown y ms).change x).foreign rc.g)) = rc.took.messages in
+        rc.took.bits ∙ ap all_bits (none_long ((receiver_now numbered x.peer (suc rc.link) (own_calls x.host x.peer (y ∷ ms))).taken (numbered ((grown y ms).change x).socket ((grown y ms).change x).foreign rc.g)) (omega (arith, tm, none, long)))
+
+    -- its partner closed it, if it took any bit
+    took_any : IsOpen ms x → ((grown y ms).change x).granted ≡ x.granted → (((grown y ms).change x).bits ≡ []) ⊎ ((f : IsClosedByPartner ms x) × (x.bits ≡ [] → ((grown y ms).change x).bits ≡ []))
+    unfolding IsOpen
+    took_any clear same = by (clear its_n) where
+      by : (HasClosed numbered x.peer (suc its_n) (name_of ms x) (own_calls x.host x.peer ms) → ⊥) ⊎ IsBare (receiver_now numbered x.peer (suc its_n) (own_calls x.host x.peer ms)) (name_of ms x)
+          → (((grown y ms).change x).bits ≡ []) ⊎ ((f : IsClosedByPartner ms x) × (x.bits ≡ [] → ((grown y ms).change x).bits ≡ []))
+      by (inl open_yet) =
+          let never : HasClosed numbered x.peer (suc its_n) its_c (own_calls x.host x.peer ms) → ⊥ = λ h. open_yet (subst (λ (j : ℕ). HasClosed numbered x.peer (suc its_n) j (own_calls x.host x.peer ms)) name_is h) in
+          inr (closed_then never, none_then never)
+      by (inr bare) =
+          inl
+          (bare_bits
+          (ap (λ (v : Amount). v.messages) same ∙ (closes.known hosts ms (below hosts y ms l) x k).granted_messages ∙ ap (λ (v : Receiver). (v.granted its_c).messages) (law_was its_n)
+          ∙ ap (λ (j : ℕ). ((receiver_now numbered x.peer (suc its_n) (own_calls x.host x.peer ms)).granted j).messages) name_is ∙ bare.none))
+
 -- ---- at every moment
 
 abbrev Passed : (hosts : List Host) (a b : Host) (ms : List Moment) → Lawful hosts ms → Life → Type 0
 Passed hosts a b ms l x = later.Through hosts a b ms l x ⊎ later.Done hosts a b ms x
 
+-- it has no bits; or its partner had closed it, and no user of its host, and then it had bits
+HasHeard : List Moment → Life → Type 0
+HasHeard ms x = (x.bits ≡ []) ⊎ ((w : WasClosedByPartner ms x) × (w.receiver.bits ≡ [] → x.bits ≡ []))
+
 -- one that ended so has taken all, or nothing was granted in it
 record IsFated (hosts : List Host) (ms : List Moment) (l : Lawful hosts ms) (x : Life) (f : Fate) : Type 0 where
   opened : f ≡ fate.Open → IsOpen ms x
   ended : f ≡ fate.Ended → (x.granted ≡ nothing) ⊎ Passed hosts x.host x.peer ms l x
+  heard : f ≡ fate.Ended → HasHeard ms x
 
 no_close : (y : Moment) (ms : List Moment) (p : Host) (x : Life) → TellsEnd p (notices_by y ms) → IsClose y x → ⊥
 unfolding served_notices
 no_close (Asked h (request.Close socket)) ms p x t i = t
 no_close y ms p x t i = i
+
+no_grant : (y : Moment) (ms : List Moment) (p : Host) → TellsEnd p (notices_by y ms) → IsGrant y → ⊥
+unfolding served_notices
+no_grant (Asked h (request.Grant socket messages bits)) ms p t i = t
+no_grant y ms p t i = i
+
+no_bits : (bs : List Bool) → length bs ≤ 0 → bs ≡ []
+no_bits [] e = refl
+no_bits (b ∷ bs) e = absurd (omega (arith, e))
 
 renamed : (hosts : List Host) (ms : List Moment) (l : Lawful hosts ms) (a b : Host) (x : Life) → x.host ≡ a → x.peer ≡ b → Passed hosts a b ms l x → Passed hosts x.host x.peer ms l x
 renamed hosts ms l a b x host peer s =
@@ -509,10 +711,14 @@ module _ (hosts : List Host) (y : Moment) (ms : List Moment) (l : Lawful hosts (
   z_over = beside_over (lives_in (y ∷ ms)) (kept_in (y ∷ ms)).fates z g (kept_fated (y ∷ ms)) i
 
   fated_new : z.granted ≡ nothing → IsFated hosts (y ∷ ms) l z g
+  unfolding HasHeard
   fated_new none = record {
     opened = λ e. clear_new hosts (y ∷ ms) l z (at_link hosts (y ∷ ms) l z z_in (z_over ∙ ap is_over e) kind) (ap (λ (v : Amount). v.messages) none);
     ended = λ e. inl none;
-  }
+    heard = λ e. inl (no_bits z.bits (omega (arith, within.bits, ap (λ (v : Amount). v.bits) none)));
+  } where
+    within : IsGranted z z.messages (length z.bits)
+    within = taken hosts (y ∷ ms) l.0 l.1 l.2 z (contains z (lives_in (y ∷ ms)) z_in) kind
 
   module _ (x : Life) (f : Fate) (j : IsBeside x f (kept_in ms).book.lives (kept_in ms).fates) (m : Moved y ms x f z g) (before : IsFated hosts ms (below hosts y ms l) x f) where
     x_in : IsOf x (lives_in ms)
@@ -543,7 +749,8 @@ module _ (hosts : List Host) (y : Moment) (ms : List Moment) (l : Lawful hosts (
         (renamed hosts (y ∷ ms) l x.host x.peer ((grown y ms).change x) ((grown y ms).names x).host ((grown y ms).names x).peer s)
 
     fated_old : IsFated hosts (y ∷ ms) l z g
-    fated_old = record { opened = opens; ended = ends } where
+    unfolding HasHeard
+    fated_old = record { opened = opens; ended = ends; heard = hears } where
       opens : g ≡ fate.Open → IsOpen (y ∷ ms) z
       opens e =
           let was : f ≡ fate.Open = m.opens e in
@@ -573,6 +780,45 @@ module _ (hosts : List Host) (y : Moment) (ms : List Moment) (l : Lawful hosts (
         | inr t ↦ inr (now t (z_over ∙ ap is_over e))
       ]
 
+      heard_older : HasHeard ms x → x.ended ≡ true → HasHeard (y ∷ ms) z
+      heard_older (inl none) done = inl (ap (λ (v : Life). v.bits) (m.still done) ∙ none)
+      heard_older (inr w) done = inr (
+        record {
+          there = contains z (lives_in (y ∷ ms)) z_in;
+          later = y ∷ w.0.later;
+          earlier = w.0.earlier;
+          is = ap (λ (ns : List Moment). y ∷ ns) w.0.is;
+          receiver = w.0.receiver;
+          then = w.0.then;
+          same = ap own_request (m.still done) ∙ w.0.same;
+        },
+        λ e. ap (λ (v : Life). v.bits) (m.still done) ∙ w.1 e,
+      )
+
+      ungranted : (z.granted ≡ x.granted) ⊎ IsGrant y → TellsEnd x.peer (notices_by y ms) → z.granted ≡ x.granted
+      ungranted (inl e) t = e
+      ungranted (inr p) t = absurd (no_grant y ms x.peer t p)
+
+      heard_now : (f ≡ fate.Open) × (host_in y ≡ x.host) × TellsEnd x.peer (notices_by y ms) → z.ended ≡ true → HasHeard (y ∷ ms) z
+      heard_now t over_z =
+          let goes : x.ended ≡ false = x_over ∙ ap is_over t.0 in
+          let was : stay.stays (host_in y) x.peer (events_of ms) ≡ true =
+          subst (λ (h : Host). stay.stays h x.peer (events_of ms) ≡ true) (sym t.1) (stays_of hosts ms (below hosts y ms l) x (contains x (lives_in ms) x_in) goes) in
+          let on : stay.stays x.host x.peer (events_of (y ∷ ms)) ≡ true = subst (λ (h : Host). stay.stays h x.peer (events_of (y ∷ ms)) ≡ true) t.1 (still_stays hosts x.peer y ms l was t.2) in
+          elim (took_any hosts y ms l x x_in goes kind_x on (ap (λ (v : Life). v.ended) same ∙ over_z) (before.opened t.0) (ap (λ (v : Life). v.granted) same ∙ ungranted m.granted t.2)) [
+            | inl none ↦ inl (ap (λ (v : Life). v.bits) (sym same) ∙ none)
+            | inr w ↦ inr (
+              record { there = contains z (lives_in (y ∷ ms)) z_in; later = y ∷ []; earlier = ms; is = refl; receiver = x; then = w.0; same = named_request x z m.named },
+              λ e. ap (λ (v : Life). v.bits) (sym same) ∙ w.1 e,
+            )
+          ]
+
+      hears : g ≡ fate.Ended → HasHeard (y ∷ ms) z
+      hears e = elim (m.ends e) [
+        | inl was ↦ heard_older (before.heard was) (x_over ∙ ap is_over was)
+        | inr t ↦ heard_now t (z_over ∙ ap is_over e)
+      ]
+
 fated_next : (hosts : List Host) (y : Moment) (ms : List Moment) (l : Lawful hosts (y ∷ ms)) (z : Life) (g : Fate) → IsBeside z g (kept_in (y ∷ ms)).book.lives (kept_in (y ∷ ms)).fates → receives z ≡ true
     → ((x : Life) (f : Fate) → IsBeside x f (kept_in ms).book.lives (kept_in ms).fates → receives x ≡ true → IsFated hosts ms (below hosts y ms l) x f) → Came y ms z g → IsFated hosts (y ∷ ms) l z g
 fated_next hosts y ms l z g i kind before (inr none) = fated_new hosts y ms l z g i kind none
@@ -583,10 +829,6 @@ fated hosts [] l z g i kind = absurd i
 fated hosts (y ∷ ms) l z g i kind = fated_next hosts y ms l z g i kind (λ x f j k. fated hosts ms (below hosts y ms l) x f j k) (came y ms z g i)
 
 -- ---- so it took all
-
-no_bits : (bs : List Bool) → length bs ≤ 0 → bs ≡ []
-no_bits [] e = refl
-no_bits (b ∷ bs) e = absurd (omega (arith, e))
 
 -- where nothing was granted nothing was sent
 took_nothing : (hosts : List Host) (ms : List Moment) → Lawful hosts ms → (x s : Life) → Contains (lives_in ms) x → Contains (lives_in ms) s → Match (crossings_of ms) x s → x.granted ≡ nothing
@@ -610,3 +852,15 @@ ended_whole hosts ms l x s i there m = elim ((fated hosts ms l x fate.Ended i m.
 ] where
   x_in : IsOf x (lives_in ms)
   x_in = beside_of (lives_in ms) (kept_in ms).fates x fate.Ended i
+
+-- where it took any bit its partner had closed it, and no user of its host; and it had bits when it was so
+pub record HeardThen (ms : List Moment) (x : Life) : Type 0 where
+  pub closed : WasClosedByPartner ms x
+  pub some : closed.receiver.bits ≡ [] → ⊥
+
+pub ended_heard : (hosts : List Host) (ms : List Moment) → Lawful hosts ms → (x : Life) → IsBeside x fate.Ended (kept_in ms).book.lives (kept_in ms).fates → receives x ≡ true → (x.bits ≡ [] → ⊥) → HeardThen ms x
+unfolding HasHeard
+ended_heard hosts ms l x i kind some = elim ((fated hosts ms l x fate.Ended i kind).heard refl) [
+  | inl none ↦ absurd (some none)
+  | inr w ↦ record { closed = w.0; some = λ e. some (w.1 e) }
+]
