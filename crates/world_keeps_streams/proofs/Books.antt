@@ -13,6 +13,8 @@ pub mod Closes
 pub mod Comes
 pub mod Counts
 pub mod Ended
+pub mod Ending
+pub mod EndingHanded
 pub mod Finished
 pub mod Firsts
 pub mod Given

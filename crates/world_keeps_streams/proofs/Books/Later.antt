@@ -61,21 +61,21 @@ named_request x y n =
     ∙ ap (λ (k : ℕ). let r : Name = record { place = x.own_stamp; own = k; foreign = y.foreign } in r) n.socket
     ∙ ap (λ (k : ℕ). let r : Name = record { place = x.own_stamp; own = x.socket; foreign = k } in r) n.foreign
 
-own_if : (b : Bool) (xs ys : List calls.Moment) → b ≡ true → (if b then xs else ys) ≡ xs
+pub own_if : (b : Bool) (xs ys : List calls.Moment) → b ≡ true → (if b then xs else ys) ≡ xs
 own_if true xs ys e = refl
 own_if false xs ys e = absurd (let no : false ≡ true = e in cc)
 
 -- ---- two hosts, and what a life of the one has
 
 module _ (hosts : List Host) (a b : Host) where
-  given : Given hosts a b (Own a b) (Heard a b)
+  pub given : Given hosts a b (Own a b) (Heard a b)
   given = all_given hosts a b
 
   abbrev pub at_now : (ms : List Moment) → Lawful hosts ms → Whole a b (Own a b) (Heard a b) ms
   at_now ms l = whole hosts a b (Own a b) (Heard a b) (all_given hosts a b) ms l
 
   -- on each link the law's receiver has heard the connection's CLS; and it did not say its own before, or nothing was granted there
-  abbrev IsShut : (ms : List Moment) → Lawful hosts ms → ℕ → Type 0
+  abbrev pub IsShut : (ms : List Moment) → Lawful hosts ms → ℕ → Type 0
   IsShut ms l c = (m : ℕ) → (((at_now ms l).j m).x.receiver.over c ≡ true) × ((((at_now ms l).j m).x.receiver.first c ≡ false) ⊎ ((((at_now ms l).j m).x.receiver.granted c).messages ≡ 0))
 
   all_taken : (ms : List Moment) (l : Lawful hosts ms) (c : ℕ) → IsShut ms l c → (m : ℕ) → ((at_now ms l).j m).x.receiver.taken c ≡ ((at_now ms l).j m).x.sender.sent c
@@ -108,29 +108,29 @@ module _ (hosts : List Host) (a b : Host) where
   IsNothing s = (s.messages ≡ 0) × (s.bits ≡ [])
 
   -- the life's connection is shut, or the life is of before both met last
-  record Through (ms : List Moment) (l : Lawful hosts ms) (t : Life) : Type 0 where
-    late : IsOf t (present_in a b ms)
-    g : ℕ
-    own : Own a b ms t.socket t.foreign t.own_stamp g
-    shut : IsShut ms l (numbered t.socket t.foreign g)
-    early : (s : Life) → IsOf s (take (since a b ms) (lives_in ms)) → Answers ms s (own_request t) → IsNothing s
+  pub record Through (ms : List Moment) (l : Lawful hosts ms) (t : Life) : Type 0 where
+    pub late : IsOf t (present_in a b ms)
+    pub g : ℕ
+    pub own : Own a b ms t.socket t.foreign t.own_stamp g
+    pub shut : IsShut ms l (numbered t.socket t.foreign g)
+    pub early : (s : Life) → IsOf s (take (since a b ms) (lives_in ms)) → Answers ms s (own_request t) → IsNothing s
 
   -- whom it took all of
-  record Source (ms : List Moment) (t : Life) : Type 0 where
-    sender : Life
-    there : IsOf sender (lives_in ms)
-    matches : Match (crossings_of ms) t sender
-    bits : t.bits ≡ sender.bits
-    messages : t.messages ≡ sender.messages
+  pub record Source (ms : List Moment) (t : Life) : Type 0 where
+    pub sender : Life
+    pub there : IsOf sender (lives_in ms)
+    pub matches : Match (crossings_of ms) t sender
+    pub bits : t.bits ≡ sender.bits
+    pub messages : t.messages ≡ sender.messages
 
-  record Nothing (ms : List Moment) (t : Life) : Type 0 where
-    none : IsNothing t
-    all : (s : Life) → IsOf s (lives_in ms) → Answers ms s (own_request t) → IsNothing s
+  pub record Nothing (ms : List Moment) (t : Life) : Type 0 where
+    pub none : IsNothing t
+    pub all : (s : Life) → IsOf s (lives_in ms) → Answers ms s (own_request t) → IsNothing s
 
-  record Done (ms : List Moment) (t : Life) : Type 0 where
-    early : IsOf t (take (since a b ms) (lives_in ms))
-    over : t.ended ≡ true
-    done : Nothing ms t ⊎ ((o : Source ms t) × (o.sender.ended ≡ true))
+  pub record Done (ms : List Moment) (t : Life) : Type 0 where
+    pub early : IsOf t (take (since a b ms) (lives_in ms))
+    pub over : t.ended ≡ true
+    pub done : Nothing ms t ⊎ ((o : Source ms t) × (o.sender.ended ≡ true))
 
   -- ---- a life that is through has all that was sent
 
@@ -389,7 +389,7 @@ module _ (hosts : List Host) (a b : Host) where
       shut_named x y n o = subst (λ (k : ℕ). IsShut (z ∷ ms) l (numbered k y.foreign h.g)) (sym n.socket) (subst (λ (k : ℕ). IsShut (z ∷ ms) l (numbered x.socket k h.g)) (sym n.foreign) o)
 
     -- whichever of the two it is
-    next_is : (t : Life) → t.host ≡ a → t.peer ≡ b → receives t ≡ true → IsOf t (lives_in ms) → Through ms (below hosts z ms l) t ⊎ Done ms t → Through (z ∷ ms) l ((grown z ms).change t) ⊎ Done (z ∷ ms) ((grown z ms).change t)
+    pub next_is : (t : Life) → t.host ≡ a → t.peer ≡ b → receives t ≡ true → IsOf t (lives_in ms) → Through ms (below hosts z ms l) t ⊎ Done ms t → Through (z ∷ ms) l ((grown z ms).change t) ⊎ Done (z ∷ ms) ((grown z ms).change t)
     next_is t host peer kind i (inr d) =
         inr (subst (λ (v : Life). Done (z ∷ ms) v) (sym ((grown z ms).still t d.over)) (done_on t i (early_on t d.over i (λ e. d.early)) d.over d.done))
     next_is t host peer kind i (inl h) = by (stay.begins a b (event_in z) (events_of ms)) refl where
@@ -406,7 +406,7 @@ module _ (hosts : List Host) (a b : Host) where
 
   -- ---- what it has
 
-  took_all : (ms : List Moment) (l : Lawful hosts ms) (t : Life) → t.host ≡ a → t.peer ≡ b → receives t ≡ true → IsOf t (lives_in ms) → Through ms l t ⊎ Done ms t → TookAll (crossings_of ms) (lives_in ms) t
+  pub took_all : (ms : List Moment) (l : Lawful hosts ms) (t : Life) → t.host ≡ a → t.peer ≡ b → receives t ≡ true → IsOf t (lives_in ms) → Through ms l t ⊎ Done ms t → TookAll (crossings_of ms) (lives_in ms) t
   took_all ms l t host peer kind i state s there m = by state where
     nothing_is : Nothing ms t → (t.bits ≡ s.bits) × (t.messages ≡ s.messages)
     nothing_is n =

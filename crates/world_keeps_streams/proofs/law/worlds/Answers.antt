@@ -6,6 +6,7 @@ use Rattle.world_keeps_streams.proofs.Books.Calm.{world_calms}
 use Rattle.world_keeps_streams.proofs.Books.Came.{world_came}
 use Rattle.world_keeps_streams.proofs.Books.Closes.{world_rests}
 use Rattle.world_keeps_streams.proofs.Books.Comes.{world_comes}
+use Rattle.world_keeps_streams.proofs.Books.EndingHanded.{world_ended}
 use Rattle.world_keeps_streams.proofs.Books.Handed.{world_handed_over}
 use Rattle.world_keeps_streams.proofs.Books.Later.{world_closes}
 use Rattle.world_keeps_streams.proofs.Books.Firsts.{world_firsts}
@@ -46,3 +47,6 @@ returns-clause-calm g c hosts w lawful = world_calms g.C.Carrier.calls.seen host
 
 pub returns-clause-came : goal.returns-clause-came
 returns-clause-came g c hosts w lawful = world_came g.C.Carrier.calls.seen hosts w lawful
+
+pub returns-clause-whole : goal.returns-clause-whole
+returns-clause-whole g c hosts w lawful = world_ended g.C.Carrier.calls.seen hosts w lawful
