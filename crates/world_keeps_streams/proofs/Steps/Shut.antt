@@ -58,6 +58,10 @@ same_taken z bits (Some k) r = by (receivers.is_open k r && is_size z (r.size k)
   by true t = rw t (record { end = refl; asked = refl; closed = refl; granted = refl })
   by false t = rw t (same_itself r)
 
+-- a message that comes counts, and leaves these
+same_come : (z : ℕ) (bits : List Bool) (r : Receiver) → Same r (receivers.moved (receivers.Take z bits) r)
+same_come z bits r = let s : Same r (receivers.takes z bits r.end r) = same_taken z bits r.end r in record { end = s.end; asked = s.asked; closed = s.closed; granted = s.granted }
+
 known_same : (r t : Receiver) → Same r t → Known r → Known t
 known_same r t s k c e = ap (λ (f : ℕ → Bool). f c) s.asked ∙ k c (sym s.end ∙ e)
 
@@ -79,7 +83,7 @@ known_move (receivers.Grant k m n) r h c e = h c e
 known_move (receivers.AskBack k m n) r h c e = h c e
 known_move (receivers.Close k) r h c e = h c e
 known_move (receivers.Free k) r h c e = absurd (let no : None ≡ Some c = e in cc)
-known_move (receivers.Take z bits) r h c e = known_same r (receivers.takes z bits r.end r) (same_taken z bits r.end r) h c e
+known_move (receivers.Take z bits) r h c e = known_same r (receivers.moved (receivers.Take z bits) r) (same_come z bits r) h c e
 known_move (receivers.Hear (Str k z)) r h c e = h c e
 known_move (receivers.Hear (Ret k m n)) r h c e = known_same r (receivers.takes_back m n r.end r) (same_back m n r.end r) h c e
 known_move (receivers.Hear (Cls k)) r h c e = h c e
@@ -112,7 +116,7 @@ shut_move (receivers.Grant k m n) r c may h = record { asked = h.asked; closed =
 shut_move (receivers.AskBack k m n) r c may h = h
 shut_move (receivers.Close k) r c may h = record { asked = h.asked; closed = λ e. refl }
 shut_move (receivers.Free k) r c may h = record { asked = h.asked; closed = λ e. absurd (let no : None ≡ Some c = e in cc) }
-shut_move (receivers.Take z bits) r c may h = shut_same r (receivers.takes z bits r.end r) c (same_taken z bits r.end r) h
+shut_move (receivers.Take z bits) r c may h = shut_same r (receivers.moved (receivers.Take z bits) r) c (same_come z bits r) h
 shut_move (receivers.Hear (Str k z)) r c may h = record { asked = h.asked; closed = h.closed }
 shut_move (receivers.Hear (Ret k m n)) r c may h = shut_same r (receivers.takes_back m n r.end r) c (same_back m n r.end r) h
 shut_move (receivers.Hear (Cls k)) r c may h = record { asked = h.asked; closed = h.closed }
@@ -127,7 +131,7 @@ bare_move (receivers.Grant k m n) r c may h = record {
   other e =
       let same : c ≡ k = eqb-true c k e in
       unlike r.closed (h.shut.closed (may.0 ∙ ap (λ (j : ℕ). Some j) (sym same))) (open_unclosed r.opened r.closed (r.over k) may.1)
-bare_move (receivers.Take z bits) r c may h = bare_same r (receivers.takes z bits r.end r) c (same_taken z bits r.end r) h
+bare_move (receivers.Take z bits) r c may h = bare_same r (receivers.moved (receivers.Take z bits) r) c (same_come z bits r) h
 bare_move (receivers.Hear (Ret k m n)) r c may h = bare_same r (receivers.takes_back m n r.end r) c (same_back m n r.end r) h
 bare_move (receivers.Ask k) r c may h = record { shut = shut_move (receivers.Ask k) r c may h.shut; none = h.none }
 bare_move (receivers.Open k) r c may h = record { shut = shut_move (receivers.Open k) r c may h.shut; none = h.none }
@@ -146,7 +150,7 @@ known_moves (m ∷ ms) r h = known_moves ms (receivers.moved m r) (known_move m 
 
 asked_move : (m : receivers.Move) (r : Receiver) (c : ℕ) → r.asked c ≡ true → (receivers.moved m r).asked c ≡ true
 asked_move (receivers.Ask k) r c h = asked_more k c r.asked h
-asked_move (receivers.Take z bits) r c h = ap (λ (f : ℕ → Bool). f c) (same_taken z bits r.end r).asked ∙ h
+asked_move (receivers.Take z bits) r c h = ap (λ (f : ℕ → Bool). f c) (same_come z bits r).asked ∙ h
 asked_move (receivers.Hear (Ret k m n)) r c h = ap (λ (f : ℕ → Bool). f c) (same_back m n r.end r).asked ∙ h
 asked_move (receivers.Hear (Str k z)) r c h = h
 asked_move (receivers.Hear (Cls k)) r c h = h
