@@ -13,7 +13,7 @@ use Rattle.headline.specs.Promise.{IsExact, KeepsPromise}
 use Rattle.world_keeps_connections.proofs.lemmas.{world_joined}
 use Rattle.world_keeps_lives.proofs.lemmas.{world_drained, world_formed, world_handed, world_taken, world_told}
 use Rattle.world_keeps_pairing.proofs.lemmas.{world_alone, world_partners}
-use Rattle.world_keeps_streams.proofs.lemmas.{world_agrees, world_answered, world_arrives, world_calms, world_came, world_closes, world_comes, world_firsts, world_handed_over, world_rests, world_sent, world_source}
+use Rattle.world_keeps_streams.proofs.lemmas.{world_agrees, world_answered, world_arrives, world_calms, world_came, world_closes, world_comes, world_firsts, world_handed_over, world_rests, world_sent, world_settles, world_source}
 
 -- what is left of a run without its newest crossings is one
 older_run : (hosts : List Host) (more log : List Crossing) → IsRun hosts (more ++ log) → IsRun hosts log
@@ -56,6 +56,7 @@ exact seen w lawful = record {
   rests = world_rests seen (seen w.carrier).hosts w lawful;
   agree = world_agrees seen (seen w.carrier).hosts w lawful;
   calm = world_calms seen (seen w.carrier).hosts w lawful;
+  settled = world_settles seen (seen w.carrier).hosts w lawful;
   drained = world_drained seen (seen w.carrier).hosts w lawful;
   handed = world_handed_over seen (seen w.carrier).hosts w lawful;
   firsts = world_firsts seen (seen w.carrier).hosts w lawful;
@@ -63,11 +64,11 @@ exact seen w lawful = record {
 
 -- both together are what one record says
 pub both : {C : Type 0} (seen : C → Seen) (w : WorldState C) → Promised (seen w.carrier).hosts w.kept.book w.kept.handed → IsExact seen w → KeepsPromise seen w
-both seen w p e = record { formed = p.formed; told = p.told; safe = p.safe; joined = p.joined; lawful = e.lawful; arrives = e.arrives; comes = e.comes; answered = e.answered; closes = e.closes; came = e.came; rests = e.rests; agree = e.agree; calm = e.calm; drained = e.drained; handed = e.handed; firsts = e.firsts }
+both seen w p e = record { formed = p.formed; told = p.told; safe = p.safe; joined = p.joined; lawful = e.lawful; arrives = e.arrives; comes = e.comes; answered = e.answered; closes = e.closes; came = e.came; rests = e.rests; agree = e.agree; calm = e.calm; settled = e.settled; drained = e.drained; handed = e.handed; firsts = e.firsts }
 
 pub parted : {C : Type 0} (seen : C → Seen) (w : WorldState C) → KeepsPromise seen w → Promised (seen w.carrier).hosts w.kept.book w.kept.handed × IsExact seen w
 parted seen w k =
-    (record { run = world_run seen w k.lawful; formed = k.formed; told = k.told; safe = k.safe; joined = k.joined }, record { lawful = k.lawful; arrives = k.arrives; comes = k.comes; answered = k.answered; closes = k.closes; came = k.came; rests = k.rests; agree = k.agree; calm = k.calm; drained = k.drained; handed = k.handed; firsts = k.firsts })
+    (record { run = world_run seen w k.lawful; formed = k.formed; told = k.told; safe = k.safe; joined = k.joined }, record { lawful = k.lawful; arrives = k.arrives; comes = k.comes; answered = k.answered; closes = k.closes; came = k.came; rests = k.rests; agree = k.agree; calm = k.calm; settled = k.settled; drained = k.drained; handed = k.handed; firsts = k.firsts })
 
 -- so where a call promises it of the book that it gives
 pub given : {C : Type 0} (seen : C → Seen) (w : WorldState C) (k : Kept) → k ≡ w.kept → Promised (seen w.carrier).hosts k.book k.handed → IsExact seen w → KeepsPromise seen w

@@ -13,13 +13,14 @@ use Rattle.world_keeps_streams.specs.Arrivals.{AllArrive, AllCome}
 use Rattle.world_keeps_streams.specs.Came.{AllCame}
 use Rattle.world_keeps_streams.specs.Closes.{AllClose, AllHanded}
 use Rattle.world_keeps_streams.specs.Rests.{AllAgree, AllCalm, AllRest}
+use Rattle.world_keeps_streams.specs.Settled.{EachAgrees, HasSettled}
 
 -- each life is made of messages that crossed: those of its two requests and of its data; and each notice of data reports a message that has just
 -- crossed. A message answered by RFNM was taken exactly once and none is taken twice; no two ends hold one opening with different partners; what was taken,
 -- if anything was, is a prefix of what its one partner sent, and what was sent of what was handed over; and what was taken, and what was sent, is granted. A finished initial connection pairs the right four sockets.
 -- And crossings, notices and lives are what the programs of all hosts make of one list of moments, over a carrier whose log is a run of the mailboxes. In these moments data that were taken where they came for a receiving life whose
 -- end was open arrived there, all of them, and data on the link of a sending life came for the one that it matches; where a host gets RFNM of data they were taken before, once; a receiving life whose end its partner had closed, and no user of its host, took all that its partner sent, also once it was over; and so did one whose end was open while nothing waited for it and its partner continued. While no command was on its way between their hosts either,
--- what its partner might still send was what it might still take: what was granted and neither used nor returned; so it was of all between hosts that had nothing left to do, where no end closed, but for a sender that drained.
+-- what its partner might still send was what it might still take: what was granted and neither used nor returned; so it was of all between hosts that had nothing left to do, where no end closed, but for a sender that drained; and so it is of all once no host has anything to say, and each message between two that are up was answered.
 -- When the end of a receiving life took its partner's CLS, as many messages had come in on its link as its partner ever sent, also if its host dropped some.
 -- A sending life whose CLS was queued before its partner's was taken has sent all that was handed over in it, also once it was over.
 -- The crossings determine the bits of all lives: a life's messages are the first on its link after both of its requests, and each message that went out is one of a sending life
@@ -37,6 +38,7 @@ pub record KeepsPromise {C : Type 0} (seen : C → Seen) (w : WorldState C) : Ty
   pub rests : AllRest lawful.whole.moments
   pub agree : AllAgree lawful.whole.moments
   pub calm : AllCalm lawful.whole.moments
+  pub settled : HasSettled seen w → EachAgrees lawful.whole.moments
   pub drained : AllDrained lawful.whole.moments
   pub handed : AllHanded lawful.whole.moments
   pub firsts : FirstBook w.kept.book.crossings w.kept.book.lives
@@ -53,6 +55,7 @@ pub record IsExact {C : Type 0} (seen : C → Seen) (w : WorldState C) : Type 0 
   pub rests : AllRest lawful.whole.moments
   pub agree : AllAgree lawful.whole.moments
   pub calm : AllCalm lawful.whole.moments
+  pub settled : HasSettled seen w → EachAgrees lawful.whole.moments
   pub drained : AllDrained lawful.whole.moments
   pub handed : AllHanded lawful.whole.moments
   pub firsts : FirstBook w.kept.book.crossings w.kept.book.lives

@@ -30,9 +30,10 @@ use net_sim::{Book, World};
 /// end is open has all that was sent while nothing waits for it and its partner continues (`rests`). While no
 /// command is on its way between their hosts either, both have the same counters: what was granted and neither used
 /// nor returned (`agree`). So it is of every pair where each message between the two hosts was answered, and neither
-/// program has anything to say: no end closes there, but for a sender that drains (`calm`). The crossings determine
-/// the bits of all lives (`firsts`): a life's messages are the first on its link after both of its requests, and each
-/// message that went out is one of a sending life.
+/// program has anything to say: no end closes there, but for a sender that drains (`calm`). So it is of all pairs once
+/// no host has anything to say (see [`World::rests`]), and each message between hosts that are up was answered
+/// (`settled`). The crossings determine the bits of all lives (`firsts`): a life's messages are the first on its link
+/// after both of its requests, and each message that went out is one of a sending life.
 ///
 /// By `fated` there is one fate for each life, and it says whether the life is over. By `whole` an orderly close loses
 /// nothing: a receiving life that is over by CLS, and that nobody at its host had closed (its fate is `Ended`), took

@@ -2,9 +2,9 @@
 pub use Rattle.net_sim.proofs.Books.Always.{calm_keeps}
 pub use Rattle.net_sim.proofs.Books.Booked.{booked_messages}
 pub use Rattle.net_sim.proofs.Books.Fated.{by_fated, kept_fated, told_fated, world_fated}
-pub use Rattle.net_sim.proofs.Resets.Bridge.{box_same, by_request, flow_of, place_same, places_same}
+pub use Rattle.net_sim.proofs.Resets.Bridge.{box_same, by_request, flow_of, place_same, places_same, up_same}
 pub use Rattle.net_sim.proofs.Resets.Clean.{cleared_waits, fetched_waits, waiting_out}
-pub use Rattle.net_sim.proofs.Resets.Coupled.{Coupled, coupled}
+pub use Rattle.net_sim.proofs.Resets.Coupled.{Coupled, coupled, up_host}
 pub use Rattle.net_sim.proofs.Resets.Offers.{data_away, plain_take, says_reply}
 pub use Rattle.net_sim.proofs.Books.Refusals.{step_stands}
 pub use Rattle.net_sim.proofs.Hosts.Seats.{same_host-sym}

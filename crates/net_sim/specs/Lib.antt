@@ -5,6 +5,7 @@ pub mod Findings
 pub mod Handed
 pub mod World
 pub mod Carriers
+pub mod Silent
 pub mod Worked
 pub mod Story
 pub mod Inside

@@ -2,7 +2,8 @@
 
 ghost use Rattle.std.specs.Prelude.{◌≡◌, ◌<◌, ℕ, true, false, length, if◌then◌else◌, is_some, slice_get, None, Ok, Some};
 ghost use Rattle.net_sim.specs.Carriers.{shown};
-ghost use Rattle.net_sim.specs.Inside.Calm.{CalmTurn, CarrierRests, IsSilent, IsSilentAt, Round};
+ghost use Rattle.net_sim.specs.Inside.Calm.{CalmTurn, CarrierRests, Round};
+ghost use Rattle.net_sim.specs.Silent.{AllSilent, IsSilent, IsSilentAt};
 ghost use Rattle.net_sim.specs.World as world;
 ghost use Rattle.net_sim.specs.World.{CalmGives, Repeats, Offer, Take};
 
@@ -31,7 +32,7 @@ fn up_here(seats: &[Seat], at: usize) -> Option<HostAddr>
 
 /// Returns whether each host that is up has nothing to say.
 fn all_silent(seats: &[Seat]) -> bool
-    ensures { result ≡ true → (at : ℕ) → at < length seats.now → IsSilentAt seats.now at }
+    ensures { result ≡ true → AllSilent seats.now }
 {
     let count = seats.len();
     for at in 0..count {
@@ -89,7 +90,9 @@ impl<C: Carrier> World<C> {
     /// Returns whether more rounds of a calm are known to change nothing: the network is known to rest, and no host
     /// that is up has anything to say.
     pub fn rests(&self) -> bool
-        ensures { result ≡ true → (times : ℕ) → CalmGives (shown C.calls) times self.now (Ok tt) self.now }
+        ensures unchanged { result ≡ true → (times : ℕ) → CalmGives (shown C.calls) times self.now (Ok tt) self.now }
+        ensures running { result ≡ true → self.now.stopped ≡ false }
+        ensures silent { result ≡ true → AllSilent self.now.seats }
     {
         self.has_calmed(self.book().crossings().len())
     }
@@ -99,7 +102,7 @@ impl<C: Carrier> World<C> {
     fn has_calmed(&self, before: usize) -> bool
         ensures running { result ≡ true → self.now.stopped ≡ false }
         ensures carrier { result ≡ true → CarrierRests (shown C.calls) self.now.carrier }
-        ensures silent { result ≡ true → (at : ℕ) → at < length self.now.seats → IsSilentAt self.now.seats at }
+        ensures silent { result ≡ true → AllSilent self.now.seats }
     {
         if self.book().crossings().len() > before {
             return false;

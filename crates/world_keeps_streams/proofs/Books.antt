@@ -25,6 +25,7 @@ pub mod Lies
 pub mod One
 pub mod Parted
 pub mod Run
+pub mod Settled
 pub mod Silent
 pub mod Source
 pub mod Starts

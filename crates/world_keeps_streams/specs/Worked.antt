@@ -1,6 +1,8 @@
 -- A receiving life, and how its connection ends: words for worked examples. All moments are read newest first.
-use Rattle.std.specs.Prelude.{ℕ, true, List, [], ◌∷◌}
+use Rattle.std.specs.Prelude.{ℕ, true, List, [], ◌∷◌, Some}
+use Rattle.interface.specs.Calls.{Seen}
 use Rattle.interface.specs.declared.crossing.Answer.TheVariants as answer
+use Rattle.interface.specs.declared.crossing.Crossing.{Crossing}
 use Rattle.interface.specs.declared.crossing.Crossing.TheVariants as crossing
 use Rattle.interface.specs.declared.message.HostMessage.{HostMessage}
 use Rattle.host_pairs.specs.Commands.{asked_on_link, asked_with_size}
@@ -8,10 +10,14 @@ use Rattle.host_pairs.specs.Entries.{receiving_end, sending_end}
 use Rattle.host_pairs.specs.Parcels.{asked_at}
 use Rattle.host_pairs.specs.declared.entry.Closing.TheVariants as closing
 use Rattle.host_pairs.specs.declared.entry.Entry.{Entry}
+use Rattle.sockets.specs.Pairs.{opening_state}
+use Rattle.sockets.specs.Requests.{served}
 use Rattle.sockets.specs.Worked.{control, first, on_link, second}
 use Rattle.sockets.specs.declared.request.Request.TheVariants as request
+use Rattle.net_sim.specs.Book.{all_crossed, opening_kept}
 use Rattle.net_sim.specs.Story.{Asked, Crossed, Moment}
-use Rattle.net_sim.specs.Worked.{eight, receiver, sender}
+use Rattle.net_sim.specs.World.{WorldState, seated}
+use Rattle.net_sim.specs.Worked.{eight, fresh, receiver, sender}
 use Rattle.net_sim.specs.WorkedMoments.{bits_sent, connected, eight_sent, sent_moments}
 use Rattle.promise.specs.declared.life.Life.{Life}
 use Rattle.world_keeps_lives.specs.WorkedFormed.{gave, taken_moments}
@@ -96,6 +102,14 @@ draining_end = record giving_opened { closing = closing.Due; bits = eight }
 -- the CLS of the receiving user was taken and answered, and that of its partner waits to go out
 abbrev pub heard_moments : List Moment
 heard_moments = Crossed (crossing.Answer answer.Rfnm (on_link first second 0)) ∷ taken_moments
+
+-- a world with the book of these crossings, newest first
+abbrev pub after_crossings : List Crossing → WorldState Seen → WorldState Seen
+after_crossings crossings w = record w { kept = all_crossed crossings opening_kept }
+
+-- and one whose first host has an RST to say
+abbrev pub contacting : WorldState Seen
+contacting = record fresh { seats = seated first (Some (served (opening_state first) (request.Contact second))) fresh.seats }
 
 -- ---- closing
 

@@ -1,10 +1,15 @@
-//! Ends where nothing is left to be done. The function here does nothing: each clause is a row.
+//! Ends and worlds where nothing is left to be done. The functions here do nothing: each clause is a row.
 
-ghost use Rattle.std.specs.Prelude.{true, []};
+ghost use Rattle.std.specs.Prelude.{true, [], ◌∷◌};
+ghost use Rattle.interface.specs.declared.crossing.Crossing.TheVariants as crossing;
 ghost use Rattle.host_pairs.specs.declared.entry.Closing.TheVariants as closing;
+ghost use Rattle.net_sim.specs.Worked.{down, fresh, halted};
+ghost use Rattle.net_sim.specs.WorkedResets.{rst};
+ghost use Rattle.sockets.specs.Worked.{first, second};
 ghost use Rattle.world_keeps_lives.specs.WorkedFormed.{gave, taken_moments};
 ghost use Rattle.world_keeps_streams.specs.Rests.{AreCalm, AreOpen};
-ghost use Rattle.world_keeps_streams.specs.Worked.{draining_end, draining_moments, gave_none, giving_opened, heard_moments, left_at, taking_opened, took_eight, took_none};
+ghost use Rattle.world_keeps_streams.specs.Settled.{HasSettled};
+ghost use Rattle.world_keeps_streams.specs.Worked.{after_crossings, contacting, draining_end, draining_moments, gave_none, giving_opened, heard_moments, left_at, taking_opened, took_eight, took_none};
 
 /// Lives whose hosts have nothing left to do: a sender drains, and no end closes otherwise.
 pub fn worked_draining()
@@ -26,4 +31,17 @@ pub fn worked_draining()
 
     // the bits that are queued may go
     ensures granted { AreOpen taking_opened (left_at 1 8 draining_end) → ⊥ }
+{}
+
+/// Worlds that have settled, and worlds that haven't.
+pub fn worked_settling()
+    ensures fresh { HasSettled (λ s. s) fresh }
+
+    // what a host that is down didn't take doesn't count
+    ensures down { HasSettled (λ s. s) (after_crossings (crossing.Down second ∷ crossing.Out (rst first second) ∷ []) down) }
+
+    // an RST is to be said, a message waits, and memory has run out
+    ensures speaks { HasSettled (λ s. s) contacting → ⊥ }
+    ensures waits { HasSettled (λ s. s) (after_crossings (crossing.Out (rst first second) ∷ []) fresh) → ⊥ }
+    ensures halted { HasSettled (λ s. s) halted → ⊥ }
 {}

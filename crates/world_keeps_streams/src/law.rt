@@ -23,6 +23,7 @@ ghost use Rattle.world_keeps_streams.specs.Arrivals.{AllArrive, AllCome, Arrives
 ghost use Rattle.world_keeps_streams.specs.Calls.{own_calls, numbered_by_peer};
 ghost use Rattle.world_keeps_streams.specs.Came.{AllCame, CameAll, HadTakenCls, HasTakenCls};
 ghost use Rattle.world_keeps_streams.specs.Rests.{Agree, AllAgree, AllCalm, AllRest, AreAtRest, AreCalm, AreSettled};
+ghost use Rattle.world_keeps_streams.specs.Settled.{EachAgrees, HasSettled};
 ghost use Rattle.world_keeps_lives.specs.WorkedFormed.{gave};
 ghost use Rattle.world_keeps_streams.specs.Closes.{AllClose, AllHanded, EachHanded, IsClosedByPartner, TookHanded, WasClosedBy, WasClosedByPartner};
 ghost use Rattle.world_keeps_streams.specs.Laws.Programs.{ProgramsCalls, ProgramsAllowed, ProgramsReceiver, ProgramsSender};
@@ -123,6 +124,9 @@ pub fn worlds<C: Carrier>()
     ensures agree { (hosts : List Host) (w : WorldState C) → (lawful : IsLawful C.calls.seen hosts w) → AllAgree lawful.whole.moments }
     ensures calm { (hosts : List Host) (w : WorldState C) → (lawful : IsLawful C.calls.seen hosts w) → AllCalm lawful.whole.moments }
     ensures sent { WorldsSent C.calls.seen }
+
+    // once no host has anything to say, and all was answered between those that are up, all lives that match and aren't over agree
+    ensures settled { (hosts : List Host) (w : WorldState C) → (lawful : IsLawful C.calls.seen hosts w) → HasSettled C.calls.seen w → EachAgrees lawful.whole.moments }
 {}
 
 /// Data that are taken: eight bits, for an end that is open, and for one that its user has closed.

@@ -13,7 +13,8 @@ use Rattle.interface.specs.declared.message.HostMessage.{HostMessage}
 use Rattle.sockets.specs.Pairs.{NcpState}
 use Rattle.sockets.specs.Sending.{next_out}
 use Rattle.net_sim.specs.Carriers.{shown}
-use Rattle.net_sim.specs.Inside.Calm.{CarrierRests, IsSilent, IsSilentAt}
+use Rattle.net_sim.specs.Inside.Calm.{CarrierRests}
+use Rattle.net_sim.specs.Silent.{IsSilent, IsSilentAt}
 use Rattle.net_sim.specs.World.{WorldState, WorldFault, Carrier, Event, Quiet, Offer, Take, Seat, seat_of, Refuses, OfferGives, TakeGives, AtSeat, EventGives, StepGives, stops, Repeats, TurnsOf, up_in, Calms}
 use Rattle.net_sim.proofs.Hosts.Calming.{Passed, none_repeated}
 

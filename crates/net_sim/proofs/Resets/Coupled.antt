@@ -70,7 +70,7 @@ came_host : (hosts : List Host) (h g : Host) (up : Bool) → is_host hosts g ≡
 came_host hosts h g up there k true e f = subst (λ (x : Host). is_host hosts x ≡ true) (sym (same_host-true h g e)) there
 came_host hosts h g up there k false e f = k f
 
-up_host : (hosts : List Host) (h : Host) (log : List Crossing) → mail.IsRun hosts log → mail.is_up hosts h log ≡ true → is_host hosts h ≡ true
+pub up_host : (hosts : List Host) (h : Host) (log : List Crossing) → mail.IsRun hosts log → mail.is_up hosts h log ≡ true → is_host hosts h ≡ true
 up_host hosts h [] r up = up
 up_host hosts h (crossing.Out m ∷ log) r up = up_host hosts h log r.1 up
 up_host hosts h (crossing.In m ∷ log) r up = up_host hosts h log r.1 up

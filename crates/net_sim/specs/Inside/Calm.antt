@@ -1,11 +1,9 @@
 -- The parts of a calm: what one host does in a round, and one round.
-use Rattle.std.specs.Prelude.{◌≡◌, ℕ, List, Some, None, Result, slice_get}
+use Rattle.std.specs.Prelude.{◌≡◌, Result}
 use Rattle.std.specs.Bool.{MatchBool}
 use Rattle.interface.specs.Host.{Host}
 use Rattle.interface.specs.Rest.{Rests}
-use Rattle.sockets.specs.Pairs.{NcpState}
-use Rattle.sockets.specs.Sending.{next_out}
-use Rattle.net_sim.specs.World.{Seat, WorldState, WorldFault, Quiet, Offer, Take, StepGives, Repeats, TurnsOf, stops, up_in}
+use Rattle.net_sim.specs.World.{WorldState, WorldFault, Quiet, Offer, Take, StepGives, Repeats, TurnsOf, stops, up_in}
 use Rattle.interface.specs.Calls.{Calls}
 
 -- a host takes up to 16 times, and then offers up to 32 times
@@ -19,14 +17,6 @@ abbrev pub Round : {C : Type 0} → Calls C → WorldState C → Result (Unit {0
 Round {C} calls old r new =
     (first : Result (Unit {0}) WorldFault) × (quiet : WorldState C) × StepGives calls old Quiet first quiet
     × MatchBool (stops first) ((r ≡ first) × (new ≡ quiet)) (TurnsOf calls (up_in quiet.seats) quiet r new)
-
--- a host is down, or has nothing to say
-abbrev pub IsSilent : Seat → Type 0
-IsSilent seat = (s : NcpState) → seat.program ≡ Some s → next_out s ≡ None
-
--- the same of the host whose seat is at this place
-abbrev pub IsSilentAt : List Seat → ℕ → Type 0
-IsSilentAt seats at = (seat : Seat) → slice_get seats at ≡ Some seat → IsSilent seat
 
 -- the carrier rests
 abbrev pub CarrierRests : {C : Type 0} → Calls C → C → Type 0

@@ -1,5 +1,5 @@
 use Rattle.std.proofs.Common.{ℕ, ◌<◌}
-use Rattle.net_sim.specs.Inside.Calm.{IsSilentAt}
+use Rattle.net_sim.specs.Silent.{IsSilentAt}
 use Rattle.net_sim.proofs.calm.all_silent.Given as goal
 
 -- the hosts so far

@@ -8,6 +8,7 @@ use Rattle.world_keeps_streams.proofs.Books.Closes.{world_rests}
 use Rattle.world_keeps_streams.proofs.Books.Comes.{world_comes}
 use Rattle.world_keeps_streams.proofs.Books.EndingHanded.{world_ended}
 use Rattle.world_keeps_streams.proofs.Books.Handed.{world_handed_over}
+use Rattle.world_keeps_streams.proofs.Books.Settled.{world_settles}
 use Rattle.world_keeps_streams.proofs.Books.Later.{world_closes}
 use Rattle.world_keeps_streams.proofs.Books.Firsts.{world_firsts}
 use Rattle.world_keeps_streams.proofs.law.worlds.Goals as goal
@@ -50,3 +51,6 @@ returns-clause-came g c hosts w lawful = world_came g.C.Carrier.calls.seen hosts
 
 pub returns-clause-whole : goal.returns-clause-whole
 returns-clause-whole g c hosts w lawful = world_ended g.C.Carrier.calls.seen hosts w lawful
+
+pub returns-clause-settled : goal.returns-clause-settled
+returns-clause-settled g c hosts w lawful settled = world_settles g.C.Carrier.calls.seen hosts w lawful settled

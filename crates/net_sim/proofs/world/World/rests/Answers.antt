@@ -6,8 +6,8 @@ use Rattle.net_sim.proofs.Hosts.Calming.{begun, none_passed}
 use Rattle.net_sim.proofs.Hosts.Resting.{rest_passed}
 use Rattle.net_sim.proofs.world.World.rests.Goals as goal
 
-pub returns : goal.returns
-returns g c = λ rests times.
+pub returns-clause-unchanged : goal.returns-clause-unchanged
+returns-clause-unchanged g c = λ rests times.
     let calls : Calls g.row.C.Denot = shown g.C.Carrier.calls in
     let w : WorldState g.row.C.Denot = c.args.self.now in
     begun calls times w (Ok tt) w (c.has_calmed.ensures.running rests) (rest_passed calls times 0 w w (none_passed calls times w) (c.has_calmed.ensures.running rests) (c.has_calmed.ensures.carrier rests) (c.has_calmed.ensures.silent rests))
