@@ -1,5 +1,7 @@
 -- Parts of a subnet are printed item by item.
-use Rattle.std.proofs.Common.{◌≡◌, ℕ, suc, Bool, true, false, ◌<◌, ◌≤◌, ◌+◌, ◌-◌, List, [], ◌∷◌, ◌++◌, codes, drop, length, map, nat_lt, Option, None, Some, sym, ap, subst, ◌∙◌, arith}
+use Rattle.std.proofs.Common.{◌≡◌, ℕ, suc, Bool, true, false, ◌<◌, ◌≤◌, ◌+◌, ◌-◌, ◌/◌, ◌%◌, List, [], ◌∷◌, ◌++◌, codes, drop, length, length-append, map, nat_lt, take, Option, None, Some, sym, ap, ap₂, subst, ◌∙◌, arith}
+use Rattle.std.proofs.Math.Seq.{take-append_seam}
+use Rattle.std.proofs.lemmas.Fmt.{decimal_digit, decimal_step}
 use Rattle.std.proofs.lemmas.List.{append_assoc, at_drop_all, at_drop_more, drop_all, drop_more}
 use Rattle.std.specs.Io.KnownBytes.{Appends}
 use Rattle.std.specs.Prelude.{slice_index_or}
@@ -14,13 +16,30 @@ use Rattle.imp_channel.specs.declared.frame.Content.{Content}
 use Rattle.imp_channel.specs.declared.frame.Content.TheVariants as contents
 use Rattle.routing.specs.RouteTable.{Table, next_of}
 use Rattle.routing.specs.Vector.{infinite}
-use Rattle.subnet_trace.specs.Printing.{distance_behind, known_text, next_behind, place_after}
-use Rattle.subnet_trace.specs.Texts.{bit_text, bits_text, content_members, distances_text, finite_from, next_from, next_members, next_text, packet_text}
+use Rattle.subnet_trace.specs.Printing.{distance_behind, known_rest, known_text, next_behind, number_behind, place_after}
+use Rattle.subnet_trace.specs.Texts.{bit_text, bits_text, content_members, distances_text, finite_from, flow_object, next_from, next_members, next_text, packet_text}
 use Rattle.trace.specs.Joined.{mark, place_behind}
 use Rattle.trace.specs.Texts.{array, further, member, object, quoted}
 use Rattle.trace.proofs.lemmas.{Remains, end_printed, left, maybe_printed, three}
 
 -- ---- distances
+
+-- numbers below 100 have one digit or two
+pub one_digit : (n ones : ℕ) → n < 10 → ones ≡ 48 + n % 10 → ones ∷ [] ≡ decimal n
+one_digit n ones small is =
+    let same : ones ≡ 48 + n = omega (arith, is, small) in
+    ap (λ (x : ℕ). x ∷ []) same ∙ sym (decimal_digit n small)
+
+pub two_digits : (n tens ones : ℕ) → 10 ≤ n → n < 100 → tens ≡ 48 + n / 10 → ones ≡ 48 + n % 10 → tens ∷ ones ∷ [] ≡ decimal n
+two_digits n tens ones large small is same =
+    ap₂ (λ (x y : ℕ). x ∷ y ∷ []) is same ∙ ap (λ (zs : List ℕ). zs ++ (48 + n % 10) ∷ []) (sym (decimal_digit (n / 10) (omega (arith, small)))) ∙ sym (decimal_step n large (omega (arith, small)))
+
+-- a number under another, from their digits
+pub digits_printed : (place imp number first : ℕ) (x y : List ℕ) → x ≡ decimal imp → y ≡ decimal number → first ∷ [] ≡ mark (codes "{") (codes ",") place
+    → first ∷ 34 ∷ ((x ++ 34 ∷ []) ++ 58 ∷ y) ≡ number_behind place imp number true
+digits_printed place imp number first x y below own is =
+    let front : List ℕ = mark (codes "{") (codes ",") place in
+    ap (λ (zs : List ℕ). zs ++ member x y) is ∙ ap (λ (zs : List ℕ). front ++ member zs y) below ∙ ap (λ (zs : List ℕ). front ++ member (decimal imp) zs) own
 
 -- those that are left from this IMP on, after this many distances
 abbrev pub distances_left : ℕ → ℕ → List ℕ → List ℕ
@@ -90,14 +109,22 @@ abbrev pub flows_left : {V : Type 0} → List ℕ → (Flow → V → List ℕ) 
 flows_left name word number place es = left (codes "[") (codes "]") place (map (known_text name word number) es)
 
 -- what is printed of a flow, in two pieces
-pub known_printed : (name word source destination link number : List ℕ) (a b c : Option (List ℕ)) → Appends a b (codes "{\"" ++ (name ++ (codes "\":\"" ++ (word ++ (codes "\",\"from\":\"" ++ (source ++ codes "\","))))))
-    → Appends b c (codes "\"to\":\"" ++ (destination ++ (codes "\",\"link\":" ++ (link ++ (codes ",\"number\":" ++ (number ++ codes "}"))))))
-    → Appends a c (object (member name (quoted word) ∷ member (codes "from") (quoted source) ∷ member (codes "to") (quoted destination) ∷ member (codes "link") link ∷ member (codes "number") number ∷ []))
-known_printed name word source destination link number a b c front back =
-    let x : List ℕ = codes "{\"" ++ (name ++ (codes "\":\"" ++ (word ++ (codes "\",\"from\":\"" ++ (source ++ codes "\","))))) in
-    let y : List ℕ = codes "\"to\":\"" ++ (destination ++ (codes "\",\"link\":" ++ (link ++ (codes ",\"number\":" ++ (number ++ codes "}"))))) in
-    let whole : x ++ y ≡ object (member name (quoted word) ∷ member (codes "from") (quoted source) ∷ member (codes "to") (quoted destination) ∷ member (codes "link") link ∷ member (codes "number") number ∷ []) = simp append_assoc in
-    subst (Appends a c) whole (Appends-trans a b c x y front back)
+-- all but the last octet of a list
+without_last : (xs : List ℕ) (x : ℕ) → take (length (xs ++ x ∷ []) - 1) (xs ++ x ∷ []) ≡ xs
+without_last xs x = ap (λ (n : ℕ). take n (xs ++ x ∷ [])) shorter ∙ take-append_seam xs (x ∷ []) where
+  shorter : length (xs ++ x ∷ []) - 1 ≡ length xs
+  shorter = omega (arith, length-append xs (x ∷ []))
+
+-- what follows the word was put together on a line, of which the end is left out
+pub known_printed : (name word line : List ℕ) (f : Flow) (number : ℕ) (a b c : Option (List ℕ)) → line ≡ known_rest f number ++ 10 ∷ []
+    → Appends a b (codes "{\"" ++ (name ++ (codes "\":\"" ++ word)))
+    → Appends b c (take (length line - 1) line)
+    → Appends a c (flow_object name word f number)
+known_printed name word line f number a b c is front back =
+    let x : List ℕ = codes "{\"" ++ (name ++ (codes "\":\"" ++ word)) in
+    let rest : take (length line - 1) line ≡ known_rest f number = ap (λ (l : List ℕ). take (length l - 1) l) is ∙ without_last (known_rest f number) 10 in
+    let whole : x ++ known_rest f number ≡ flow_object name word f number = simp append_assoc in
+    subst (Appends a c) whole (Appends-trans a b c x (known_rest f number) front (subst (Appends b c) rest back))
 
 pub flow_printed : {V : Type 0} (name : List ℕ) (word : Flow → V → List ℕ) (number : V → ℕ) (place : ℕ) (e : Flow × V) (es : List (Flow × V)) (whole : List ℕ) (a b c d : Option (List ℕ)) → Remains a b (flows_left name word number place (e ∷ es)) whole
     → Appends b c (mark (codes "[") (codes ",") place) → Appends c d (known_text name word number e) → Remains a d (flows_left name word number 1 es) whole

@@ -4,6 +4,7 @@ use Rattle.std.specs.FinMap as fin
 use Rattle.std.specs.Fmt.{decimal}
 use Rattle.imp_node.specs.Arrival.{Arrival, arrival_has_room}
 use Rattle.imp_node.specs.State.{State}
+use Rattle.interface.specs.Printed.{host_text}
 use Rattle.interface.specs.declared.address.Flow.{Flow}
 use Rattle.packetiser.specs.PacketFields.{PacketFields}
 use Rattle.routing.specs.RouteTable.{vector_of}
@@ -40,6 +41,11 @@ place_after place None = place
 place_after place (Some port) = 1
 
 -- ---- flows
+
+-- what follows the word in the object of a flow: the end of its string, the flow, a number, and the end
+abbrev pub known_rest : Flow → ℕ → List ℕ
+known_rest f number =
+    codes "\",\"from\":\"" ++ (host_text f.source ++ (codes "\",\"to\":\"" ++ (host_text f.destination ++ (codes "\",\"link\":" ++ (decimal f.link.0 ++ (codes ",\"number\":" ++ (decimal number ++ codes "}")))))))
 
 -- what is known of a flow: a word with its name, the flow and a number
 abbrev pub known_text : {V : Type 0} → List ℕ → (Flow → V → List ℕ) → (V → ℕ) → Flow × V → List ℕ

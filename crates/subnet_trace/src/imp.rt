@@ -1,6 +1,6 @@
 //! What an IMP keeps, printed.
 
-ghost use Rattle.std.specs.Prelude.{◌≡◌, OnOk, Some, false, map};
+ghost use Rattle.std.specs.Prelude.{◌≡◌, None, OnOk, Some, false, map};
 ghost use Rattle.std.specs.Io.KnownBytes.{Appends};
 ghost use Rattle.replay.specs.Failing.{TellsFailure};
 ghost use Rattle.subnet_trace.specs.Printing.{begun_text, held_text, noted_text, ways_text};
@@ -86,13 +86,20 @@ impl Held for Host {
     }
 }
 
+/// Returns the text of a free channel, by its bit.
+fn free_channel(bit: bool) -> &'static str
+    ensures { result.now ≡ channel_text (record { bit = bit; packet = None }) }
+{
+    if bit { "{\"bit\":1}" } else { "{\"bit\":0}" }
+}
+
 impl Held for Channel {
     ghost text = { channel_text };
 
     fn print<W: Output>(&self, writer: &mut W) -> Result<(), WriteFailed> {
         let bit = digit(self.bit);
         let Some(packet) = &self.packet else {
-            return write!(writer, "{{\"bit\":{bit}}}");
+            return writer.write_all(free_channel(self.bit).as_bytes());
         };
         write!(writer, "{{\"bit\":{bit},\"packet\":")?;
         packet.print(writer)?;

@@ -1,11 +1,11 @@
 //! Packets and frames, printed.
 
-ghost use Rattle.std.specs.Prelude.{◌≡◌, ◌∷◌, ◌++◌, [], IfOk, OnOk, codes, false, nat_lt};
+ghost use Rattle.std.specs.Prelude.{◌≡◌, ◌+◌, ◌/◌, ◌%◌, ◌<◌, ◌∷◌, ◌++◌, [], IfOk, OnOk, codes, false, nat_lt, true};
 ghost use Rattle.std.specs.Io.KnownBytes.{Appends};
 ghost use Rattle.replay.specs.Failing.{TellsFailure};
 ghost use Rattle.routing.specs.Vector.{infinite};
-ghost use Rattle.subnet_trace.specs.Printing.{distance_behind, next_behind, place_after};
-ghost use Rattle.trace.specs.Joined.{place_behind};
+ghost use Rattle.subnet_trace.specs.Printing.{distance_behind, next_behind, number_behind, place_after};
+ghost use Rattle.trace.specs.Joined.{mark, place_behind};
 ghost use Rattle.subnet_trace.specs.Texts.{bit_text, bits_text, content_members, distances_text, frame_text, kind_word, next_text, packet_text};
 ghost use Rattle.trace.specs.Texts.{further};
 
@@ -81,6 +81,52 @@ impl Held for Packet {
     }
 }
 
+/// Returns the octet before a number at a place of an object.
+fn octet_before(place: usize) -> u8
+    ensures { result ∷ [] ≡ mark (codes "{") (codes ",") place }
+{
+    if place == 0 { b'{' } else { b',' }
+}
+
+/// Returns both digits of a number below 100.
+fn two_digits(number: usize) -> (u8, u8)
+    requires { number < 100 }
+    ensures tens { result.0 ≡ 48 + number / 10 }
+    ensures ones { result.1 ≡ 48 + number % 10 }
+{
+    (b'0' + (number / 10) as u8, b'0' + (number % 10) as u8)
+}
+
+/// Prints a number under the number of an IMP, after this many others. Those below 100, as nearly all are, are printed by one call.
+fn print_number<W: Output>(
+    place: usize,
+    imp: usize,
+    number: usize,
+    writer: &mut W,
+) -> Result<(), WriteFailed>
+    requires { W.failed writer.old ≡ false }
+    ensures written { OnOk result (Appends (W.contents writer.old) (W.contents writer.new) (number_behind place imp number true)) }
+    ensures failed { TellsFailure result (W.failed writer.new) }
+{
+    if imp >= 100 || number >= 100 {
+        let first = mark("{", ",", place);
+        return write!(writer, "{first}\"{imp}\":{number}");
+    }
+    let first = octet_before(place);
+    let (a, b) = two_digits(imp);
+    let (c, d) = two_digits(number);
+    if imp < 10 {
+        if number < 10 {
+            return writer.write_all(&[first, b'"', b, b'"', b':', d]);
+        }
+        return writer.write_all(&[first, b'"', b, b'"', b':', c, d]);
+    }
+    if number < 10 {
+        return writer.write_all(&[first, b'"', a, b, b'"', b':', d]);
+    }
+    writer.write_all(&[first, b'"', a, b, b'"', b':', c, d])
+}
+
 /// Prints the distance to an IMP after this many others, and nothing where there is no way. Returns the place after it.
 fn print_distance<W: Output>(
     place: usize,
@@ -96,8 +142,7 @@ fn print_distance<W: Output>(
     if distance >= INFINITE {
         return Ok(place);
     }
-    let first = mark("{", ",", place);
-    write!(writer, "{first}\"{imp}\":{distance}")?;
+    print_number(place, imp, distance as usize, writer)?;
     Ok(1)
 }
 
@@ -170,8 +215,7 @@ fn print_next<W: Output>(
     let Some(port) = port else {
         return Ok(place);
     };
-    let first = mark("{", ",", place);
-    write!(writer, "{first}\"{imp}\":{port}")?;
+    print_number(place, imp as usize, port, writer)?;
     Ok(1)
 }
 

@@ -20,6 +20,7 @@ mod line;
 mod members;
 mod numbers;
 mod opening;
+mod page;
 mod parts;
 mod plain;
 mod print;

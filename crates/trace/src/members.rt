@@ -8,7 +8,8 @@ ghost use Rattle.trace.specs.Joined.{part_behind, place_behind};
 ghost use Rattle.trace.specs.Texts.{object};
 
 use crate::json::{Item, mark};
-use replay::{Output, Printer, WriteFailed};
+use crate::page::Page;
+use replay::{Output, WriteFailed};
 use std::alloc::{AllocError, Global};
 use std::marker::Model;
 
@@ -94,9 +95,9 @@ impl Members {
 fn text_of<T: Item>(alloc: Global, item: &T) -> Result<Vec<u8>, AllocError>
     ensures { IfOk result (λ text. text.items ≡ T.text item.now) }
 {
-    let mut printer = Printer::new(Vec::new(alloc));
-    match item.print(&mut printer) {
-        Ok(()) => Ok(printer.into_inner()),
+    let mut page = Page::new(alloc)?;
+    match item.print(&mut page) {
+        Ok(()) => Ok(page.into_octets()),
         Err(_) => Err(AllocError),
     }
 }

@@ -1,9 +1,9 @@
 -- A calm is its rounds, one after another.
-use Rattle.std.proofs.Common.{◌≡◌, ℕ, zero, suc, Bool, true, false, List, [], ◌++◌, Result, Ok, Err, refl, ap, ap₂, sym, subst, ◌∙◌}
+use Rattle.std.proofs.Common.{◌≡◌, ℕ, zero, suc, Bool, true, false, List, [], ◌++◌, Result, Ok, refl, ap, ap₂, sym, subst, ◌∙◌}
 use Rattle.std.proofs.lemmas.List.{append-nil}
 use Rattle.std.proofs.lemmas.Bool.{false≢true}
 use Rattle.std.specs.Bool.{MatchBool}
-use Rattle.net_sim.specs.World.{Calms, CalmGives, Does, Refuses, StepGives, TurnsOf, WorldState, stops, up_in}
+use Rattle.net_sim.specs.World.{Calms, CalmGives, Refuses, StepGives, TurnsOf, WorldState, stops, up_in}
 use Rattle.net_sim.specs.declared.event.Event.TheVariants.{Quiet}
 use Rattle.net_sim.specs.declared.event.WorldFault.{WorldFault}
 use Rattle.net_sim.specs.declared.event.WorldFault.TheVariants.{Carrier}
@@ -20,18 +20,18 @@ abbrev Answer : Type 0
 Answer = Result (Unit {0}) WorldFault
 
 -- lines are what the book of a world gained
-abbrev Gained : {C : Type 0} → WorldState C → WorldState C → List Shown → Type 0
+abbrev pub Gained : {C : Type 0} → WorldState C → WorldState C → List Shown → Type 0
 Gained old new lines = (g : Grew old.kept new.kept) × (lines ≡ gained g.gains)
 
-none_gained : {C : Type 0} (w : WorldState C) → Gained w w []
+pub none_gained : {C : Type 0} (w : WorldState C) → Gained w w []
 unfolding grew_none
 none_gained w = (grew_none w.kept, refl)
 
-more_gained : {C : Type 0} (old mid new : WorldState C) (lines more : List Shown) → Gained old mid lines → Gained mid new more → Gained old new (lines ++ more)
+pub more_gained : {C : Type 0} (old mid new : WorldState C) (lines more : List Shown) → Gained old mid lines → Gained mid new more → Gained old new (lines ++ more)
 more_gained old mid new lines more (g, first) (k, rest) = (grew_more old.kept mid.kept new.kept g k, ap₂ (λ (xs ys : List Shown). xs ++ ys) first rest ∙ sym (gained_more old.kept mid.kept new.kept g k))
 
 -- what a calm shows that went well
-calm_gained : {C : Type 0} (calls : Calls C) (rounds : ℕ) (old new : WorldState C) (lines : List Shown) (h : Happens calls old (event.Calm rounds) new lines) → h.outcome ≡ Ok tt → Gained old new lines
+pub calm_gained : {C : Type 0} (calls : Calls C) (rounds : ℕ) (old new : WorldState C) (lines : List Shown) (h : Happens calls old (event.Calm rounds) new lines) → h.outcome ≡ Ok tt → Gained old new lines
 calm_gained calls rounds old new lines h well =
     let grew : Grew old.kept new.kept = calm_grows calls rounds old h.outcome new h.gives in (
       grew,
@@ -40,7 +40,7 @@ calm_gained calls rounds old new lines h well =
 
 -- ---- its rounds make a calm
 
-runs_at : {C : Type 0} (calls : Calls C) (rounds : ℕ) (old new : WorldState C) (lines : List Shown) → Happens calls old (event.Calm rounds) new lines → old.stopped ≡ false
+pub runs_at : {C : Type 0} (calls : Calls C) (rounds : ℕ) (old new : WorldState C) (lines : List Shown) → Happens calls old (event.Calm rounds) new lines → old.stopped ≡ false
 runs_at calls rounds old new lines h = done_runs calls rounds old new h.outcome h.goes_on old.stopped refl h.gives
 
 rounds_pass : {C : Type 0} (calls : Calls C) (rounds : ℕ) (old new : WorldState C) (lines : List Shown) → Replays calls old (rounds_of rounds) new lines → Calms calls rounds old (Ok tt) new × Gained old new lines

@@ -1,12 +1,18 @@
 -- Worlds over a carrier that counts its calls.
-use Rattle.std.proofs.Common.{◌≡◌, ℕ, ◌+◌, zero, suc, List, [], Result, Ok, Err, refl, ap, sym, subst, ◌∙◌, add-zero, arith}
+use Rattle.std.proofs.Common.{◌≡◌, ℕ, ◌+◌, zero, suc, List, [], ◌∷◌, length, Result, Ok, Err, refl, ap, sym, subst, ◌∙◌, add-zero, arith}
 use Rattle.std.specs.Bool.{MatchBool}
 use Rattle.interface.specs.declared.carrier.CarrierFault.{CarrierFault}
 use Rattle.net_sim.specs.World.{Calms, QuietEnds, StepGives, TurnsOf, WorldState, stops, up_in, with_carrier}
-use Rattle.net_sim.specs.declared.event.Event.TheVariants.{Quiet}
+use Rattle.interface.specs.declared.carrier.CarrierFault.TheVariants as fault
+use Rattle.net_sim.specs.Book.{Kept}
+use Rattle.net_sim.specs.declared.event.Event.TheVariants.{Quiet, Take}
 use Rattle.net_sim.specs.declared.event.WorldFault.{WorldFault}
+use Rattle.net_sim.specs.declared.event.WorldFault.TheVariants.{Carrier}
+use Rattle.sockets.specs.Worked.{first}
+use Rattle.world_replay.specs.Gains.{Gains}
+use Rattle.world_replay.proofs.Replays.{gained, gains_once, same_news}
 use Rattle.world_replay.specs.Output.{Shown}
-use Rattle.world_replay.specs.Replay.{BeginsWith, EventGives, MayDo}
+use Rattle.world_replay.specs.Replay.{BeginsWith, EventGives, HappensInCalm, MayDo}
 use Rattle.world_replay.specs.Worked.{after, counting}
 use Rattle.world_script.specs.declared.event.WorldEvent.{WorldEvent}
 use Rattle.world_script.specs.declared.event.WorldEvent.TheVariants.{Calm, Happen}
@@ -87,3 +93,29 @@ no_third shown h = by h.begins where
       let gives : Calms counting fewer (after 3) h.outcome (after 6) = subst (λ (e : WorldEvent). EventGives counting (after 3) e h.outcome (after 6)) is h.gives in
       let counted : 6 ≡ 3 + fewer = calms_count fewer 3 h.outcome (after 6) gives in
       omega (arith, counted, le)
+
+-- ---- the events of a calm
+
+abbrev none_gained : (n m : ℕ) → Gains (after n).kept (after m).kept
+none_gained n m = record { crossings = []; notices = []; reports = []; crossed = refl; told = refl; said = refl }
+
+pub quiet_once : HappensInCalm counting (after 3) Quiet (after 4) []
+quiet_once = record { outcome = Ok tt; gives = one_more 3; goes_on = refl; gains = none_gained 3 4; lines = refl }
+
+pub quiet_twice : (shown : List Shown) → ¬ (HappensInCalm counting (after 3) Quiet (after 5) shown)
+quiet_twice shown h =
+    let counts : Counts 3 h.outcome (after 5) = quiet_counts 3 h.outcome (after 5) h.gives in
+    let same : 5 ≡ 4 = ap (λ (w : WorldState ℕ). w.carrier) counts.counted in
+    omega (arith, same)
+
+pub take_refused : HappensInCalm counting (after 3) (Take first) (after 3) []
+take_refused = record { outcome = Err (Carrier fault.NoSuch); gives = (refl, refl); goes_on = refl; gains = none_gained 3 3; lines = refl }
+
+-- a book that gains nothing shows nothing
+pub refusal_unshown : (s : Shown) → ¬ (HappensInCalm counting (after 3) (Take first) (after 3) (s ∷ []))
+refusal_unshown s h =
+    let kept : Kept = (after 3).kept in
+    let same : gained h.gains ≡ gained (none_gained 3 3) = same_news kept kept kept h.gains (none_gained 3 3) (gains_once kept kept kept h.gains (none_gained 3 3) refl) in
+    let none : s ∷ [] ≡ [] = h.lines ∙ same in
+    let long : length (s ∷ []) ≡ 0 = ap length none in
+    omega (arith, long)

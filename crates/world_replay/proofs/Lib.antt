@@ -1,4 +1,5 @@
 pub mod CalmRounds
+mod CalmEvents
 mod Counting
 pub mod Grown
 pub mod News

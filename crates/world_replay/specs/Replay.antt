@@ -1,6 +1,8 @@
 -- The events of a world's script over a carrier, whatever it is made of.
 use Rattle.std.specs.Prelude.{◌≡◌, ℕ, zero, suc, ◌≤◌, true, false, List, [], ◌∷◌, ◌++◌, Result}
 use Rattle.net_sim.specs.World.{WorldState, StepGives, CalmGives, stops}
+use Rattle.net_sim.specs.declared.event.Event.{Event}
+use Rattle.net_sim.specs.declared.event.Event.TheVariants.{Offer, Quiet, Take}
 use Rattle.interface.specs.Calls.{Calls}
 use Rattle.net_sim.specs.declared.event.WorldFault.{WorldFault}
 use Rattle.replay.specs.InTurn.{InTurn, EndsInTurn}
@@ -32,6 +34,29 @@ Replays calls old events new shown = InTurn (Happens calls) old events new shown
 abbrev pub rounds_of : ℕ → List WorldEvent
 rounds_of zero = []
 rounds_of (suc rounds) = event.Calm 1 ∷ rounds_of rounds
+
+-- ---- a calm, event by event
+
+-- the events of calms: quiet rounds of the network, and takings and offers of hosts
+abbrev pub IsOfCalm : Event → Type 0
+IsOfCalm Quiet = Unit {0}
+IsOfCalm (Take h) = Unit {0}
+IsOfCalm (Offer h) = Unit {0}
+IsOfCalm e = ⊥
+
+-- how many of these events are quiet rounds of the network
+abbrev pub quiet_rounds : List Event → ℕ
+quiet_rounds [] = 0
+quiet_rounds (Quiet ∷ events) = suc (quiet_rounds events)
+quiet_rounds (e ∷ events) = quiet_rounds events
+
+-- an event happens in a calm and shows what its world's book gained, and no refusal
+pub record HappensInCalm {C : Type 0} (calls : Calls C) (old : WorldState C) (e : Event) (new : WorldState C) (shown : List Shown) : Type 0 where
+  pub outcome : Result (Unit {0}) WorldFault
+  pub gives : StepGives calls old e outcome new
+  pub goes_on : stops outcome ≡ false
+  pub gains : Gains old.kept new.kept
+  pub lines : shown ≡ news old.kept gains.crossings gains.notices gains.reports
 
 -- ---- a replay that ends early, in one of its events
 

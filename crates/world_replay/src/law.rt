@@ -8,7 +8,7 @@ ghost use Rattle.world_replay.specs.Output.{Shown};
 ghost use Rattle.world_replay.specs.Replay.{Happens, Replays, rounds_of};
 ghost use Rattle.world_script.specs.declared.event.WorldEvent.TheVariants.{Calm};
 ghost use Rattle.world_replay.specs.Laws.OneReplay.{OneReplayFirstPart, OneReplaySame};
-ghost use Rattle.world_replay.specs.Laws.Calm.{CalmWhole};
+ghost use Rattle.world_replay.specs.Laws.Calm.{CalmEvents, CalmWhole};
 
 use interface::Carrier;
 
@@ -24,4 +24,7 @@ pub fn calm<C: Carrier>()
     ensures rounds { (old new : WorldState C) (rounds : ℕ) (lines : List Shown) → Happens (shown C.calls) old (Calm rounds) new lines → Replays (shown C.calls) old (rounds_of rounds) new lines }
 
     ensures whole { CalmWhole C.calls }
+
+    // and each round is a quiet round of the network, takings and offers
+    ensures events { CalmEvents C.calls }
 {}

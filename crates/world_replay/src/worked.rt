@@ -14,7 +14,7 @@ ghost use Rattle.icp.specs.declared.outcome.Failure.TheVariants as failure;
 ghost use Rattle.icp.specs.declared.outcome.Outcome.TheVariants as outcome;
 ghost use Rattle.world_replay.specs.Output.{Crossed, Noticed, Refused, Said, Shown, lives_output, notices_of, reports_of, shown_in_turn, told_in_turn};
 ghost use Rattle.world_replay.specs.Printed.{life_text, notice_text, refusal_text, report_text};
-ghost use Rattle.world_replay.specs.Replay.{MayDo};
+ghost use Rattle.world_replay.specs.Replay.{HappensInCalm, IsOfCalm, MayDo, quiet_rounds};
 ghost use Rattle.world_replay.specs.Worked.{after, came, counting, went, said_at, told_at};
 ghost use Rattle.world_script.specs.declared.event.WorldEvent.TheVariants.{Calm, Happen};
 ghost use Rattle.world_replay.specs.Laws.WorkedNews.{WorkedNewsReported};
@@ -114,4 +114,19 @@ pub fn worked_failures()
 
     // nothing is claimed of what the event's lines left
     ensures unknown { (s : Shown) → ¬ (MayDo counting (after 3) (Happen event.Quiet) (after 4) (s ∷ [])) }
+{}
+
+/// The events of a calm, one by one, over a carrier that counts its calls and has no hosts.
+pub fn worked_calms()
+    // a quiet round happens once
+    ensures quiet { HappensInCalm counting (after 3) event.Quiet (after 4) [] }
+    ensures twice { (shown : List Shown) → ¬ (HappensInCalm counting (after 3) event.Quiet (after 5) shown) }
+
+    // a host that isn't there is refused, and that is not shown
+    ensures refused { HappensInCalm counting (after 3) (event.Take first) (after 3) [] }
+    ensures silent { (s : Shown) → ¬ (HappensInCalm counting (after 3) (event.Take first) (after 3) (s ∷ [])) }
+
+    // quiet rounds are counted, and nobody types a line
+    ensures rounds { quiet_rounds (event.Quiet ∷ event.Take first ∷ event.Offer first ∷ event.Quiet ∷ []) ≡ 2 }
+    ensures typed { ¬ (IsOfCalm (event.Typed first [])) }
 {}

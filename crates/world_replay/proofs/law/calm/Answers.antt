@@ -1,5 +1,6 @@
 use Rattle.interface.specs.Calls.{Calls}
 use Rattle.net_sim.specs.Carriers.{shown}
+use Rattle.world_replay.proofs.CalmEvents.{calm_events}
 use Rattle.world_replay.proofs.CalmRounds.{calm_rounds, rounds_calm}
 use Rattle.world_replay.proofs.law.calm.Goals as goal
 
@@ -12,3 +13,8 @@ pub returns-clause-whole : goal.returns-clause-whole
 returns-clause-whole g c = λ old new rounds lines on h.
     let calls : Calls g.row.C.Denot = shown g.C.Carrier.calls in
     rounds_calm calls rounds old new lines on h
+
+pub returns-clause-events : goal.returns-clause-events
+returns-clause-events g c = λ old new rounds lines h.
+    let calls : Calls g.row.C.Denot = shown g.C.Carrier.calls in
+    calm_events calls rounds old new lines h
