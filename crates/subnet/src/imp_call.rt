@@ -95,6 +95,40 @@ pub(crate) fn call_imp(
     call.make_at(&mut imps[at])
 }
 
+/// Lets a frame come in at a port of the IMP of this number, if it is up, as [`ImpCall::Arrive`] does. The frame isn't
+/// put into a call before, and so is moved less often.
+///
+/// Errors: `IsDown` where it is down or not there, and then those of the call.
+pub(crate) fn arrive_at_imp(
+    imps: &mut [Option<Imp>],
+    imp: u8,
+    port: u8,
+    frame: Frame,
+) -> Result<Vec<Outgoing>, CarrierFault>
+    requires { AreLive imps.old }
+    ensures call { MakesAmong imp (call.Arrive port frame) (λ frames. frames.items) imps.old imps.new result }
+    ensures live { OnOk result (AreLive imps.new) }
+{
+    let at = imp as usize;
+    if at >= imps.len() {
+        return Err(CarrierFault::IsDown);
+    }
+    arrive_at(&mut imps[at], port, frame)
+}
+
+/// Does the same at the IMP of a place.
+#[tactic(auto, using(crate::proofs::Calls::Ending::ends_of_turned))]
+fn arrive_at(place: &mut Option<Imp>, port: u8, frame: Frame) -> Result<Vec<Outgoing>, CarrierFault>
+    requires { IfSome place.old (λ s. s.spent ≡ false) }
+    ensures call { MakesAt (call.Arrive port frame) (λ frames. frames.items) place.old place.new result }
+    ensures live { OnOk result (IfSome place.new (λ s. s.spent ≡ false)) }
+{
+    match place {
+        Some(imp) => imp.from_line(port, frame),
+        None => Err(CarrierFault::IsDown),
+    }
+}
+
 /// Takes a frame at a port of the IMP of this number, if nothing is to be sent for it, or no IMP is up there. It
 /// answers whether it came in; else nothing changes.
 pub(crate) fn takes_at_imp(imps: &mut [Option<Imp>], imp: u8, port: u8, frame: &Frame) -> bool
