@@ -38,6 +38,6 @@ brings_passing (Ok received.AckOnly) s = false
 brings_passing (Ok (received.Routes distances)) s = false
 brings_passing (Err fault) s = false
 
--- and no packet waits for a channel: it is acknowledged, and goes on at once if it can
+-- and no packet waits for a channel: it is acknowledged, and sent at once if it can
 abbrev pub passes : State → ℕ → Frame → Bool
 passes s k f = (port_at s.ports k).up && (length s.store == 0 && brings_passing (answer_to (port_at s.ports k).line f) s)

@@ -151,7 +151,7 @@ fn passes_at(place: &Option<Imp>, port: u8, frame: &Frame) -> bool
     }
 }
 
-/// Lets a frame come in at a port of the IMP of this number, which passes on what it brings. It answers what goes on lines.
+/// Lets a frame come in at a port of the IMP of this number, which passes on what it brings. It answers what is put on lines.
 ///
 /// Errors: memory runs out, and nothing else.
 #[tactic(auto, using(crate::proofs::Calls::Passes::passes_within))]
