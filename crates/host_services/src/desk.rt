@@ -170,8 +170,7 @@ impl ServiceDesk {
         if self.program.is_spent() {
             return Err(AllocError);
         }
-        let copy = copy_of(&request)?;
-        if let Err(fault) = self.program.ask(copy) {
+        if let Err(fault) = self.program.serve(&request) {
             // a refusal leaves the program as it was, and want of memory leaves it spent
             if self.program.is_spent() {
                 return Err(AllocError);

@@ -16,3 +16,4 @@ pub mod Spending
 pub mod RestingLemmas
 pub mod lemmas
 pub mod SentFlow
+pub mod PassingOn

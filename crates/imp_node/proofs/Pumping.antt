@@ -60,7 +60,7 @@ pub stuck_rests : (s : State) → AllByRecursion (λ p. packet_sent s.ports p (n
 stuck_rests s all = ap (λ (done : Pumped). record { state = record s { ports = done.ports; store = done.waits }; frames = done.frames }) (all_stay s.routes s.ports s.store all)
 
 -- a packet that is stored where none waits goes at once
-no_packets : (store : List PacketFields) → length store ≡ 0 → store ≡ []
+pub no_packets : (store : List PacketFields) → length store ≡ 0 → store ≡ []
 no_packets [] none = refl
 no_packets (p ∷ ps) none = absurd (omega (arith, none))
 

@@ -150,7 +150,7 @@ impl Imp {
     }
 
     /// Lets the line's end at a port take a frame.
-    fn receive(&mut self, port: u8, frame: Frame) -> Received
+    pub(crate) fn receive(&mut self, port: u8, frame: Frame) -> Received
         requires { port < length self.old.ports }
         ensures state { self.new ≡ frame_taken port frame self.old }
         ensures answer { answer_to (port_at self.old.ports port).line frame ≡ Ok result }

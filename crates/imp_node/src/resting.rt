@@ -76,7 +76,7 @@ impl Imp {
     }
 
     /// Returns the frame that acknowledges what came in at a port.
-    fn ack_at(&self, port: u8) -> Frame
+    pub(crate) fn ack_at(&self, port: u8) -> Frame
         requires { port < length self.now.ports }
         ensures { result ≡ acknowledgement (port_at self.now.ports port).line }
     {

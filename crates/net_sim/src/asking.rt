@@ -150,12 +150,6 @@ fn write_deeds(
     write_crossing(alloc, book, host, &[], Vec::new(alloc), deeds)
 }
 
-/// Returns whether a copy of a request needs memory. It promises nothing: such a request is only asked about before it
-/// is copied, so that no memory is wanted for one that is refused.
-fn has_text(request: &Request) -> bool {
-    matches!(request, Request::Send { .. })
-}
-
 /// Asks the program in a seat for something, which it refuses or serves. Returns its notices.
 fn asked_of(seat: &mut Seat, request: &Request) -> Result<Vec<Notice>, WorldFault>
     requires live { IfSome seat.old.program (λ p. p.spent ≡ false) }
@@ -165,16 +159,7 @@ fn asked_of(seat: &mut Seat, request: &Request) -> Result<Vec<Notice>, WorldFaul
     let Some(program) = &mut seat.program else {
         return Err(WorldFault::Program(NcpFault::OutOfMemory));
     };
-    if has_text(request) {
-        if let Some(fault) = program.refusal(request) {
-            return Err(WorldFault::Program(fault));
-        }
-    }
-    let Ok(copy) = copy_of(request) else {
-        let refusal = program.refusal(request);
-        return Err(WorldFault::Program(refusal.unwrap_or(NcpFault::OutOfMemory)));
-    };
-    match program.ask(copy) {
+    match program.serve(request) {
         Ok(notices) => Ok(notices),
         Err(fault) => Err(WorldFault::Program(fault)),
     }

@@ -14,6 +14,7 @@ pub mod Losing
 pub mod Opens
 pub mod Outstanding
 pub mod Owning
+pub mod Passes
 pub mod Putting
 pub mod Resending
 pub mod Restful

@@ -3,6 +3,7 @@ pub mod Giving
 pub mod Highest
 pub mod Joined
 pub mod Losing
+pub mod Passing
 pub mod Remembering
 pub mod Resting
 pub mod Seeking

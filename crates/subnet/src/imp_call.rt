@@ -1,14 +1,18 @@
 //! Calls of one IMP, as data.
 
-ghost use Rattle.std.specs.Prelude.{◌≡◌, ◌∷◌, [], ◌<◌, length, None, true, false, OnOk, IfSome};
+ghost use Rattle.std.specs.Prelude.{◌≡◌, ◌∷◌, [], ◌<◌, length, None, true, false, OnOk, OnErr, IfOk, IfSome};
+ghost use Rattle.std.specs.Option.{option_to_list};
 ghost use Rattle.imp_node.specs.Turns.{Turned, Takes};
 ghost use Rattle.subnet.specs.Net.{imp_at};
+ghost use Rattle.subnet.specs.Calls.{grows_at};
+ghost use Rattle.subnet.specs.Inside.Passing.{passes_at};
 ghost use Rattle.subnet.specs.declared.imp_call.ImpCall.TheVariants as call;
 ghost use Rattle.subnet.specs.Inside.Calling.{call_refusal, call_turn, call_grows, IsLive, AreLive, MakesAt, MakesAmong, imp_by, imps_by, frames_by};
 
 use imp_channel::Frame;
-use imp_node::{Imp, Outgoing};
+use imp_node::{Imp, Outgoing, Passed};
 use interface::{CarrierFault, Flow, HostMessage, ImpNumber};
+use std::alloc::AllocError;
 
 /// A call of an IMP that answers frames for its lines and nothing else.
 #[derive(Drop)]
@@ -93,6 +97,97 @@ pub(crate) fn call_imp(
         return Err(CarrierFault::IsDown);
     }
     call.make_at(&mut imps[at])
+}
+
+/// Lets a frame come in at a port of the IMP of this number, if it is up, as [`ImpCall::Arrive`] does. The frame isn't
+/// put into a call before, and so is moved less often.
+///
+/// Errors: `IsDown` where it is down or not there, and then those of the call.
+pub(crate) fn arrive_at_imp(
+    imps: &mut [Option<Imp>],
+    imp: u8,
+    port: u8,
+    frame: Frame,
+) -> Result<Vec<Outgoing>, CarrierFault>
+    requires { AreLive imps.old }
+    ensures call { MakesAmong imp (call.Arrive port frame) (λ frames. frames.items) imps.old imps.new result }
+    ensures live { OnOk result (AreLive imps.new) }
+{
+    let at = imp as usize;
+    if at >= imps.len() {
+        return Err(CarrierFault::IsDown);
+    }
+    arrive_at(&mut imps[at], port, frame)
+}
+
+/// Does the same at the IMP of a place.
+#[tactic(auto, using(crate::proofs::Calls::Ending::ends_of_turned))]
+fn arrive_at(place: &mut Option<Imp>, port: u8, frame: Frame) -> Result<Vec<Outgoing>, CarrierFault>
+    requires { IfSome place.old (λ s. s.spent ≡ false) }
+    ensures call { MakesAt (call.Arrive port frame) (λ frames. frames.items) place.old place.new result }
+    ensures live { OnOk result (IfSome place.new (λ s. s.spent ≡ false)) }
+{
+    match place {
+        Some(imp) => imp.from_line(port, frame),
+        None => Err(CarrierFault::IsDown),
+    }
+}
+
+/// Returns whether the IMP of this number is up and passes on at once what a frame at a port brings.
+pub(crate) fn passes_at_imp(imps: &[Option<Imp>], imp: u8, port: u8, frame: &Frame) -> bool
+    ensures { result ≡ passes_at port frame.now (imp_at imps.now imp) }
+{
+    let at = imp as usize;
+    at < imps.len() && passes_at(&imps[at], port, frame)
+}
+
+/// Returns the same of the IMP of a place.
+fn passes_at(place: &Option<Imp>, port: u8, frame: &Frame) -> bool
+    ensures { result ≡ passes_at port frame.now place.now }
+{
+    match place {
+        Some(imp) => imp.passes(port, frame),
+        None => false,
+    }
+}
+
+/// Lets a frame come in at a port of the IMP of this number, which passes on what it brings. It answers what is put on lines.
+///
+/// Errors: memory runs out, and nothing else.
+#[tactic(auto, using(crate::proofs::Calls::Passes::passes_within))]
+pub(crate) fn pass_at_imp(
+    imps: &mut [Option<Imp>],
+    imp: u8,
+    port: u8,
+    frame: Frame,
+) -> Result<Passed, AllocError>
+    requires live { AreLive imps.old }
+    requires passes { passes_at port frame (imp_at imps.old imp) ≡ true }
+    ensures taken { OnOk result (imps.new ≡ imps_by imps.old imp (imp_at imps.old imp) (call_turn (call.Arrive port frame))) }
+    ensures sent { IfOk result (λ passed. frames_by (imp_at imps.old imp) (call_turn (call.Arrive port frame)) ≡ record { port = port; frame = passed.ack } ∷ option_to_list passed.on) }
+    ensures live { OnOk result (AreLive imps.new) }
+    ensures memory { OnErr result (grows_at (imp_at imps.old imp) (call_grows (call.Arrive port frame)) ≡ true) }
+{
+    let at = imp as usize;
+    if at >= imps.len() {
+        unreachable!();
+    }
+    pass_at(&mut imps[at], port, frame)
+}
+
+/// Does the same at the IMP of a place.
+fn pass_at(place: &mut Option<Imp>, port: u8, frame: Frame) -> Result<Passed, AllocError>
+    requires live { IfSome place.old (λ s. s.spent ≡ false) }
+    requires passes { passes_at port frame place.old ≡ true }
+    ensures taken { OnOk result (place.new ≡ imp_by place.old (call_turn (call.Arrive port frame))) }
+    ensures sent { IfOk result (λ passed. frames_by place.old (call_turn (call.Arrive port frame)) ≡ record { port = port; frame = passed.ack } ∷ option_to_list passed.on) }
+    ensures live { OnOk result (IfSome place.new (λ s. s.spent ≡ false)) }
+    ensures memory { OnErr result (grows_at place.old (call_grows (call.Arrive port frame)) ≡ true) }
+{
+    match place {
+        Some(imp) => imp.pass(port, frame),
+        None => unreachable!(),
+    }
 }
 
 /// Takes a frame at a port of the IMP of this number, if nothing is to be sent for it, or no IMP is up there. It

@@ -1,6 +1,7 @@
 //! The lines of a subnet, and where the ports of its IMPs lead.
 
-ghost use Rattle.std.specs.Prelude.{◌≡◌, ◌<◌, ℕ, [], length, map, slice_get, slice_set, slice_index_or, IfOk, IfSome, OnOk, OnErr, Some, true};
+ghost use Rattle.std.specs.Prelude.{◌≡◌, ◌<◌, ◌∷◌, ℕ, [], length, map, slice_get, slice_set, slice_index_or, IfOk, IfSome, OnOk, OnErr, Some, true};
+ghost use Rattle.std.specs.Option.{option_to_list};
 ghost use Rattle.subnet.specs.Net.{Wire, wire_at, far_end, frames_on, dropping, port_of, line_from, put_one, put_all};
 ghost use Rattle.subnet.specs.Opening as start;
 ghost use Rattle.subnet.specs.Inside.Joined.{numbers, lines_from, ports_at, ports_from, AreJoined};
@@ -9,7 +10,7 @@ ghost use Rattle.subnet.specs.Inside.Taking.{hollowed};
 
 use crate::wire::{Ends, Wire};
 use imp_channel::Frame;
-use imp_node::Outgoing;
+use imp_node::{Outgoing, Passed};
 use interface::Direction;
 use std::alloc::{AllocError, Global};
 use std::collections::VecDeque;
@@ -174,6 +175,22 @@ impl Lines {
                 let wire = &mut self.wires[line];
                 wire.put(imp, frame)
             }
+            None => Ok(()),
+        }
+    }
+
+    /// Puts on lines what an IMP sends for a packet that it passes on: the acknowledgement, at the port where the packet came in, and
+    /// then the packet's frame.
+    ///
+    /// Errors: memory runs out, and nothing else.
+    pub(crate) fn put_passed(&mut self, imp: u8, port: u8, passed: Passed) -> Result<(), AllocError>
+        ensures ok { OnOk result (self.new ≡ put_all self.old imp (record { port = port; frame = passed.ack } ∷ option_to_list passed.on)) }
+        ensures count { length self.new ≡ length self.old }
+    {
+        let Passed { ack, on } = passed;
+        self.put_one(imp, Outgoing { port, frame: ack })?;
+        match on {
+            Some(outgoing) => self.put_one(imp, outgoing),
             None => Ok(()),
         }
     }

@@ -8,10 +8,12 @@ ghost use Rattle.subnet.specs.Calls.{grows_at};
 ghost use Rattle.subnet.specs.Flows.{imp_is_up};
 ghost use Rattle.subnet.specs.Events as events;
 ghost use Rattle.subnet.specs.Events.{is_imp, has_end, logging};
+ghost use Rattle.subnet.specs.declared.imp_call.ImpCall.TheVariants as call;
 ghost use Rattle.subnet.specs.Inside.Calling.{call_turn, call_grows, AreLive, Makes, Ignores, SameLog, runs_out, copied_grows};
+ghost use Rattle.subnet.specs.Inside.Passing.{passes_at};
 ghost use Rattle.subnet.specs.Inside.Taking.{frame_taken};
 
-use crate::imp_call::{ImpCall, call_imp, reuse};
+use crate::imp_call::{ImpCall, arrive_at_imp, call_imp, pass_at_imp, passes_at_imp, reuse};
 use crate::lines::{Lines, port_of};
 use imp_channel::Frame;
 use imp_node::{Imp, Outgoing};
@@ -218,6 +220,59 @@ impl Parts {
         let outcome = self.at_imp(imp, call);
         if runs_out(&outcome) {
             return Err(AllocError);
+        }
+        Ok(())
+    }
+
+    /// Lets a frame come in at a port of the IMP of this number, if it is up and has the port.
+    ///
+    /// Errors: memory runs out, and nothing else.
+    #[tactic(auto, using(crate::proofs::Calls::Attempting::arrive_ignores, crate::proofs::Calls::Attempting::attempted, crate::proofs::Calls::Attempting::attempt_lives, crate::proofs::Calls::Attempting::attempt_grows))]
+    pub(crate) fn come_in(&mut self, imp: u8, port: u8, frame: Frame) -> Result<(), AllocError>
+        requires { AreLive self.old.imps }
+        ensures ok { OnOk result (self.new ≡ events.at_imp (imp_at self.old.imps imp) imp (call_turn (call.Arrive port frame)) self.old) }
+        ensures live { OnOk result (AreLive self.new.imps) }
+        ensures memory { OnErr result (grows_at (imp_at self.old.imps imp) (call_grows (call.Arrive port frame)) ≡ true) }
+        ensures keeps { SameLog self.old self.new }
+    {
+        if passes_at_imp(&self.imps, imp, port, &frame) {
+            return self.pass(imp, port, frame);
+        }
+        let outcome = self.arrive(imp, port, frame);
+        if runs_out(&outcome) {
+            return Err(AllocError);
+        }
+        Ok(())
+    }
+
+    /// Lets a frame come in at a port of the IMP of this number, which passes on what it brings.
+    ///
+    /// Errors: memory runs out, and nothing else.
+    #[tactic(auto, using(crate::proofs::Calls::Passes::passed_at))]
+    fn pass(&mut self, imp: u8, port: u8, frame: Frame) -> Result<(), AllocError>
+        requires live { AreLive self.old.imps }
+        requires passes { passes_at port frame (imp_at self.old.imps imp) ≡ true }
+        ensures ok { OnOk result (self.new ≡ events.at_imp (imp_at self.old.imps imp) imp (call_turn (call.Arrive port frame)) self.old) }
+        ensures live { OnOk result (AreLive self.new.imps) }
+        ensures memory { OnErr result (grows_at (imp_at self.old.imps imp) (call_grows (call.Arrive port frame)) ≡ true) }
+        ensures keeps { SameLog self.old self.new }
+    {
+        let passed = pass_at_imp(&mut self.imps, imp, port, frame)?;
+        self.lines.put_passed(imp, port, passed)
+    }
+
+    /// Lets a frame come in at a port of the IMP of this number, and puts the IMP's frames on lines.
+    ///
+    /// Errors: `IsDown` where it is down or not there, and then those of the call.
+    fn arrive(&mut self, imp: u8, port: u8, frame: Frame) -> Result<(), CarrierFault>
+        requires { AreLive self.old.imps }
+        ensures call { Makes imp (call.Arrive port frame) self.old self.new result }
+        ensures live { OnOk result (AreLive self.new.imps) }
+        ensures keeps { SameLog self.old self.new }
+    {
+        let frames = arrive_at_imp(&mut self.imps, imp, port, frame)?;
+        if self.put(imp, frames).is_err() {
+            return Err(CarrierFault::OutOfMemory);
         }
         Ok(())
     }

@@ -7,7 +7,7 @@ ghost use Rattle.subnet.specs.Events as events;
 ghost use Rattle.subnet.specs.Calls.{round_grows, delivered_grows};
 ghost use Rattle.subnet.specs.Inside.Calling.{AreLive, SameLog, carried_first};
 
-use crate::imp_call::{ImpCall, answers_at_imp, takes_at_imp};
+use crate::imp_call::{answers_at_imp, takes_at_imp};
 use crate::parts::Parts;
 use imp_node::Outgoing;
 use interface::Direction;
@@ -242,7 +242,7 @@ impl Parts {
     /// until that is dropped.
     ///
     /// Errors: memory runs out, and nothing else.
-    #[tactic(auto, using(crate::proofs::Calls::Attempting::arrive_ignores, crate::proofs::Calls::Taken::taken_lives, crate::proofs::Calls::Taken::taken_keeps))]
+    #[tactic(auto, using(crate::proofs::Calls::Taken::taken_lives, crate::proofs::Calls::Taken::taken_keeps))]
     fn hand_on(&mut self, line: usize, direction: Direction) -> Result<(), AllocError>
         requires live { AreLive self.old.imps }
         requires there { line < length self.old.lines }
@@ -255,7 +255,7 @@ impl Parts {
         let imp = self.far_end(line, direction);
         let port = self.far_port(line, direction);
         let frame = self.take_first(line, direction);
-        self.attempt(imp, ImpCall::Arrive(port, frame))
+        self.come_in(imp, port, frame)
     }
 
     /// Loses the oldest frame of a directed line, if there is one.

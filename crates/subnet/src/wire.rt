@@ -1,6 +1,7 @@
 //! A line between two IMPs, and the frames that are live on it.
 
 ghost use Rattle.std.specs.Prelude.{◌≡◌, ◌<◌, [], length, slice_get, slice_set, IfOk, OnOk, OnErr, Some, true, option_copied};
+ghost use Rattle.std.specs.VecDeque.{deque_len, deque_capacity};
 ghost use Rattle.subnet.specs.Net as net;
 ghost use Rattle.subnet.specs.Net.{ends_at, far_end, frames_on, followed_by, with_frame, dropping};
 ghost use Rattle.subnet.specs.Inside.Calling.{copied_grows};
@@ -225,7 +226,8 @@ fn rewind(frames: &mut VecDeque<Frame>)
 {
     let alloc = *frames.allocator();
     let empty = mem::replace(frames, VecDeque::new(alloc));
-    *frames = VecDeque::from_vec(empty.into_vec());
+    let hollow = mem::replace(frames, VecDeque::from_vec(empty.into_vec()));
+    hollow.destroy_empty();
 }
 
 /// Puts a frame after the others, if there is a place for it.
@@ -236,11 +238,19 @@ fn follow(frames: &mut VecDeque<Frame>, frame: Frame) -> Result<(), AllocError>
     if frames.len() >= LINE_PLACES {
         return Ok(());
     }
-    if frames.len() < frames.capacity() {
-        frames.push_back_reserved(frame);
-        return Ok(());
+    if frames.len() >= frames.capacity() {
+        make_place(frames)?;
     }
-    frames.reserve(1)?;
     frames.push_back_reserved(frame);
+    Ok(())
+}
+
+/// Makes a place for one frame more.
+#[inline(never)]
+fn make_place(frames: &mut VecDeque<Frame>) -> Result<(), AllocError>
+    ensures frames { frames.new.items ≡ frames.old.items }
+    ensures place { OnOk result (deque_len frames.new < deque_capacity frames.new) }
+{
+    frames.reserve(1)?;
     Ok(())
 }

@@ -1,6 +1,6 @@
 -- How each call moves the flows of an IMP: what becomes of the named flow at its source and at its destination, and that all other
 -- flows stay as they were.
-use Rattle.std.specs.Prelude.{◌≡◌, ℕ, ◌<◌, ◌==◌, true, List, [], ◌∷◌, length, map}
+use Rattle.std.specs.Prelude.{◌≡◌, ℕ, ◌<◌, ◌==◌, true, List, [], ◌∷◌, length}
 use Rattle.interface.specs.declared.address.Flow.{Flow}
 use Rattle.interface.specs.declared.crossing.Answer.TheVariants as answer
 use Rattle.imp_node.specs.State.{State, host_at, is_up}

@@ -1,6 +1,6 @@
 -- What is kept of messages that were not taken, and what a repeat brings. Host 0 at IMP 1 is served over port 0, from host 0 at IMP
 -- 2 on link 2.
-use Rattle.std.specs.Prelude.{◌≡◌, true, false, [], ◌∷◌, map, replicate, Some}
+use Rattle.std.specs.Prelude.{◌≡◌, true, false, [], ◌∷◌, replicate, Some}
 use Rattle.packetiser.specs.declared.packet.PacketKind.TheVariants as kind
 use Rattle.imp_channel.specs.declared.frame.Content.TheVariants as content
 use Rattle.imp_node.specs.Arrival.{from_line}

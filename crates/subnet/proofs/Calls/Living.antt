@@ -43,6 +43,12 @@ live_again_read (Some ack) imps i x d c within live taken left unspent =
 live_again_read None imps i x d c within live taken left unspent =
     subst AreLive (sym (ap (set imps i) (left refl ∙ read_alike imps i d None within) ∙ set-get_or imps i None)) live
 
+-- a call that runs out of memory, and does nothing else but succeed
+pub live_passed : {T E : Type 0} (r : Result T E) (imps : List (Option State)) (i : ℕ) (x d : Option State) (c : ImpCall) → i < length imps → AreLive imps → OnOk r (x ≡ imp_by (get_or imps i d) (call_turn c)) → OnOk r (IfSome x (λ s. s.spent ≡ false)) → OnOk r (AreLive (set imps i x))
+live_passed (Ok y) imps i x d c within live taken unspent =
+    live_set imps i x (call_turn c) (call_own c) live (taken ∙ ap (λ (o : Option State). imp_by o (call_turn c)) (read_alike imps i d None within)) unspent
+live_passed (Err e) imps i x d c within live taken unspent = tt
+
 -- a taking
 live_taking : {T : Type 0} (r : Result T CarrierFault) (imps : List (Option State)) (i h : ℕ) (x : Option State) (refusal : Option CarrierFault) (grows : Bool) (P Q : T → Type 0) → AreLive imps → CallEnds refusal grows (λ (y : T). P y × (x ≡ imp_by (imp_at imps i) (λ s. to_host s h)) × Q y) (imp_at imps i) x r → OnOk r (IfSome x (λ s. s.spent ≡ false)) → OnOk r (AreLive (set imps i x))
 live_taking (Ok y) imps i h x refusal grows P Q live is unspent = live_set imps i x (λ s. to_host s h) (λ s. to_host_own s h) live is.1.1 unspent

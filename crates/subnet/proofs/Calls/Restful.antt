@@ -1,5 +1,5 @@
 -- A subnet that rests: no quiet round and no taking changes anything.
-use Rattle.std.proofs.Common.{◌≡◌, ℕ, ◌+◌, ◌<◌, zero, suc, Bool, true, false, not, ◌||◌, ◌==◌, List, [], ◌∷◌, length, slice_get, Option, Some, None, Result, Ok, Err, if◌then◌else◌, refl, ap, sym, subst, ◌∙◌, inl, inr, arith}
+use Rattle.std.proofs.Common.{◌≡◌, ℕ, ◌+◌, ◌<◌, suc, Bool, true, false, not, ◌||◌, ◌==◌, List, [], ◌∷◌, length, slice_get, Option, Some, None, Ok, Err, if◌then◌else◌, refl, ap, sym, subst, ◌∙◌, inl, inr, arith}
 use Rattle.std.proofs.lemmas.Bool.{eqb-true}
 use Rattle.std.proofs.lemmas.Bool.Decides.{nat_tests}
 use Rattle.interface.specs.Rest.{Rests, TakesNothing}
@@ -13,7 +13,7 @@ use Rattle.subnet.specs.Net.{Net, imp_at}
 use Rattle.subnet.specs.Calls.{Kept, Fails, refusal_of, take_grows}
 use Rattle.subnet.specs.Events.{at_up, first_of, take_refusal, taken_by_host, take_in, quiet_round}
 use Rattle.subnet.specs.Working.{SubnetRound, SubnetTake}
-use Rattle.subnet.specs.Inside.Resting.{IsRefused, HasNothing, TakesNone, TakesNoneAt, is_away}
+use Rattle.subnet.specs.Inside.Resting.{IsRefused, TakesNone, TakesNoneAt, is_away}
 use Rattle.subnet.proofs.Calls.Working.{nothing_given, rested_round}
 
 -- ---- a host that is down
