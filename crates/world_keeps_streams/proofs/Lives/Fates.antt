@@ -215,9 +215,13 @@ over_comes : (h : Host) (ns : List Notice) (test : Life → Bool) (turn : Fate �
     → IsBeside y g (where_it test life_ended lives) (fates_where test turn lives fates) → Comes h ns lives fates y g
 over_comes h ns test turn lives fates y g goes never ends i =
     let w : Was y g lives fates test life_ended turn = was_where test life_ended turn lives fates y g i in
-    inl
-    (w.life, w.how, w.there, subst (λ (k : Fate). Turned h ns w.life w.how y k) (sym w.fate_is)
-    (subst (λ (z : Life). Turned h ns w.life w.how z (if test w.life then turn w.how else w.how)) (sym w.is) (turned_over h ns (test w.life) turn w.life w.how (goes w.life) never (ends w.life w.how w.there))))
+    inl (
+      w.life,
+      w.how,
+      w.there,
+      subst (λ (k : Fate). Turned h ns w.life w.how y k) (sym w.fate_is)
+          (subst (λ (z : Life). Turned h ns w.life w.how z (if test w.life then turn w.how else w.how)) (sym w.is) (turned_over h ns (test w.life) turn w.life w.how (goes w.life) never (ends w.life w.how w.there))),
+    )
 
 told_comes : (h : Host) (n : Notice) (lives : List Life) (fates : List Fate) (y : Life) (g : Fate) → AreFated lives fates → IsBeside y g (lives_told h n lives) (fates_told h n lives fates) → Comes h (n ∷ []) lives fates y g
 told_comes h (notice.Opened socket peer foreign own partner) lives fates y g a i = elim (was_more lives fates (new_life h socket peer foreign own partner) fate.Open y g a i) [
@@ -290,9 +294,13 @@ down_step h false x f goes = same_step (Crossed (crossing.Down h)) x f (λ i. i)
 
 crossed_step : (c : Crossing) (lives : List Life) (fates : List Fate) (y : Life) (g : Fate) → IsBeside y g (lives_crossed c lives) (fates_crossed c lives fates) → CameBy (Crossed c) lives fates y g
 crossed_step (crossing.Down h) lives fates y g i =
-    let w : Was y g lives fates (lives_on h) life_ended (λ f. fate.Stopped) = was_where (lives_on h) life_ended (λ f. fate.Stopped) lives fates y g i in
-    (w.life, w.how, w.there, subst (λ (k : Fate). Stepped (Crossed (crossing.Down h)) w.life w.how y k) (sym w.fate_is)
-    (subst (λ (z : Life). Stepped (Crossed (crossing.Down h)) w.life w.how z (if lives_on h w.life then fate.Stopped else w.how)) (sym w.is) (down_step h (lives_on h w.life) w.life w.how (on_goes h w.life))))
+    let w : Was y g lives fates (lives_on h) life_ended (λ f. fate.Stopped) = was_where (lives_on h) life_ended (λ f. fate.Stopped) lives fates y g i in (
+      w.life,
+      w.how,
+      w.there,
+      subst (λ (k : Fate). Stepped (Crossed (crossing.Down h)) w.life w.how y k) (sym w.fate_is)
+          (subst (λ (z : Life). Stepped (Crossed (crossing.Down h)) w.life w.how z (if lives_on h w.life then fate.Stopped else w.how)) (sym w.is) (down_step h (lives_on h w.life) w.life w.how (on_goes h w.life))),
+    )
 crossed_step c lives fates y g i = (y, g, i, same_step (Crossed c) y g (λ e. e))
 
 close_step : (h : Host) (socket : ℕ) (v : Bool) (x : Life) (f : Fate) → lives_at h socket x ≡ v → Stepped (Asked h (request.Close socket)) x f x (if v then closing f else f)
