@@ -86,6 +86,13 @@ taker = record receiver { bits = eight; messages = 1; granted = record { message
 abbrev pub giver : Life
 giver = record sender { bits = eight; messages = 1 }
 
+-- where nothing was sent or taken
+abbrev pub taker_of_nothing : Life
+taker_of_nothing = record taker { bits = []; messages = 0 }
+
+abbrev pub giver_of_nothing : Life
+giver_of_nothing = record giver { bits = []; messages = 0 }
+
 -- newest first: a control message to the first host, and one of the first to the third, which takes it
 abbrev pub elsewhere : List Crossing
 elsewhere = crossing.In (message first third 0) ∷ crossing.Out (message first third 0) ∷ crossing.Out (message second first 0) ∷ []

@@ -26,6 +26,7 @@ mod seat;
 mod tally;
 mod undo;
 pub mod worked;
+pub mod worked_closes;
 pub mod worked_formed;
 pub mod worked_moments;
 pub mod worked_reports;

@@ -16,6 +16,7 @@ pub mod Held
 pub mod Joined
 pub mod JoinedAll
 pub mod Joining
+pub mod Kinds
 pub mod Overs
 pub mod Shut
 pub mod Streams
