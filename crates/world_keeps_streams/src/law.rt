@@ -224,9 +224,11 @@ pub fn worked_came()
     ensures had { HadTakenCls (Crossed (crossing.Down dialogue.second) ∷ quit_moments) took }
 
     // one message came in and one was sent, though none was taken
-    ensures dropped { (length (texts_for took 2 (crossings_of quit_moments)) ≡ 1) × (gave.messages ≡ 1) × (took.messages ≡ 0) }
+    ensures dropped { CameAll (crossings_of quit_moments) (crossings_of quit_moments) (kept_in quit_moments).book.lives took 2 }
+    ensures counts { (length (texts_for took 2 (crossings_of quit_moments)) ≡ 1) × (gave.messages ≡ 1) × (took.messages ≡ 0) }
 
-    // it isn't so while the message waits to be taken, nor of another link
+    // it isn't so while the message waits to be taken, nor of what comes in later, nor of another link
+    ensures late { CameAll (crossings_of bits_sent) (crossings_of quit_moments) (kept_in quit_moments).book.lives took 2 → ⊥ }
     ensures waits { CameAll (crossings_of bits_sent) (crossings_of bits_sent) (kept_in bits_sent).book.lives took 2 → ⊥ }
     ensures link { CameAll (crossings_of quit_moments) (crossings_of quit_moments) (kept_in quit_moments).book.lives took 3 → ⊥ }
 {}

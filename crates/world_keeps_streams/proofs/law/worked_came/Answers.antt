@@ -1,4 +1,5 @@
-use Rattle.std.proofs.Common.{◌≡◌, Bool, true, false, List, [], ◌∷◌, refl, ap, ◌∙◌, arith}
+use Rattle.std.proofs.Common.{◌≡◌, ◌⊎◌, inl, inr, ℕ, zero, suc, ◌<◌, Bool, true, false, List, [], ◌∷◌, length, slice_index_or, refl, ap, sym, subst, ◌∙◌, arith}
+use Rattle.std.specs.List.{Contains}
 use Rattle.bit_messages.specs.Octets.{octets_of}
 use Rattle.ncp_control.specs.Packing.{packed_count}
 use Rattle.ncp_control.specs.Reading.{read_of, command_of}
@@ -14,7 +15,12 @@ use Rattle.sockets.specs.Requests.{refusal, served, served_notices}
 use Rattle.sockets.specs.Sending.{next_out, offered}
 use Rattle.sockets.specs.Worked.{first, second}
 use Rattle.interface.specs.declared.crossing.Crossing.TheVariants as crossing
+use Rattle.promise.specs.Safe.{Match, sends}
+use Rattle.promise.specs.declared.life.Life.{Life}
 use Rattle.net_sim.specs.Story.{Crossed, program}
+use Rattle.net_sim.specs.Timeline.{crossings_of}
+use Rattle.net_sim.specs.Told.{kept_in}
+use Rattle.world_keeps_lives.specs.Firsts.{texts_for}
 use Rattle.world_keeps_lives.specs.WorkedFormed.{gave}
 use Rattle.world_keeps_lives.proofs.lemmas.{none_there}
 use Rattle.world_keeps_streams.specs.Came.{HasTakenCls}
@@ -73,14 +79,48 @@ pub returns-clause-open : goal.returns-clause-open
 unfolding octets_of orders_of read_of command_of packed_count accepted refusal served served_notices next_out offered first_closed
 returns-clause-open c f = let both : false ≡ true = ap first_closed f.end.one ∙ f.closed in absurd (cc)
 
-pub returns-clause-dropped : goal.returns-clause-dropped
+pub returns-clause-counts : goal.returns-clause-counts
 unfolding octets_of orders_of read_of command_of packed_count accepted refusal served served_notices next_out offered
-returns-clause-dropped c = (refl, refl, refl)
+returns-clause-counts c = (refl, refl, refl)
+
+-- one of two lives
+of_two : (x y s : Life) → Contains (x ∷ y ∷ []) s → (x ≡ s) ⊎ (y ≡ s)
+of_two x y s there = by there.0 there.1 there.2 where
+  by : (i : ℕ) → i < 2 → slice_index_or (x ∷ y ∷ []) i s ≡ s → (x ≡ s) ⊎ (y ≡ s)
+  by zero less is = inl is
+  by (suc zero) less is = inr is
+  by (suc (suc i)) less is = absurd (omega (arith, less))
+
+lives_are : (kept_in quit_moments).book.lives ≡ gave ∷ took ∷ []
+unfolding octets_of orders_of read_of command_of packed_count accepted refusal served served_notices next_out offered
+lives_are = refl
+
+came_are : length (texts_for took 2 (crossings_of quit_moments)) ≡ 1
+unfolding octets_of orders_of read_of command_of packed_count accepted refusal served served_notices next_out offered
+came_are = refl
+
+matches : Match (crossings_of quit_moments) took gave
+unfolding octets_of orders_of read_of command_of packed_count accepted refusal served served_notices next_out offered
+matches = record { receiving = refl; sending = refl; peers = (refl, refl); sockets = (refl, refl); asked = refl; answered = refl }
+
+sent_all : (s : Life) → (gave ≡ s) ⊎ (took ≡ s) → Match (crossings_of quit_moments) took s → s.messages ≡ 1
+sent_all s (inl is) m = ap (λ (x : Life). x.messages) (sym is)
+sent_all s (inr is) m = absurd (let both : false ≡ true = ap sends is ∙ m.sending in cc)
+
+pub returns-clause-dropped : goal.returns-clause-dropped
+returns-clause-dropped c = record {
+  all = λ s there m. sent_all s (of_two gave took s (subst (λ (lives : List Life). Contains lives s) lives_are there)) m ∙ sym came_are;
+  source = λ some. (gave, subst (λ (lives : List Life). Contains lives gave) (sym lives_are) (0, omega arith, refl), matches);
+}
 
 pub returns-clause-waits : goal.returns-clause-waits
 unfolding octets_of orders_of read_of command_of packed_count accepted refusal served served_notices next_out offered
 returns-clause-waits c h =
     let one : 1 ≡ 0 = h.all gave (0, omega arith, refl) (record { receiving = refl; sending = refl; peers = (refl, refl); sockets = (refl, refl); asked = refl; answered = refl }) in absurd (omega (arith, one))
+
+pub returns-clause-late : goal.returns-clause-late
+unfolding octets_of orders_of read_of command_of packed_count accepted refusal served served_notices next_out offered
+returns-clause-late c h = let one : 1 ≡ 0 = h.all gave (0, omega arith, refl) matches in absurd (omega (arith, one))
 
 pub returns-clause-link : goal.returns-clause-link
 unfolding octets_of orders_of read_of command_of packed_count accepted refusal served served_notices next_out offered
