@@ -90,7 +90,7 @@ pub record AreCalm (moments : List Moment) (receiver sender : Life) : Type 0 whe
   pub giver : HasOpenEnd (program sender.host moments) sender
   pub idle : AreIdle receiver.host sender.host moments
 
--- nobody has closed the receiving end, and the sending one at most its own user, while bits are queued there; none of which may go, as they wait for allocation
+-- nobody has closed the receiving end. The sending one is open; at most its own user has closed it, while bits are queued there. What is queued waits for allocation
 pub record AreOpen (taker giver : Entry) : Type 0 where
   pub unclosed : was_closed taker ≡ false
   pub opened : is_open giver ≡ true

@@ -25,8 +25,9 @@ pub fn worked_draining()
     ensures closed { AreOpen (record taking_opened { closing = closing.Sent }) giving_opened → ⊥ }
     ensures heard { AreOpen (record taking_opened { partner_closed = true }) giving_opened → ⊥ }
 
-    // a sender's CLS has gone out, or is due though no bits are queued
+    // a sender's CLS has gone out, or its partner's came, or its own is due though no bits are queued
     ensures said { AreOpen taking_opened (record draining_end { closing = closing.Sent }) → ⊥ }
+    ensures shut { AreOpen taking_opened (record giving_opened { partner_closed = true }) → ⊥ }
     ensures drained { AreOpen taking_opened (record draining_end { bits = [] }) → ⊥ }
 
     // the bits that are queued may go

@@ -86,6 +86,9 @@ returns-clause-heard c f = not_some f.unclosed
 pub returns-clause-said : goal.returns-clause-said
 returns-clause-said c f = not_both f.opened
 
+pub returns-clause-shut : goal.returns-clause-shut
+returns-clause-shut c f = not_both f.opened
+
 pub returns-clause-drained : goal.returns-clause-drained
 returns-clause-drained c f = f.drains refl refl
 
