@@ -237,6 +237,8 @@ function counted(lines, ways, most) {
 }
 
 /**
+ * The trace of a raw script; null where it is too long to be read. It has only what changed, so it may be half as long as what prints all.
+ *
  * @param {Runner["run"]} run
  * @param {string[]} head
  * @param {Line[]} lines
@@ -246,7 +248,7 @@ function counted(lines, ways, most) {
 async function traceOf(run, head, lines, limits) {
     const text = [...head, ...lines.map((line) => line.text), ""].join("\n");
     if (text.length > MOST_OCTETS) return null;
-    const outcome = await run(["--trace"], octetsOf(text), limits);
+    const outcome = await run(["--trace"], octetsOf(text), { ...limits, octets: limits.octets / 2 });
     return outcome.ended === "exit" && outcome.status === 0 ? readTrace(textOf(outcome)) : null;
 }
 

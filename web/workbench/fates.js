@@ -56,7 +56,7 @@ export function noteOf(moment, before, after, accepted) {
     const [kind, ...rest] = moment.words;
     const isRefused = moment.printed.some((line) => line.startsWith("refused "));
     if (kind === "impup" && !isRefused) accepted.start(Number(rest[0]));
-    const isFrame = (kind === "deliver" || kind === "drop") && !isRefused && moment.parts.length > 0;
+    const isFrame = (kind === "deliver" || kind === "drop") && !isRefused && `line ${rest[0]}` in before.parts;
     const note = isFrame ? frameNote(moment, before, after, accepted) : { ...NOTHING };
     note.sent = sentBy(moment, before, after);
     note.weight = weightOf(moment, note);

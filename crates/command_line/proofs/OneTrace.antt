@@ -2,7 +2,7 @@
 use Rattle.std.proofs.Common.{◌≡◌, inl, inr, ℕ, List, [], ◌∷◌, ◌++◌, Some, refl, sym, ap, ap₂, subst, zip, ◌∙◌}
 use Rattle.std.proofs.lemmas.List.{append_assoc, append-nil}
 use Rattle.replay.specs.InTurn.{HappensOnce, ShowsFront, text_of}
-use Rattle.replay.specs.Output.{Shown, crossings_of}
+use Rattle.replay.specs.Output.{Shown}
 use Rattle.interface.specs.Calls.{Calls}
 use Rattle.replay.specs.Settled.{AreSettled}
 use Rattle.replay.proofs.lemmas.{OneReplay, ends_front, in_turn_once, replays_once, text_of-append}
@@ -21,7 +21,7 @@ use Rattle.world_trace.specs.Traces.{EndsIn, IsHeard, IsSilent, IsUnchanged, Sto
 use Rattle.trace.specs.Elements.{elements_in}
 use Rattle.trace.specs.Texts.{object, opening_line, trace_line}
 use Rattle.trace.specs.declared.element.Spot.{Spot}
-use Rattle.trace.specs.Traces.{EndsEvent, Inside, StopsElement, TellsElement, TellsEvent, asking_from, numbered_from, plain_inside}
+use Rattle.trace.specs.Traces.{EndsEvent, Inside, StopsElement, TellsElement, TellsEvent, asking_from, change_text, numbered_from, plain_inside}
 use Rattle.leader1822.specs.Boxes.{plain_calls}
 use Rattle.subnet.specs.Working.{subnet_calls}
 use Rattle.subnet_trace.specs.Traced.{subnet_inside}
@@ -37,7 +37,7 @@ element_once : {C : Type 0} (calls : Calls C) (inside : Inside C) → AreSettled
 element_once {C} calls inside settled spot old x new other lines more (shown, h, is) (others, k, are) =
     let one : OneReplay new other shown others = replays_once calls settled old (x.event ∷ []) new other shown others
     (new, shown, [], h, (refl, refl), sym (append-nil shown)) (other, others, [], k, (refl, refl), sym (append-nil others)) in
-    (one.carriers, is ∙ ap₂ (λ (c : C) (s : List Shown). trace_line spot x (inside.fate old x.event) s (inside.parts c x.event (crossings_of s)) ∷ []) one.carriers one.lines ∙ sym are)
+    (one.carriers, is ∙ ap₂ (λ (c : C) (s : List Shown). trace_line spot x (inside.fate old x.event) s (change_text inside old c) ∷ []) one.carriers one.lines ∙ sym are)
 
 event_once : {C : Type 0} (calls : Calls C) (inside : Inside C) → AreSettled calls → HappensOnce (TellsEvent calls inside)
 event_once calls inside settled old e new other lines more h k =
@@ -55,7 +55,8 @@ from_once calls inside settled t opening events before after other h k =
 
 -- the elementary event in which memory ran out has no line
 stops_front : {C : Type 0} (calls : Calls C) (inside : Inside C) (spot : Spot) → ShowsFront (StopsElement calls) (TellsElement calls inside spot)
-stops_front calls inside spot old x new other part whole h k = (whole, sym (ap (λ xs. xs ++ whole) h.1))
+stops_front calls inside spot old x new other part whole (inl h) k = (whole, sym (ap (λ xs. xs ++ whole) h.1))
+stops_front calls inside spot old x new other part whole (inr h) k = (whole, sym (ap (λ xs. xs ++ whole) h.1))
 
 event_front : {C : Type 0} (calls : Calls C) (inside : Inside C) → AreSettled calls → ShowsFront (EndsEvent calls inside (StopsElement calls)) (TellsEvent calls inside)
 event_front calls inside settled old e new other part whole h k =

@@ -27,7 +27,7 @@ use Rattle.topology.specs.declared.network.CarrierKind.TheVariants as kind
 use Rattle.trace.proofs.lemmas as plain
 use Rattle.trace.specs.Texts.{object, opening_line}
 use Rattle.trace.specs.Elements.{elements_in, events_of}
-use Rattle.trace.specs.Traces.{Inside, TellsElement, TellsEvent, numbered_from, plain_inside}
+use Rattle.trace.specs.Traces.{Inside, TellsElement, TellsEvent, change_text, numbered_from, plain_inside}
 use Rattle.trace.specs.declared.element.Element.{Element}
 use Rattle.trace.specs.declared.element.Spot.{Spot}
 use Rattle.world_replay.proofs.lemmas.CalmRounds.{calm_rounds}
@@ -81,7 +81,7 @@ unfolding raw_texts
 element_printed calls inside settled spot x old new other lines prints (own, h, is) k =
     let one : OneReplay new other own prints = once calls settled old x.event new other own prints h k in (
       one.carriers,
-      (OfElement spot x (inside.fate old x.event) own (inside.parts new x.event (raw.crossings_of own)) ∷ [], is, ap raw_texts (sym one.lines) ∙ sym (append-nil (raw_texts own))),
+      (OfElement spot x (inside.fate old x.event) own (change_text inside old new) ∷ [], is, ap raw_texts (sym one.lines) ∙ sym (append-nil (raw_texts own))),
     )
 
 elements_printed : {C : Type 0} (calls : Calls C) (inside : Inside C) → AreSettled calls → (spot : Spot) (xs : List Element) (old new other : C) (lines : List (List ℕ)) (prints : List raw.Shown)

@@ -169,7 +169,7 @@ fn trace_over<C: Inspect, W: Output>(
     match events {
         Events::Raw(events) => {
             let events = beside_lines(alloc, lines, events)?;
-            trace_from(network, carrier, &events, writer)
+            trace_from(alloc, network, carrier, &events, writer)
         }
         Events::World(events) => {
             let events = beside_lines(alloc, lines, events)?;
@@ -208,6 +208,7 @@ fn trace_hosts<C: Inspect, W: Output>(
 ///
 /// Errors: `CannotWrite`; `OutOfMemory`, after which the first lines of the trace are written.
 fn trace_from<C: Inspect, W: Output>(
+    alloc: Global,
     network: &Topology,
     mut carrier: C,
     events: &[(usize, RawEvent)],
@@ -220,7 +221,7 @@ fn trace_from<C: Inspect, W: Output>(
     ensures failed { (result ≡ Err ScriptFault.CannotWrite) ↔ (W.failed writer.new ≡ true) }
     ensures flushed { OnOk result (W.flushed writer.new ≡ true) }
 {
-    match trace_events(network, &mut carrier, events, writer) {
+    match trace_events(alloc, network, &mut carrier, events, writer) {
         Ok(()) => Ok(writer.flush()?),
         Err(fault) => Err(ScriptFault::from(fault)),
     }

@@ -1,5 +1,5 @@
 -- What becomes of a frame that is delivered.
-use Rattle.std.proofs.Common.{◌≡◌, ℕ, Option, Some, ap, sym, slice_get, ◌∙◌}
+use Rattle.std.proofs.Common.{◌≡◌, ℕ, Option, Some, ap, slice_get, ◌∙◌}
 use Rattle.imp_channel.specs.declared.frame.Frame.{Frame}
 use Rattle.imp_node.specs.State.{State}
 use Rattle.interface.specs.declared.event.Direction.{Direction}

@@ -9,6 +9,7 @@ pub mod Knowing
 pub mod Known
 pub mod Reached
 pub mod Rest
+pub mod Scopes
 pub mod Pump
 pub mod Settled
 pub mod Nothing

@@ -9,7 +9,6 @@ use Rattle.std.specs.Fmt.{decimal}
 use Rattle.std.specs.List.{range_with_len}
 use Rattle.std.proofs.KnownBytes.{Appends-trans}
 use Rattle.interface.specs.Host.{most_imps}
-use Rattle.interface.specs.Printed.{host_text}
 use Rattle.interface.specs.declared.address.Flow.{Flow}
 use Rattle.imp_channel.specs.Carriage.{Carriage}
 use Rattle.imp_channel.specs.declared.frame.Content.{Content}

@@ -2,7 +2,7 @@
 use Rattle.std.proofs.Common.{◌≡◌, ◌≢◌, ℕ, zero, suc, ◌+◌, ◌-◌, ◌<◌, ◌≤◌, ◌==◌, ◌&&◌, ◌||◌, ◌⊎◌, inl, inr, nat_lt, not, Bool, true, false, List, [], ◌∷◌, if◌then◌else◌, filter, length, map, Option, Some, None, Result, Ok, Err, is_some, slice_get, slice_set, slice_index_or, refl, sym, ap, ◌∙◌, subst, arith}
 use Rattle.std.proofs.lemmas.Bool.{eqb-true, false≢true}
 use Rattle.std.proofs.lemmas.Bool.Decides.{nat_tests}
-use Rattle.std.proofs.lemmas.List.{get_or-set_other}
+use Rattle.std.proofs.lemmas.List.{get_or-set_other, length-set}
 use Rattle.std.proofs.Math.Seq.{map-set_same}
 use Rattle.std.specs.List.{range_with_len}
 use Rattle.interface.specs.Calls.{is_halt, is_memory}
@@ -76,7 +76,7 @@ one_other lines i out l apart = put_other lines i out.frame l (line_from 0 lines
       let here : f.place ≡ k = omega (arith, f.is) in
       ap (λ (j : ℕ). ends_at i (wire_at lines j)) (sym here) ∙ f.ends
 
-all_other : (outs : List Outgoing) (lines : List Wire) (i l : ℕ) → ends_at i (wire_at lines l) ≡ false → wire_at (put_all lines i outs) l ≡ wire_at lines l
+pub all_other : (outs : List Outgoing) (lines : List Wire) (i l : ℕ) → ends_at i (wire_at lines l) ≡ false → wire_at (put_all lines i outs) l ≡ wire_at lines l
 all_other [] lines i l apart = refl
 all_other (out ∷ outs) lines i l apart =
     let one : wire_at (put_one lines i out) l ≡ wire_at lines l = one_other lines i out l apart in
@@ -100,7 +100,7 @@ not_at n i l there none = by (ends_at i (wire_at n.lines l)) refl where
   by false e = e
   by true e = absurd (false≢true (sym none ∙ line_named (λ k. ends_at i (wire_at n.lines k)) 0 (length n.lines) l (omega arith) (grind (arith, nat_tests, there)) e))
 
-apart_from : (j i : ℕ) → (j == i) ≡ false → j ≢ i
+pub apart_from : (j i : ℕ) → (j == i) ≡ false → j ≢ i
 apart_from j i e same = grind (arith, nat_tests)
 
 -- ---- a call of one IMP
@@ -138,7 +138,7 @@ and_true : (a b : Bool) → (a && b) ≡ true → a ≡ true
 and_true true b h = refl
 and_true false b h = absurd (cc)
 
-frame_there : (n : Net) (l : ℕ) (d : Direction) (k : ℕ) → frame_refusal n l d k ≡ None → nat_lt l (length n.lines) ≡ true
+pub frame_there : (n : Net) (l : ℕ) (d : Direction) (k : ℕ) → frame_refusal n l d k ≡ None → nat_lt l (length n.lines) ≡ true
 frame_there n l d k ok = by (nat_lt l (length n.lines) && nat_lt k (length (frames_on d (wire_at n.lines l)))) refl ok where
   by : (b : Bool) → (nat_lt l (length n.lines) && nat_lt k (length (frames_on d (wire_at n.lines l)))) ≡ b → (if b then None else Some fault.NoSuch) ≡ None → nat_lt l (length n.lines) ≡ true
   by true e h = and_true (nat_lt l (length n.lines)) (nat_lt k (length (frames_on d (wire_at n.lines l)))) e
@@ -204,25 +204,25 @@ step_rest n (net.Ask f) p placed ok there none = imp_rest n f.source.imp _ p pla
 -- ---- a call that continued
 
 -- it succeeded, or was refused and changed nothing
-abbrev Went : {T : Type 0} → (T → Type 0) → Option CarrierFault → Kept → Kept → Result T CarrierFault → Type 0
+abbrev pub Went : {T : Type 0} → (T → Type 0) → Option CarrierFault → Kept → Kept → Result T CarrierFault → Type 0
 Went Gives refusal old new (Ok x) = (refusal ≡ None) × Gives x
 Went Gives refusal old new (Err f) = new ≡ old
 
-abbrev GoesOnAfter : {T : Type 0} → Result T CarrierFault → Type 0
+abbrev pub GoesOnAfter : {T : Type 0} → Result T CarrierFault → Type 0
 GoesOnAfter (Ok x) = Unit {0}
 GoesOnAfter (Err f) = (is_halt f || is_memory f) ≡ false
 
-went : {T : Type 0} (Gives : T → Type 0) (refusal : Option CarrierFault) (grows : Bool) (old new : Kept) (r : Result T CarrierFault) → Decided refusal grows Gives old new r → GoesOnAfter r → Went Gives refusal old new r
+pub went : {T : Type 0} (Gives : T → Type 0) (refusal : Option CarrierFault) (grows : Bool) (old new : Kept) (r : Result T CarrierFault) → Decided refusal grows Gives old new r → GoesOnAfter r → Went Gives refusal old new r
 went Gives refusal grows old new (Ok x) h goes = h
 went Gives refusal grows old new (Err f) h goes =
     let whole : is_memory f ≡ false = (or_false (is_halt f) (is_memory f) goes).1 in
     (subst (λ (b : Bool). Fails refusal grows b f old new) whole h).1
 
-goes_after : (r : Result (Unit {0}) CarrierFault) → GoesOn r → GoesOnAfter r
+pub goes_after : (r : Result (Unit {0}) CarrierFault) → GoesOn r → GoesOnAfter r
 goes_after (Ok done) goes = tt
 goes_after (Err f) goes = goes
 
-goes_after_take : (r : Result (Option Inbound) CarrierFault) → GoesOn (outcome_of r) → GoesOnAfter r
+pub goes_after_take : (r : Result (Option Inbound) CarrierFault) → GoesOn (outcome_of r) → GoesOnAfter r
 goes_after_take (Ok taken) goes = tt
 goes_after_take (Err f) goes = goes
 
@@ -232,7 +232,7 @@ runs true o h = absurd (not_some (sym h))
 runs false o h = h
 
 -- the subnet as it was, or after what an event asks for
-abbrev Left : Kept → Kept → RawEvent → Type 0
+abbrev pub Left : Kept → Kept → RawEvent → Type 0
 Left old new (event.Out m) = (new ≡ old) ⊎ (new ≡ running (offer_out old.net m))
 Left old new (event.Take h) = (new ≡ old) ⊎ (new ≡ running (take_in old.net h))
 Left old new (event.Net e) = (new ≡ old) ⊎ ((step_refusal old.net e ≡ None) × (new ≡ running (stepped old.net e)))
@@ -250,7 +250,7 @@ happened : (old new : Kept) (e : NetEvent) (r : Result (Unit {0}) CarrierFault) 
 happened old new e (Ok done) w = inr (runs old.stopped (step_refusal old.net e) w.0, w.1)
 happened old new e (Err f) w = inl w
 
-left_of : (old new : Kept) (e : RawEvent) (shown : List Shown) → IsOneCall e → Happens subnet_calls old e new shown → Left old new e
+pub left_of : (old new : Kept) (e : RawEvent) (shown : List Shown) → IsOneCall e → Happens subnet_calls old e new shown → Left old new e
 left_of old new (event.Out m) shown one k = offered old new m _ k.outcome (went _ _ _ old new k.outcome k.gives (goes_after k.outcome k.goes_on))
 left_of old new (event.Take h) shown one k =
     let r : Result (Option Inbound) CarrierFault = k.gives.0 in
@@ -289,7 +289,7 @@ put_ends : (lines : List Wire) (i : ℕ) (f : Frame) (o : Option ℕ) → map en
 put_ends lines i f None = refl
 put_ends lines i f (Some k) = map-set_same ends_of lines k (with_frame i f (wire_at lines k)) no_wire (ends_alike i f (wire_at lines k))
 
-all_ends : (outs : List Outgoing) (lines : List Wire) (i : ℕ) → map ends_of (put_all lines i outs) ≡ map ends_of lines
+pub all_ends : (outs : List Outgoing) (lines : List Wire) (i : ℕ) → map ends_of (put_all lines i outs) ≡ map ends_of lines
 all_ends [] lines i = refl
 all_ends (out ∷ outs) lines i = all_ends outs (put_one lines i out) i ∙ put_ends lines i out.frame (line_from 0 lines i out.port)
 
@@ -303,11 +303,13 @@ one_placed n i o there placed j none = get_or-set_other n.imps i j o None other 
 pub record Keeps (n m : Net) : Type 0 where
   pub network : IsOneNetwork n m
   pub placed : IsPlaced n → IsPlaced m
+  pub places : length m.imps ≡ length n.imps
 
 unchanged : (n m : Net) → m ≡ n → Keeps n m
 unchanged n m e = record {
   network = record { hosts = ap (λ (x : Net). x.hosts) (sym e); sites = ap (λ (x : Net). x.sites) (sym e); lines = ap (λ (x : Net). map ends_of x.lines) (sym e) };
   placed = λ placed. subst IsPlaced (sym e) placed;
+  places = ap (λ (x : Net). length x.imps) e;
 }
 
 pub at_keeps : (n : Net) (i : ℕ) (call : State → ImpTurn) → Keeps n (at_imp (imp_at n.imps i) i call n)
@@ -317,6 +319,7 @@ at_keeps n i call = by (imp_at n.imps i) refl where
   by (Some s) up = record {
     network = record { hosts = refl; sites = refl; lines = sym (all_ends (call s).frames n.lines i) };
     placed = λ placed. one_placed n i (Some (call s).state) (is_there n i s placed up) placed;
+    places = length-set n.imps i (Some (call s).state);
   }
 
 deliver_keeps : (n : Net) (l : ℕ) (d : Direction) (o : Option Frame) → Keeps n (delivered n l d o)
@@ -331,10 +334,11 @@ pub drop_keeps : (n : Net) (l : ℕ) (d : Direction) (k : ℕ) → Keeps n (drop
 drop_keeps n l d k = record {
   network = record { hosts = refl; sites = refl; lines = sym (map-set_same ends_of n.lines l (dropping d k (wire_at n.lines l)) no_wire (dropping_ends d k (wire_at n.lines l))) };
   placed = λ placed. placed;
+  places = refl;
 }
 
 logged : (n m : Net) (log : List Crossing) → Keeps n m → Keeps n (record m { log = log })
-logged n m log k = record { network = record { hosts = k.network.hosts; sites = k.network.sites; lines = k.network.lines }; placed = k.placed }
+logged n m log k = record { network = record { hosts = k.network.hosts; sites = k.network.sites; lines = k.network.lines }; placed = k.placed; places = k.places }
 
 pub step_keeps : (n : Net) (e : NetEvent) → step_refusal n e ≡ None → Keeps n (stepped n e)
 step_keeps n (net.Deliver l d k) ok = deliver_keeps n l d (slice_get (frames_on d (wire_at n.lines l)) k)
@@ -346,10 +350,12 @@ step_keeps n (net.EndUp i l) ok = at_keeps n i _
 step_keeps n (net.ImpDown i) ok = record {
   network = record { hosts = refl; sites = refl; lines = refl };
   placed = λ placed. one_placed n i None (refused_none (is_imp n i) (at_up (imp_at n.imps i) accepted) ok) placed;
+  places = length-set n.imps i None;
 }
 step_keeps n (net.ImpUp i) ok = record {
   network = record { hosts = refl; sites = refl; lines = refl };
   placed = λ placed. one_placed n i _ (refused_none (is_imp n i) _ ok) placed;
+  places = length-set n.imps i _;
 }
 step_keeps n (net.HostDown h) ok = logged n _ _ (at_keeps n h.imp (λ s. host_down s h.host))
 step_keeps n (net.HostUp h) ok = logged n _ _ (at_keeps n h.imp (λ s. host_up s h.host))
@@ -370,7 +376,7 @@ kept_left old new (event.Net e) (inl same) = unchanged old.net new.net (ap (λ (
 kept_left old new (event.Net e) (inr left) = into old.net (stepped old.net e) new.net (step_keeps old.net e left.0) (ap (λ (k : Kept). k.net) left.1)
 kept_left old new (event.Calm rounds) left = absurd left
 
-keeps : (old new : Kept) (e : RawEvent) (shown : List Shown) → IsOneCall e → Happens subnet_calls old e new shown → Keeps old.net new.net
+pub keeps : (old new : Kept) (e : RawEvent) (shown : List Shown) → IsOneCall e → Happens subnet_calls old e new shown → Keeps old.net new.net
 keeps old new e shown one k = kept_left old new e (left_of old new e shown one k)
 
 pub network : (old new : Kept) (e : RawEvent) (shown : List Shown) → IsOneCall e → Happens subnet_calls old e new shown → IsOneNetwork old.net new.net

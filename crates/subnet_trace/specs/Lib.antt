@@ -2,6 +2,7 @@ pub mod Elements
 pub mod Fates
 pub mod Parts
 pub mod Printing
+pub mod Scopes
 pub mod Steps
 pub mod Texts
 pub mod Told

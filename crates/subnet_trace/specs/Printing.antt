@@ -1,5 +1,5 @@
 -- What the contracts of private functions say. No public clause cites this file.
-use Rattle.std.specs.Prelude.{ℕ, Bool, true, false, List, [], ◌∷◌, ◌++◌, Option, Some, None, codes, if◌then◌else◌, map, nat_lt}
+use Rattle.std.specs.Prelude.{ℕ, Bool, List, [], ◌∷◌, ◌++◌, Option, Some, None, codes, if◌then◌else◌, map, nat_lt}
 use Rattle.std.specs.FinMap as fin
 use Rattle.std.specs.Fmt.{decimal}
 use Rattle.imp_node.specs.Arrival.{Arrival, arrival_has_room}
@@ -10,12 +10,10 @@ use Rattle.packetiser.specs.PacketFields.{PacketFields}
 use Rattle.routing.specs.RouteTable.{vector_of}
 use Rattle.routing.specs.Vector.{infinite}
 use Rattle.subnet.specs.Events.{is_imp}
-use Rattle.subnet.specs.Net.{Net, Wire, ends_at}
+use Rattle.subnet.specs.Net.{Net}
 use Rattle.subnet_trace.specs.Fates.{arrival_fate}
-use Rattle.subnet_trace.specs.Parts.{Part, Imp, Line, imp_alone, imp_and_lines, line_alone, part_name, part_text}
-use Rattle.subnet_trace.specs.Texts.{distances_text, flow_object, heard_text, host_object, kept_text, line_text, next_text, packet_text, port_object, slot_text, source_text}
-use Rattle.subnet_trace.specs.declared.parts.Scope.{Scope}
-use Rattle.subnet_trace.specs.declared.parts.Scope.TheVariants as scope
+use Rattle.subnet_trace.specs.Parts.{Part, Imp, part_name, part_text}
+use Rattle.subnet_trace.specs.Texts.{distances_text, flow_object, heard_text, host_object, kept_text, next_text, packet_text, port_object, slot_text, source_text}
 use Rattle.trace.specs.Joined.{mark}
 use Rattle.trace.specs.Texts.{array, member}
 use Rattle.trace.specs.declared.fate.Fate.{Fate}
@@ -70,17 +68,6 @@ abbrev pub ways_text : State → List ℕ
 ways_text s = codes ",\"distances\":" ++ (distances_text (vector_of s.routes) ++ (codes ",\"next\":" ++ (next_text s.routes ++ codes "}")))
 
 -- ---- parts
-
--- a line of an IMP after another part; nothing for another line
-abbrev pub line_behind : ℕ → ℕ → Wire → List ℕ
-line_behind i l w = if ends_at i w then codes "," ++ member (part_name (Line l)) (line_text w) else []
-
--- the parts of a network that are meant
-abbrev pub parts_in : Net → Scope → List Part
-parts_in n (scope.ImpAndLines i) = imp_and_lines n i
-parts_in n (scope.Imp i) = imp_alone n i
-parts_in n (scope.Line l) = line_alone n l
-parts_in n scope.Nothing = []
 
 -- a part with its name
 abbrev pub named : Net → Part → List ℕ

@@ -1,6 +1,6 @@
 -- What the texts of a subnet's parts say: all that is in it but its log, where memory has not run out, numbers are not too long for a
 -- decimal, and all distances are vectors.
-use Rattle.std.specs.Prelude.{◌≡◌, ℕ, ◌+◌, ◌<◌, ◌≤◌, ◌^◌, true, false, List, Option, Some, None, IfSome, All, length, map}
+use Rattle.std.specs.Prelude.{◌≡◌, ℕ, ◌+◌, ◌<◌, ◌≤◌, true, false, List, Option, Some, None, IfSome, All, length, map}
 use Rattle.std.specs.FinMap as fin
 use Rattle.interface.specs.Host.{most_imps}
 use Rattle.interface.specs.declared.address.Flow.{Flow}

@@ -3,7 +3,7 @@ use Rattle.subnet.specs.Calls.{Kept}
 use Rattle.trace.specs.Traces.{Inside}
 use Rattle.subnet_trace.specs.Elements.{calm_of}
 use Rattle.subnet_trace.specs.Fates.{fate_of}
-use Rattle.subnet_trace.specs.Parts.{all_parts, parts_members, parts_of, parts_text}
+use Rattle.subnet_trace.specs.Parts.{all_parts, parts_members}
 
 abbrev pub subnet_inside : Inside Kept
-subnet_inside = record { calm = λ k. calm_of k.net; members = λ k. parts_members k.net (all_parts k.net); parts = λ k e crossings. parts_text k.net (parts_of k.net e); fate = λ k e. fate_of k.net e }
+subnet_inside = record { calm = λ k. calm_of k.net; members = λ k. parts_members k.net (all_parts k.net); fate = λ k e. fate_of k.net e }

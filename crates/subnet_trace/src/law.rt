@@ -1,7 +1,7 @@
 //! What traces of subnets promise, as laws over their definitions. The functions here do nothing: each clause is the law.
 
 ghost use Rattle.std.specs.List.{All};
-ghost use Rattle.std.specs.Prelude.{◌≡◌, ℕ, List, Option};
+ghost use Rattle.std.specs.Prelude.{◌≡◌, ℕ, List, Option, codes, false, is_ok};
 ghost use Rattle.interface.specs.Host.{Host};
 ghost use Rattle.replay.specs.Output.{Shown};
 ghost use Rattle.replay.specs.Replay.{Happens, IsOneCall};
@@ -14,6 +14,8 @@ ghost use Rattle.subnet_trace.specs.Elements.{beginning, calm_left, calm_of, ele
 ghost use Rattle.subnet.specs.Working.{subnet_calls};
 ghost use Rattle.subnet_trace.specs.Told.{IsOneNetwork, IsPlaced, IsReached, IsTold, SameTexts};
 ghost use Rattle.trace.specs.Elements.{events_of};
+ghost use Rattle.trace.specs.Traces.{change_text};
+ghost use Rattle.subnet_trace.specs.Traced.{subnet_inside};
 ghost use Rattle.subnet_trace.specs.Laws.Elementary.{ElementaryCourse, ElementaryReached};
 ghost use Rattle.subnet_trace.specs.Laws.Rest.{RestParts};
 ghost use Rattle.subnet_trace.specs.Laws.Whole.{WholeReplays};
@@ -44,6 +46,11 @@ pub fn rest()
     // where the network has no IMP there never is one
     ensures placed { (old new : Kept) (e : RawEvent) (shown : List Shown) → IsPlaced old.net → IsOneCall e → Happens subnet_calls old e new shown → IsPlaced new.net }
     ensures opening { (hosts : List Host) (sites : List (Option ℕ)) (ends : List Ends) → IsPlaced (opening_subnet hosts sites ends) }
+{}
+
+/// A refused event changes no part.
+pub fn refused()
+    ensures parts { (old new : Kept) (e : RawEvent) (shown : List Shown) → IsOneCall e → (h : Happens subnet_calls old e new shown) → is_ok h.outcome ≡ false → change_text subnet_inside old new ≡ codes "{}" }
 {}
 
 /// The texts of all parts determine the whole state, but for the log, in every state that a replay comes to.

@@ -3,13 +3,13 @@
 //! The *parts* of a subnet are its IMPs and its lines. Each has a JSON text, which says all that is in it: an IMP's hosts
 //! with what waits for them, its ports with their channels, what its neighbours announced, the packets that it stores, the
 //! messages in reassembly and what it knows of flows; and the frames that are live on a line. An elementary event can
-//! change only the parts that `parts_of` names, and [`print_parts`] prints these.
+//! change only the parts that `parts_of` names. A [`TracedSubnet`] looks at these, and says which of them it changed.
 //!
 //! A calm has the calls of its quiet rounds that do something, and the takings of the hosts, as elementary events; a [`Place`]
 //! is between two of them.
 //!
-//! A reader of traces may rely on three laws ([`law`]). A calm is its elementary events one after another. What an event's
-//! parts do not name is as before. Of the subnets that replays come to, those with equal texts of all parts are equal, but
+//! A reader of traces may rely on three laws ([`law`]). A calm is its elementary events one after another. An event changes
+//! no part but those that it can change, and none where it is refused. Of the subnets that replays come to, those with equal texts of all parts are equal, but
 //! for their logs; and the first line of a trace describes the network. So a trace leaves nothing out.
 #![tactic(auto)]
 
@@ -25,6 +25,6 @@ mod place;
 mod traced;
 pub mod worked;
 
-pub use parts::{print_parts, print_whole};
+pub use parts::print_whole;
 pub use place::{Place, Stage};
 pub use traced::TracedSubnet;

@@ -1,15 +1,18 @@
-//! The parts of a subnet that an event can change, looked at and printed.
+//! The parts of a subnet, printed, and those that an event has changed.
 
-ghost use Rattle.std.specs.Prelude.{◌≡◌, ◌++◌, IfOk, OnOk, false};
+ghost use Rattle.std.specs.Prelude.{◌≡◌, ◌++◌, [], IfOk, OnOk, false};
 ghost use Rattle.std.specs.Io.KnownBytes.{Appends};
 ghost use Rattle.replay.specs.Failing.{TellsFailure};
 ghost use Rattle.script.specs.declared.event.RawEvent.TheVariants as raw;
-ghost use Rattle.subnet_trace.specs.Parts.{Imp, Line, far_end_of, imp_alone, imp_and_lines, line_alone, part_name, part_text, parts_members, parts_of, parts_text, all_parts};
+ghost use Rattle.subnet_trace.specs.Parts.{Imp, Line, part_name, part_text, parts_members, parts_text, all_parts};
 ghost use Rattle.subnet.specs.Events.{is_imp};
-ghost use Rattle.subnet_trace.specs.Printing.{imp_members, line_behind, named, parts_in};
+ghost use Rattle.subnet_trace.specs.Printing.{imp_members, named};
+ghost use Rattle.subnet_trace.specs.Scopes as scopes;
+ghost use Rattle.subnet_trace.specs.Scopes.{OnlyIn, scope_of};
+ghost use Rattle.trace.specs.Changes.{changed};
 ghost use Rattle.subnet_trace.specs.Texts.{line_text};
 ghost use Rattle.trace.specs.Joined.{part_behind, place_behind};
-ghost use Rattle.trace.specs.Texts.{member};
+ghost use Rattle.trace.specs.Texts.{member, object};
 
 use crate::imp::print_imp;
 use crate::lists::InLine;
@@ -18,8 +21,8 @@ use replay::{Output, WriteFailed};
 use script::RawEvent;
 use std::alloc::{AllocError, Global};
 use subnet::{Subnet, Wire};
-use trace::Members;
 use trace::json::{Item, mark, print_array};
+use trace::{Members, ended};
 
 /// Which parts an event can change.
 #[derive(Clone, Copy)]
@@ -36,7 +39,7 @@ enum Scope {
 
 /// Returns which parts the arrival of a frame can change: those of the IMP at the far end of its line.
 fn scope_of_delivery(subnet: &Subnet, line: u32, direction: Direction) -> Scope
-    ensures { parts_in subnet.now.net result ≡ far_end_of subnet.now.net line direction }
+    ensures { result ≡ scopes.scope_of_delivery subnet.now.net line direction }
 {
     let lines = subnet.lines();
     let place = line as usize;
@@ -48,7 +51,7 @@ fn scope_of_delivery(subnet: &Subnet, line: u32, direction: Direction) -> Scope
 
 /// Returns which parts an event inside the network can change.
 fn scope_of_net(subnet: &Subnet, event: &NetEvent) -> Scope
-    ensures { parts_in subnet.now.net result ≡ parts_of subnet.now.net (raw.Net event.now) }
+    ensures { result ≡ scopes.scope_of subnet.now.net (raw.Net event.now) }
 {
     match *event {
         NetEvent::Deliver {
@@ -71,13 +74,34 @@ fn scope_of_net(subnet: &Subnet, event: &NetEvent) -> Scope
 
 /// Returns which parts an event can change.
 fn scope_of(subnet: &Subnet, event: &RawEvent) -> Scope
-    ensures { parts_in subnet.now.net result ≡ parts_of subnet.now.net event.now }
+    ensures { result ≡ scopes.scope_of subnet.now.net event.now }
 {
     match event {
         RawEvent::Out(message) => Scope::ImpAndLines(message.flow.source.imp()),
         RawEvent::Take(host) => Scope::ImpAndLines(host.imp()),
         RawEvent::Net(event) => scope_of_net(subnet, event),
         RawEvent::Calm(_) => Scope::Nothing,
+    }
+}
+
+/// Returns whether an IMP is among these parts.
+fn has_imp(scope: Scope, number: u8) -> bool
+    ensures { result ≡ scopes.has_imp scope number }
+{
+    match scope {
+        Scope::ImpAndLines(imp) | Scope::Imp(imp) => imp == number,
+        Scope::Line(_) | Scope::Nothing => false,
+    }
+}
+
+/// Returns whether a line is among these parts.
+fn has_line(scope: Scope, number: usize, line: &Wire) -> bool
+    ensures { result ≡ scopes.has_line scope number line.now }
+{
+    match scope {
+        Scope::ImpAndLines(imp) => line.ends_at(imp),
+        Scope::Line(other) => number == other as usize,
+        Scope::Imp(_) | Scope::Nothing => false,
     }
 }
 
@@ -178,98 +202,39 @@ pub(crate) fn all_members(alloc: Global, subnet: &Subnet) -> Result<Members, All
     Ok(members)
 }
 
-/// Prints a line of an IMP after another part. It prints nothing for a line that doesn't end there.
-fn print_line_of<W: Output>(
-    imp: u8,
-    number: usize,
-    line: &Wire,
-    writer: &mut W,
-) -> Result<(), WriteFailed>
-    requires { W.failed writer.old ≡ false }
-    ensures written { OnOk result (Appends (W.contents writer.old) (W.contents writer.new) (line_behind imp number line.now)) }
-    ensures failed { TellsFailure result (W.failed writer.new) }
-{
-    if !line.ends_at(imp) {
-        return Ok(());
-    }
-    writer.write_all(b",")?;
-    print_named_line(number, line, writer)
-}
-
-/// Prints an IMP and its lines.
-fn print_imp_and_lines<W: Output>(
-    subnet: &Subnet,
-    imp: u8,
-    writer: &mut W,
-) -> Result<(), WriteFailed>
-    requires { W.failed writer.old ≡ false }
-    ensures written { OnOk result (Appends (W.contents writer.old) (W.contents writer.new) (parts_text subnet.now.net (imp_and_lines subnet.now.net imp))) }
-    ensures failed { TellsFailure result (W.failed writer.new) }
-{
-    if !subnet.is_imp(imp) {
-        return writer.write_all(b"{}");
-    }
-    writer.write_all(b"{")?;
-    print_named_imp(subnet, imp, writer)?;
-    let lines = subnet.lines();
-    for number in 0..lines.len() {
-        print_line_of(imp, number, &lines[number], writer)?;
-    }
-    writer.write_all(b"}")
-}
-
-/// Prints an IMP.
-fn print_imp_alone<W: Output>(subnet: &Subnet, imp: u8, writer: &mut W) -> Result<(), WriteFailed>
-    requires { W.failed writer.old ≡ false }
-    ensures written { OnOk result (Appends (W.contents writer.old) (W.contents writer.new) (parts_text subnet.now.net (imp_alone subnet.now.net imp))) }
-    ensures failed { TellsFailure result (W.failed writer.new) }
-{
-    if !subnet.is_imp(imp) {
-        return writer.write_all(b"{}");
-    }
-    writer.write_all(b"{")?;
-    print_named_imp(subnet, imp, writer)?;
-    writer.write_all(b"}")
-}
-
-/// Prints a line.
-fn print_line_alone<W: Output>(
-    subnet: &Subnet,
-    line: u32,
-    writer: &mut W,
-) -> Result<(), WriteFailed>
-    requires { W.failed writer.old ≡ false }
-    ensures written { OnOk result (Appends (W.contents writer.old) (W.contents writer.new) (parts_text subnet.now.net (line_alone subnet.now.net line))) }
-    ensures failed { TellsFailure result (W.failed writer.new) }
-{
-    let lines = subnet.lines();
-    let number = line as usize;
-    if number >= lines.len() {
-        return writer.write_all(b"{}");
-    }
-    writer.write_all(b"{")?;
-    print_named_line(number, &lines[number], writer)?;
-    writer.write_all(b"}")
-}
-
-/// Prints the parts that an event can change, as a JSON object.
+/// Puts the parts that an event can change in the place of those before it. Returns the object of those that have changed, which
+/// begins in this room.
 ///
-/// Errors: `WriteFailed`.
-pub fn print_parts<W: Output>(
+/// Errors: `AllocError`.
+pub(crate) fn change(
     subnet: &Subnet,
     event: &RawEvent,
-    writer: &mut W,
-) -> Result<(), WriteFailed>
-    requires { W.failed writer.old ≡ false }
-    ensures written { OnOk result (Appends (W.contents writer.old) (W.contents writer.new) (parts_text subnet.now.net (parts_of subnet.now.net event.now))) }
-    ensures failed { TellsFailure result (W.failed writer.new) }
+    known: &mut Members,
+    room: Vec<u8>,
+) -> Result<Vec<u8>, AllocError>
+    requires inside { OnlyIn known.old (scope_of subnet.now.net event.now) subnet.now.net }
+    requires empty { room.items ≡ [] }
+    ensures known { OnOk result (known.new ≡ parts_members subnet.now.net (all_parts subnet.now.net)) }
+    ensures changed { IfOk result (λ text. text.items ≡ object (changed known.old (parts_members subnet.now.net (all_parts subnet.now.net)))) }
 {
-    match scope_of(subnet, event) {
-        Scope::ImpAndLines(imp) => print_imp_and_lines(subnet, imp, writer),
-        Scope::Imp(imp) => print_imp_alone(subnet, imp, writer),
-        Scope::Line(line) => print_line_alone(subnet, line, writer),
-        Scope::Nothing => writer.write_all(b"{}"),
+    let scope = scope_of(subnet, event);
+    let mut text = room;
+    let mut place: usize = 0;
+    for number in 0..subnet.imp_places() {
+        if subnet.is_imp(number) {
+            let part = ImpPart { subnet, number };
+            text = known.put(has_imp(scope, number), place, &part, text)?;
+            place += 1;
+        }
     }
+    let lines = subnet.lines();
+    for number in 0..lines.len() {
+        let line = &lines[number];
+        let part = LinePart { number, line };
+        text = known.put(has_line(scope, number, line), place, &part, text)?;
+        place += 1;
+    }
+    ended(text)
 }
 
 /// Prints an IMP after this many other parts. It prints nothing where there is none of this number. Returns the place after it.

@@ -7,7 +7,7 @@ ghost use Rattle.subnet_trace.specs.Traced.{subnet_inside};
 
 use crate::calm::next_in_calm;
 use crate::fates::fate_of;
-use crate::parts::{all_members, print_parts, print_whole};
+use crate::parts::{all_members, change, print_whole};
 use crate::place::{Place, Stage};
 use interface::{Carrier, CarrierFault, Crossing, HostAddr, HostMessage, Inbound, NetEvent};
 use replay::{Output, WriteFailed};
@@ -15,7 +15,7 @@ use script::RawEvent;
 use std::alloc::{AllocError, Global};
 use std::marker::Model;
 use subnet::Subnet;
-use trace::{Element, Fate, Inspect, Members};
+use trace::{Element, Fate, Inspect, Members, ended};
 
 /// A subnet whose inside can be traced: the subnet itself, and nothing else.
 ///
@@ -111,13 +111,18 @@ impl Inspect for TracedSubnet {
         all_members(alloc, &self.subnet)
     }
 
-    /// What crossed in the event does not matter: an event only says which parts it can change.
-    fn print_parts<W: Output>(
+    /// A refused event changes nothing. What crossed does not matter: an event says which parts it can change.
+    fn change(
         &self,
         event: &RawEvent,
         _crossings: &[Crossing],
-        writer: &mut W,
-    ) -> Result<(), WriteFailed> {
-        print_parts(&self.subnet, event, writer)
+        outcome: Result<(), CarrierFault>,
+        known: &mut Members,
+        room: Vec<u8>,
+    ) -> Result<Vec<u8>, AllocError> {
+        match outcome {
+            Ok(()) => change(&self.subnet, event, known, room),
+            Err(_) => ended(room),
+        }
     }
 }

@@ -1,5 +1,5 @@
 -- The first line of a trace determines the network.
-use Rattle.std.proofs.Common.{◌≡◌, ℕ, ◌<◌, ◌≤◌, ◌==◌, ◌&&◌, ◌||◌, nat_le, Bool, true, false, List, [], ◌∷◌, ◌++◌, codes, if◌then◌else◌, map, refl, sym, ap, ap₂, ◌∙◌, arith, lit<}
+use Rattle.std.proofs.Common.{◌≡◌, ℕ, ◌≤◌, ◌==◌, ◌&&◌, nat_le, Bool, true, false, List, [], ◌∷◌, ◌++◌, codes, if◌then◌else◌, map, refl, sym, ap, ◌∙◌, arith}
 use Rattle.std.proofs.lemmas.Bool.Decides.{nat_tests}
 use Rattle.std.proofs.lemmas.List.Elements.{All-cons, All-nil}
 use Rattle.std.specs.Fmt.{decimal}
@@ -14,7 +14,7 @@ use Rattle.topology.specs.declared.network.ImpHosts.{ImpHosts}
 use Rattle.topology.specs.declared.network.LineEnds.{LineEnds}
 use Rattle.trace.specs.Named.{IsShort}
 use Rattle.trace.specs.Texts.{array, bool_text, carrier_word, ends_text, further, member, opening_line, pair_text, quoted, site_text}
-use Rattle.trace.proofs.Closed.{Ends, IsClosed, Spelled, array_closed, array_once, first_same, is_plain, lists_spelled, member_closed, member_once, one_front, plain_closed, quoted_once, rest_same, string_closed}
+use Rattle.trace.proofs.Closed.{IsClosed, Spelled, array_closed, array_once, first_same, is_plain, lists_spelled, member_closed, member_once, one_front, plain_closed, quoted_once, rest_same, string_closed}
 use Rattle.trace.proofs.Decimals.{decimal_closed, short_once}
 
 -- ---- values

@@ -13,6 +13,8 @@ pub mod Rest
 pub mod Calms
 pub mod Changed
 pub mod Changing
+pub mod Putting
+pub mod Reached
 pub mod Courses
 pub mod Going
 pub mod Keeping

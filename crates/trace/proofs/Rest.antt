@@ -94,7 +94,7 @@ stepped_same old (net.GiveUp f) crossings h none = let apart = or_false (same_ho
 stepped_same old (net.HostDown g) crossings h none = absurd (cc)
 stepped_same old e crossings h none = (refl, refl)
 
-queues_left : (old new : Boxes) (e : RawEvent) (shown : List Shown) (h : Host) → Left old new e → Happens plain_calls old e new shown → reaches e (crossings_of shown) h ≡ false → Same old h new
+pub queues_left : (old new : Boxes) (e : RawEvent) (shown : List Shown) (h : Host) → Left old new e → Happens plain_calls old e new shown → reaches e (crossings_of shown) h ≡ false → Same old h new
 queues_left old new (event.Out m) shown h (inl same) k none = all_same old new h same
 queues_left old new (event.Out m) shown h (inr left) k none =
     let apart = or_false (same_host h m.flow.destination) (same_host h m.flow.source) none in
@@ -148,7 +148,7 @@ frame_of old new (event.Net e) (inl same) = same_frame old new same
 frame_of old new (event.Net e) (inr left) = frame_left old (stepped old e) new (stepped_frame old e) left.1
 frame_of old new (event.Calm rounds) left = absurd left
 
-down_left : (old new : Boxes) (e : RawEvent) → Left old new e → moves_host e ≡ false → new.down ≡ old.down
+pub down_left : (old new : Boxes) (e : RawEvent) → Left old new e → moves_host e ≡ false → new.down ≡ old.down
 down_left old new (event.Out m) (inl same) none = ap (λ b. b.down) same
 down_left old new (event.Out m) (inr left) none = ap (λ b. b.down) left.1
 down_left old new (event.Take g) (inl same) none = ap (λ b. b.down) same

@@ -1,4 +1,5 @@
 -- The lemmas of this crate that others may use: the proofs of command_line, subnet_trace and world_trace do. All others in proofs/ are its own.
+pub use Rattle.trace.proofs.Calling.{happens}
 pub use Rattle.trace.proofs.Calms.{elementary}
 pub use Rattle.trace.proofs.Changed.{none_changed}
 pub use Rattle.trace.proofs.Courses.{AllEvents, all_takings_events, idle_rounds, none_events, one_events, passes, rounds_events, takes_here, takings_all, then_events, then_twice}
@@ -7,5 +8,6 @@ pub use Rattle.trace.proofs.Decimals.{decimal_closed, decimal_lacks, digits_lack
 pub use Rattle.trace.proofs.Closed.{AreClosed, IsClosed, Spelled, Words, also_closed, array_closed, array_once, first_same, is_plain, lists_spelled, member_closed, member_once, none_closed, object_closed, object_once, other_first, plain_closed, quoted_once, rest_same, string_closed, strings_spelled}
 pub use Rattle.trace.proofs.Left.{Remains, begun, end_printed, left, maybe_printed, more_printed, next_printed, text_at}
 pub use Rattle.trace.proofs.Printed.{five, three}
+pub use Rattle.trace.proofs.Putting.{AllPut, PutSoFar, all_put, is_within, none_more, none_put, put_more}
 pub use Rattle.trace.proofs.Named.{SameThen, answer_spelled, bits_closed, bits_same, flow_closed, flow_named, flow_same, host_named, host_spelled, host_words}
 pub use Rattle.trace.proofs.PlainWords.{Any, bool_spelled, word_closed}

@@ -1,5 +1,5 @@
 -- What the contracts of private functions say. No public clause cites this file.
-use Rattle.std.specs.Prelude.{◌≡◌, ℕ, true, List, drop, Option, Some, None, Result, Ok, Err, IfErr}
+use Rattle.std.specs.Prelude.{◌≡◌, ℕ, true, false, List, drop, Option, Some, None, Result, Ok, Err, IfErr}
 use Rattle.leader1822.specs.Boxes.{Boxes}
 use Rattle.interface.specs.declared.carrier.CarrierFault.{CarrierFault}
 use Rattle.replay.specs.InTurn.{Happening}
@@ -13,6 +13,9 @@ use Rattle.trace.specs.Traces.{EndsEvent, Inside, MayTell, StopsElement, TellsEl
 use Rattle.interface.specs.Host.{Host}
 use Rattle.script.specs.declared.event.RawEvent.TheVariants as event
 use Rattle.trace.specs.Elements.{from_boxes, is_given, no_course, round_left, taking, takings_from, then_course}
+use Rattle.interface.specs.declared.crossing.Crossing.{Crossing}
+use Rattle.trace.specs.Parts.{Down, Waiting, SamePart, moves_host, reaches}
+use Rattle.trace.specs.Texts.{all_members}
 use Rattle.trace.specs.declared.element.Element.{Element}
 use Rattle.trace.specs.declared.element.Spot.{Spot}
 use Rattle.trace.specs.declared.turn.Turn.{Turn}
@@ -38,6 +41,14 @@ EventEnds calls inside old e r new before after =
     EndsAs (TellsEvent calls inside) (EndsEvent calls inside (StopsElement calls)) (EndsEvent calls inside (MayTell calls)) old e r new before after
 
 -- ---- plain mailboxes
+
+-- before an event all parts had these texts, and what it doesn't reach is as it was then
+pub record OnlyReached (texts : List (List ℕ)) (e : RawEvent) (crossings : List Crossing) (new : Boxes) : Type 0 where
+  pub old : Boxes
+  pub known : texts ≡ all_members old
+  pub hosts : new.hosts ≡ old.hosts
+  pub down : moves_host e ≡ false → SamePart Down old new
+  pub waiting : (h : Host) → reaches e crossings h ≡ false → SamePart (Waiting h) old new
 
 -- the next taking of a turn's round: none is left; or a host takes for which something waits, and then it is this turn of the same calm
 abbrev pub IsNext : Boxes → Turn → Option (Element × Turn) → Type 0

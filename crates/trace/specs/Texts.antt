@@ -15,7 +15,6 @@ use Rattle.interface.specs.declared.crossing.Crossing.TheVariants as crossing
 use Rattle.replay.specs.Output.{Shown, crossings_of, shown_text}
 use Rattle.replay.specs.declared.print.Detail.TheVariants.{Sizes}
 use Rattle.script.specs.Spelling.{spelling}
-use Rattle.script.specs.declared.event.RawEvent.{RawEvent}
 use Rattle.topology.specs.Topology.{TopologyFields}
 use Rattle.topology.specs.declared.network.CarrierKind.{CarrierKind}
 use Rattle.topology.specs.declared.network.CarrierKind.TheVariants as kind
@@ -25,7 +24,7 @@ use Rattle.trace.specs.declared.element.Element.{Element}
 use Rattle.trace.specs.declared.element.Spot.{Spot}
 use Rattle.trace.specs.declared.fate.Fate.{Fate}
 use Rattle.trace.specs.declared.fate.Fate.TheVariants as fate
-use Rattle.trace.specs.Parts.{Part, Down, Waiting, all_parts, parts_of}
+use Rattle.trace.specs.Parts.{Part, Down, Waiting, all_parts}
 
 -- ---- JSON
 
@@ -122,11 +121,7 @@ parts_members b parts = map (λ p. member (part_name p) (part_text b p)) parts
 abbrev pub parts_text : Boxes → List Part → List ℕ
 parts_text b parts = object (parts_members b parts)
 
--- those that an event can change in which this crossed
-abbrev pub changed_text : Boxes → RawEvent → List Crossing → List ℕ
-changed_text b e crossings = parts_text b (parts_of b.hosts e crossings)
-
--- and all of them
+-- all of them
 abbrev pub all_members : Boxes → List (List ℕ)
 all_members b = parts_members b (all_parts b.hosts)
 
@@ -186,7 +181,7 @@ abbrev pub shown_members : List Shown → List (List ℕ)
 shown_members shown = member (codes "crossed") (array (map crossing_object (crossings_of shown))) ∷ member (codes "printed") (strings (map (shown_text Sizes) shown)) ∷ []
 
 -- The line of an elementary event, without its end: where the script's event is that it belongs to; the round of its calm; the
--- event, as a line of a script; what became of the frame, if it delivered one; what it printed; and the object of the parts that it can change
+-- event, as a line of a script; what became of the frame, if it delivered one; what it printed; and the object of the parts that it changed
 abbrev pub trace_line : Spot → Element → Option Fate → List Shown → List ℕ → List ℕ
 trace_line spot x fate shown parts =
     object (member (codes "line") (decimal spot.line) ∷ member (codes "number") (decimal spot.number) ∷ member (codes "round") (decimal x.round) ∷ member (codes "event") (quoted (spelling x.event))

@@ -1,10 +1,11 @@
 -- What is written as a trace, over any carrier whose inside can be traced.
-use Rattle.std.specs.Prelude.{◌≡◌, ℕ, suc, ◌+◌, List, [], ◌∷◌, ◌++◌, Option, Some, None, if◌then◌else◌}
+use Rattle.std.specs.Prelude.{◌≡◌, ◌⊎◌, ℕ, suc, ◌+◌, List, [], ◌∷◌, ◌++◌, Option, Some, None, Result, if◌then◌else◌, reverse}
 use Rattle.leader1822.specs.Boxes.{Boxes}
 use Rattle.interface.specs.declared.crossing.Crossing.{Crossing}
 use Rattle.replay.specs.InTurn.{EndsInTurn, Happening, InTurn, WritesLines}
-use Rattle.replay.specs.Output.{Shown, crossings_of}
-use Rattle.replay.specs.Replay.{Happens, IsOneCall, MayDo, StopsIn}
+use Rattle.interface.specs.declared.carrier.CarrierFault.{CarrierFault}
+use Rattle.replay.specs.Output.{Shown}
+use Rattle.replay.specs.Replay.{EventGives, GoesOn, Happens, IsOneCall, MayDo}
 use Rattle.interface.specs.Calls.{Calls}
 use Rattle.script.specs.declared.event.RawEvent.{RawEvent}
 use Rattle.script.specs.Script.{asks, lines_of}
@@ -13,19 +14,19 @@ use Rattle.trace.specs.declared.element.Element.{Element}
 use Rattle.trace.specs.declared.element.Spot.{Spot}
 use Rattle.trace.specs.declared.fate.Fate.{Fate}
 use Rattle.trace.specs.Elements.{calm_of, elements_in}
-use Rattle.trace.specs.Texts.{all_members, changed_text, object, opening_line, trace_line}
+use Rattle.trace.specs.Changes.{changed}
+use Rattle.trace.specs.Texts.{all_members, object, opening_line, trace_line}
 
 -- what a carrier shows of its inside: the elementary events of a calm of this many rounds; all parts, each with its name, as members of
--- an object; the object of the parts that an event can change in which this crossed; and, before an event, what becomes of the frame that it delivers
+-- an object; and, before an event, what becomes of the frame that it delivers
 pub record Inside (C : Type 0) : Type 0 where
   pub calm : C → ℕ → List Element
   pub members : C → List (List ℕ)
-  pub parts : C → RawEvent → List Crossing → List ℕ
   pub fate : C → RawEvent → Option Fate
 
 -- what plain mailboxes show. They have no frames
 abbrev pub plain_inside : Inside Boxes
-plain_inside = record { calm = calm_of; members = all_members; parts = changed_text; fate = λ b e. None }
+plain_inside = record { calm = calm_of; members = all_members; fate = λ b e. None }
 
 -- ---- lines of a script
 
@@ -45,10 +46,14 @@ numbered_from number (e ∷ events) = (record { line = e.0; number = number }, e
 
 -- ---- a trace
 
--- an elementary event happens, and has one line, over the state after it
+-- the object of the parts that are other than before, whole, by all parts before and after
+abbrev pub change_text : {C : Type 0} → Inside C → C → C → List ℕ
+change_text inside old new = object (changed (inside.members old) (inside.members new))
+
+-- an elementary event happens, and has one line, with the parts that are other than before
 abbrev pub TellsElement : {C : Type 0} → Calls C → Inside C → Spot → Happening C Element (List ℕ)
 TellsElement calls inside spot old x new lines =
-    (shown : List Shown) × Happens calls old x.event new shown × (lines ≡ trace_line spot x (inside.fate old x.event) shown (inside.parts new x.event (crossings_of shown)) ∷ [])
+    (shown : List Shown) × Happens calls old x.event new shown × (lines ≡ trace_line spot x (inside.fate old x.event) shown (change_text inside old new) ∷ [])
 
 -- the elementary events of an event of a script happen one after the other
 abbrev pub TellsEvent : {C : Type 0} → Calls C → Inside C → Happening C (Spot × RawEvent) (List ℕ)
@@ -64,13 +69,13 @@ AfterOpening inside t opening AreLines lines = (others : List (List ℕ)) × (li
 
 -- ---- a trace that ends early, in one of the elementary events
 
--- memory ran out in an elementary event, which has no line
-abbrev pub StopsElement : {C : Type 0} → Calls C → Happening C Element (List ℕ)
-StopsElement calls old x new lines = StopsIn calls old x.event new [] × (lines ≡ [])
-
 -- the carrier processed an elementary event; how much of its line was written only the writer knows
 abbrev pub MayTell : {C : Type 0} → Calls C → Happening C Element (List ℕ)
 MayTell calls old x new lines = MayDo calls old x.event new [] × (lines ≡ [])
+
+-- memory ran out before an elementary event happened, in it, or for its line. It has no line
+abbrev pub StopsElement : {C : Type 0} → Calls C → Happening C Element (List ℕ)
+StopsElement calls old x new lines = ((new ≡ old) × (lines ≡ [])) ⊎ MayTell calls old x new lines
 
 -- the elementary events before one happened, and that one went as is said
 abbrev pub EndsEvent : {C : Type 0} → Calls C → Inside C → Happening C Element (List ℕ) → Happening C (Spot × RawEvent) (List ℕ)
@@ -93,3 +98,14 @@ GoesOnWith calls left old place None = left old place ≡ []
 GoesOnWith {C} calls left old place (Some next) =
     (later : List Element) × IsOneCall next.0.event × (left old place ≡ next.0 ∷ later)
     × ((new : C) (shown : List Shown) → Happens calls old next.0.event new shown → left new next.1 ≡ later)
+
+-- ---- what changes
+
+-- an elementary event has just happened in a carrier, in which this crossed, refused or not. Before it all parts had these texts
+pub record HasHappened {C : Type 0} (calls : Calls C) (members : C → List (List ℕ)) (texts : List (List ℕ)) (e : RawEvent) (crossings : List Crossing) (r : Result (Unit {0}) CarrierFault) (new : C) : Type 0 where
+  pub old : C
+  pub known : texts ≡ members old
+  pub one_call : IsOneCall e
+  pub gives : EventGives calls old e r new
+  pub goes_on : GoesOn r
+  pub grown : (calls.seen new).log ≡ reverse crossings ++ (calls.seen old).log

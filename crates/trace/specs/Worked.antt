@@ -1,6 +1,8 @@
 -- Words for worked examples: two hosts of IMP 1, one of IMP 2, and messages from the first to the third.
 use Rattle.std.specs.Prelude.{true, false, List, [], ◌∷◌}
-use Rattle.leader1822.specs.Boxes.{Boxes, offered, opening_boxes}
+use Rattle.std.specs.FinMap as map
+use Rattle.interface.specs.declared.crossing.Answer.TheVariants as answer
+use Rattle.leader1822.specs.Boxes.{Boxes, offered, opening_boxes, with_queue}
 use Rattle.interface.specs.Host.{Host}
 use Rattle.interface.specs.declared.address.Flow.{Flow}
 use Rattle.interface.specs.declared.event.NetEvent.TheVariants as net
@@ -34,6 +36,13 @@ empty = record { flow = record { source = first; destination = third; link = rec
 -- mailboxes in which the message of three bits waits
 abbrev pub one_waits : Boxes
 one_waits = offered (opening_boxes (first ∷ third ∷ [])) short
+
+-- that message waits, and after it was taken its answer does
+abbrev pub waiting : Boxes
+waiting = record (opening_boxes (first ∷ third ∷ [])) { messages = with_queue map.empty third (short ∷ []) }
+
+abbrev pub taken : Boxes
+taken = record (opening_boxes (first ∷ third ∷ [])) { answers = with_queue map.empty first ((answer.Rfnm, flow) ∷ []) }
 
 -- mailboxes of which only the hosts that are down matter
 abbrev pub with_down : List Host → Boxes

@@ -1,35 +1,39 @@
 //! Tracing a script's events over a carrier.
 
 ghost use Rattle.std.specs.Bool.{OnFalse, OnTrue};
-ghost use Rattle.std.specs.Prelude.{◌≡◌, ◌⊎◌, Err, IfErr, IfOk, OnOk, List, ℕ, false};
+ghost use Rattle.std.specs.Prelude.{◌≡◌, ◌⊎◌, Err, IfErr, IfOk, IfSome, OnOk, List, ℕ, false};
 ghost use Rattle.replay.specs.Failing.{TellsCannotWrite};
 ghost use Rattle.replay.specs.Replay.{GoesOn, Halts, IsCopied, IsOneCall};
 ghost use Rattle.script.specs.declared.event.RawEvent.TheVariants as script_event;
 ghost use Rattle.trace.specs.Steps.{Called, ElementEnds, EventEnds};
-ghost use Rattle.trace.specs.Traces.{AfterOpening, MayTell, StopsElement, TraceEnds, Traces, WritesTrace};
+ghost use Rattle.trace.specs.Changes.{changed};
+ghost use Rattle.trace.specs.Texts.{object};
+ghost use Rattle.trace.specs.Traces.{AfterOpening, HasHappened, MayTell, StopsElement, TraceEnds, Traces, WritesTrace};
 
 use crate::element::Spot;
 use crate::inspect::Inspect;
 use crate::line::print_line;
+use crate::members::Members;
 use crate::opening::print_opening;
-use interface::{Carrier, CarrierFault};
+use interface::{Carrier, CarrierFault, Crossing};
 use replay::{Output, ReplayFault};
 use script::RawEvent;
-use std::alloc::AllocError;
+use std::alloc::{AllocError, Global};
 use topology::Topology;
 
 /// Prints the network and all parts of its carrier, hands each elementary event of each event to the carrier in order, and prints
 /// one line for each: a JSON object with the place of the event in the script, the elementary event, what it printed, and the
-/// parts that it can change, as they are after it. Each event comes after the number of its line in the script.
+/// parts that it changed, as they are after it. Each event comes after the number of its line in the script.
 ///
 /// A refused event changes nothing, and has a line too.
 ///
 /// Errors:
-/// - `OutOfMemory`: memory ran out at one elementary event. The first line and those of the events before it were written, and
-///   none of its own.
+/// - `OutOfMemory`: memory ran out at one elementary event, or for its line. The first line and those of the events before it were
+///   written, and none of its own.
 /// - `CannotWrite`: a write failed. The carrier had already processed the elementary event whose line it was. Nothing more was
 ///   asked of the writer, which is the only one to know how much of its last lines it wrote.
 pub fn trace_events<C: Inspect, W: Output>(
+    alloc: Global,
     network: &Topology,
     carrier: &mut C,
     events: &[(usize, RawEvent)],
@@ -50,11 +54,21 @@ pub fn trace_events<C: Inspect, W: Output>(
     ensures cannot_write { result ≡ Err ReplayFault.CannotWrite → (carrier.new ≡ carrier.old) ⊎ ((others : List (List ℕ)) × TraceEnds C.calls C.inside (MayTell C.calls) carrier.old events.now carrier.new others) }
 {
     print_opening(network, carrier, writer)?;
-    trace_all(carrier, events, writer)
+    trace_all(alloc, carrier, events, writer)
+}
+
+/// The texts of all parts.
+#[derive(Drop)]
+struct Texts {
+    /// Each part with its name.
+    parts: Members,
+    /// The object of those that the last event changed.
+    changed: Vec<u8>,
 }
 
 /// Traces all events, each of which comes after the number of its line.
 fn trace_all<C: Inspect, W: Output>(
+    alloc: Global,
     carrier: &mut C,
     events: &[(usize, RawEvent)],
     writer: &mut W,
@@ -65,50 +79,67 @@ fn trace_all<C: Inspect, W: Output>(
     ensures failed { TellsCannotWrite result (W.failed writer.new) }
     ensures cannot_write { result ≡ Err ReplayFault.CannotWrite → (others : List (List ℕ)) × TraceEnds C.calls C.inside (MayTell C.calls) carrier.old events.now carrier.new others }
 {
+    let mut known = None;
     for place in 0..events.len() {
         let (line, event) = &events[place];
         let spot = Spot {
             line: *line,
             number: place + 1,
         };
-        trace_event(carrier, spot, event, writer)?;
+        trace_event(alloc, carrier, spot, event, &mut known, writer)?;
     }
     Ok(())
 }
 
-/// Traces one event, which is at this spot of a script.
+/// Traces one event, which is at this spot of a script. The texts of all parts may be known.
 fn trace_event<C: Inspect, W: Output>(
+    alloc: Global,
     carrier: &mut C,
     spot: Spot,
     event: &RawEvent,
+    known: &mut Option<Texts>,
     writer: &mut W,
 ) -> Result<(), ReplayFault>
-    requires { W.failed writer.old ≡ false }
+    requires whole { W.failed writer.old ≡ false }
+    requires known { IfSome known.old (λ t. t.parts ≡ C.inside.members carrier.old) }
     ensures ends { EventEnds C.calls C.inside carrier.old (spot, event.now) result carrier.new (W.contents writer.old) (W.contents writer.new) }
+    ensures known { OnOk result (IfSome known.new (λ t. t.parts ≡ C.inside.members carrier.new)) }
     ensures failed { TellsCannotWrite result (W.failed writer.new) }
 {
     match event {
         RawEvent::Out(_) | RawEvent::Take(_) | RawEvent::Net(_) => {
-            trace_element(carrier, spot, 0, event, writer)
+            trace_element(alloc, carrier, spot, 0, event, known, writer)
         }
-        RawEvent::Calm(rounds) => trace_calm(carrier, spot, *rounds, writer),
+        RawEvent::Calm(rounds) => trace_calm(alloc, carrier, spot, *rounds, known, writer),
     }
 }
 
 /// Traces a calm: one of its elementary events after another.
 fn trace_calm<C: Inspect, W: Output>(
+    alloc: Global,
     carrier: &mut C,
     spot: Spot,
     rounds: u32,
+    known: &mut Option<Texts>,
     writer: &mut W,
 ) -> Result<(), ReplayFault>
-    requires { W.failed writer.old ≡ false }
+    requires whole { W.failed writer.old ≡ false }
+    requires known { IfSome known.old (λ t. t.parts ≡ C.inside.members carrier.old) }
     ensures ends { EventEnds C.calls C.inside carrier.old (spot, script_event.Calm rounds) result carrier.new (W.contents writer.old) (W.contents writer.new) }
+    ensures known { OnOk result (IfSome known.new (λ t. t.parts ≡ C.inside.members carrier.new)) }
     ensures failed { TellsCannotWrite result (W.failed writer.new) }
 {
     let mut place = carrier.begin_calm(rounds);
     'elements: while let Some((element, next)) = carrier.next_in_calm(place) {
-        trace_element(carrier, spot, element.round, &element.event, writer)?;
+        trace_element(
+            alloc,
+            carrier,
+            spot,
+            element.round,
+            &element.event,
+            known,
+            writer,
+        )?;
         place = next;
     }
     Ok(())
@@ -116,17 +147,22 @@ fn trace_calm<C: Inspect, W: Output>(
 
 /// Hands an elementary event to the carrier, and prints its line.
 fn trace_element<C: Inspect, W: Output>(
+    alloc: Global,
     carrier: &mut C,
     spot: Spot,
     round: u32,
     event: &RawEvent,
+    known: &mut Option<Texts>,
     writer: &mut W,
 ) -> Result<(), ReplayFault>
     requires one_call { IsOneCall event.now }
     requires whole { W.failed writer.old ≡ false }
+    requires known { IfSome known.old (λ t. t.parts ≡ C.inside.members carrier.old) }
     ensures ends { ElementEnds C.calls C.inside spot carrier.old (record { round = round; event = event.now }) result carrier.new (W.contents writer.old) (W.contents writer.new) }
+    ensures known { OnOk result (IfSome known.new (λ t. t.parts ≡ C.inside.members carrier.new)) }
     ensures failed { TellsCannotWrite result (W.failed writer.new) }
 {
+    let texts = known_texts(alloc, carrier, known.take())?;
     let booked = carrier.log().len();
     let fate = carrier.fate(event);
     let outcome = call(carrier, event)?;
@@ -134,9 +170,56 @@ fn trace_element<C: Inspect, W: Output>(
         return Err(ReplayFault::OutOfMemory);
     }
     let (_, crossings) = carrier.log().split_at(booked);
-    Ok(print_line(
-        carrier, spot, round, event, fate, crossings, outcome, writer,
-    )?)
+    let texts = change(carrier, event, crossings, outcome, texts)?;
+    print_line(
+        spot,
+        round,
+        event,
+        fate,
+        crossings,
+        outcome,
+        &texts.changed,
+        writer,
+    )?;
+    *known = Some(texts);
+    Ok(())
+}
+
+/// Returns the texts of all parts of a carrier, which may be known.
+fn known_texts<C: Inspect>(
+    alloc: Global,
+    carrier: &C,
+    known: Option<Texts>,
+) -> Result<Texts, AllocError>
+    requires { IfSome known (λ t. t.parts ≡ C.inside.members carrier.now) }
+    ensures { IfOk result (λ t. t.parts ≡ C.inside.members carrier.now) }
+{
+    match known {
+        Some(texts) => Ok(texts),
+        None => Ok(Texts {
+            parts: carrier.members(alloc)?,
+            changed: Vec::new(alloc),
+        }),
+    }
+}
+
+/// Returns the texts of all parts after an event that has just happened, with the object of those that it changed.
+fn change<C: Inspect>(
+    carrier: &C,
+    event: &RawEvent,
+    crossings: &[Crossing],
+    outcome: Result<(), CarrierFault>,
+    texts: Texts,
+) -> Result<Texts, AllocError>
+    requires { HasHappened C.calls C.inside.members texts.parts event.now crossings.now outcome carrier.now }
+    ensures parts { IfOk result (λ t. t.parts ≡ C.inside.members carrier.now) }
+    ensures changed { IfOk result (λ t. t.changed.items ≡ object (changed texts.parts (C.inside.members carrier.now))) }
+{
+    let Texts { mut parts, changed } = texts;
+    let mut room = changed;
+    room.clear();
+    let changed = carrier.change(event, crossings, outcome, &mut parts, room)?;
+    Ok(Texts { parts, changed })
 }
 
 /// Returns whether running out of memory has stopped the carrier.

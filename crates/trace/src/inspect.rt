@@ -1,22 +1,23 @@
 //! Carriers whose inside can be traced.
 
-ghost use Rattle.std.specs.Prelude.{◌≡◌, IfOk, List, OnOk, false};
+ghost use Rattle.std.specs.Prelude.{◌≡◌, [], IfOk, List, OnOk, false};
 ghost use Rattle.std.specs.Io.KnownBytes.{Appends};
 ghost use Rattle.replay.specs.Failing.{TellsFailure};
+ghost use Rattle.trace.specs.Changes.{changed};
 ghost use Rattle.trace.specs.Texts.{object};
-ghost use Rattle.trace.specs.Traces.{GoesOnWith, Inside};
+ghost use Rattle.trace.specs.Traces.{GoesOnWith, HasHappened, Inside};
 ghost use Rattle.trace.specs.declared.element.Element.{Element};
 
 use crate::element::Element;
 use crate::fate::Fate;
 use crate::members::Members;
-use interface::{Carrier, Crossing};
+use interface::{Carrier, CarrierFault, Crossing};
 use replay::{Output, WriteFailed};
 use script::RawEvent;
 use std::alloc::{AllocError, Global};
 
-/// A carrier whose inside can be traced: it lists the elementary events of a calm one after another, and prints the parts
-/// that an event can change.
+/// A carrier whose inside can be traced: it lists the elementary events of a calm one after another, and says which parts an event
+/// has changed.
 pub trait Inspect: Carrier {
     /// A place in a calm, between two of its elementary events.
     type Place: Copy;
@@ -53,16 +54,20 @@ pub trait Inspect: Carrier {
     fn members(&self, alloc: Global) -> Result<Members, AllocError>
         ensures { IfOk result (λ members. members ≡ inside.members self.now) };
 
-    /// Prints the parts that an event can change in which this crossed, as a JSON object.
+    /// Puts the texts of the parts that an event has changed in the place of those before it. Returns these parts, each with its name,
+    /// as the text of an object, which begins in this room.
     ///
-    /// Errors: `WriteFailed`.
-    fn print_parts<W: Output>(
+    /// Errors: `AllocError`.
+    fn change(
         &self,
         event: &RawEvent,
         crossings: &[Crossing],
-        writer: &mut W,
-    ) -> Result<(), WriteFailed>
-        requires { W.failed writer.old ≡ false }
-        ensures written { OnOk result (Appends (W.contents writer.old) (W.contents writer.new) (inside.parts self.now event.now crossings.now)) }
-        ensures failed { TellsFailure result (W.failed writer.new) };
+        outcome: Result<(), CarrierFault>,
+        known: &mut Members,
+        room: Vec<u8>,
+    ) -> Result<Vec<u8>, AllocError>
+        requires happened { HasHappened Self.calls inside.members known.old event.now crossings.now outcome self.now }
+        requires empty { room.items ≡ [] }
+        ensures known { OnOk result (known.new ≡ inside.members self.now) }
+        ensures changed { IfOk result (λ text. text.items ≡ object (changed known.old (inside.members self.now))) };
 }

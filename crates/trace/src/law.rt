@@ -1,6 +1,6 @@
 //! What traces promise, as laws over their definitions. The functions here do nothing: each clause is the law.
 
-ghost use Rattle.std.specs.Prelude.{◌≡◌, ◌⊎◌, [], ℕ, List, length};
+ghost use Rattle.std.specs.Prelude.{◌≡◌, ◌⊎◌, [], ℕ, List, codes, false, is_ok, length};
 ghost use Rattle.std.specs.List.{All, Contains};
 ghost use Rattle.leader1822.specs.Boxes.{Boxes, opening_boxes, plain_calls};
 ghost use Rattle.interface.specs.Host.{Host};
@@ -13,6 +13,7 @@ ghost use Rattle.trace.specs.Elements.{elements_of, events_of};
 ghost use Rattle.trace.specs.Kept.{IsTold};
 ghost use Rattle.topology.specs.Topology.{IsTopology, TopologyFields};
 ghost use Rattle.trace.specs.Texts.{opening_line};
+ghost use Rattle.trace.specs.Traces.{change_text, plain_inside};
 ghost use Rattle.trace.specs.Laws.Rest.{RestParts};
 ghost use Rattle.trace.specs.Laws.Whole.{WholeTexts};
 
@@ -29,6 +30,11 @@ pub fn elementary()
 pub fn rest()
     ensures parts { RestParts }
     ensures hosts { (old new : Boxes) (e : RawEvent) (shown : List Shown) → IsOneCall e → Happens plain_calls old e new shown → new.hosts ≡ old.hosts }
+{}
+
+/// A refused event changes no part.
+pub fn refused()
+    ensures parts { (old new : Boxes) (e : RawEvent) (shown : List Shown) → IsOneCall e → (h : Happens plain_calls old e new shown) → is_ok h.outcome ≡ false → change_text plain_inside old new ≡ codes "{}" }
 {}
 
 /// The texts of all parts determine the whole state, but for the log, in every state that a replay comes to.

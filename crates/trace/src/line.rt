@@ -13,7 +13,6 @@ ghost use Rattle.trace.specs.Texts.{quoted, strings, trace_line};
 
 use crate::element::Spot;
 use crate::fate::Fate;
-use crate::inspect::Inspect;
 use crate::json::print_array;
 use crate::print::print_comma;
 use crate::spelling::print_event;
@@ -121,26 +120,26 @@ fn print_outcome<W: Output>(
     print_shown(crossings, outcome, writer)
 }
 
-/// Prints the line of an elementary event in which this crossed, or which was refused.
-pub(crate) fn print_line<C: Inspect, W: Output>(
-    carrier: &C,
+/// Prints the line of an elementary event in which this crossed, or which was refused, and which changed these parts.
+pub(crate) fn print_line<W: Output>(
     spot: Spot,
     round: u32,
     event: &RawEvent,
     fate: Option<Fate>,
     crossings: &[Crossing],
     outcome: Result<(), CarrierFault>,
+    parts: &[u8],
     writer: &mut W,
 ) -> Result<(), WriteFailed>
     requires goes_on { GoesOn outcome }
     requires whole { W.failed writer.old ≡ false }
-    ensures written { OnOk result (Appends (W.contents writer.old) (W.contents writer.new) (ended_line (trace_line spot (record { round = round; event = event.now }) fate (shown_crossings crossings.now ++ shown_refusal outcome) (C.inside.parts carrier.now event.now crossings.now)))) }
+    ensures written { OnOk result (Appends (W.contents writer.old) (W.contents writer.new) (ended_line (trace_line spot (record { round = round; event = event.now }) fate (shown_crossings crossings.now ++ shown_refusal outcome) parts.now))) }
     ensures failed { TellsFailure result (W.failed writer.new) }
 {
     print_head(spot, round, event, writer)?;
     print_fate(fate, writer)?;
     print_outcome(crossings, outcome, writer)?;
     writer.write_all(b",\"parts\":")?;
-    carrier.print_parts(event, crossings, writer)?;
+    writer.write_all(parts)?;
     writer.write_all(b"}\n")
 }

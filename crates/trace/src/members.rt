@@ -1,10 +1,10 @@
 //! The members of an object, and which of them have changed.
 
-ghost use Rattle.std.specs.Prelude.{◌≡◌, ◌++◌, [], ◌∷◌, IfOk, OnOk, false, length, nat_lt, not};
+ghost use Rattle.std.specs.Prelude.{◌≡◌, ◌<◌, ◌++◌, [], ◌∷◌, IfOk, OnOk, codes, false, length, nat_lt, not, slice_set};
 ghost use Rattle.std.specs.Io.KnownBytes.{Appends};
 ghost use Rattle.replay.specs.Failing.{TellsFailure};
-ghost use Rattle.trace.specs.Changes.{changed, is_at};
-ghost use Rattle.trace.specs.Joined.{part_behind, place_behind};
+ghost use Rattle.trace.specs.Changes.{changed, is_at, put_at, put_text};
+ghost use Rattle.trace.specs.Joined.{mark, part_behind, place_behind};
 ghost use Rattle.trace.specs.Texts.{object};
 
 use crate::json::{Item, mark};
@@ -12,6 +12,9 @@ use crate::page::Page;
 use replay::{Output, WriteFailed};
 use std::alloc::{AllocError, Global};
 use std::marker::Model;
+
+/// How many octets a text has room for at first: most need no more.
+const ROOM: usize = 1_024;
 
 /// The members of a JSON object, each as its text.
 #[derive(Drop)]
@@ -45,6 +48,47 @@ impl Members {
     {
         let text = text_of(alloc, item)?;
         Ok(self.texts.push(text)?)
+    }
+
+    /// Puts the text of an item, if it may have changed, in the place of the member at a place. Adds it to an object of members that
+    /// have changed, if it is other than that member. `object` is the text of this object without its end.
+    ///
+    /// Errors: `AllocError`.
+    pub fn put<T: Item>(
+        &mut self,
+        may: bool,
+        place: usize,
+        item: &T,
+        object: Vec<u8>,
+    ) -> Result<Vec<u8>, AllocError>
+        requires { place < length self.old }
+        ensures members { OnOk result (self.new ≡ put_at may self.old place (T.text item.now)) }
+        ensures object { IfOk result (λ text. text.items ≡ put_text may self.old place (T.text item.now) object.items) }
+    {
+        if !may {
+            return Ok(object);
+        }
+        let before = object.len();
+        let mut begun = object;
+        begun.extend_from_slice(mark("{", ",", before).as_bytes())?;
+        let begins = begun.len();
+        let mut text = text_after(begun, item)?;
+        if self.is_at(place, &text[begins..]) {
+            text.truncate(before);
+        } else {
+            self.set(place, &text[begins..])?;
+        }
+        Ok(text)
+    }
+
+    /// Puts a text in the place of the member at a place.
+    fn set(&mut self, place: usize, text: &[u8]) -> Result<(), AllocError>
+        requires { place < length self.old }
+        ensures { OnOk result (self.new ≡ slice_set self.old place text.now) }
+    {
+        let member = &mut self.texts[place];
+        member.clear();
+        Ok(member.extend_from_slice(text)?)
     }
 
     /// Returns whether the member at a place has this text.
@@ -95,11 +139,30 @@ impl Members {
 fn text_of<T: Item>(alloc: Global, item: &T) -> Result<Vec<u8>, AllocError>
     ensures { IfOk result (λ text. text.items ≡ T.text item.now) }
 {
-    let mut page = Page::new(alloc)?;
+    text_after(Vec::with_capacity(alloc, ROOM)?, item)
+}
+
+/// Adds the text of an item to a text.
+fn text_after<T: Item>(text: Vec<u8>, item: &T) -> Result<Vec<u8>, AllocError>
+    ensures { IfOk result (λ all. all.items ≡ text.items ++ T.text item.now) }
+{
+    let mut page = Page::over(text);
     match item.print(&mut page) {
         Ok(()) => Ok(page.into_octets()),
         Err(_) => Err(AllocError),
     }
+}
+
+/// Ends the text of an object of members that have changed.
+///
+/// Errors: `AllocError`.
+pub fn ended(object: Vec<u8>) -> Result<Vec<u8>, AllocError>
+    ensures { IfOk result (λ text. text.items ≡ object.items ++ mark (codes "{}") (codes "}") (length object.items)) }
+{
+    let before = object.len();
+    let mut object = object;
+    object.extend_from_slice(mark("{}", "}", before).as_bytes())?;
+    Ok(object)
 }
 
 /// Prints a member after this many others, unless it is the same as before. Returns the place after it.

@@ -1,14 +1,10 @@
 //! Octets that are put together in memory.
 
-ghost use Rattle.std.specs.Prelude.{◌≡◌, ◌++◌, [], IfOk, false};
+ghost use Rattle.std.specs.Prelude.{◌≡◌, ◌++◌, false};
 
 use replay::{Output, WriteFailed};
-use std::alloc::{AllocError, Global};
 use std::fmt;
 use std::fmt::{Display, Write};
-
-/// How many octets a page has room for at first.
-const ROOM: usize = 1_024;
 
 /// An output that keeps in memory what is printed. It does less for each piece than a `Printer` over a vector, which asks it in a
 /// loop and makes an error of an input or output of each failure.
@@ -20,15 +16,16 @@ pub(crate) struct Page {
 }
 
 impl Page {
-    /// Returns an empty page.
-    pub fn new(alloc: Global) -> Result<Page, AllocError>
-        ensures { IfOk result (λ page. (page.octets.items ≡ []) × (page.failed ≡ false)) }
+    /// Returns a page that has these octets.
+    pub fn over(octets: Vec<u8>) -> Page
+        ensures octets { result.octets.items ≡ octets.items }
+        ensures failed { result.failed ≡ false }
     {
-        Ok(Page {
-            octets: Vec::with_capacity(alloc, ROOM)?,
+        Page {
+            octets,
             failed: false,
             flushed: false,
-        })
+        }
     }
 
     /// Returns the octets.

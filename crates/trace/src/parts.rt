@@ -1,15 +1,17 @@
 //! The parts of plain mailboxes that an event can change, looked at and printed.
 
-ghost use Rattle.std.specs.Prelude.{◌≡◌, ◌++◌, [], ◌∷◌, IfOk, OnOk, false, if◌then◌else◌, codes};
+ghost use Rattle.std.specs.Prelude.{◌≡◌, ◌++◌, [], ◌∷◌, IfOk, OnOk, false, codes};
 ghost use Rattle.std.specs.Io.KnownBytes.{Appends};
 ghost use Rattle.replay.specs.Failing.{TellsFailure};
 ghost use Rattle.trace.specs.Joined.{begun};
 ghost use Rattle.trace.specs.Parts.{Down, Waiting, is_source, moves_host, reaches};
-ghost use Rattle.trace.specs.Texts.{all_members, changed_text, member, part_name, part_text, whole_text};
+ghost use Rattle.trace.specs.Changes.{changed};
+ghost use Rattle.trace.specs.Steps.{OnlyReached};
+ghost use Rattle.trace.specs.Texts.{all_members, member, object, part_name, part_text, whole_text};
 
 use crate::json::{Item, print_array};
-use crate::members::Members;
-use crate::print::{print_comma, print_waiting};
+use crate::members::{Members, ended};
+use crate::print::print_waiting;
 use interface::{Carrier, Crossing, HostAddr, NetEvent};
 use leader1822::PlainBoxes;
 use replay::{Output, WriteFailed};
@@ -111,41 +113,40 @@ pub(crate) fn all_members(alloc: Global, boxes: &PlainBoxes) -> Result<Members, 
     Ok(members)
 }
 
-/// Opens the object of parts, and prints the hosts that are down, where one stopped or started.
-fn open_parts<W: Output>(boxes: &PlainBoxes, moves: bool, writer: &mut W) -> Result<(), WriteFailed>
+/// Opens the object of parts, and prints the hosts that are down.
+fn open_parts<W: Output>(boxes: &PlainBoxes, writer: &mut W) -> Result<(), WriteFailed>
     requires { W.failed writer.old ≡ false }
-    ensures written { OnOk result (Appends (W.contents writer.old) (W.contents writer.new) (begun boxes.now (if moves then Down ∷ [] else []))) }
+    ensures written { OnOk result (Appends (W.contents writer.old) (W.contents writer.new) (begun boxes.now (Down ∷ []))) }
     ensures failed { TellsFailure result (W.failed writer.new) }
 {
-    if !moves {
-        return writer.write_all(b"{");
-    }
     writer.write_all(b"{\"down\":")?;
     print_array(&boxes.down(), writer)
 }
 
-/// Prints the parts that an event can change, which let these cross.
-pub fn print_parts<W: Output>(
+/// Puts the parts that an event can change, which let these cross, in the place of those before it. Returns the object of those that
+/// have changed, which begins in this room.
+///
+/// Errors: `AllocError`.
+pub(crate) fn change(
     boxes: &PlainBoxes,
     event: &RawEvent,
     crossings: &[Crossing],
-    writer: &mut W,
-) -> Result<(), WriteFailed>
-    requires { W.failed writer.old ≡ false }
-    ensures written { OnOk result (Appends (W.contents writer.old) (W.contents writer.new) (changed_text boxes.now event.now crossings.now)) }
-    ensures failed { TellsFailure result (W.failed writer.new) }
+    known: &mut Members,
+    room: Vec<u8>,
+) -> Result<Vec<u8>, AllocError>
+    requires reached { OnlyReached known.old event.now crossings.now boxes.now }
+    requires empty { room.items ≡ [] }
+    ensures known { OnOk result (known.new ≡ all_members boxes.now) }
+    ensures changed { IfOk result (λ text. text.items ≡ object (changed known.old (all_members boxes.now))) }
 {
-    let moves = moves_host(event);
-    open_parts(boxes, moves, writer)?;
-    let mut place: usize = if moves { 1 } else { 0 };
-    for host in boxes.hosts() {
-        if reaches(event, crossings, host) {
-            print_comma(place, writer)?;
-            print_host_part(boxes, host, writer)?;
-            place = 1;
-        }
+    let mut text = known.put(moves_host(event), 0, &DownPart(boxes), room)?;
+    let hosts = boxes.hosts();
+    for index in 0..hosts.len() {
+        let host = &hosts[index];
+        let part = WaitingPart { boxes, host };
+        text = known.put(reaches(event, crossings, host), index + 1, &part, text)?;
     }
-    writer.write_all(b"}")
+    ended(text)
 }
 
 /// Prints all parts.
@@ -154,7 +155,7 @@ pub fn print_whole<W: Output>(boxes: &PlainBoxes, writer: &mut W) -> Result<(), 
     ensures written { OnOk result (Appends (W.contents writer.old) (W.contents writer.new) (whole_text boxes.now)) }
     ensures failed { TellsFailure result (W.failed writer.new) }
 {
-    open_parts(boxes, true, writer)?;
+    open_parts(boxes, writer)?;
     for host in boxes.hosts() {
         writer.write_all(b",")?;
         print_host_part(boxes, host, writer)?;

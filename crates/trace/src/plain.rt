@@ -9,10 +9,10 @@ ghost use Rattle.trace.specs.Traces.{plain_inside};
 use crate::element::Element;
 use crate::fate::Fate;
 use crate::inspect::Inspect;
-use crate::members::Members;
-use crate::parts::{all_members, print_parts, print_whole};
+use crate::members::{Members, ended};
+use crate::parts::{all_members, change, print_whole};
 use crate::turn::Turn;
-use interface::{Carrier, Crossing, HostAddr};
+use interface::{Carrier, CarrierFault, Crossing, HostAddr};
 use leader1822::PlainBoxes;
 use replay::{Output, WriteFailed};
 use script::RawEvent;
@@ -102,12 +102,18 @@ impl Inspect for PlainBoxes {
         all_members(alloc, self)
     }
 
-    fn print_parts<W: Output>(
+    /// A refused event changes nothing.
+    fn change(
         &self,
         event: &RawEvent,
         crossings: &[Crossing],
-        writer: &mut W,
-    ) -> Result<(), WriteFailed> {
-        print_parts(self, event, crossings, writer)
+        outcome: Result<(), CarrierFault>,
+        known: &mut Members,
+        room: Vec<u8>,
+    ) -> Result<Vec<u8>, AllocError> {
+        match outcome {
+            Ok(()) => change(self, event, crossings, known, room),
+            Err(_) => ended(room),
+        }
     }
 }

@@ -6,7 +6,7 @@ The traces of all examples over raw networks, and of random scripts, as the mode
 - The column of events is itself a script: it prints the same again, in the model, and by the program, where one is kept; and it
   comes to the same parts.
 - The lines that are given as printed are, one after the other, what the script prints.
-- What an event's parts do not name is as before: who puts the named parts in the place of the old ones has all of them.
+- An event's parts are those that are other than before: who puts them in the place of the old ones has all parts, and none is as it was.
 - The trace leaves nothing out: networks made anew from its first line and their parts, in the middle of a script, continue alike:
   they print the same and come to the same parts.
 - What has crossed is what is printed, and what becomes of frames is what their parts show.
@@ -14,8 +14,8 @@ The traces of all examples over raw networks, and of random scripts, as the mode
 - Each line is an object of JSON, in which no member is twice.
 - Of networks with host programs, examples and as many random scripts, if the program traces them: see trace_worlds.
 
-Then rules are broken in turn, and some script has to show it: events left out of a calm or given as one, parts that are not named,
-values left out of the texts of parts, lines left out of the first line, and other fates of frames; and of networks with host programs
+Then rules are broken in turn, and some script has to show it: events left out of a calm or given as one, parts that changed and are not
+named, parts compared with another state than the one before, values left out of the texts of parts, lines left out of the first line, and other fates of frames; and of networks with host programs
 traces without an RRP that is owed, without a service, and without others of what they tell have to be found wrong.
 """
 
@@ -123,20 +123,25 @@ def fates_are_shown(network: Topology, records: Records) -> None:
             raise Wrong("the crossings are not those of the lines")
         if ("fate" in record) != (record["event"].startswith("deliver ") and not record["printed"]):
             raise Wrong("a frame that arrives has no fate, or another event has one")
-        before = {name: parts[name] for name in record["parts"]}
+        before = dict(parts)
         parts.update(record["parts"])
-        if "fate" in record and not is_shown(record["fate"], before, record["parts"]):
+        if "fate" in record and not is_shown(record["fate"], reached(network, record["event"]), before, parts):
             raise Wrong(f"the parts do not show that a frame is `{record['fate']}`")
 
 
-def is_shown(fate: str, before: Object, after: Object) -> bool:
-    """Whether parts before and after a frame's arrival show what became of it."""
+def reached(network: Topology, event: str) -> str:
+    """The name of the IMP at the far end of the line on which a frame arrives."""
+    _, line, way, _ = event.split(" ")
+    return f"imp {network.lines[int(line)]['-+'.index(way)]}"
+
+
+def is_shown(fate: str, name: str, before: Object, after: Object) -> bool:
+    """Whether all parts before and after a frame's arrival at an IMP show what became of it."""
     if fate in UNCHANGED:
         return before == after
-    name = next(iter(after), "")
-    if not name.startswith("imp "):
-        return False
     was, now = before[name], after[name]
+    if was is None or now is None:
+        return False
     is_accepted = [it["expected"] for it in was["ports"]] != [it["expected"] for it in now["ports"]]
     if is_accepted != (fate not in ("acks", "distances", "repeat")):
         return False
@@ -163,10 +168,12 @@ def followed(network: Topology, opening_parts: Object, records: Records) -> tupl
         raise Wrong("the first line has other parts")
     for place, record in enumerate(records):
         after(replayed, [record["event"]])
+        if any(parts[name] == part for name, part in record["parts"].items()):
+            raise Wrong("a part is named that is as it was")
         parts.update(record["parts"])
         if place in places:
             if parts != all_parts(replayed):
-                raise Wrong("a part changed that isn't named")
+                raise Wrong("a part changed that isn't named, or another one is named")
             kept.append((place + 1, json.loads(json.dumps(parts))))
     return replayed, kept
 
@@ -383,6 +390,44 @@ def named_less(kind: str, leave: Callable[[int, str], bool]) -> Broken:
     return with_class(Less)
 
 
+class AllNamed(Traced):
+    """Parts are named that are as they were."""
+
+    def changed(self, names: Iterable[str]) -> Object:
+        return {name: self.of.part(self.place, name) for name in names}
+
+
+class Opening(Traced):
+    """Parts are compared with those at the opening."""
+
+    def changed(self, names: Iterable[str]) -> Object:
+        first, changed = {**self.parts}, super().changed(names)
+        self.parts = first
+        return changed
+
+
+class TwoAgo(Traced):
+    """Parts are compared with those before the event before."""
+
+    def __init__(self, place: Carrier) -> None:
+        super().__init__(place)
+        self.before = {**self.parts}
+
+    def changed(self, names: Iterable[str]) -> Object:
+        now = {name: self.of.part(self.place, name) for name in names}
+        changed = {name: part for name, part in now.items() if part != self.before[name]}
+        self.before = {**self.parts}
+        self.parts.update(now)
+        return changed
+
+
+COMPARED = {
+    "parts are named that are as they were": with_class(AllNamed),
+    "parts are compared with those at the opening": with_class(Opening),
+    "parts are compared with those two events ago": with_class(TwoAgo),
+}
+
+
 def boxes_with(change: Callable[[str, Any], Any]) -> Broken:
     """Another text of a part of mailboxes, wherever it is given."""
     kept = OF_BOXES.part
@@ -438,6 +483,7 @@ def lines_with(change: Change) -> Broken:
 
 
 BOXES_BROKEN = {
+    **COMPARED,
     "a calm traced as one event": with_class(CalmAtOnce),
     "the source of what came in is not named": named_less("take", lambda at, name: at > 0),
     "a queue in reverse": queues_with(messages=lambda it: it[::-1]),
@@ -446,6 +492,7 @@ BOXES_BROKEN = {
     "who is down is not told": boxes_with(lambda name, part: [] if name == "down" else part),
 }
 SUBNET_BROKEN = {
+    **COMPARED,
     "a calm traced as one event": with_class(CalmAtOnce),
     "what is told to neighbours is left out of a calm": not_told("route"),
     "what is sent again is left out of a calm": not_told("resend"),

@@ -27,10 +27,9 @@ class Seen:
         self.arrived: set[str] = set()
 
     def lines(self, trace: Iterable[str]) -> Iterator[tuple[str, Sequence[str]]]:
-        """For each record the name of its first part, and what is printed and seen."""
+        """For each record the name of an IMP or a line that its event names, and what is printed and seen."""
         for record in trace:
             read = json.loads(record)
-            name = next(iter(read["parts"]), "")
             found = list(read["printed"])
             if read.get("fate", "impdown") not in ("impdown", "enddown"):
                 found += self.arrivals(read["event"])
@@ -38,7 +37,15 @@ class Seen:
                 if part.startswith("imp "):
                     found += self.changes(part, value)
                 self.parts[part] = value
-            yield name, found
+            yield self.named(read["event"]), found
+
+    def named(self, event: str) -> str:
+        """The IMP or the line that is first in an event, as its part is called; empty where the network has none of this number."""
+        kind, first = event.split(" ")[:2]
+        number = int(first.rpartition("/")[2])
+        if kind in ("deliver", "drop"):
+            return f"line {number}" if number < len(self.network.lines) else ""
+        return f"imp {number}" if any(it.number == number for it in self.network.imps) else ""
 
     def arrivals(self, event: str) -> Iterator[str]:
         """What a frame brings to an IMP that it is for, for the first time."""

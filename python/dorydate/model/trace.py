@@ -134,6 +134,7 @@ class Traced:
 
     def __init__(self, place: Carrier) -> None:
         self.place, self.of = place, of(place)
+        self.parts = all_parts(place)
 
     def happen(self, line: int, number: int, event: Event) -> Iterator[Object]:
         """The records of an event of the script: its line, and which event it is."""
@@ -156,8 +157,15 @@ class Traced:
             **({"fate": fate} if fate else {}),
             "crossed": [crossing_of(it) for it in crossed],
             "printed": self.place.printed[shown:],
-            "parts": {name: self.of.part(self.place, name) for name in self.of.names(self.place, event, crossed)},
+            "parts": self.changed(self.of.names(self.place, event, crossed)),
         }
+
+    def changed(self, names: Iterable[str]) -> dict[str, Part]:
+        """Those of these parts that are other than they were."""
+        now = {name: self.of.part(self.place, name) for name in names}
+        changed = {name: part for name, part in now.items() if part != self.parts[name]}
+        self.parts.update(changed)
+        return changed
 
     def calm(self, numbers: tuple[int, int], rounds: int) -> Iterator[Object]:
         """A calm: what its quiet rounds do, and the takings that give something."""

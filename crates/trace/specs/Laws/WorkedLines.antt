@@ -3,12 +3,12 @@ use Rattle.std.specs.Prelude.{◌≡◌, [], ◌∷◌, None, Some, codes, true}
 use Rattle.interface.specs.declared.carrier.CarrierFault.TheVariants as fault
 use Rattle.interface.specs.declared.crossing.Crossing.TheVariants as crossing
 use Rattle.interface.specs.declared.event.NetEvent.TheVariants as net
-use Rattle.leader1822.specs.Boxes.{opening_boxes}
 use Rattle.replay.specs.Output.{Crossed, Refused}
 use Rattle.script.specs.declared.event.RawEvent.TheVariants as event
 use Rattle.topology.specs.declared.network.CarrierKind.TheVariants as kind
-use Rattle.trace.specs.Texts.{changed_text, opening_line, trace_line}
-use Rattle.trace.specs.Worked.{first, hosts, short, third, with_down}
+use Rattle.trace.specs.Texts.{opening_line, trace_line}
+use Rattle.trace.specs.Traces.{change_text, plain_inside}
+use Rattle.trace.specs.Worked.{first, short, taken, third, waiting, with_down}
 use Rattle.trace.specs.declared.fate.Fate.TheVariants as fate
 
 -- the network: the order of its lines says which of them line 0 is, and which way `+` is
@@ -31,7 +31,7 @@ WorkedLinesStart =
       round = 0;
       event = event.Net (net.HostUp third);
     }) None (Crossed (crossing.Up third) ∷
-    []) (changed_text (with_down (first ∷ [])) (event.Net (net.HostUp third)) (crossing.Up third ∷ []))
+    []) (change_text plain_inside (with_down (third ∷ first ∷ [])) (with_down (first ∷ [])))
     ≡ codes
     "{\"line\":9,\"number\":7,\"round\":0,\"event\":\"hostup 0/2\",\"crossed\":[{\"kind\":\"up\",\"host\":\"0/2\"}],\"printed\":[\"up 0/2\"],\"parts\":{\"down\":[\"0/1\"]}}"
 
@@ -41,7 +41,7 @@ WorkedLinesRefused =
       round = 0;
       event = event.Net (net.Resend 1);
     }) None (Refused fault.NoSuch ∷
-    []) (changed_text (with_down []) (event.Net (net.Resend 1)) [])
+    []) (change_text plain_inside (with_down []) (with_down []))
     ≡ codes
     "{\"line\":12,\"number\":12,\"round\":0,\"event\":\"resend 1\",\"crossed\":[],\"printed\":[\"refused NoSuch\"],\"parts\":{}}"
 
@@ -51,9 +51,9 @@ WorkedLinesTaken =
       round = 2;
       event = event.Take third;
     }) None (Crossed (crossing.In short) ∷
-    []) (changed_text (opening_boxes hosts) (event.Take third) (crossing.In short ∷ []))
+    []) (change_text plain_inside waiting taken)
     ≡ codes
-    "{\"line\":3,\"number\":3,\"round\":2,\"event\":\"take 0/2\",\"crossed\":[{\"kind\":\"in\",\"from\":\"0/1\",\"to\":\"0/2\",\"link\":5,\"bits\":3,\"octets\":\"A0\"}],\"printed\":[\"in 0/1 0/2 5 3\"],\"parts\":{\"host 0/1\":{\"messages\":[],\"answers\":[]},\"host 0/2\":{\"messages\":[],\"answers\":[]}}}"
+    "{\"line\":3,\"number\":3,\"round\":2,\"event\":\"take 0/2\",\"crossed\":[{\"kind\":\"in\",\"from\":\"0/1\",\"to\":\"0/2\",\"link\":5,\"bits\":3,\"octets\":\"A0\"}],\"printed\":[\"in 0/1 0/2 5 3\"],\"parts\":{\"host 0/1\":{\"messages\":[],\"answers\":[{\"kind\":\"rfnm\",\"from\":\"0/1\",\"to\":\"0/2\",\"link\":5}]},\"host 0/2\":{\"messages\":[],\"answers\":[]}}}"
 
 -- the fate of a frame comes before what crossed
 abbrev pub WorkedLinesDelivered : Type 0

@@ -1,4 +1,4 @@
-use Rattle.std.proofs.Common.{◌+◌, ℕ, List, Option, ap, arith, subst, sym, ◌∙◌}
+use Rattle.std.proofs.Common.{◌+◌, ℕ, Option, ap, arith, subst, sym, ◌∙◌}
 use Rattle.std.specs.Io.KnownBytes.{Appends}
 use Rattle.replay.proofs.lemmas.{on_ok}
 use Rattle.subnet_trace.specs.Printing.{next_behind, place_after}

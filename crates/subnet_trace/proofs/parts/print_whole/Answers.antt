@@ -1,4 +1,4 @@
-use Rattle.std.proofs.Common.{◌≡◌, ◌<◌, ◌≤◌, ◌+◌, ◌++◌, ℕ, ap, arith, codes, length, refl, subst, sym, ◌∙◌}
+use Rattle.std.proofs.Common.{◌≡◌, ◌<◌, ◌+◌, ℕ, ap, arith, codes, length, subst, sym, ◌∙◌}
 use Rattle.std.proofs.lemmas.List.{get_or_read}
 use Rattle.std.specs.Io.KnownBytes.{Appends}
 use Rattle.std.proofs.KnownBytes.{Appends-trans}
@@ -7,7 +7,7 @@ use Rattle.subnet.specs.Net.{Net, no_wire, wire_at}
 use Rattle.subnet_trace.specs.Parts.{Line, all_parts, part_name, parts_text}
 use Rattle.subnet_trace.specs.Printing.{named}
 use Rattle.subnet_trace.specs.Texts.{line_text}
-use Rattle.subnet_trace.proofs.PrintedParts.{imp_printed, imps_done, rest_left, rest_printed, whole_begins, whole_left, whole_printed}
+use Rattle.subnet_trace.proofs.PrintedParts.{imp_printed, imps_done, rest_printed, whole_begins, whole_left, whole_printed}
 use Rattle.subnet_trace.proofs.parts.print_whole.Goals as goal
 use Rattle.trace.proofs.lemmas.{Remains}
 use Rattle.trace.specs.Joined.{mark}

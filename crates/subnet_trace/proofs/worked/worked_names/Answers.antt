@@ -1,8 +1,5 @@
-use Rattle.std.proofs.Common.{◌≡◌, ℕ, List, [], ◌∷◌, Option, None, Some, length, ap, refl, arith}
-use Rattle.imp_channel.specs.declared.frame.Frame.{Frame}
+use Rattle.std.proofs.Common.{◌≡◌, ℕ, List, [], ◌∷◌, None, Some, length, ap, refl, arith}
 use Rattle.imp_node.specs.Examples.{ack_frame}
-use Rattle.imp_node.specs.State.{State}
-use Rattle.interface.specs.Host.{Host}
 use Rattle.subnet.specs.Examples.{imp_1}
 use Rattle.subnet.specs.Net.{Wire}
 use Rattle.subnet_trace.specs.Parts.{Line}

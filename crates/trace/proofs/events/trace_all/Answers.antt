@@ -10,7 +10,7 @@ pub loop-place-init : goal.loop-place-init
 loop-place-init g c =
     let calls : Calls g.row.C.Denot = g.C.Carrier.calls in
     let inside : Inside g.row.C.Denot = g.C.Inspect.inside in
-    (refl, none_yet (TellsEvent calls inside) c.args.carrier.now (numbered_from 1 c.args.events.now) (g.W.Output.contents c.args.writer.now), c.requires.whole)
+    (refl, none_yet (TellsEvent calls inside) c.args.carrier.now (numbered_from 1 c.args.events.now) (g.W.Output.contents c.args.writer.now), c.requires.whole, tt)
 
 pub loop-place-preserved : goal.loop-place-preserved
 loop-place-preserved g c =
@@ -21,6 +21,7 @@ loop-place-preserved g c =
       one_more (TellsEvent calls inside) c.args.carrier.now c.loop-place.carrier c.trace_event.new.carrier (numbered_from 1 c.args.events.now) (numbered_from (i + 1) (drop i c.args.events.now)) (numbered_from (i + 1 + 1) (drop (i + 1) c.args.events.now)) (at_place i c.index-events-place.result)
           (g.W.Output.contents c.args.writer.now) (g.W.Output.contents c.loop-place.writer) (g.W.Output.contents c.trace_event.new.writer) (numbered_more c.args.events.now i c.index-events-place.result c.loop-place-test.true c.index-events-place.is) c.loop-place.invariant.1 c.in_ok-trace_event.ensures.ends,
       c.in_ok-trace_event.ensures.failed,
+      c.in_ok-trace_event.ensures.known,
     )
 
 pub returns-clause-traced : goal.returns-clause-traced

@@ -1,14 +1,14 @@
-use Rattle.std.proofs.Common.{◌≡◌, ◌+◌, drop, false, length}
+use Rattle.std.proofs.Common.{◌≡◌, ◌+◌, IfSome, drop, false, length}
 use Rattle.interface.specs.Calls.{Calls}
 use Rattle.trace.specs.Traces.{Inside, TellsEvent, numbered_from}
 use Rattle.trace.proofs.Telling.{SoFar}
 use Rattle.trace.proofs.events.trace_all.Given as goal
 
--- the events so far happened, and their lines are written; no write has failed
+-- the events so far happened, and their lines are written; no write has failed; the texts are those of all parts, if they are known
 abbrev pub invariant-loop-place : goal.invariant-loop-place
 invariant-loop-place g l =
     let calls : Calls g.row.C.Denot = g.C.Carrier.calls in
     let inside : Inside g.row.C.Denot = g.C.Inspect.inside in
     (l.place-end ≡ length l.events)
     × SoFar (TellsEvent calls inside) l.fn.carrier (numbered_from 1 l.events) (numbered_from (l.place + 1) (drop l.place l.events)) l.carrier (g.W.Output.contents l.fn.writer) (g.W.Output.contents l.writer)
-    × (g.W.Output.failed l.writer ≡ false)
+    × (g.W.Output.failed l.writer ≡ false) × IfSome l.known (λ t. t.parts ≡ inside.members l.carrier)

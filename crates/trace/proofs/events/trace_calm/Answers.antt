@@ -13,7 +13,8 @@ elements-init g c =
     let inside : Inside g.row.C.Denot = g.C.Inspect.inside in (
       subst (λ (left : List Element). SoFar (TellsElement calls inside c.args.spot) c.args.carrier.now (inside.calm c.args.carrier.now c.args.rounds) left c.args.carrier.now (g.W.Output.contents c.args.writer.now) (g.W.Output.contents c.args.writer.now)) (sym c.begin_calm-place.ensures)
           (none_yet (TellsElement calls inside c.args.spot) c.args.carrier.now (inside.calm c.args.carrier.now c.args.rounds) (g.W.Output.contents c.args.writer.now)),
-      c.requires,
+      c.requires.whole,
+      c.requires.known,
     )
 
 -- an elementary event that holds a message is dropped in another way than any other: each of the two goals is there twice
@@ -24,6 +25,7 @@ elements-preserved g c =
       calm_more calls inside g.C.Inspect.left c.args.spot c.args.carrier.now c.elements.carrier c.trace_element.new.carrier c.elements.place c.in-Some.next c.in-Some.element (inside.calm c.args.carrier.now c.args.rounds)
           (g.W.Output.contents c.args.writer.now) (g.W.Output.contents c.elements.writer) (g.W.Output.contents c.trace_element.new.writer) c.in-Some.ensures c.elements.invariant.0 c.in_ok-trace_element.ensures.ends,
       c.in_ok-trace_element.ensures.failed,
+      c.in_ok-trace_element.ensures.known,
     )
 
 pub elements-preserved-in_ok-trace_element : goal.elements-preserved-in_ok-trace_element
@@ -33,6 +35,7 @@ elements-preserved-in_ok-trace_element g c =
       calm_more calls inside g.C.Inspect.left c.args.spot c.args.carrier.now c.elements.carrier c.trace_element.new.carrier c.elements.place c.in-Some.next c.in-Some.element (inside.calm c.args.carrier.now c.args.rounds)
           (g.W.Output.contents c.args.writer.now) (g.W.Output.contents c.elements.writer) (g.W.Output.contents c.trace_element.new.writer) c.in-Some.ensures c.elements.invariant.0 c.in_ok-trace_element.ensures.ends,
       c.in_ok-trace_element.ensures.failed,
+      c.in_ok-trace_element.ensures.known,
     )
 
 pub elements-smaller : goal.elements-smaller

@@ -1,10 +1,8 @@
-use Rattle.std.proofs.Common.{◌≡◌, ◌∙◌, ◌<◌, List, [], arith, codes, drop, length, not, subst, sym}
+use Rattle.std.proofs.Common.{◌≡◌, ◌∙◌, ◌<◌, [], arith, length, sym}
 use Rattle.std.specs.Prelude.{slice_index_or}
 use Rattle.trace.specs.Changes.{changed}
-use Rattle.trace.specs.Joined.{place_behind}
 use Rattle.trace.specs.Texts.{object}
 use Rattle.trace.proofs.Changing.{member_printed, text_there}
-use Rattle.trace.proofs.Left.{Remains, left}
 use Rattle.trace.proofs.members.Members.print_changed.Goals as goal
 
 pub loop-place-preserved : goal.loop-place-preserved

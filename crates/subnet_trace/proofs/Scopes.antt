@@ -1,0 +1,282 @@
+-- What is outside of an event's scope stays, and the parts that are in it are put in their places.
+use Rattle.std.proofs.Common.{◌≡◌, ◌≢◌, inl, inr, ℕ, zero, suc, ◌<◌, ◌≤◌, ◌+◌, ◌==◌, ◌||◌, Bool, true, false, List, [], ◌∷◌, ◌++◌, codes, if◌then◌else◌, is_ok, length, map, nat_lt, Option, Some, None, Result, Ok, Err, slice_get, refl, sym, ap, ap₂, subst, ◌∙◌, arith}
+use Rattle.std.proofs.lemmas.Bool.{false≢true}
+use Rattle.std.proofs.lemmas.Bool.Decides.{nat_tests}
+use Rattle.std.proofs.lemmas.List.{get_or-set_other, length-map}
+use Rattle.interface.specs.Host.{Host}
+use Rattle.interface.specs.declared.CarrierFault.{CarrierFault}
+use Rattle.interface.specs.declared.Inbound.{Inbound}
+use Rattle.interface.specs.declared.NetEvent.{NetEvent}
+use Rattle.interface.specs.declared.NetEvent.TheVariants as net
+use Rattle.interface.specs.declared.crossing.Crossing.{Crossing}
+use Rattle.interface.specs.declared.event.Direction.{Direction}
+use Rattle.interface.specs.declared.event.Direction.TheVariants as way
+use Rattle.imp_channel.specs.declared.frame.Frame.{Frame}
+use Rattle.imp_node.specs.State.{ImpTurn, State}
+use Rattle.imp_node.specs.Offering.{from_host}
+use Rattle.imp_node.specs.Stopping.{host_down, host_up}
+use Rattle.imp_node.specs.Taking.{to_host}
+use Rattle.replay.specs.Output.{Shown, shown_crossings, shown_refusal}
+use Rattle.replay.specs.Replay.{EventGives, GoesOn, Happens, IsOneCall, outcome_of}
+use Rattle.script.specs.declared.event.RawEvent.{RawEvent}
+use Rattle.script.specs.declared.event.RawEvent.TheVariants as event
+use Rattle.subnet.specs.Calls.{Kept, refusal_of, running, step_grows, take_grows}
+use Rattle.subnet.specs.Events.{at_imp, deliver, delivered, drop_frame, frame_refusal, imp_started, imp_stopped, is_imp, offer_out, offer_refusal, step_refusal, stepped, take_in, take_refusal, taken_by_host}
+use Rattle.subnet.specs.Net.{Net, Wire, dropping, far_end, frames_on, imp_at, no_wire, wire_at, with_turn}
+use Rattle.subnet.specs.Working.{subnet_calls}
+use Rattle.subnet_trace.specs.Parts.{Imp, Line, all_parts, part_name, parts_members}
+use Rattle.subnet_trace.specs.Printing.{named}
+use Rattle.subnet_trace.specs.Scopes.{OnlyIn, has_imp, has_line, scope_of, scope_of_delivery}
+use Rattle.subnet_trace.specs.Texts.{imp_text, line_text}
+use Rattle.subnet_trace.specs.Told.{IsOneNetwork, ends_of}
+use Rattle.subnet_trace.specs.declared.parts.Scope.{Scope}
+use Rattle.subnet_trace.specs.declared.parts.Scope.TheVariants as scope
+use Rattle.trace.specs.Changes.{put_at, put_text}
+use Rattle.trace.specs.Texts.{member, object}
+use Rattle.trace.specs.Traces.{HasHappened, change_text}
+use Rattle.subnet_trace.specs.Traced.{subnet_inside}
+use Rattle.trace.proofs.lemmas.{PutSoFar, happens, is_within, none_changed, none_put, put_more}
+use Rattle.subnet_trace.proofs.AllMembers.{imps_left, imps_next, imps_over, lines_left, lines_next, none_listed}
+use Rattle.subnet_trace.proofs.Rest.{Left, all_other, apart_from, frame_there, keeps, left_of, went}
+
+-- ---- what is outside stays
+
+pub record Stays (s : Scope) (old new : Net) : Type 0 where
+  pub imps : (i : ℕ) → has_imp s i ≡ false → imp_at new.imps i ≡ imp_at old.imps i
+  pub wires : (l : ℕ) → has_line s l (wire_at old.lines l) ≡ false → wire_at new.lines l ≡ wire_at old.lines l
+
+all_stays : (s : Scope) (old new : Net) → new ≡ old → Stays s old new
+all_stays s old new e = record { imps = λ i none. ap (λ (n : Net). imp_at n.imps i) e; wires = λ l none. ap (λ (n : Net). wire_at n.lines l) e }
+
+other_than : (i j : ℕ) → (i == j) ≡ false → j ≢ i
+other_than i j e same = grind (arith, nat_tests)
+
+turn_stays : (n : Net) (i : ℕ) (turn : ImpTurn) → Stays (scope.ImpAndLines i) n (with_turn i turn n)
+turn_stays n i turn = record {
+  imps = λ j none. get_or-set_other n.imps i j (Some turn.state) None (other_than i j none);
+  wires = λ l none. all_other turn.frames n.lines i l none;
+}
+
+at_stays : (n : Net) (i : ℕ) (call : State → ImpTurn) → Stays (scope.ImpAndLines i) n (at_imp (imp_at n.imps i) i call n)
+at_stays n i call = by (imp_at n.imps i) where
+  by : (o : Option State) → Stays (scope.ImpAndLines i) n (at_imp o i call n)
+  by None = all_stays (scope.ImpAndLines i) n n refl
+  by (Some s) = turn_stays n i (call s)
+
+-- what crossed is no part
+logged_stays : (s : Scope) (n m : Net) (log : List Crossing) → Stays s n m → Stays s n (record m { log = log })
+logged_stays s n m log h = record { imps = h.imps; wires = h.wires }
+
+deliver_stays : (n : Net) (l : ℕ) (d : Direction) (k : ℕ) → frame_refusal n l d k ≡ None → Stays (scope_of_delivery n l d) n (deliver n l d k)
+deliver_stays n l d k ok = by (slice_get (frames_on d (wire_at n.lines l)) k) where
+  is : scope_of_delivery n l d ≡ scope.ImpAndLines (far_end d (wire_at n.lines l))
+  is = ap (λ (b : Bool). if b then scope.ImpAndLines (far_end d (wire_at n.lines l)) else scope.Nothing) (frame_there n l d k ok)
+
+  by : (o : Option Frame) → Stays (scope_of_delivery n l d) n (delivered n l d o)
+  by None = all_stays (scope_of_delivery n l d) n n refl
+  by (Some f) = subst (λ (s : Scope). Stays s n (delivered n l d (Some f))) (sym is) (at_stays n (far_end d (wire_at n.lines l)) _)
+
+drop_stays : (n : Net) (l : ℕ) (d : Direction) (k : ℕ) → Stays (scope.Line l) n (drop_frame n l d k)
+drop_stays n l d k = record { imps = λ i none. refl; wires = λ m none. get_or-set_other n.lines l m (dropping d k (wire_at n.lines l)) no_wire (apart_from m l none) }
+
+stop_stays : (n : Net) (i : ℕ) → Stays (scope.Imp i) n (imp_stopped n i)
+stop_stays n i = record { imps = λ j none. get_or-set_other n.imps i j None None (other_than i j none); wires = λ l none. refl }
+
+start_stays : (n : Net) (i : ℕ) → Stays (scope.Imp i) n (imp_started n i)
+start_stays n i = record { imps = λ j none. get_or-set_other n.imps i j _ None (other_than i j none); wires = λ l none. refl }
+
+step_stays : (n : Net) (e : NetEvent) → step_refusal n e ≡ None → Stays (scope_of n (event.Net e)) n (stepped n e)
+step_stays n (net.Deliver l d k) ok = deliver_stays n l d k ok
+step_stays n (net.Drop l d k) ok = drop_stays n l d k
+step_stays n (net.Resend i) ok = at_stays n i _
+step_stays n (net.Route i) ok = at_stays n i _
+step_stays n (net.EndDown i l) ok = at_stays n i _
+step_stays n (net.EndUp i l) ok = at_stays n i _
+step_stays n (net.ImpDown i) ok = stop_stays n i
+step_stays n (net.ImpUp i) ok = start_stays n i
+step_stays n (net.HostDown h) ok = logged_stays (scope.ImpAndLines h.imp) n _ _ (at_stays n h.imp (λ s. host_down s h.host))
+step_stays n (net.HostUp h) ok = logged_stays (scope.ImpAndLines h.imp) n _ _ (at_stays n h.imp (λ s. host_up s h.host))
+step_stays n (net.GiveUp f) ok = at_stays n f.source.imp _
+step_stays n (net.Forget at from) ok = at_stays n at _
+step_stays n (net.Abandon f) ok = at_stays n f.destination.imp _
+step_stays n (net.Ask f) ok = at_stays n f.source.imp _
+
+into : (s : Scope) (n left new : Net) → Stays s n left → new ≡ left → Stays s n new
+into s n left new h e = subst (Stays s n) (sym e) h
+
+left_stays : (old new : Kept) (e : RawEvent) → Left old new e → Stays (scope_of old.net e) old.net new.net
+left_stays old new (event.Out m) (inl same) = all_stays _ old.net new.net (ap (λ (k : Kept). k.net) same)
+left_stays old new (event.Out m) (inr left) =
+    into (scope.ImpAndLines m.flow.source.imp) old.net (offer_out old.net m) new.net (logged_stays (scope.ImpAndLines m.flow.source.imp) old.net _ _ (at_stays old.net m.flow.source.imp (λ s. from_host s m))) (ap (λ (k : Kept). k.net) left)
+left_stays old new (event.Take h) (inl same) = all_stays _ old.net new.net (ap (λ (k : Kept). k.net) same)
+left_stays old new (event.Take h) (inr left) =
+    into (scope.ImpAndLines h.imp) old.net (take_in old.net h) new.net (logged_stays (scope.ImpAndLines h.imp) old.net _ _ (at_stays old.net h.imp (λ s. to_host s h.host))) (ap (λ (k : Kept). k.net) left)
+left_stays old new (event.Net e) (inl same) = all_stays _ old.net new.net (ap (λ (k : Kept). k.net) same)
+left_stays old new (event.Net e) (inr left) = into (scope_of old.net (event.Net e)) old.net (stepped old.net e) new.net (step_stays old.net e left.0) (ap (λ (k : Kept). k.net) left.1)
+left_stays old new (event.Calm rounds) left = absurd left
+
+-- ---- by the network after it
+
+ends_same : (ws vs : List Wire) (l : ℕ) → map ends_of ws ≡ map ends_of vs → ends_of (wire_at ws l) ≡ ends_of (wire_at vs l)
+ends_same [] [] l e = refl
+ends_same [] (v ∷ vs) l e = let long : 0 ≡ suc (length (map ends_of vs)) = ap length e in absurd (omega (arith, long))
+ends_same (w ∷ ws) [] l e = let long : suc (length (map ends_of ws)) ≡ 0 = ap length e in absurd (omega (arith, long))
+ends_same (w ∷ ws) (v ∷ vs) zero e = ap (first_of_ends (ends_of w)) e where
+  first_of_ends : ℕ × ℕ → List (ℕ × ℕ) → ℕ × ℕ
+  first_of_ends d [] = d
+  first_of_ends d (x ∷ xs) = x
+ends_same (w ∷ ws) (v ∷ vs) (suc l) e = ends_same ws vs l (ap rest_of_ends e) where
+  rest_of_ends : List (ℕ × ℕ) → List (ℕ × ℕ)
+  rest_of_ends [] = []
+  rest_of_ends (x ∷ xs) = xs
+
+far_of : (d : Direction) (w v : Wire) → ends_of w ≡ ends_of v → far_end d w ≡ far_end d v
+far_of way.Forward w v e = ap (λ (x : ℕ × ℕ). x.1) e
+far_of way.Back w v e = ap (λ (x : ℕ × ℕ). x.0) e
+
+lines_same : (old new : Net) → IsOneNetwork old new → length new.lines ≡ length old.lines
+lines_same old new one = sym (length-map new.lines ends_of) ∙ sym (ap length one.lines) ∙ length-map old.lines ends_of
+
+scope_same : (old new : Net) (e : RawEvent) → IsOneNetwork old new → scope_of old e ≡ scope_of new e
+scope_same old new (event.Net (net.Deliver l d k)) one =
+    ap₂ (λ (n : ℕ) (i : ℕ). if nat_lt l n then scope.ImpAndLines i else scope.Nothing) (sym (lines_same old new one)) (far_of d (wire_at old.lines l) (wire_at new.lines l) (ends_same old.lines new.lines l one.lines))
+scope_same old new (event.Net (net.Drop l d k)) one = refl
+scope_same old new (event.Net (net.Resend i)) one = refl
+scope_same old new (event.Net (net.Route i)) one = refl
+scope_same old new (event.Net (net.EndDown i l)) one = refl
+scope_same old new (event.Net (net.EndUp i l)) one = refl
+scope_same old new (event.Net (net.ImpDown i)) one = refl
+scope_same old new (event.Net (net.ImpUp i)) one = refl
+scope_same old new (event.Net (net.HostDown h)) one = refl
+scope_same old new (event.Net (net.HostUp h)) one = refl
+scope_same old new (event.Net (net.GiveUp f)) one = refl
+scope_same old new (event.Net (net.Forget at from)) one = refl
+scope_same old new (event.Net (net.Abandon f)) one = refl
+scope_same old new (event.Net (net.Ask f)) one = refl
+scope_same old new (event.Out m) one = refl
+scope_same old new (event.Take h) one = refl
+scope_same old new (event.Calm rounds) one = refl
+
+has_same : (s : Scope) (l : ℕ) (w v : Wire) → ends_of w ≡ ends_of v → has_line s l w ≡ has_line s l v
+has_same (scope.ImpAndLines i) l w v e = ap (λ (x : ℕ × ℕ). x.0 == i || x.1 == i) e
+has_same (scope.Imp i) l w v e = refl
+has_same (scope.Line k) l w v e = refl
+has_same scope.Nothing l w v e = refl
+
+-- ---- an event
+
+abbrev members_of : Kept → List (List ℕ)
+members_of k = parts_members k.net (all_parts k.net)
+
+pub only_in : (texts : List (List ℕ)) (e : RawEvent) (crossings : List Crossing) (r : Result (Unit {0}) CarrierFault) (new : Kept) → HasHappened subnet_calls members_of texts e crossings r new → OnlyIn texts (scope_of new.net e) new.net
+only_in texts e crossings r new h =
+    let old : Kept = h.old in
+    let shown : List Shown = shown_crossings crossings ++ shown_refusal r in
+    let k : Happens subnet_calls old e new shown = happens subnet_calls members_of texts e crossings r new h in
+    let kept = keeps old new e shown h.one_call k in
+    let stays : Stays (scope_of old.net e) old.net new.net = left_stays old new e (left_of old new e shown h.one_call k) in
+    let same : scope_of old.net e ≡ scope_of new.net e = scope_same old.net new.net e kept.network in record {
+      old = old.net;
+      known = h.known;
+      sites = sym kept.network.sites;
+      places = kept.places;
+      lines = lines_same old.net new.net kept.network;
+      imps = λ i none. stays.imps i (ap (λ (s : Scope). has_imp s i) same ∙ none);
+      wires = λ l none. stays.wires l (has_same (scope_of old.net e) l (wire_at old.net.lines l) (wire_at new.net.lines l) (ends_same old.net.lines new.net.lines l kept.network.lines) ∙ ap (λ (s : Scope). has_line s l (wire_at new.net.lines l)) same ∙ none);
+    }
+
+-- a refused one
+not_done : (r : Result (Unit {0}) CarrierFault) (f : CarrierFault) → r ≡ Err f → r ≡ Ok tt → ⊥
+not_done r f is e = absurd (cc)
+
+take_refused : (old new : Kept) (h : Host) (f : CarrierFault) (answer : Result (Option Inbound) CarrierFault) → subnet_calls.takes old h answer new → Err f ≡ outcome_of answer → GoesOn (Err f) → new ≡ old
+take_refused old new h f (Ok taken) gives is goes = absurd (not_done (Err f) f refl is)
+take_refused old new h f (Err g) gives is goes =
+    went {T = Option Inbound} (λ given. (given ≡ taken_by_host old.net h) × (new ≡ running (take_in old.net h))) (refusal_of old (λ n. take_refusal n h)) (take_grows old.net h) old new (Err g) gives (subst GoesOn is goes)
+
+refused_same : (old new : Kept) (e : RawEvent) (f : CarrierFault) → IsOneCall e → EventGives subnet_calls old e (Err f) new → GoesOn (Err f) → new ≡ old
+refused_same old new (event.Out m) f one gives goes = went {T = Unit {0}} (λ done. new ≡ running (offer_out old.net m)) (refusal_of old (λ n. offer_refusal n m)) true old new (Err f) gives goes
+refused_same old new (event.Take h) f one gives goes = take_refused old new h f gives.0 gives.1 gives.2 goes
+refused_same old new (event.Net e) f one gives goes = went {T = Unit {0}} (λ done. new ≡ running (stepped old.net e)) (refusal_of old (λ n. step_refusal n e)) (step_grows old.net e) old new (Err f) gives goes
+refused_same old new (event.Calm rounds) f one gives goes = absurd one
+
+pub refused_texts : (texts : List (List ℕ)) (e : RawEvent) (crossings : List Crossing) (f : CarrierFault) (new : Kept) → HasHappened subnet_calls members_of texts e crossings (Err f) new → texts ≡ members_of new
+refused_texts texts e crossings f new h = h.known ∙ ap members_of (sym (refused_same h.old new e f h.one_call h.gives h.goes_on))
+
+pub refused_parts : (old new : Kept) (e : RawEvent) (shown : List Shown) → IsOneCall e → (h : Happens subnet_calls old e new shown) → is_ok h.outcome ≡ false → change_text subnet_inside old new ≡ codes "{}"
+refused_parts old new e shown one h refused = by h.outcome h.gives h.goes_on refused where
+  by : (r : Result (Unit {0}) CarrierFault) → EventGives subnet_calls old e r new → GoesOn r → is_ok r ≡ false → change_text subnet_inside old new ≡ codes "{}"
+  by (Ok done) gives goes r_err = absurd (false≢true (sym r_err))
+  by (Err f) gives goes r_err = ap (λ (k : Kept). change_text subnet_inside old k) (refused_same old new e f one gives goes) ∙ ap object (none_changed (members_of old))
+
+-- ---- the parts one after the other
+
+abbrev Put : List (List ℕ) → Net → Net → ℕ → List (List ℕ) → List ℕ → (Net → List (List ℕ)) → Type 0
+Put before old new place known text left = PutSoFar before (parts_members new (all_parts new)) place known text (left old) (left new)
+
+pub none_are : (texts : List (List ℕ)) (s : Scope) (new : Net) (r : OnlyIn texts s new) (text : List ℕ) → text ≡ [] → PutSoFar texts (parts_members new (all_parts new)) 0 texts text (imps_left r.old 0) (imps_left new 0)
+none_are texts s new r text empty =
+    subst (λ (t : List ℕ). PutSoFar texts (parts_members new (all_parts new)) 0 texts t (imps_left r.old 0) (imps_left new 0)) (sym empty)
+    (subst (λ (os : List (List ℕ)). PutSoFar texts (parts_members new (all_parts new)) 0 texts [] os (imps_left new 0)) (r.known ∙ sym (whole_left r.old))
+    (subst (λ (ns : List (List ℕ)). PutSoFar texts (parts_members new (all_parts new)) 0 texts [] texts ns) (sym (whole_left new)) (none_put texts (parts_members new (all_parts new))))) where
+      whole_left : (n : Net) → imps_left n 0 ≡ parts_members n (all_parts n)
+      whole_left n = none_listed n
+
+is_imp_of : (n : Net) (i : ℕ) (there : Bool) → is_imp n i ≡ there → i < length n.imps → imps_left n i ≡ (if there then named n (Imp i) ∷ [] else []) ++ imps_left n (i + 1)
+is_imp_of n i there is lt = imps_next n i lt ∙ ap (λ (b : Bool). (if b then named n (Imp i) ∷ [] else []) ++ imps_left n (i + 1)) is
+
+site_is : (texts : List (List ℕ)) (s : Scope) (new : Net) (r : OnlyIn texts s new) (i : ℕ) (there : Bool) → is_imp new i ≡ there → is_imp r.old i ≡ there
+site_is texts s new r i there is = ap (λ sites. is_imp (record r.old { sites = sites }) i) (sym r.sites) ∙ is
+
+-- an IMP
+pub imp_put : (texts : List (List ℕ)) (s : Scope) (new : Net) (r : OnlyIn texts s new) (i place : ℕ) (may : Bool) (known later : List (List ℕ)) (text longer : List ℕ) → i < length new.imps → is_imp new i ≡ true → may ≡ has_imp s i
+    → later ≡ put_at may known place (named new (Imp i)) → longer ≡ put_text may known place (named new (Imp i)) text
+    → PutSoFar texts (parts_members new (all_parts new)) place known text (imps_left r.old i) (imps_left new i) → PutSoFar texts (parts_members new (all_parts new)) (place + 1) later longer (imps_left r.old (i + 1)) (imps_left new (i + 1))
+imp_put texts s new r i place may known later text longer lt there test put added so =
+    let was : i < length r.old.imps = omega (arith, lt, r.places) in
+    put_more may texts (parts_members new (all_parts new)) place known later text longer (imps_left r.old (i + 1)) (imps_left new (i + 1)) (named r.old (Imp i)) (named new (Imp i))
+    (λ none. ap (λ o. member (part_name (Imp i)) (imp_text o)) (r.imps i (sym test ∙ none))) put added
+    (subst (λ (ns : List (List ℕ)). PutSoFar texts (parts_members new (all_parts new)) place known text (named r.old (Imp i) ∷ imps_left r.old (i + 1)) ns) (is_imp_of new i true there lt)
+    (subst (λ (os : List (List ℕ)). PutSoFar texts (parts_members new (all_parts new)) place known text os (imps_left new i)) (is_imp_of r.old i true (site_is texts s new r i true there) was) so))
+
+-- where the network has none there is no part
+pub none_there : (texts : List (List ℕ)) (s : Scope) (new : Net) (r : OnlyIn texts s new) (i place : ℕ) (known : List (List ℕ)) (text : List ℕ) → i < length new.imps → is_imp new i ≡ false
+    → PutSoFar texts (parts_members new (all_parts new)) place known text (imps_left r.old i) (imps_left new i) → PutSoFar texts (parts_members new (all_parts new)) place known text (imps_left r.old (i + 1)) (imps_left new (i + 1))
+none_there texts s new r i place known text lt there so =
+    let was : i < length r.old.imps = omega (arith, lt, r.places) in
+    subst (λ (ns : List (List ℕ)). PutSoFar texts (parts_members new (all_parts new)) place known text (imps_left r.old (i + 1)) ns) (is_imp_of new i false there lt)
+    (subst (λ (os : List (List ℕ)). PutSoFar texts (parts_members new (all_parts new)) place known text os (imps_left new i)) (is_imp_of r.old i false (site_is texts s new r i false there) was) so)
+
+-- after the IMPs come the lines
+pub imps_put : (texts : List (List ℕ)) (s : Scope) (new : Net) (r : OnlyIn texts s new) (i place : ℕ) (known : List (List ℕ)) (text : List ℕ) → length new.imps ≤ i
+    → PutSoFar texts (parts_members new (all_parts new)) place known text (imps_left r.old i) (imps_left new i) → PutSoFar texts (parts_members new (all_parts new)) place known text (lines_left r.old 0) (lines_left new 0)
+imps_put texts s new r i place known text past so =
+    let was : length r.old.imps ≤ i = omega (arith, past, r.places) in
+    subst (λ (ns : List (List ℕ)). PutSoFar texts (parts_members new (all_parts new)) place known text (lines_left r.old 0) ns) (imps_over new i past)
+    (subst (λ (os : List (List ℕ)). PutSoFar texts (parts_members new (all_parts new)) place known text os (imps_left new i)) (imps_over r.old i was) so)
+
+-- a line
+pub line_put : (texts : List (List ℕ)) (s : Scope) (new : Net) (r : OnlyIn texts s new) (l place : ℕ) (may : Bool) (known later : List (List ℕ)) (text longer : List ℕ) → l < length new.lines → may ≡ has_line s l (wire_at new.lines l)
+    → later ≡ put_at may known place (named new (Line l)) → longer ≡ put_text may known place (named new (Line l)) text
+    → PutSoFar texts (parts_members new (all_parts new)) place known text (lines_left r.old l) (lines_left new l) → PutSoFar texts (parts_members new (all_parts new)) (place + 1) later longer (lines_left r.old (l + 1)) (lines_left new (l + 1))
+line_put texts s new r l place may known later text longer lt test put added so =
+    let was : l < length r.old.lines = omega (arith, lt, r.lines) in
+    put_more may texts (parts_members new (all_parts new)) place known later text longer (lines_left r.old (l + 1)) (lines_left new (l + 1)) (named r.old (Line l)) (named new (Line l))
+    (λ none. ap (λ (w : Wire). member (part_name (Line l)) (line_text w)) (r.wires l (sym test ∙ none))) put added
+    (subst (λ (ns : List (List ℕ)). PutSoFar texts (parts_members new (all_parts new)) place known text (named r.old (Line l) ∷ lines_left r.old (l + 1)) ns) (lines_next new l lt)
+    (subst (λ (os : List (List ℕ)). PutSoFar texts (parts_members new (all_parts new)) place known text os (lines_left new l)) (lines_next r.old l was) so))
+
+-- there is a member at the place
+pub imp_there : (texts : List (List ℕ)) (s : Scope) (new : Net) (r : OnlyIn texts s new) (i place : ℕ) (known : List (List ℕ)) (text : List ℕ) → i < length new.imps → is_imp new i ≡ true
+    → PutSoFar texts (parts_members new (all_parts new)) place known text (imps_left r.old i) (imps_left new i) → place < length known
+imp_there texts s new r i place known text lt there so =
+    let was : i < length r.old.imps = omega (arith, lt, r.places) in
+    is_within texts (parts_members new (all_parts new)) place known text (imps_left r.old (i + 1)) (imps_left new i) (named r.old (Imp i))
+    (subst (λ (os : List (List ℕ)). PutSoFar texts (parts_members new (all_parts new)) place known text os (imps_left new i)) (is_imp_of r.old i true (site_is texts s new r i true there) was) so)
+
+pub line_there : (texts : List (List ℕ)) (s : Scope) (new : Net) (r : OnlyIn texts s new) (l place : ℕ) (known : List (List ℕ)) (text : List ℕ) → l < length new.lines
+    → PutSoFar texts (parts_members new (all_parts new)) place known text (lines_left r.old l) (lines_left new l) → place < length known
+line_there texts s new r l place known text lt so =
+    let was : l < length r.old.lines = omega (arith, lt, r.lines) in
+    is_within texts (parts_members new (all_parts new)) place known text (lines_left r.old (l + 1)) (lines_left new l) (named r.old (Line l))
+    (subst (λ (os : List (List ℕ)). PutSoFar texts (parts_members new (all_parts new)) place known text os (lines_left new l)) (lines_next r.old l was) so)

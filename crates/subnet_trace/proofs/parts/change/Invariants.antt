@@ -1,0 +1,18 @@
+use Rattle.std.proofs.Common.{◌≡◌, ◌≤◌, ◌+◌, length}
+use Rattle.subnet_trace.specs.Parts.{all_parts, parts_members}
+use Rattle.subnet_trace.specs.Scopes.{OnlyIn, scope_of}
+use Rattle.subnet_trace.proofs.AllMembers.{imps_left, lines_left}
+use Rattle.subnet_trace.proofs.parts.change.Given as goal
+use Rattle.trace.proofs.lemmas.{PutSoFar}
+
+-- the IMPs so far are put in their places
+abbrev pub invariant-loop-number : goal.invariant-loop-number
+invariant-loop-number l =
+    (r : OnlyIn l.fn.known (scope_of l.subnet.net l.event) l.subnet.net) × (l.number-end ≡ length l.subnet.net.imps) × (l.place ≤ l.number)
+    × PutSoFar l.fn.known (parts_members l.subnet.net (all_parts l.subnet.net)) l.place l.known l.text.items (imps_left r.old l.number) (imps_left l.subnet.net l.number)
+
+-- and the lines
+abbrev pub invariant-loop-number-2 : goal.invariant-loop-number-2
+invariant-loop-number-2 l =
+    (r : OnlyIn l.fn.known (scope_of l.subnet.net l.event) l.subnet.net) × (l.number-end ≡ length l.subnet.net.lines) × (l.place ≤ 255 + l.number)
+    × PutSoFar l.fn.known (parts_members l.subnet.net (all_parts l.subnet.net)) l.place l.known l.text.items (lines_left r.old l.number) (lines_left l.subnet.net l.number)

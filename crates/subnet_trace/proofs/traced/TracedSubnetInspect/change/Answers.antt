@@ -1,0 +1,37 @@
+use Rattle.std.proofs.Common.{◌≡◌, ◌∙◌, ◌++◌, List, ℕ, codes, length, rules, subst, sym}
+use Rattle.std.proofs.lemmas.Result.{IfOk-weaker}
+use Rattle.subnet.specs.Calls.{Kept}
+use Rattle.subnet.specs.Working.{subnet_calls}
+use Rattle.subnet_trace.specs.Parts.{all_parts, parts_members}
+use Rattle.subnet_trace.specs.Scopes.{OnlyIn, scope_of}
+use Rattle.subnet_trace.proofs.Scopes.{only_in, refused_texts}
+use Rattle.subnet_trace.proofs.traced.TracedSubnetInspect.change.Goals as goal
+use Rattle.trace.specs.Changes.{changed}
+use Rattle.trace.specs.Joined.{mark}
+use Rattle.trace.specs.Texts.{object}
+use Rattle.trace.specs.Traces.{HasHappened}
+use Rattle.trace.proofs.lemmas.{none_more}
+
+abbrev members_of : Kept → List (List ℕ)
+members_of k = parts_members k.net (all_parts k.net)
+
+pub change-requires-clause-inside : goal.change-requires-clause-inside
+change-requires-clause-inside c =
+    subst (λ (k : Kept). OnlyIn c.args.known.now (scope_of k.net c.args.event.now) k.net) (sym c.self.view_is)
+    (only_in c.args.known.now c.args.event.now c.args._crossings.now c.args.outcome c.args.self.now c.requires.happened)
+
+pub returns-in-Err-clause-known : goal.returns-in-Err-clause-known
+returns-in-Err-clause-known c =
+    let same : c.args.known.now ≡ members_of c.args.self.now =
+    refused_texts c.args.known.now c.args.event.now c.args._crossings.now c.in-Err.field-0 c.args.self.now
+    (subst (λ r. HasHappened subnet_calls members_of c.args.known.now c.args.event.now c.args._crossings.now r c.args.self.now) c.in-Err.is c.requires.happened) in
+    search (rules, same)
+
+pub returns-in-Err-clause-changed : goal.returns-in-Err-clause-changed
+returns-in-Err-clause-changed c =
+    let same : c.args.known.now ≡ members_of c.args.self.now =
+    refused_texts c.args.known.now c.args.event.now c.args._crossings.now c.in-Err.field-0 c.args.self.now
+    (subst (λ r. HasHappened subnet_calls members_of c.args.known.now c.args.event.now c.args._crossings.now r c.args.self.now) c.in-Err.is c.requires.happened) in
+    let room : List ℕ = c.args.room.items in
+    IfOk-weaker c.ended.result (λ text. text.items ≡ room ++ mark (codes "{}") (codes "}") (length room)) (λ text. text.items ≡ object (changed c.args.known.now (members_of c.args.self.now)))
+    (λ text ends. ends ∙ none_more c.args.known.now (members_of c.args.self.now) room c.requires.empty same) c.ended.ensures
