@@ -1,7 +1,7 @@
 -- What is written of a replay as a log.
 use Rattle.std.specs.Prelude.{ℕ, List, [], reverse, Option}
 use Rattle.std.specs.Io.KnownBytes.{Appends}
-use Rattle.book_log.specs.Log.{Book, IsBook, log_text}
+use Rattle.book_log.specs.Log.{Book, IsBook, log_text, logged_book}
 use Rattle.headline.specs.Promise.{KeepsPromise}
 use Rattle.interface.specs.Mailboxes.{IsRun}
 use Rattle.interface.specs.Messages.{SafeMessages}
@@ -33,7 +33,7 @@ raw_book log = record { crossings = reverse log; lives = []; handed = [] }
 
 -- what a log says of a world
 abbrev pub world_book : Kept → Book
-world_book k = record { crossings = reverse k.book.crossings; lives = k.book.lives; handed = k.handed }
+world_book k = logged_book (reverse k.book.crossings) k.book.lives k.handed k.fates
 
 -- events are replayed over a carrier with such calls, and the log of what crossed is written, and nothing else. It says all values as they are
 pub record LogsRaw {C : Type 0} (calls : Calls C) (opening : C) (events : List RawEvent) (before after : Option (List ℕ)) : Type 0 where
