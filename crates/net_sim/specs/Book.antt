@@ -7,6 +7,8 @@ use Rattle.interface.specs.declared.crossing.Crossing.TheVariants as crossing
 use Rattle.promise.specs.Book.{Book}
 use Rattle.promise.specs.declared.life.Life.{Life}
 use Rattle.promise.specs.declared.life.Amount.{Amount}
+use Rattle.promise.specs.declared.life.Fate.{Fate}
+use Rattle.promise.specs.declared.life.Fate.TheVariants as fate
 use Rattle.promise.specs.declared.book.Called.{Called}
 use Rattle.host_services.specs.declared.report.Reported.{Reported}
 use Rattle.host_pairs.specs.declared.notice.Notice.{Notice}
@@ -112,23 +114,54 @@ abbrev pub handed_asked : Host → Request → List Life → List (List Bool) �
 handed_asked h (request.Send socket bits) lives handed = handed_to (lives_at h socket) bits lives handed
 handed_asked h r lives handed = handed
 
+-- ---- how far the lives are, a fate for each life
+
+abbrev pub fates_where : (Life → Bool) → (Fate → Fate) → List Life → List Fate → List Fate
+fates_where test change [] fates = fates
+fates_where test change (x ∷ lives) [] = []
+fates_where test change (x ∷ lives) (f ∷ fates) = (if test x then change f else f) ∷ fates_where test change lives fates
+
+-- its user closes its end, and it is over by CLS
+abbrev pub closing : Fate → Fate
+closing fate.Open = fate.Closing
+closing f = f
+
+abbrev pub over_by_cls : Fate → Fate
+over_by_cls fate.Closing = fate.Closed
+over_by_cls f = fate.Ended
+
+abbrev pub fates_told : Host → Notice → List Life → List Fate → List Fate
+fates_told h (notice.Opened socket peer foreign own partner) lives fates = fates ++ fate.Open ∷ []
+fates_told h (notice.Ended socket peer foreign) lives fates = fates_where (lives_between h socket peer foreign) over_by_cls lives fates
+fates_told h (notice.PairReset peer) lives fates = fates_where (lives_with h peer) (λ f. fate.Reset) lives fates
+fates_told h n lives fates = fates
+
+abbrev pub fates_asked : Host → Request → List Life → List Fate → List Fate
+fates_asked h (request.Close socket) lives fates = fates_where (lives_at h socket) closing lives fates
+fates_asked h r lives fates = fates
+
+abbrev pub fates_crossed : Crossing → List Life → List Fate → List Fate
+fates_crossed (crossing.Down h) lives fates = fates_where (lives_on h) (λ f. fate.Stopped) lives fates
+fates_crossed c lives fates = fates
+
 -- ---- the book
 
 abbrev pub opening_book : Book
 opening_book = record { crossings = []; notices = []; contacts = []; reports = []; lives = [] }
 
--- ---- the book and what was handed over, together
+-- ---- the book, what was handed over, and how far the lives are, together
 
 pub record Kept : Type 0 where
   pub book : Book
   pub handed : List (List Bool)
+  pub fates : List Fate
 
 abbrev pub opening_kept : Kept
-opening_kept = record { book = opening_book; handed = [] }
+opening_kept = record { book = opening_book; handed = []; fates = [] }
 
 -- the crossing is in the log, and a host that stops ends its lives
 abbrev pub crossed : Crossing → Kept → Kept
-crossed c k = record k { book = record k.book { crossings = c ∷ k.book.crossings; lives = lives_crossed c k.book.lives } }
+crossed c k = record k { book = record k.book { crossings = c ∷ k.book.crossings; lives = lives_crossed c k.book.lives }; fates = fates_crossed c k.book.lives k.fates }
 
 -- several crossings, newest first
 abbrev pub all_crossed : List Crossing → Kept → Kept
@@ -140,6 +173,7 @@ abbrev pub book_told : Host → Notice → Kept → Kept
 book_told h n k = record {
   book = record k.book { notices = k.book.notices ++ record { host = h; place = length k.book.crossings; notice = n } ∷ []; lives = lives_told h n k.book.lives };
   handed = handed_told n k.handed;
+  fates = fates_told h n k.book.lives k.fates;
 }
 
 abbrev pub all_told : Host → List Notice → Kept → Kept
@@ -155,6 +189,7 @@ abbrev pub asked : Host → Request → Kept → Kept
 asked h r k = record {
   book = record k.book { contacts = k.book.contacts ++ contacts_asked h (length k.book.crossings) r; lives = lives_asked h r k.book.lives };
   handed = handed_asked h r k.book.lives k.handed;
+  fates = fates_asked h r k.book.lives k.fates;
 }
 
 -- services of a host asked for all this, one after another, and weren't refused

@@ -9,7 +9,7 @@ use crate::hosting::copy_of;
 use crate::lives::Lives;
 use host_services::Reported;
 use interface::{Crossing, HostAddr};
-use promise::{BitLog, Called, Life, Told};
+use promise::{BitLog, Called, Fate, Life, Told};
 use sockets::{Notice, Request};
 use std::alloc::{AllocError, Global};
 use std::marker::Model;
@@ -32,8 +32,8 @@ pub(crate) struct Page {
 }
 
 /// What a world writes down: all that crossed, the notices to users, the contacts that they asked for, what services
-/// reported, a life for each opened end of a connection, and what was handed over to be sent in each. All of them are in their order,
-/// the oldest first.
+/// reported, a life for each opened end of a connection, what was handed over to be sent in each, and how far each is. All of them are
+/// in their order, the oldest first.
 ///
 /// What is written at one time is written whole or not at all: where memory runs out in the lives, they are taken back to what they
 /// were, and so is what crossed. For all else there is room before anything is written.
@@ -52,7 +52,7 @@ impl Model for Book {
 
     ghost Value = { Kept };
 
-    ghost view = { λ b. record { book = record { crossings = reverse b.crossings.items; notices = b.notices.items; contacts = b.contacts.items; reports = b.reports.items; lives = b.lives.lives }; handed = b.lives.handed } };
+    ghost view = { λ b. record { book = record { crossings = reverse b.crossings.items; notices = b.notices.items; contacts = b.contacts.items; reports = b.reports.items; lives = b.lives.lives }; handed = b.lives.handed; fates = b.lives.fates } };
 }
 
 /// Copies of what crossed are put after what had crossed before, one after another.
@@ -178,6 +178,13 @@ impl Book {
         ensures { result.now ≡ self.now.handed }
     {
         self.lives.handed()
+    }
+
+    /// Returns how far each life is, and how those ended that are over.
+    pub fn fates(&self) -> &[Fate]
+        ensures { result.now ≡ self.now.fates }
+    {
+        self.lives.fates()
     }
 
     /// Writes down what crossed, of which no user was notified.

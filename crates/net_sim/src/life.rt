@@ -4,15 +4,15 @@ ghost use Rattle.std.specs.Prelude.{◌≡◌, ◌+◌, ◌<◌, ◌≤◌, ◌^
 ghost use Rattle.net_sim.specs.Book as book;
 ghost use Rattle.net_sim.specs.Book.{lives_at, lives_between, lives_with, lives_on, changed_when};
 ghost use Rattle.net_sim.specs.Inside.Counts.{IsWithin};
-ghost use Rattle.net_sim.specs.Inside.Endings.{ends};
+ghost use Rattle.net_sim.specs.Inside.Endings.{ends, fate_of, turned, turns};
 ghost use Rattle.net_sim.specs.Inside.Growing.{grown};
-ghost use Rattle.net_sim.specs.Inside.Undo.{AreNoted, IsEndNoted, IsNoted, cut_amount, life_back, mark_of};
+ghost use Rattle.net_sim.specs.Inside.Undo.{AreNoted, IsEndNoted, IsNoted, IsTurnNoted, cut_amount, life_back, mark_of};
 
 use crate::tally::Tally;
 use crate::undo::{Mark, Undo};
 use bit_messages::Bits;
 use interface::HostAddr;
-use promise::{Amount, BitLog, Life};
+use promise::{Amount, BitLog, Fate, Life};
 use std::alloc::{AllocError, Global};
 
 /// Which lives of a host end.
@@ -64,6 +64,23 @@ pub(crate) enum Growth<'a> {
         messages: u16,
         /// How many bits.
         bits: u32,
+    },
+}
+
+/// By what the fates of lives change.
+#[derive(Drop)]
+pub(crate) enum Turn<'a> {
+    /// A user or a service closes the end of its socket.
+    Closes {
+        /// The host whose life it is.
+        host: HostAddr,
+        /// Its socket.
+        socket: u32,
+    },
+    /// Lives end.
+    Ends {
+        /// Which.
+        ending: &'a Ending,
     },
 }
 
@@ -137,6 +154,76 @@ fn is_of(life: &Life, ending: &Ending) -> bool
         Ending::With { host, peer } => is_with(life, *host, *peer),
         Ending::On { host } => is_on(life, *host),
     }
+}
+
+/// Returns whether the fate of this life changes.
+fn is_turned(life: &Life, turn: &Turn) -> bool
+    ensures { result ≡ turns turn.now life.now }
+{
+    match turn {
+        Turn::Closes { host, socket } => is_at(life, *host, *socket),
+        Turn::Ends { ending } => is_of(life, ending),
+    }
+}
+
+/// Returns the fate of a life whose user closes its end.
+fn closing(fate: Fate) -> Fate
+    ensures { result ≡ book.closing fate }
+{
+    match fate {
+        Fate::Open => Fate::Closing,
+        other => other,
+    }
+}
+
+/// Returns the fate of a life that is over by CLS.
+fn over_by_cls(fate: Fate) -> Fate
+    ensures { result ≡ book.over_by_cls fate }
+{
+    match fate {
+        Fate::Closing => Fate::Closed,
+        _ => Fate::Ended,
+    }
+}
+
+/// Returns how far a life is when it has ended so.
+fn fate_after(ending: &Ending, fate: Fate) -> Fate
+    ensures { result ≡ fate_of ending.now fate }
+{
+    match ending {
+        Ending::Between { .. } => over_by_cls(fate),
+        Ending::With { .. } => Fate::Reset,
+        Ending::On { .. } => Fate::Stopped,
+    }
+}
+
+/// Returns what the fate changes to.
+fn turned_by(turn: &Turn, fate: Fate) -> Fate
+    ensures { result ≡ turned turn.now fate }
+{
+    match turn {
+        Turn::Closes { .. } => closing(fate),
+        Turn::Ends { ending } => fate_after(ending, fate),
+    }
+}
+
+/// Changes the fate of this life if it is one of those whose fate changes, and records what it was.
+pub(crate) fn turn_at(
+    life: &Life,
+    at: usize,
+    turn: &Turn,
+    fate: &mut Fate,
+    done: &mut Vec<Undo>,
+) -> Result<(), AllocError>
+    ensures done { OnOk result (fate.new ≡ (if turns turn.now life.now then turned turn.now fate.old else fate.old)) }
+    ensures noted { IsTurnNoted at done.old.items fate.old done.new.items fate.new }
+{
+    if !is_turned(life, turn) {
+        return Ok(());
+    }
+    done.push(Undo::Turned { at, was: *fate })?;
+    *fate = turned_by(turn, *fate);
+    Ok(())
 }
 
 /// Ends this life if it is one of those that end, and records that.

@@ -3,29 +3,30 @@
 ghost use Rattle.std.specs.Bool.{OnFalse, OnTrue};
 ghost use Rattle.std.specs.Prelude.{◌≡◌, ℕ, Bool, List, [], OnErr, OnOk};
 ghost use Rattle.net_sim.specs.Book as book;
-ghost use Rattle.net_sim.specs.Book.{lives_at, where_it, handed_to};
+ghost use Rattle.net_sim.specs.Book.{lives_at, where_it, handed_to, fates_where};
 ghost use Rattle.net_sim.specs.Inside.Counts.{AreWithin, IsWithin};
-ghost use Rattle.net_sim.specs.Inside.Endings.{ends};
+ghost use Rattle.net_sim.specs.Inside.Endings.{ends, turned, turns};
 ghost use Rattle.net_sim.specs.Inside.Lives as all;
 ghost use Rattle.net_sim.specs.Inside.Growing.{grown};
 ghost use Rattle.net_sim.specs.Inside.Lives.{LivesState, handed_over, lives_grown, state};
 ghost use Rattle.net_sim.specs.Inside.Open.{AreKept, Holds};
 ghost use Rattle.net_sim.specs.Inside.Undo.{all_undone, GoesBack};
+ghost use Rattle.promise.specs.declared.life.Fate.{Fate};
 
 use crate::book::Page;
-use crate::life::{Ending, Growth, end_at, grow_at, hand_at, nothing};
+use crate::life::{Ending, Growth, Turn, end_at, grow_at, hand_at, nothing, turn_at};
 use crate::open::Open;
 use crate::tally::Tally;
 use crate::undo::{Undo, take_back};
 use bit_messages::Bits;
 use interface::{Crossing, HostAddr};
-use promise::{Amount, BitLog, Life, Told};
+use promise::{Amount, BitLog, Fate, Life, Told};
 use sockets::{Notice, Request};
 use std::alloc::{AllocError, Global};
 use std::marker::Model;
 use std::mem;
 
-/// The lives, and what was handed over to be sent in each.
+/// The lives, what was handed over to be sent in each, and how far each is.
 ///
 /// Nothing changes a life that has ended. So it is known where those are that are open, and only these are looked at.
 ///
@@ -34,6 +35,7 @@ use std::mem;
 pub(crate) struct Lives {
     lives: Vec<Life>,
     handed: Vec<BitLog>,
+    fates: Vec<Fate>,
     open: Open,
     changes: Tally,
     undo: Vec<Undo>,
@@ -47,7 +49,7 @@ impl Model for Lives {
 
     ghost Value = { LivesState };
 
-    ghost view = { λ l. record { lives = l.lives.items; handed = l.handed.items } };
+    ghost view = { λ l. record { lives = l.lives.items; handed = l.handed.items; fates = l.fates.items } };
 
     ghost invariant = { λ l. AreKnown l.open.known l.open.hosts l.open.sockets l.lives.items × AreWithin l.changes l.lives.items };
 }
@@ -63,7 +65,7 @@ fn end(
     ensures done { OnOk result (lives.new ≡ where_it (ends ending.now) book.life_ended lives.old) }
     ensures kept { AreKept lives.old lives.new }
     ensures within { (n : ℕ) → AreWithin n lives.old → AreWithin n lives.new }
-    ensures back { (handed : List (List Bool)) → GoesBack done.old.items (state lives.old handed) done.new.items (state lives.new handed) }
+    ensures back { (handed : List (List Bool)) (fates : List Fate) → GoesBack done.old.items (state lives.old handed fates) done.new.items (state lives.new handed fates) }
 {
     for at in places {
         end_at(&mut lives[*at], *at, ending, done)?;
@@ -86,7 +88,7 @@ fn grow(
     ensures done { OnOk result (lives.new ≡ where_it (lives_at host socket) (grown growth.now) lives.old) }
     ensures kept { AreKept lives.old lives.new }
     ensures within { AreWithin changes.new lives.new }
-    ensures back { (handed : List (List Bool)) → GoesBack done.old.items (state lives.old handed) done.new.items (state lives.new handed) }
+    ensures back { (handed : List (List Bool)) (fates : List Fate) → GoesBack done.old.items (state lives.old handed fates) done.new.items (state lives.new handed fates) }
 {
     for at in places {
         grow_at(&mut lives[*at], *at, host, socket, growth, changes, done)?;
@@ -106,11 +108,31 @@ fn hand(
 ) -> Result<(), AllocError>
     requires { Holds (lives_at host socket) places.now lives.now }
     ensures done { OnOk result (handed.new ≡ handed_to (lives_at host socket) bits.now lives.now handed.old) }
-    ensures back { GoesBack done.old.items (state lives.now handed.old) done.new.items (state lives.now handed.new) }
+    ensures back { (fates : List Fate) → GoesBack done.old.items (state lives.now handed.old fates) done.new.items (state lives.now handed.new fates) }
 {
     for at in places {
         if *at < handed.len() {
             hand_at(&lives[*at], *at, host, socket, bits, &mut handed[*at], done)?;
+        }
+    }
+    Ok(())
+}
+
+/// Changes the fates of those of the lives at these places whose fate changes.
+fn turn(
+    lives: &[Life],
+    places: &[usize],
+    turn: &Turn,
+    fates: &mut [Fate],
+    done: &mut Vec<Undo>,
+) -> Result<(), AllocError>
+    requires { Holds (turns turn.now) places.now lives.now }
+    ensures done { OnOk result (fates.new ≡ fates_where (turns turn.now) (turned turn.now) lives.now fates.old) }
+    ensures back { (handed : List (List Bool)) → GoesBack done.old.items (state lives.now handed fates.old) done.new.items (state lives.now handed fates.new) }
+{
+    for at in places {
+        if *at < fates.len() {
+            turn_at(&lives[*at], *at, turn, &mut fates[*at], done)?;
         }
     }
     Ok(())
@@ -146,6 +168,7 @@ impl Lives {
         Lives {
             lives: Vec::new(alloc),
             handed: Vec::new(alloc),
+            fates: Vec::new(alloc),
             open: Open::new(alloc),
             changes: Tally::new(alloc),
             undo: Vec::new(alloc),
@@ -160,6 +183,24 @@ impl Lives {
     {
         self.open.know(self.alloc, &self.lives)?;
         end(&mut self.lives, self.open.of(ending), ending, done)
+    }
+
+    /// Changes the fates of the lives whose fate changes.
+    fn turn(&mut self, by: &Turn, done: &mut Vec<Undo>) -> Result<(), AllocError>
+        ensures done { OnOk result (self.new ≡ all.lives_state_turned by.now self.old) }
+        ensures back { GoesBack done.old.items self.old done.new.items self.new }
+    {
+        self.open.know(self.alloc, &self.lives)?;
+        turn(&self.lives, self.open.by(by), by, &mut self.fates, done)
+    }
+
+    /// Changes the fates of the lives that end, and marks them as ended.
+    fn pass(&mut self, ending: &Ending, done: &mut Vec<Undo>) -> Result<(), AllocError>
+        ensures done { OnOk result (self.new ≡ all.lives_state_over ending.now self.old) }
+        ensures back { GoesBack done.old.items self.old done.new.items self.new }
+    {
+        self.turn(&Turn::Ends { ending }, done)?;
+        self.end(ending, done)
     }
 
     /// Lets the life of a socket grow.
@@ -216,6 +257,7 @@ impl Lives {
         ensures done { OnOk result (self.new ≡ all.begun life self.old) }
         ensures back { GoesBack done.old.items self.old done.new.items self.new }
     {
+        self.fates.reserve(1)?;
         self.handed.reserve(1)?;
         self.lives.reserve(1)?;
         done.reserve(1)?;
@@ -223,7 +265,9 @@ impl Lives {
         done.push_reserved(Undo::Begun {
             lives: self.lives.len(),
             handed: self.handed.len(),
+            fates: self.fates.len(),
         });
+        self.fates.push_reserved(Fate::Open);
         self.handed.push_reserved(BitLog::new(self.alloc));
         self.lives.push_reserved(life);
         Ok(())
@@ -235,7 +279,7 @@ impl Lives {
         ensures back { GoesBack done.old.items self.old done.new.items self.new }
     {
         match crossing {
-            Crossing::Down(host) => self.end(&Ending::On { host: *host }, done),
+            Crossing::Down(host) => self.pass(&Ending::On { host: *host }, done),
             Crossing::Out(_) | Crossing::In(_) | Crossing::Answer(..) | Crossing::Up(_) => Ok(()),
         }
     }
@@ -284,9 +328,9 @@ impl Lives {
                     peer: *peer,
                     foreign: *foreign,
                 };
-                self.end(&ending, done)
+                self.pass(&ending, done)
             }
-            Notice::PairReset { peer } => self.end(&Ending::With { host, peer: *peer }, done),
+            Notice::PairReset { peer } => self.pass(&Ending::With { host, peer: *peer }, done),
             Notice::Sent { socket, bits } | Notice::Arrived { socket, bits } => {
                 self.grow(host, *socket, &Growth::Message { bits }, done)
             }
@@ -332,13 +376,19 @@ impl Lives {
                 self.grow(host, *socket, &growth, done)
             }
             Request::Send { socket, bits } => self.hand(host, *socket, bits, done),
+            Request::Close { socket } => {
+                let turn = Turn::Closes {
+                    host,
+                    socket: *socket,
+                };
+                self.turn(&turn, done)
+            }
             Request::Contact { .. }
             | Request::Listen { .. }
             | Request::OpenSend { .. }
             | Request::OpenReceive { .. }
             | Request::AskBack { .. }
             | Request::Interrupt { .. }
-            | Request::Close { .. }
             | Request::Echo { .. } => Ok(()),
         }
     }
@@ -407,7 +457,7 @@ impl Lives {
     fn go_back(&mut self, done: Vec<Undo>)
         ensures { self.new ≡ all_undone done.items self.old }
     {
-        take_back(&mut self.lives, &mut self.handed, done);
+        take_back(&mut self.lives, &mut self.handed, &mut self.fates, done);
         self.open.forget();
     }
 
@@ -509,5 +559,12 @@ impl Lives {
         ensures { result.now ≡ self.now.handed }
     {
         &self.handed
+    }
+
+    /// Returns how far each is.
+    pub(crate) fn fates(&self) -> &[Fate]
+        ensures { result.now ≡ self.now.fates }
+    {
+        &self.fates
     }
 }

@@ -1,11 +1,11 @@
 //! Where the lives that haven't ended are: by host, and by host and socket.
 
 ghost use Rattle.std.specs.Prelude.{◌≡◌, ◌<◌, ◌++◌, ℕ, false, List, [], ◌∷◌, filter, length, slice_index_or, OnErr, OnOk};
-ghost use Rattle.net_sim.specs.Inside.Open.{AreKnown, Covers, Enters, Extends, host_key, places_at, places_of, socket_key};
+ghost use Rattle.net_sim.specs.Inside.Open.{AreKnown, Covers, Enters, Extends, host_key, places_at, places_by, places_of, socket_key};
 ghost use Rattle.net_sim.specs.Inside.Places.{is_open_at};
 ghost use Rattle.promise.specs.declared.life.Life.{Life};
 
-use crate::life::Ending;
+use crate::life::{Ending, Turn};
 use interface::HostAddr;
 use promise::Life;
 use std::alloc::{AllocError, Global};
@@ -160,6 +160,16 @@ impl Open {
         match ending {
             Ending::Between { host, socket, .. } => self.at(*host, *socket),
             Ending::With { host, .. } | Ending::On { host } => { self.hosts.at(host_number(*host)) }
+        }
+    }
+
+    /// Returns where to look for the lives whose fate changes.
+    pub(crate) fn by(&self, turn: &Turn) -> &[usize]
+        ensures { result.now ≡ places_by turn.now self.now.hosts self.now.sockets }
+    {
+        match turn {
+            Turn::Closes { host, socket } => self.at(*host, *socket),
+            Turn::Ends { ending } => self.of(ending),
         }
     }
 

@@ -10,6 +10,7 @@ ghost use Rattle.net_sim.specs.Inside.Parts as parts;
 ghost use Rattle.net_sim.specs.Inside.Parts.{IsOnce, hosts_of};
 ghost use Rattle.net_sim.specs.World as world;
 ghost use Rattle.net_sim.specs.World.{opening_world, StepGives, RunGives, Offer, Take};
+ghost use Rattle.promise.specs.Fates.{AreFated};
 
 use crate::book::Book;
 use crate::events::{follow, is_named, offer, take};
@@ -17,7 +18,7 @@ use crate::parts::Hosts;
 use crate::seat::{Seat, ServiceSeat, opening_seats, opening_services};
 use crate::{Event, WorldFault};
 use interface::{Carrier, CarrierFault, HostAddr};
-use promise::BitLog;
+use promise::{BitLog, Fate};
 use sockets::NcpFault;
 use std::alloc::{AllocError, Global};
 use std::marker::Model;
@@ -88,6 +89,14 @@ impl<C: Carrier> World<C> {
         ensures empty { AreUnhanded self.now.kept.book.lives self.now.kept.handed }
     {
         self.book().handed()
+    }
+
+    /// Returns how far each life is, and how those ended that are over, in the order in which the book has the lives.
+    pub fn fates(&self) -> &[Fate]
+        ensures value { result.now ≡ self.now.kept.fates }
+        ensures fated { AreFated self.now.kept.book.lives self.now.kept.fates }
+    {
+        self.book().fates()
     }
 
     /// Returns the carrier.

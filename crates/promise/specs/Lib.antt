@@ -5,3 +5,4 @@ pub mod Safe
 pub mod Formed
 pub mod Notices
 pub mod Connections
+pub mod Fates

@@ -8,7 +8,8 @@
 //! 3. What is written down of a world: `specs/Book.antt`, with [`Life`], [`Told`] and [`Called`].
 //! 4. The parts: a safe book (`specs/Safe.antt`), the messages that a life is made of (`specs/Formed.antt`) and that a
 //!    notice reports (`specs/Notices.antt`), and the sockets that an initial connection pairs
-//!    (`specs/Connections.antt`).
+//!    (`specs/Connections.antt`). Beside them, what an orderly close promises of the lives with their [`Fate`]s
+//!    (`specs/Fates.antt`).
 //! 5. How the text of a message is read: `Control` and `Data` of `host_pairs`, `DataHeader`, `Numbers` and `Reading` of
 //!    `ncp_control`, `Octets` of `bit_messages`.
 //!
@@ -22,4 +23,4 @@ mod life;
 
 pub use bit_log::BitLog;
 pub use book::{Called, Told};
-pub use life::{Amount, Life};
+pub use life::{Amount, Fate, Life};

@@ -40,3 +40,21 @@ pub struct Life {
     /// Whether it has ended.
     pub ended: bool,
 }
+
+/// How far a life is, and if it is over, how it ended. A life is over by CLS where the user of its host was informed that the
+/// end is over.
+#[derive(Clone, Copy, Debug, PartialEq, Eq)]
+pub enum Fate {
+    /// It continues, and no user or service of its host has closed its end.
+    Open,
+    /// It continues, and a user or service of its host has closed its end.
+    Closing,
+    /// It is over by CLS, and a user or service of its host had closed its end while it continued.
+    Closed,
+    /// It is over by CLS, and nobody at its host had closed its end: its partner did.
+    Ended,
+    /// All connections with its peer were gone.
+    Reset,
+    /// Its host stopped.
+    Stopped,
+}

@@ -46,19 +46,19 @@ crossed_reversed : (c : Crossing) (cs : List Crossing) (k : Kept) → all_crosse
 crossed_reversed c cs k = sym (crossed_behind (reverse cs) c k) ∙ ap (λ (ds : List Crossing). all_crossed ds k) (sym (reverse-append (c ∷ []) cs))
 
 same_kept : (xs ys : List Crossing) (ns ms : List Told) (us vs : List Called) (ps qs : List Reported) (l : LivesState) → xs ≡ ys → ns ≡ ms → us ≡ vs → ps ≡ qs
-    → ◌≡◌ {A = Kept} (record { book = record { crossings = xs; notices = ns; contacts = us; reports = ps; lives = l.lives }; handed = l.handed })
-    (record { book = record { crossings = ys; notices = ms; contacts = vs; reports = qs; lives = l.lives }; handed = l.handed })
+    → ◌≡◌ {A = Kept} (record { book = record { crossings = xs; notices = ns; contacts = us; reports = ps; lives = l.lives }; handed = l.handed; fates = l.fates })
+    (record { book = record { crossings = ys; notices = ms; contacts = vs; reports = qs; lives = l.lives }; handed = l.handed; fates = l.fates })
 same_kept xs ys ns ms us vs ps qs l x n a p = cc
 
 -- what is in a book once all of that is written down
 pub written_so : (cs : List Crossing) (a : Option (Host × Request)) (calls : List Called) (ts : List Told) (h : Option Host) (rs : List Request) (reports : List Reported) (k : Kept) (before after : List Crossing) (ns : List Told) (us : List Called)
     (ps : List Reported) (l : LivesState) → k.book.crossings ≡ reverse before → after ≡ before ++ cs → ns ≡ k.book.notices ++ ts → us ≡ k.book.contacts ++ calls → ps ≡ k.book.reports ++ reports
     → l ≡ followed cs a ts h rs (of_kept k)
-    → ◌≡◌ {A = Kept} (record { book = record { crossings = reverse after; notices = ns; contacts = us; reports = ps; lives = l.lives }; handed = l.handed }) (written cs a calls ts h rs reports k)
+    → ◌≡◌ {A = Kept} (record { book = record { crossings = reverse after; notices = ns; contacts = us; reports = ps; lives = l.lives }; handed = l.handed; fates = l.fates }) (written cs a calls ts h rs reports k)
 written_so cs a calls ts h rs reports k before after ns us ps l was more n u p f =
     let x : reverse after ≡ reverse cs ++ k.book.crossings = ap (λ (xs : List Crossing). reverse xs) more ∙ reverse-append before cs ∙ ap (λ (xs : List Crossing). reverse cs ++ xs) (sym was) in
     same_kept (reverse after) (reverse cs ++ k.book.crossings) ns (k.book.notices ++ ts) us (k.book.contacts ++ calls) ps (k.book.reports ++ reports) l x n u p
-    ∙ ap (λ (m : LivesState). let after : Kept = record { book = record { crossings = reverse cs ++ k.book.crossings; notices = k.book.notices ++ ts; contacts = k.book.contacts ++ calls; reports = k.book.reports ++ reports; lives = m.lives }; handed = m.handed } in after) f
+    ∙ ap (λ (m : LivesState). let after : Kept = record { book = record { crossings = reverse cs ++ k.book.crossings; notices = k.book.notices ++ ts; contacts = k.book.contacts ++ calls; reports = k.book.reports ++ reports; lives = m.lives }; handed = m.handed; fates = m.fates } in after) f
 
 -- crossings and what users were notified of, and nothing else
 abbrev pub plain : List Crossing → List Told → Kept → Kept
@@ -110,6 +110,7 @@ written_ran : (h : Host) (rs : List Request) (reports : List Reported) (k : Kept
         lives = (all.all_asked h rs (of_kept k)).lives;
       };
       handed = (all.all_asked h rs (of_kept k)).handed;
+      fates = (all.all_asked h rs (of_kept k)).fates;
     }) (all_reported reports (all_asked h rs k))
 written_ran h [] reports k =
     same_kept k.book.crossings k.book.crossings k.book.notices k.book.notices (k.book.contacts ++ []) k.book.contacts (k.book.reports ++ reports) (k.book.reports ++ reports) (of_kept k) refl refl (append-nil k.book.contacts) refl
@@ -148,6 +149,7 @@ after_that cs a first ts h rs reports k before n is many =
               lives = (all.all_asked h rs (of_kept mid)).lives;
             };
             handed = (all.all_asked h rs (of_kept mid)).handed;
+            fates = (all.all_asked h rs (of_kept mid)).fates;
           }
 
 pub written_both : (h : Host) (place : ℕ) (cs : List Crossing) (ns : List Notice) (rs : List Request) (reports : List Reported) (k : Kept) → place ≡ length k.book.crossings + length cs
@@ -187,7 +189,7 @@ written_alone cs k =
 -- the same, as what is in a book then
 pub crossed_so : (cs : List Crossing) (k : Kept) (before after : List Crossing) (ns : List Told) (us : List Called) (ps : List Reported) (l : LivesState) → k.book.crossings ≡ reverse before → after ≡ before ++ cs
     → ns ≡ k.book.notices → us ≡ k.book.contacts → ps ≡ k.book.reports → l ≡ all.all_crossed cs (of_kept k)
-    → ◌≡◌ {A = Kept} (record { book = record { crossings = reverse after; notices = ns; contacts = us; reports = ps; lives = l.lives }; handed = l.handed }) (all_crossed (reverse cs) k)
+    → ◌≡◌ {A = Kept} (record { book = record { crossings = reverse after; notices = ns; contacts = us; reports = ps; lives = l.lives }; handed = l.handed; fates = l.fates }) (all_crossed (reverse cs) k)
 crossed_so cs k before after ns us ps l was more n u p f =
     written_so cs None [] [] None [] [] k before after ns us ps l was more (n ∙ sym (append-nil k.book.notices)) (u ∙ sym (append-nil k.book.contacts)) (p ∙ sym (append-nil k.book.reports)) f
     ∙ written_alone cs k
@@ -196,17 +198,17 @@ crossed_so cs k before after ns us ps l was more n u p f =
 
 pub asked_so : (h : Host) (r : Request) (k : Kept) (before : List Crossing) (place : ℕ) (ns : List Told) (us : List Called) (ps : List Reported) (l : LivesState) → k.book.crossings ≡ reverse before → place ≡ length before
     → ns ≡ k.book.notices → us ≡ k.book.contacts ++ contacts_asked h place r → ps ≡ k.book.reports → l ≡ all.asked h r (of_kept k)
-    → ◌≡◌ {A = Kept} (record { book = record { crossings = reverse before; notices = ns; contacts = us; reports = ps; lives = l.lives }; handed = l.handed }) (asked h r k)
+    → ◌≡◌ {A = Kept} (record { book = record { crossings = reverse before; notices = ns; contacts = us; reports = ps; lives = l.lives }; handed = l.handed; fates = l.fates }) (asked h r k)
 asked_so h r k before place ns us ps l was is n u p f =
     let many : place ≡ length k.book.crossings = is ∙ sym (length-reverse before) ∙ ap (λ (xs : List Crossing). length xs) (sym was) in
     let calls : List Called = k.book.contacts ++ contacts_asked h (length k.book.crossings) r in
     same_kept (reverse before) k.book.crossings ns k.book.notices us calls ps k.book.reports l (sym was) n (u ∙ ap (λ (m : ℕ). k.book.contacts ++ contacts_asked h m r) many) p
-    ∙ ap (λ (m : LivesState). let after : Kept = record { book = record { crossings = k.book.crossings; notices = k.book.notices; contacts = calls; reports = k.book.reports; lives = m.lives }; handed = m.handed } in after) f
+    ∙ ap (λ (m : LivesState). let after : Kept = record { book = record { crossings = k.book.crossings; notices = k.book.notices; contacts = calls; reports = k.book.reports; lives = m.lives }; handed = m.handed; fates = m.fates } in after) f
 
 pub told_so : (h : Host) (cs : List Crossing) (ns : List Notice) (k : Kept) (before after : List Crossing) (place n : ℕ) (ts seen : List Told) (us : List Called) (ps : List Reported) (l : LivesState) → k.book.crossings ≡ reverse before
     → after ≡ before ++ cs → place ≡ length after → ts ≡ k.book.notices ++ map (told_at h place) ns → us ≡ k.book.contacts → ps ≡ k.book.reports → n ≡ length k.book.notices → seen ≡ ts
     → l ≡ all.all_told (take (length seen - n) (drop n seen)) (all.all_crossed cs (of_kept k))
-    → ◌≡◌ {A = Kept} (record { book = record { crossings = reverse after; notices = ts; contacts = us; reports = ps; lives = l.lives }; handed = l.handed }) (all_told h ns (all_crossed (reverse cs) k))
+    → ◌≡◌ {A = Kept} (record { book = record { crossings = reverse after; notices = ts; contacts = us; reports = ps; lives = l.lives }; handed = l.handed; fates = l.fates }) (all_told h ns (all_crossed (reverse cs) k))
 told_so h cs ns k before after place n ts seen us ps l was more is t u p many same f =
     let news : List Told = map (told_at h place) ns in
     let places : place ≡ length k.book.crossings + length cs =

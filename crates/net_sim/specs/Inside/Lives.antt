@@ -6,48 +6,59 @@ use Rattle.host_pairs.specs.declared.notice.Notice.{Notice}
 use Rattle.sockets.specs.declared.request.Request.{Request}
 use Rattle.net_sim.specs.Book as book
 use Rattle.promise.specs.declared.life.Life.{Life}
+use Rattle.promise.specs.declared.life.Fate.{Fate}
+use Rattle.promise.specs.declared.life.Fate.TheVariants as fate
 use Rattle.promise.specs.declared.book.Told.{Told}
 use Rattle.promise.specs.declared.book.Called.{Called}
 use Rattle.host_services.specs.declared.report.Reported.{Reported}
-use Rattle.net_sim.specs.Book.{Kept, lives_at, where_it, handed_to, lives_crossed, lives_told, lives_asked, handed_told, handed_asked}
-use Rattle.net_sim.specs.Inside.Endings.{Ending, ends}
+use Rattle.net_sim.specs.Book.{Kept, lives_at, where_it, handed_to, lives_crossed, lives_told, lives_asked, handed_told, handed_asked, fates_where, fates_crossed, fates_told, fates_asked}
+use Rattle.net_sim.specs.Inside.Endings.{Ending, Turn, ends, fate_of, turned, turns}
 use Rattle.net_sim.specs.Inside.Growing.{Growth, grown}
 
 pub record LivesState : Type 0 where
   pub lives : List Life
   pub handed : List (List Bool)
+  pub fates : List Fate
 
 abbrev pub none : LivesState
-none = record { lives = []; handed = [] }
+none = record { lives = []; handed = []; fates = [] }
 
-abbrev pub state : List Life → List (List Bool) → LivesState
-state lives handed = record { lives = lives; handed = handed }
+abbrev pub state : List Life → List (List Bool) → List Fate → LivesState
+state lives handed fates = record { lives = lives; handed = handed; fates = fates }
 
 abbrev pub of_kept : Kept → LivesState
-of_kept k = record { lives = k.book.lives; handed = k.handed }
+of_kept k = record { lives = k.book.lives; handed = k.handed; fates = k.fates }
 
 abbrev pub begun : Life → LivesState → LivesState
-begun x l = record { lives = l.lives ++ x ∷ []; handed = l.handed ++ [] ∷ [] }
+begun x l = record { lives = l.lives ++ x ∷ []; handed = l.handed ++ [] ∷ []; fates = l.fates ++ fate.Open ∷ [] }
 
 abbrev pub crossed : Crossing → LivesState → LivesState
-crossed c l = record { lives = lives_crossed c l.lives; handed = l.handed }
+crossed c l = record { lives = lives_crossed c l.lives; handed = l.handed; fates = fates_crossed c l.lives l.fates }
 
 abbrev pub lives_state_ended : Ending → LivesState → LivesState
-lives_state_ended e l = record { lives = where_it (ends e) book.life_ended l.lives; handed = l.handed }
+lives_state_ended e l = record { lives = where_it (ends e) book.life_ended l.lives; handed = l.handed; fates = l.fates }
+
+-- the fates change
+abbrev pub lives_state_turned : Turn → LivesState → LivesState
+lives_state_turned t l = state l.lives l.handed (fates_where (turns t) (turned t) l.lives l.fates)
+
+-- the fates change, and the lives end
+abbrev pub lives_state_over : Ending → LivesState → LivesState
+lives_state_over e l = state (where_it (ends e) book.life_ended l.lives) l.handed (fates_where (ends e) (fate_of e) l.lives l.fates)
 
 abbrev pub lives_state_told : Host → Notice → LivesState → LivesState
-lives_state_told h n l = record { lives = lives_told h n l.lives; handed = handed_told n l.handed }
+lives_state_told h n l = record { lives = lives_told h n l.lives; handed = handed_told n l.handed; fates = fates_told h n l.lives l.fates }
 
 abbrev pub asked : Host → Request → LivesState → LivesState
-asked h r l = record { lives = lives_asked h r l.lives; handed = handed_asked h r l.lives l.handed }
+asked h r l = record { lives = lives_asked h r l.lives; handed = handed_asked h r l.lives l.handed; fates = fates_asked h r l.lives l.fates }
 
 -- the life of a host's socket grows
 abbrev pub lives_grown : Host → ℕ → Growth → LivesState → LivesState
-lives_grown h socket g l = state (where_it (lives_at h socket) (grown g) l.lives) l.handed
+lives_grown h socket g l = state (where_it (lives_at h socket) (grown g) l.lives) l.handed l.fates
 
 -- bits were handed over to be sent at a host's socket
 abbrev pub handed_over : Host → ℕ → List Bool → LivesState → LivesState
-handed_over h socket bits l = state l.lives (handed_to (lives_at h socket) bits l.lives l.handed)
+handed_over h socket bits l = state l.lives (handed_to (lives_at h socket) bits l.lives l.handed) l.fates
 
 -- in the order in which they are
 abbrev pub all_crossed : List Crossing → LivesState → LivesState
@@ -86,6 +97,7 @@ written cs a calls ts h rs reports k = record {
     lives = (followed cs a ts h rs (of_kept k)).lives;
   };
   handed = (followed cs a ts h rs (of_kept k)).handed;
+  fates = (followed cs a ts h rs (of_kept k)).fates;
 }
 
 -- the notices to a host when there were this many crossings

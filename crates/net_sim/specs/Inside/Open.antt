@@ -2,9 +2,10 @@
 use Rattle.std.specs.Prelude.{◌≡◌, ◌⊎◌, ℕ, ◌+◌, ◌*◌, ◌/◌, ◌%◌, ◌==◌, ◌&&◌, suc, Bool, true, false, not, if◌then◌else◌, List, [], ◌∷◌, ◌++◌, filter, map, slice_index_or}
 use Rattle.interface.specs.Host.{Host, address_octet}
 use Rattle.promise.specs.declared.life.Life.{Life}
-use Rattle.net_sim.specs.Inside.Endings.{Ending}
+use Rattle.net_sim.specs.Inside.Endings.{Ending, Turn}
 use Rattle.net_sim.specs.Inside.Places.{is_open_at}
 use Rattle.net_sim.specs.declared.life.Ending.TheVariants as ending
+use Rattle.net_sim.specs.declared.life.Turn.TheVariants as turn
 
 -- ---- numbers of lists
 
@@ -72,6 +73,10 @@ abbrev pub places_of : Ending → List (List ℕ) → List (List ℕ) → List �
 places_of (ending.Between h socket peer foreign) hosts sockets = places_at h socket sockets
 places_of (ending.With h peer) hosts sockets = slice_index_or hosts (host_key h) []
 places_of (ending.On h) hosts sockets = slice_index_or hosts (host_key h) []
+
+abbrev pub places_by : Turn → List (List ℕ) → List (List ℕ) → List ℕ
+places_by (turn.Closes h socket) hosts sockets = places_at h socket sockets
+places_by (turn.Ends e) hosts sockets = places_of e.now hosts sockets
 
 -- where the places are known, they are those of all open lives
 abbrev pub AreKnown : Bool → List (List ℕ) → List (List ℕ) → List Life → Type 0

@@ -2,6 +2,7 @@
 use Rattle.std.specs.Prelude.{◌≡◌, ◌⊎◌, ℕ, zero, suc, Bool, false, List, [], ◌∷◌, ◌++◌, length, min, take}
 use Rattle.promise.specs.declared.life.Life.{Life}
 use Rattle.promise.specs.declared.life.Amount.{Amount}
+use Rattle.promise.specs.declared.life.Fate.{Fate}
 use Rattle.net_sim.specs.Inside.Lives.{LivesState}
 use Rattle.net_sim.specs.Inside.Places.{changed_here}
 pub use Rattle.net_sim.specs.declared.undo.Mark.{Mark}
@@ -29,11 +30,18 @@ cut_here n at [] = []
 cut_here n zero (h ∷ hs) = take n h ∷ hs
 cut_here n (suc at) (h ∷ hs) = h ∷ cut_here n at hs
 
+-- the fate at a place, as it was
+abbrev pub fate_here : Fate → ℕ → List Fate → List Fate
+fate_here was at [] = []
+fate_here was zero (f ∷ fs) = was ∷ fs
+fate_here was (suc at) (f ∷ fs) = f ∷ fate_here was at fs
+
 abbrev pub undone : Undo → LivesState → LivesState
-undone (undo.Begun lives handed) s = record { lives = take lives s.lives; handed = take handed s.handed }
-undone (undo.Ended at) s = record { lives = changed_here reopened at s.lives; handed = s.handed }
-undone (undo.Changed at was) s = record { lives = changed_here (life_back was) at s.lives; handed = s.handed }
-undone (undo.Handed at bits) s = record { lives = s.lives; handed = cut_here bits at s.handed }
+undone (undo.Begun lives handed fates) s = record { lives = take lives s.lives; handed = take handed s.handed; fates = take fates s.fates }
+undone (undo.Ended at) s = record { lives = changed_here reopened at s.lives; handed = s.handed; fates = s.fates }
+undone (undo.Changed at was) s = record { lives = changed_here (life_back was) at s.lives; handed = s.handed; fates = s.fates }
+undone (undo.Handed at bits) s = record { lives = s.lives; handed = cut_here bits at s.handed; fates = s.fates }
+undone (undo.Turned at was) s = record { lives = s.lives; handed = s.handed; fates = fate_here was at s.fates }
 
 -- what was done last is taken back first
 abbrev pub all_undone : List Undo → LivesState → LivesState
@@ -55,3 +63,7 @@ IsEndNoted at us x vs y = ((vs ≡ us) × (y ≡ x)) ⊎ ((vs ≡ us ++ undo.End
 -- the same of what was handed over
 abbrev pub AreNoted : ℕ → List Undo → List Bool → List Undo → List Bool → Type 0
 AreNoted at us h vs g = ((vs ≡ us) × (g ≡ h)) ⊎ ((bits : ℕ) × (vs ≡ us ++ undo.Handed at bits ∷ []) × (take bits g ≡ h))
+
+-- the same of a fate
+abbrev pub IsTurnNoted : ℕ → List Undo → Fate → List Undo → Fate → Type 0
+IsTurnNoted at us f vs g = ((vs ≡ us) × (g ≡ f)) ⊎ (vs ≡ us ++ undo.Turned at f ∷ [])
