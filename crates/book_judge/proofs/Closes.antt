@@ -89,14 +89,14 @@ took_at names lives handed fates log n i j x y h are all lt e f g k m =
 pub closed_first : (names : List Name) (lives : List Life) (handed : List (List Bool)) (fates : List Fate) (log : List Crossing) (n : ℕ) → AreNamed (length lives) names lives log
     → length handed ≡ length lives → ((i : ℕ) → i < n → ClosedAt names lives handed fates i) → ClosesWhole log lives handed (take n fates)
 closed_first names lives handed fates log n are counts all = record {
-  sent = λ x y beside c m.
+  took_sent = λ x y beside c m.
       (let t = beside_place x fate.Ended lives (take n fates) beside in
       let k = get_took n fates t.0 fate.Ended t.2 in
       let j = contains_place lives y c in
       let h = read_at handed j.0 (omega (arith, counts, slice_get_within lives j.0 y j.1)) in
       let took = took_at names lives handed fates log n t.0 j.0 x y h.0 are all k.0 t.1 k.1 j.1 h.1 m in
       (took.0, took.1));
-  handed = λ x y text beside there m some.
+  took_handed = λ x y text beside there m some.
       (let t = beside_place x fate.Ended lives (take n fates) beside in
       let k = get_took n fates t.0 fate.Ended t.2 in
       let j = beside_place y text lives handed there in
@@ -112,8 +112,8 @@ closed_at names lives handed fates log n i are l w a x e f g r j (b, y, p, q, fi
     let one : d.0 ≡ b = one_some (slice_get names j) d.0 b d.1 p in
     let m : Match log x y = fits_match log a x b y (c.2 ∙ ap (λ (z : Name). Some z) same) (d.2 ∙ ap (λ (z : Name). Some z) one) fit in
     let beside : IsBeside x fate.Ended lives (take n fates) = place_beside x fate.Ended lives (take n fates) i f (get_take n fates i fate.Ended l g) in
-    let sent = w.sent x y beside (place_contains lives j y q) m in
-    lost (sent.0, sent.1, λ some. w.handed x y h beside (place_beside y h lives handed j q k) m some)
+    let sent = w.took_sent x y beside (place_contains lives j y q) m in
+    lost (sent.0, sent.1, λ some. w.took_handed x y h beside (place_beside y h lives handed j q k) m some)
 
 -- fates past the lives are of none
 all_beside : (x : Life) (f : Fate) (lives : List Life) (fates : List Fate) → IsBeside x f lives fates → IsBeside x f lives (take (length lives) fates)
@@ -130,8 +130,8 @@ front_beside n x f lives fates h =
 -- closes promise as much of the first lives
 pub closed_front : (log : List Crossing) (lives : List Life) (handed : List (List Bool)) (fates : List Fate) (n : ℕ) → ClosesWhole log lives handed fates → first_closed log lives handed fates n
 closed_front log lives handed fates n w = record {
-  sent = λ x y beside c m. w.sent x y (front_beside n x fate.Ended lives fates beside) c m;
-  handed = λ x y text beside there m some. w.handed x y text (front_beside n x fate.Ended lives fates beside) there m some;
+  took_sent = λ x y beside c m. w.took_sent x y (front_beside n x fate.Ended lives fates beside) c m;
+  took_handed = λ x y text beside there m some. w.took_handed x y text (front_beside n x fate.Ended lives fates beside) there m some;
 }
 
 -- ---- what is found
@@ -141,8 +141,8 @@ pub closed_none : (names : List Name) (lives : List Life) (handed : List (List B
 closed_none names lives handed fates log are counts all =
     let w : ClosesWhole log lives handed (take (length lives) fates) = closed_first names lives handed fates log (length lives) are counts all in
     record {
-      sent = λ x y beside c m. w.sent x y (all_beside x fate.Ended lives fates beside) c m;
-      handed = λ x y text beside there m some. w.handed x y text (all_beside x fate.Ended lives fates beside) there m some;
+      took_sent = λ x y beside c m. w.took_sent x y (all_beside x fate.Ended lives fates beside) c m;
+      took_handed = λ x y text beside there m some. w.took_handed x y text (all_beside x fate.Ended lives fates beside) there m some;
     }
 
 pub closed_some : (names : List Name) (lives : List Life) (handed : List (List Bool)) (fates : List Fate) (log : List Crossing) (p : ℕ) (found : Finding) → AreNamed (length lives) names lives log

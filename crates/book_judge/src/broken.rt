@@ -18,7 +18,8 @@ use crate::places::Places;
 use crate::stamps::partners_of;
 use crate::streams::unfed_at;
 use interface::Crossing as Passage;
-use net_sim::{BitLog, Fate, Finding, Life};
+use net_sim::{BitLog, Finding, Life};
+use promise::Fate;
 use std::alloc::{AllocError, Global};
 
 /// Where it shows that the lives of a log aren't those of a safe book. What isn't named holds.

@@ -12,7 +12,8 @@ use crate::names::Name;
 use crate::places::Places;
 use crate::sought::{Sought, is_found};
 use crate::stamps::found_at;
-use net_sim::{BitLog, Fate, Life};
+use net_sim::{BitLog, Life};
+use promise::Fate;
 
 /// Returns whether the life at a place was ended by its partner.
 fn is_ended(fates: &[Fate], place: usize) -> bool

@@ -30,7 +30,7 @@ fn is_within(used: u128, returned: u128, granted: u128) -> bool
 }
 
 /// Returns whether this many messages and bits, with what was returned, are no more than what a receiving life granted.
-fn is_granted(life: &Life, messages: u128, bits: usize) -> bool
+pub(crate) fn is_granted(life: &Life, messages: u128, bits: usize) -> bool
     ensures { result ≡ tests.is_granted life.now messages bits }
 {
     is_within(messages, life.returned.messages, life.granted.messages)

@@ -6,7 +6,8 @@ ghost use Rattle.book_log.specs.Steps.{Adds, opening_book};
 
 use crate::lines::Line;
 use interface::Crossing;
-use net_sim::{BitLog, Fate, Life};
+use net_sim::{BitLog, Life};
+use promise::Fate;
 use std::alloc::{AllocError, Global};
 use std::marker::Model;
 

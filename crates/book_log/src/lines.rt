@@ -11,7 +11,8 @@ ghost use Rattle.book_log.specs.Steps.{host_words, life_of, life_words, line_tex
 use crate::words::Words;
 use bit_messages::Bits;
 use interface::{Answer, Crossing, Flow, HostAddr, HostMessage, Text};
-use net_sim::{Amount, BitLog, Fate, Life};
+use net_sim::{Amount, BitLog, Life};
+use promise::Fate;
 use std::alloc::{AllocError, Global};
 
 /// What a line of a log describes.
@@ -188,7 +189,7 @@ pub(crate) struct Counts {
     pub fate: Fate,
 }
 
-/// Reads `HOST SOCKET PEER FOREIGN OWN PARTNER KIND MESSAGES BITS GM GB RM RB STATE OCTETS`
+/// Reads `HOST SOCKET PEER FOREIGN OWN PARTNER KIND MESSAGES BITS GM GB RM RB FATE OCTETS`
 ///
 /// Errors: `AllocError`.
 fn read_life(
@@ -268,7 +269,7 @@ fn is_kind(word: &[u8], socket: u32) -> bool
     }
 }
 
-/// Reads `MESSAGES BITS GM GB RM RB STATE`
+/// Reads `MESSAGES BITS GM GB RM RB FATE`
 fn read_counts(words: &mut Words<'_>) -> Option<Counts>
     ensures { TakesWords counts_words AreCounts (words_left words.old) result (words_left words.new) }
 {

@@ -15,7 +15,8 @@ ghost use Rattle.promise.specs.Fates.{AreFated};
 
 use crate::ranges::{has_crossing_ranges, has_life_ranges, has_list_range};
 use interface::{Answer, Crossing};
-use net_sim::{BitLog, Fate, Life};
+use net_sim::{BitLog, Life};
+use promise::Fate;
 use replay::{Detail, Output, WriteFailed, print_crossing};
 use std::fmt;
 use world_replay::LifeLine;

@@ -48,7 +48,7 @@ kept_alone log messages = (record { counts = refl; stamped = λ x there. absurd 
 
 -- where there is no life nothing is lost
 none_closes : (log : List Crossing) → ClosesWhole log [] [] []
-none_closes log = record { sent = λ x y beside c m. absurd beside; handed = λ x y text beside there m some. absurd beside }
+none_closes log = record { took_sent = λ x y beside c m. absurd beside; took_handed = λ x y text beside there m some. absurd beside }
 
 ended_logged : (f : Fate) → logged_fate f ≡ fate.Ended → f ≡ fate.Ended
 ended_logged fate.Open e = absurd (cc)
@@ -69,8 +69,8 @@ beside_logged x (y ∷ lives) (f ∷ fates) h = elim h [
 -- what is logged of fates loses nothing where they don't
 closes_logged : (log : List Crossing) (lives : List Life) (handed : List (List Bool)) (fates : List Fate) → ClosesWhole log lives handed fates → ClosesWhole log lives handed (map logged_fate fates)
 closes_logged log lives handed fates w = record {
-  sent = λ x y beside c m. w.sent x y (beside_logged x lives fates beside) c m;
-  handed = λ x y text beside there m some. w.handed x y text (beside_logged x lives fates beside) there m some;
+  took_sent = λ x y beside c m. w.took_sent x y (beside_logged x lives fates beside) c m;
+  took_handed = λ x y text beside there m some. w.took_handed x y text (beside_logged x lives fates beside) there m some;
 }
 
 -- the lives and fates of the log of a world are those of its book
@@ -91,7 +91,7 @@ kept_from calls opening (World events) octets h = record {
   book = world_book h.last.kept;
   log = record { spelled = h.written; valid = h.valid };
   says =
-      says_logged h.last.kept h.promise.fated
+      says_logged h.last.kept h.fated
       (kept_from_safe (reverse h.last.kept.book.crossings) h.last.kept.book.lives h.last.kept.handed (map logged_fate h.last.kept.fates)
       (run_twice (calls.seen h.last.carrier).hosts h.last.kept.book.crossings (world_run calls.seen h.last h.promise.lawful)) (made_twice h.last.kept.book.crossings h.last.kept.book.lives h.promise.firsts)
       (turned audit.Kept h.last.kept.book.crossings h.last.kept.book.lives h.last.kept.handed (kept_promise (calls.seen h.last.carrier).hosts h.last.kept.book h.last.kept.handed (parted calls.seen h.last h.promise).0))

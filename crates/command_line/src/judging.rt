@@ -9,7 +9,8 @@ ghost use Rattle.net_sim.specs.Findings.{ShowsCrossing};
 use crate::verdict::Verdict;
 use book_judge::{Broken, broken_at, broken_message, stray_at, unmade_at};
 use interface::Crossing;
-use net_sim::{BitLog, Fate, Finding, Life};
+use net_sim::{BitLog, Finding, Life};
+use promise::Fate;
 use std::alloc::{AllocError, Global};
 
 /// Returns the first crossing with which messages are broken; `None` where they are kept. A run of the mailboxes keeps them, so
