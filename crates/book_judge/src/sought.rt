@@ -62,7 +62,7 @@ fn loses(life: &Life, other: &Life, handed: &[BitLog], place: usize) -> bool
 
 /// Returns whether the life at a place is what is looked for, where it matches a receiving one.
 fn meets(sought: Sought<'_>, life: &Life, other: &Life, place: usize) -> bool
-    ensures { MatchBool result (Meets sought life.now other.now place) (Meets sought life.now other.now place → ⊥) }
+    ensures { MatchBool result (Meets sought.entry life.now other.now place) (Meets sought.entry life.now other.now place → ⊥) }
 {
     match sought {
         Sought::Source => is_prefix(&life.bits, &other.bits),
@@ -80,7 +80,7 @@ fn is_at(
     lives: &[Life],
     place: usize,
 ) -> bool
-    ensures { MatchBool result (SoughtAt sought asked.now life.now names.now lives.now place) (SoughtAt sought asked.now life.now names.now lives.now place → ⊥) }
+    ensures { MatchBool result (SoughtAt sought.entry asked.now life.now names.now lives.now place) (SoughtAt sought.entry asked.now life.now names.now lives.now place → ⊥) }
 {
     let (Some(b), Some(y)) = (names.get(place), lives.get(place)) else {
         return false;
@@ -99,7 +99,7 @@ pub(crate) fn is_found(
     lives: &[Life],
 ) -> bool
     requires { AreChained (length lives.now) last.now before.now lives.now }
-    ensures { MatchBool result ((i : ℕ) × SoughtAt sought asked.now life.now names.now lives.now i) ((i : ℕ) → SoughtAt sought asked.now life.now names.now lives.now i → ⊥) }
+    ensures { MatchBool result ((i : ℕ) × SoughtAt sought.entry asked.now life.now names.now lives.now i) ((i : ℕ) → SoughtAt sought.entry asked.now life.now names.now lives.now i → ⊥) }
 {
     let mut at = last.get(asked.key());
     'chain: while let Some(place) = at {

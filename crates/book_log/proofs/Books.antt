@@ -1,10 +1,10 @@
 -- The lines of a book, in their order, and the first bad one.
 use Rattle.std.proofs.Common.{◌≡◌, ℕ, ◌<◌, ◌≤◌, ◌==◌, ◌&&◌, Bool, true, false, suc, List, [], ◌∷◌, ◌++◌, Some, None, codes, length, map, refl, sym, ap, ap₂, ◌∙◌, arith, subst, append_assoc, append-nil, if◌then◌else◌}
-use Rattle.std.proofs.lemmas.Bool.{false≢true}
+use Rattle.std.proofs.lemmas.Bool.{eqb-true, false≢true}
 use Rattle.std.proofs.lemmas.List.{map-append}
 use Rattle.std.proofs.lemmas.List.Elements.{All-append, All-cons, All-head, All-map, All-nil, All-tail, All-weaker}
 use Rattle.std.proofs.lemmas.Grind.{flat_map-append}
-use Rattle.std.specs.List.{All}
+use Rattle.std.specs.List.{All, zip}
 use Rattle.interface.specs.declared.crossing.Crossing.{Crossing}
 use Rattle.interface.specs.declared.crossing.Crossing.TheVariants as crossing
 use Rattle.promise.specs.declared.life.Fate.{Fate}
@@ -390,3 +390,25 @@ was_added (line.Lived x f) old new e = by (is_bare old.handed) refl e
     by false bare is = absurd (none_some is)
 was_added (line.Handed bits) old new e = subst (Added (line.Handed bits) old) (some_same e) (with_list bits old)
 was_added line.End old new e = absurd (none_some e)
+
+-- ---- lives and their fates, in two lists
+
+zip_more : {X Y : Type 0} (xs : List X) (ys : List Y) (x : X) (y : Y) → length ys ≡ length xs → zip (xs ++ x ∷ []) (ys ++ y ∷ []) ≡ zip xs ys ++ (x, y) ∷ []
+zip_more [] [] x y n = refl
+zip_more [] (v ∷ ys) x y n = absurd (omega (arith, n))
+zip_more (u ∷ xs) [] x y n = absurd (omega (arith, n))
+zip_more {X} {Y} (u ∷ xs) (v ∷ ys) x y n = ap (λ (zs : List (X × Y)). (u, v) ∷ zs) (zip_more xs ys x y (omega (arith, n)))
+
+pub life_added : (crossings : List Crossing) (xs us : List Life) (fs vs : List Fate) (handed : List (List Bool)) (x : Life) (f : Fate) (old : Book) → length fs ≡ length xs → us ≡ xs ++ x ∷ [] → vs ≡ fs ++ f ∷ []
+    → record { crossings = crossings; lives = zip xs fs; handed = handed } ≡ old → record { crossings = crossings; lives = zip us vs; handed = handed } ≡ record old { lives = old.lives ++ (x, f) ∷ [] }
+life_added crossings xs us fs vs handed x f old n p q is =
+    let made : List (Life × Fate) → Book = λ zs. record { crossings = crossings; lives = zs; handed = handed } in
+    ap made (ap₂ (λ (ls : List Life) (gs : List Fate). zip ls gs) p q ∙ zip_more xs fs x f n) ∙ ap (λ (b : Book). record b { lives = b.lives ++ (x, f) ∷ [] }) is
+
+pub bare_lives : (xs : List (Life × Fate)) → (length (map (λ (x : Life × Fate). x.0) xs) == 0) ≡ is_bare xs
+bare_lives [] = refl
+bare_lives (x ∷ xs) = by (length (map (λ (y : Life × Fate). y.0) (x ∷ xs)) == 0) refl
+  where
+    by : (t : Bool) → (length (map (λ (y : Life × Fate). y.0) (x ∷ xs)) == 0) ≡ t → t ≡ false
+    by true e = (let some : length (map (λ (y : Life × Fate). y.0) (x ∷ xs)) ≡ 0 = eqb-true (length (map (λ (y : Life × Fate). y.0) (x ∷ xs))) 0 e in absurd (omega (arith, some)))
+    by false e = refl

@@ -141,6 +141,10 @@ pub whole_valid : (lives : List Life) (fates : List Fate) (place : ℕ) → take
     → All (λ (p : Life × Fate). IsLife p.0) (take place (zip lives fates)) → All (λ (p : Life × Fate). IsLife p.0) (zip lives fates)
 whole_valid lives fates place all valid = subst (All (λ (p : Life × Fate). IsLife p.0)) all valid
 
+-- the word that was written is the name of a fate
+pub named_front : (x : Life) (f : Fate) (name : List ℕ) (a b : Option (List ℕ)) → name ≡ fate_name f → Appends a b (worded_life x name ++ codes " ") → Appends a b (worded_life x (fate_name f) ++ codes " ")
+named_front x f name a b e h = subst (λ (n : List ℕ). Appends a b (worded_life x n ++ codes " ")) e h
+
 -- what is logged of a fate has its name, and says as much
 logged_name : (f : Fate) → fate_name (logged_fate f) ≡ fate_name f
 logged_name fate.Open = refl

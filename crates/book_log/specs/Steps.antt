@@ -11,7 +11,7 @@ use Rattle.interface.specs.declared.crossing.Answer.{Answer}
 use Rattle.interface.specs.declared.crossing.Crossing.TheVariants as crossing
 use Rattle.interface.specs.declared.message.HostMessage.{HostMessage}
 use Rattle.promise.specs.declared.life.Amount.{Amount}
-use Rattle.promise.specs.Fates.{is_over}
+use Rattle.promise.specs.Fates as fates
 use Rattle.promise.specs.declared.life.Fate.{Fate}
 use Rattle.promise.specs.declared.life.Life.{Life}
 use Rattle.script.specs.Spelling.{IsFlow, IsHost, octets_text}
@@ -143,7 +143,7 @@ life_of e k bits = record {
   messages = k.messages;
   granted = k.granted;
   returned = k.returned;
-  ended = is_over k.fate;
+  ended = fates.is_over k.fate;
 }
 
 -- the words of a line

@@ -2,7 +2,7 @@
 
 ghost use Rattle.std.specs.Prelude.{◌≡◌, ◌∷◌, ◌++◌, [], OnOk};
 ghost use Rattle.book_log.specs.Log.{fates_of, lives_of};
-ghost use Rattle.book_log.specs.Steps.{Adds, opening_book};
+ghost use Rattle.book_log.specs.Steps.{Adds, is_bare, opening_book};
 
 use crate::lines::Line;
 use interface::Crossing;
@@ -82,10 +82,10 @@ impl LoggedBook {
         ensures { Adds line self.old result self.new }
     {
         match line {
-            Line::Crossed(crossing) if self.lives.is_empty() && self.handed.is_empty() => {
+            Line::Crossed(crossing) if self.has_no_life() && self.has_no_list() => {
                 self.crossings.push(crossing)?;
             }
-            Line::Lived(life, fate) if self.handed.is_empty() => self.add_life(life, fate)?,
+            Line::Lived(life, fate) if self.has_no_list() => self.add_life(life, fate)?,
             Line::Handed(bits) => self.handed.push(bits)?,
             Line::Crossed(_) | Line::Lived(_, _) | Line::End => return Ok(false),
         }
@@ -99,10 +99,24 @@ impl LoggedBook {
         ensures { OnOk result (self.new ≡ record self.old { lives = self.old.lives ++ (life, fate) ∷ [] }) }
     {
         self.fates.push(fate)?;
-        if self.lives.push(life).is_err() {
+        let Ok(()) = self.lives.push(life) else {
             self.fates.pop();
             return Err(AllocError);
-        }
+        };
         Ok(())
+    }
+
+    /// Returns whether there is no life.
+    fn has_no_life(&self) -> bool
+        ensures { result ≡ is_bare self.now.lives }
+    {
+        self.lives().is_empty()
+    }
+
+    /// Returns whether there is no list.
+    fn has_no_list(&self) -> bool
+        ensures { result ≡ is_bare self.now.handed }
+    {
+        self.handed.is_empty()
     }
 }

@@ -1,7 +1,8 @@
-use Rattle.std.proofs.Common.{Option, List, ℕ, subst}
+use Rattle.std.proofs.Common.{List, ℕ, subst}
 use Rattle.std.specs.Io.KnownBytes.{Appends}
 use Rattle.replay.proofs.lemmas.{on_ok}
-use Rattle.book_log.specs.Log.{logged_book}
+use Rattle.promise.specs.Fates.{AreFated}
+use Rattle.book_log.specs.Log.{IsBook, logged_book}
 use Rattle.book_log.proofs.Printed.{lives_valid, log_written, logged_lives}
 use Rattle.book_log.proofs.print.print_log.Goals as goal
 
@@ -16,8 +17,10 @@ returns-clause-written g c =
 
 pub returns-clause-valid : goal.returns-clause-valid
 returns-clause-valid g c =
-    on_ok c.write_all.result (λ are. record {
+    let valid : AreFated c.args.lives.now c.args.fates.now → IsBook (logged_book c.args.crossings.now c.args.lives.now c.args.handed.now c.args.fates.now) =
+    (λ are. record {
       crossings = c.in_ok-print_crossings.ensures.valid;
       lives = lives_valid c.args.lives.now c.args.fates.now are c.in_ok-print_lives.ensures.valid;
       handed = c.in_ok-print_lists.ensures.valid;
-    })
+    }) in
+    on_ok c.write_all.result (λ _. valid) c.write_all.ensures.written
