@@ -1,7 +1,8 @@
 -- What closes promise of the first lives, with one more.
 use Rattle.std.proofs.Common.{◌≡◌, ◌⊎◌, ℕ, zero, suc, ◌+◌, ◌<◌, ◌≤◌, ◌==◌, Bool, true, false, not, List, [], ◌∷◌, ◌++◌, length, take, get_or, Option, Some, None, MatchBool, refl, ap, sym, subst, ◌∙◌, inl, inr, arith, append-nil}
 use Rattle.std.specs.List.{Contains, slice_get}
-use Rattle.std.proofs.lemmas.Bool.{eq-eqb, eqb-true}
+use Rattle.std.specs.Prelude.{IfSome, nat_lt}
+use Rattle.std.proofs.lemmas.Bool.{eq-eqb, eqb-true, ltb-false, ltb-true}
 use Rattle.std.proofs.lemmas.List.{length-append, nil_from_length}
 use Rattle.std.proofs.lemmas.Option.{slice_get_read, slice_get_within}
 use Rattle.interface.specs.declared.crossing.Crossing.{Crossing}
@@ -168,6 +169,22 @@ again_taken a x names lives handed fates p (b, y, e, f, g, h, messages, bits) cl
     let u = repeats_true a x b y h in
     let kind : receives y ≡ true = ap (λ (n : Name). is_receive_socket n.own) (sym u.1) ∙ r in
     closed b y e f g kind i (c, z, s, t, sym (fits_too a x b y c z u.0 u.1 u.2 u.3) ∙ fit, (text, at, λ took. lost (bits ∙ took.0, messages ∙ took.1, λ some. bits ∙ took.2 (λ none. some (bits ∙ none)))))
+
+-- and so of the place of an earlier one that was found
+pub earlier_closed : (names : List Name) (lives : List Life) (handed : List (List Bool)) (fates : List Fate) (o : Option ℕ) (p : ℕ) → o ≡ Some p → IfSome o (ClosedAt names lives handed fates) → ClosedAt names lives handed fates p
+earlier_closed names lives handed fates o p e h = subst (λ (z : Option ℕ). IfSome z (ClosedAt names lives handed fates)) e h
+
+-- what is lost of a list that is there
+pub loses_here : (b : Bool) (x y : Life) (h : List Bool) (handed : List (List Bool)) (i : ℕ) → slice_get handed i ≡ Some h → MatchBool b (TookAll x y h) (TookAll x y h → ⊥)
+    → MatchBool (not b) (LosesOf x y handed i) (LosesOf x y handed i → ⊥)
+loses_here true x y h handed i e m = λ (k, f, lost). (let one : h ≡ k = one_some (slice_get handed i) h k e f in lost (subst (λ (z : List Bool). TookAll x y z) one m))
+loses_here false x y h handed i e m = (h, e, m)
+
+pub list_there : (handed : List (List Bool)) (i : ℕ) (h : List Bool) → true ≡ nat_lt i (length handed) → h ≡ get_or handed i h → slice_get handed i ≡ Some h
+list_there handed i h e is = slice_get_read handed (length handed) i h refl (ltb-true i (length handed) (sym e)) is
+
+pub loses_none : (x y : Life) (handed : List (List Bool)) (i : ℕ) → false ≡ nat_lt i (length handed) → LosesOf x y handed i → ⊥
+loses_none x y handed i e (h, at, lost) = (let past : length handed ≤ i = ltb-false i (length handed) (sym e) in omega (arith, past, slice_get_within handed i h at))
 
 -- the life at a place
 pub closed_here : (names : List Name) (lives : List Life) (handed : List (List Bool)) (fates : List Fate) (n : ℕ) (a : Name) (x : Life)

@@ -67,15 +67,14 @@ pub shown_granted : (a : Name) (x : Life) (names : List Name) (lives : List Life
 shown_granted a x names lives None h granted g r = absurd (cc)
 shown_granted a x names lives (Some p) h granted g r = (g, shown_by a x names lives p (slice_get names p) (slice_get lives p) refl refl h granted r)
 
--- the life before one with its own request is well, where all before are
-pub earlier_granted : (names : List Name) (lives : List Life) (before : List (Option ℕ)) (last : map.FinMap nat_cmp ℕ) (n : ℕ) (x : Life) (o : Option ℕ) → n < length lives
-    → x ≡ get_or lives n x → AreChained (length lives) last before lives → o ≡ found_at (slice_get before n) → ((i : ℕ) → i < n → GrantedAt names lives i)
-    → IfSome o (GrantedAt names lives)
-earlier_granted names lives before last n x o l e chains is all =
+-- what holds of all lives before one holds of the last of them with its own request
+pub earlier_all : (P : ℕ → Type 0) (lives : List Life) (before : List (Option ℕ)) (last : map.FinMap nat_cmp ℕ) (n : ℕ) (x : Life) (o : Option ℕ) → n < length lives
+    → x ≡ get_or lives n x → AreChained (length lives) last before lives → o ≡ found_at (slice_get before n) → ((i : ℕ) → i < n → P i) → IfSome o P
+earlier_all P lives before last n x o l e chains is all =
     let t = chains.links n x l (slice_get_read lives (length lives) n x refl l e) in
-    let P : Option ℕ → Type 0 = λ z. IfSome z (GrantedAt names lives) in
-    subst P (sym (is ∙ ap (λ (z : Option (Option ℕ)). found_at z) t.1)) (by t.0 t.2)
+    let Q : Option ℕ → Type 0 = λ z. IfSome z P in
+    subst Q (sym (is ∙ ap (λ (z : Option (Option ℕ)). found_at z) t.1)) (by t.0 t.2)
   where
-    by : (z : Option ℕ) → IsLast (key (own_request x)) n lives z → IfSome z (GrantedAt names lives)
+    by : (z : Option ℕ) → IsLast (key (own_request x)) n lives z → IfSome z P
     by None h = tt
     by (Some p) h = all p h.0
