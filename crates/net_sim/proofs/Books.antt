@@ -5,6 +5,7 @@ pub mod Always
 pub mod BookEvents
 pub mod Booked
 pub mod Counts
+pub mod Fated
 pub mod Held
 pub mod InOrder
 pub mod LifeLoops
@@ -16,6 +17,7 @@ pub mod Reported
 pub mod RunLoop
 pub mod SafeRow
 pub mod Undoing
+pub mod Turned
 pub mod Unformed
 pub mod Untold
 pub mod Unsafe

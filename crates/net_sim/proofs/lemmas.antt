@@ -1,6 +1,7 @@
 -- The lemmas of this crate that others may use: the proofs of headline, world_keeps_connections, world_keeps_lives, world_keeps_pairing, world_keeps_streams and world_replay do. All others in proofs/ are its own.
 pub use Rattle.net_sim.proofs.Books.Always.{calm_keeps}
 pub use Rattle.net_sim.proofs.Books.Booked.{booked_messages}
+pub use Rattle.net_sim.proofs.Books.Fated.{by_fated, kept_fated, told_fated, world_fated}
 pub use Rattle.net_sim.proofs.Resets.Bridge.{box_same, by_request, flow_of, place_same, places_same}
 pub use Rattle.net_sim.proofs.Resets.Clean.{cleared_waits, fetched_waits, waiting_out}
 pub use Rattle.net_sim.proofs.Resets.Coupled.{Coupled, coupled}

@@ -4,7 +4,7 @@ ghost use Rattle.std.specs.Prelude.{◌≡◌, ◌+◌, ◌<◌, ◌≤◌, ◌^
 ghost use Rattle.net_sim.specs.Book as book;
 ghost use Rattle.net_sim.specs.Book.{lives_at, lives_between, lives_with, lives_on, changed_when};
 ghost use Rattle.net_sim.specs.Inside.Counts.{IsWithin};
-ghost use Rattle.net_sim.specs.Inside.Endings.{ends, fate_of, turned, turns};
+ghost use Rattle.net_sim.specs.Inside.Endings.{ends, turn_by, turned, turns};
 ghost use Rattle.net_sim.specs.Inside.Growing.{grown};
 ghost use Rattle.net_sim.specs.Inside.Undo.{AreNoted, IsEndNoted, IsNoted, IsTurnNoted, cut_amount, life_back, mark_of};
 
@@ -69,7 +69,7 @@ pub(crate) enum Growth<'a> {
 
 /// By what the fates of lives change.
 #[derive(Drop)]
-pub(crate) enum Turn<'a> {
+pub(crate) enum Turn {
     /// A user or a service closes the end of its socket.
     Closes {
         /// The host whose life it is.
@@ -77,10 +77,28 @@ pub(crate) enum Turn<'a> {
         /// Its socket.
         socket: u32,
     },
-    /// Lives end.
-    Ends {
-        /// Which.
-        ending: &'a Ending,
+    /// The end of a life is over by CLS.
+    Over {
+        /// The host whose life it is.
+        host: HostAddr,
+        /// Its own socket.
+        socket: u32,
+        /// The host of its partner.
+        peer: HostAddr,
+        /// The socket of its partner.
+        foreign: u32,
+    },
+    /// All lives with a peer end.
+    Resets {
+        /// The host whose lives they are.
+        host: HostAddr,
+        /// The peer that they are with.
+        peer: HostAddr,
+    },
+    /// All lives of a host end.
+    Stops {
+        /// The host whose lives they are.
+        host: HostAddr,
     },
 }
 
@@ -156,13 +174,48 @@ fn is_of(life: &Life, ending: &Ending) -> bool
     }
 }
 
+/// Returns by what the fates change where these lives end.
+pub(crate) fn turn_of(ending: &Ending) -> Turn
+    ensures { result ≡ turn_by ending.now }
+{
+    match ending {
+        Ending::Between {
+            host,
+            socket,
+            peer,
+            foreign,
+        } => {
+            Turn::Over {
+                host: *host,
+                socket: *socket,
+                peer: *peer,
+                foreign: *foreign,
+            }
+        }
+        Ending::With { host, peer } => {
+            Turn::Resets {
+                host: *host,
+                peer: *peer,
+            }
+        }
+        Ending::On { host } => Turn::Stops { host: *host },
+    }
+}
+
 /// Returns whether the fate of this life changes.
 fn is_turned(life: &Life, turn: &Turn) -> bool
     ensures { result ≡ turns turn.now life.now }
 {
     match turn {
         Turn::Closes { host, socket } => is_at(life, *host, *socket),
-        Turn::Ends { ending } => is_of(life, ending),
+        Turn::Over {
+            host,
+            socket,
+            peer,
+            foreign,
+        } => is_between(life, *host, *socket, *peer, *foreign),
+        Turn::Resets { host, peer } => is_with(life, *host, *peer),
+        Turn::Stops { host } => is_on(life, *host),
     }
 }
 
@@ -186,24 +239,15 @@ fn over_by_cls(fate: Fate) -> Fate
     }
 }
 
-/// Returns how far a life is when it has ended so.
-fn fate_after(ending: &Ending, fate: Fate) -> Fate
-    ensures { result ≡ fate_of ending.now fate }
-{
-    match ending {
-        Ending::Between { .. } => over_by_cls(fate),
-        Ending::With { .. } => Fate::Reset,
-        Ending::On { .. } => Fate::Stopped,
-    }
-}
-
 /// Returns what the fate changes to.
 fn turned_by(turn: &Turn, fate: Fate) -> Fate
     ensures { result ≡ turned turn.now fate }
 {
     match turn {
         Turn::Closes { .. } => closing(fate),
-        Turn::Ends { ending } => fate_after(ending, fate),
+        Turn::Over { .. } => over_by_cls(fate),
+        Turn::Resets { .. } => Fate::Reset,
+        Turn::Stops { .. } => Fate::Stopped,
     }
 }
 

@@ -14,7 +14,7 @@ ghost use Rattle.net_sim.specs.Inside.Undo.{all_undone, GoesBack};
 ghost use Rattle.promise.specs.declared.life.Fate.{Fate};
 
 use crate::book::Page;
-use crate::life::{Ending, Growth, Turn, end_at, grow_at, hand_at, nothing, turn_at};
+use crate::life::{Ending, Growth, Turn, end_at, grow_at, hand_at, nothing, turn_at, turn_of};
 use crate::open::Open;
 use crate::tally::Tally;
 use crate::undo::{Undo, take_back};
@@ -199,7 +199,7 @@ impl Lives {
         ensures done { OnOk result (self.new ≡ all.lives_state_over ending.now self.old) }
         ensures back { GoesBack done.old.items self.old done.new.items self.new }
     {
-        self.turn(&Turn::Ends { ending }, done)?;
+        self.turn(&turn_of(ending), done)?;
         self.end(ending, done)
     }
 

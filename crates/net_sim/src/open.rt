@@ -168,8 +168,10 @@ impl Open {
         ensures { result.now ≡ places_by turn.now self.now.hosts self.now.sockets }
     {
         match turn {
-            Turn::Closes { host, socket } => self.at(*host, *socket),
-            Turn::Ends { ending } => self.of(ending),
+            Turn::Closes { host, socket } | Turn::Over { host, socket, .. } => {
+                self.at(*host, *socket)
+            }
+            Turn::Resets { host, .. } | Turn::Stops { host } => self.hosts.at(host_number(*host)),
         }
     }
 

@@ -5,6 +5,8 @@ ghost use Rattle.interface.specs.Calls.{Seen};
 ghost use Rattle.interface.specs.declared.crossing.Crossing.TheVariants as crossing;
 ghost use Rattle.net_sim.specs.Book.{book_told, asked, crossed};
 ghost use Rattle.net_sim.specs.Handed.{AreUnhanded};
+ghost use Rattle.promise.specs.Fates.{AreFated};
+ghost use Rattle.promise.specs.declared.life.Fate.TheVariants as fate;
 ghost use Rattle.promise.specs.Safe.{SafeBook, own_request, partner_request, last_out, before, control_flow};
 ghost use Rattle.net_sim.specs.Worked.{eight, eight_zeros, four, crossings, message, opened_kept, used, receiver, sender, taker, giver, elsewhere, asker, stranger, over, any_carrier, fresh, down};
 ghost use Rattle.net_sim.specs.Worked.{busy, lacking, stamp_of};
@@ -78,6 +80,38 @@ pub fn worked_books()
 
     // the crossings are in it, the newest first
     ensures crossings { used.book.crossings ≡ crossings }
+{}
+
+/// How far lives are, and how they end.
+pub fn worked_fates()
+    // each is open at first, and one whose user closes its end is closing
+    ensures open { used.fates ≡ fate.Open ∷ fate.Open ∷ [] }
+    ensures closing { (asked first (request.Close 16) used).fates ≡ fate.Open ∷ fate.Closing ∷ [] }
+    ensures another_host { (asked second (request.Close 16) used).fates ≡ fate.Open ∷ fate.Open ∷ [] }
+
+    // over by CLS it has ended where nobody at its host had closed it, and else it is closed
+    ensures ended { (book_told first (notice.Ended 16 second 33) used).fates ≡ fate.Open ∷ fate.Ended ∷ [] }
+    ensures closed { (book_told first (notice.Ended 16 second 33) (asked first (request.Close 16) used)).fates ≡ fate.Open ∷ fate.Closed ∷ [] }
+    ensures another_end { (book_told first (notice.Ended 16 second 35) used).fates ≡ fate.Open ∷ fate.Open ∷ [] }
+
+    // an orderly close: the sender's user closes, and the receiver's doesn't
+    ensures orderly { (book_told second (notice.Ended 33 first 16) (book_told first (notice.Ended 16 second 33) (asked second (request.Close 33) used))).fates ≡ fate.Closed ∷ fate.Ended ∷ [] }
+
+    // its pair is reset, or its host stops, also where its user had closed it
+    ensures reset { (book_told second (notice.PairReset first) used).fates ≡ fate.Reset ∷ fate.Open ∷ [] }
+    ensures closed_reset { (book_told first (notice.PairReset second) (asked first (request.Close 16) used)).fates ≡ fate.Open ∷ fate.Reset ∷ [] }
+    ensures stopped { (crossed (crossing.Down first) used).fates ≡ fate.Open ∷ fate.Stopped ∷ [] }
+    ensures up { (crossed (crossing.Up first) used).fates ≡ fate.Open ∷ fate.Open ∷ [] }
+
+    // nothing changes it once it is over
+    ensures late { (asked first (request.Close 16) (book_told first (notice.Ended 16 second 33) used)).fates ≡ fate.Open ∷ fate.Ended ∷ [] }
+    ensures late_stop { (crossed (crossing.Down first) (book_told first (notice.PairReset second) used)).fates ≡ fate.Open ∷ fate.Reset ∷ [] }
+    ensures anew { (asked first (request.Close 16) (book_told first (notice.Opened 16 second 33 7 8) (book_told first (notice.Ended 16 second 33) used))).fates ≡ fate.Open ∷ fate.Ended ∷ fate.Closing ∷ [] }
+
+    // there is one for each life, and it says whether the life is over
+    ensures fated { AreFated (giver ∷ over taker ∷ []) (fate.Closing ∷ fate.Ended ∷ []) }
+    ensures unfated { AreFated (giver ∷ over taker ∷ []) (fate.Open ∷ fate.Open ∷ []) → ⊥ }
+    ensures missing { AreFated (giver ∷ over taker ∷ []) (fate.Open ∷ []) → ⊥ }
 {}
 
 /// Which request a life is about.

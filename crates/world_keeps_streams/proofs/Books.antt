@@ -11,6 +11,7 @@ pub mod Closes
 pub mod Comes
 pub mod Counts
 pub mod Ended
+pub mod Ending
 pub mod Firsts
 pub mod Given
 pub mod Goes

@@ -2,7 +2,9 @@
 -- Leaves `leaves` (a host that leaves), Leaves `none_begins` (none begins then), Left `entry_end` (a host that has left), Lists `grown` (how lists of
 -- lives grow by a moment).
 pub mod Away
+pub mod Fates
 pub mod Leaves
+pub mod LeavesEnds
 pub mod LeavesLists
 pub mod LeavesTold
 pub mod Left

@@ -16,4 +16,6 @@ pub mod Joined
 pub mod JoinedAll
 pub mod Joining
 pub mod Overs
+pub mod Shut
 pub mod Streams
+pub mod Unsaid

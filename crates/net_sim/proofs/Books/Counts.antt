@@ -57,10 +57,11 @@ here_within f n keeps (suc at) (x ∷ xs) h =
     All-cons (IsWithin n) x (changed_here f at xs) (All-head (IsWithin n) x xs h) (here_within f n keeps at xs (All-tail (IsWithin n) x xs h))
 
 one_within : (n : ℕ) (u : Undo) (s : LivesState) → AreWithin n s.lives → AreWithin n (undone u s).lives
-one_within n (undo.Begun lives handed) s h = All-take (IsWithin n) lives s.lives h
+one_within n (undo.Begun lives handed fates) s h = All-take (IsWithin n) lives s.lives h
 one_within n (undo.Ended at) s h = here_within reopened n (λ x is. reopened_within n x is) at s.lives h
 one_within n (undo.Changed at was) s h = here_within (life_back was) n (λ x is. back_within n was x is) at s.lives h
 one_within n (undo.Handed at bits) s h = h
+one_within n (undo.Turned at was) s h = h
 
 pub counts_undone : (n : ℕ) (us : List Undo) (s : LivesState) → AreWithin n s.lives → AreWithin n (all_undone us s).lives
 counts_undone n [] s h = h

@@ -14,17 +14,21 @@ ends (ending.Between host socket peer foreign) = lives_between host socket peer 
 ends (ending.With host peer) = lives_with host peer
 ends (ending.On host) = lives_on host
 
--- how far a life is when it has ended so
-abbrev pub fate_of : Ending → Fate → Fate
-fate_of (ending.Between host socket peer foreign) = over_by_cls
-fate_of (ending.With host peer) = λ f. fate.Reset
-fate_of (ending.On host) = λ f. fate.Stopped
-
 -- whose fates change, and to what
 abbrev pub turns : Turn → Life → Bool
 turns (turn.Closes host socket) = lives_at host socket
-turns (turn.Ends e) = ends e.now
+turns (turn.Over host socket peer foreign) = lives_between host socket peer foreign
+turns (turn.Resets host peer) = lives_with host peer
+turns (turn.Stops host) = lives_on host
 
 abbrev pub turned : Turn → Fate → Fate
 turned (turn.Closes host socket) = closing
-turned (turn.Ends e) = fate_of e.now
+turned (turn.Over host socket peer foreign) = over_by_cls
+turned (turn.Resets host peer) = λ f. fate.Reset
+turned (turn.Stops host) = λ f. fate.Stopped
+
+-- by what the fates of lives change that end
+abbrev pub turn_by : Ending → Turn
+turn_by (ending.Between host socket peer foreign) = turn.Over host socket peer foreign
+turn_by (ending.With host peer) = turn.Resets host peer
+turn_by (ending.On host) = turn.Stops host

@@ -12,7 +12,7 @@ use Rattle.promise.specs.declared.book.Told.{Told}
 use Rattle.promise.specs.declared.book.Called.{Called}
 use Rattle.host_services.specs.declared.report.Reported.{Reported}
 use Rattle.net_sim.specs.Book.{Kept, lives_at, where_it, handed_to, lives_crossed, lives_told, lives_asked, handed_told, handed_asked, fates_where, fates_crossed, fates_told, fates_asked}
-use Rattle.net_sim.specs.Inside.Endings.{Ending, Turn, ends, fate_of, turned, turns}
+use Rattle.net_sim.specs.Inside.Endings.{Ending, Turn, ends, turn_by, turned, turns}
 use Rattle.net_sim.specs.Inside.Growing.{Growth, grown}
 
 pub record LivesState : Type 0 where
@@ -44,7 +44,7 @@ lives_state_turned t l = state l.lives l.handed (fates_where (turns t) (turned t
 
 -- the fates change, and the lives end
 abbrev pub lives_state_over : Ending → LivesState → LivesState
-lives_state_over e l = state (where_it (ends e) book.life_ended l.lives) l.handed (fates_where (ends e) (fate_of e) l.lives l.fates)
+lives_state_over e l = state (where_it (ends e) book.life_ended l.lives) l.handed (fates_where (turns (turn_by e)) (turned (turn_by e)) l.lives l.fates)
 
 abbrev pub lives_state_told : Host → Notice → LivesState → LivesState
 lives_state_told h n l = record { lives = lives_told h n l.lives; handed = handed_told n l.handed; fates = fates_told h n l.lives l.fates }

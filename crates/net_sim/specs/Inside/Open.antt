@@ -76,7 +76,9 @@ places_of (ending.On h) hosts sockets = slice_index_or hosts (host_key h) []
 
 abbrev pub places_by : Turn → List (List ℕ) → List (List ℕ) → List ℕ
 places_by (turn.Closes h socket) hosts sockets = places_at h socket sockets
-places_by (turn.Ends e) hosts sockets = places_of e.now hosts sockets
+places_by (turn.Over h socket peer foreign) hosts sockets = places_at h socket sockets
+places_by (turn.Resets h peer) hosts sockets = slice_index_or hosts (host_key h) []
+places_by (turn.Stops h) hosts sockets = slice_index_or hosts (host_key h) []
 
 -- where the places are known, they are those of all open lives
 abbrev pub AreKnown : Bool → List (List ℕ) → List (List ℕ) → List Life → Type 0

@@ -61,21 +61,21 @@ named_request x y n =
     ∙ ap (λ (k : ℕ). let r : Name = record { place = x.own_stamp; own = k; foreign = y.foreign } in r) n.socket
     ∙ ap (λ (k : ℕ). let r : Name = record { place = x.own_stamp; own = x.socket; foreign = k } in r) n.foreign
 
-own_if : (b : Bool) (xs ys : List calls.Moment) → b ≡ true → (if b then xs else ys) ≡ xs
+pub own_if : (b : Bool) (xs ys : List calls.Moment) → b ≡ true → (if b then xs else ys) ≡ xs
 own_if true xs ys e = refl
 own_if false xs ys e = absurd (let no : false ≡ true = e in cc)
 
 -- ---- two hosts, and what a life of the one has
 
 module _ (hosts : List Host) (a b : Host) where
-  given : Given hosts a b (Own a b) (Heard a b)
+  pub given : Given hosts a b (Own a b) (Heard a b)
   given = all_given hosts a b
 
-  abbrev at_now : (ms : List Moment) → Lawful hosts ms → Whole a b (Own a b) (Heard a b) ms
+  abbrev pub at_now : (ms : List Moment) → Lawful hosts ms → Whole a b (Own a b) (Heard a b) ms
   at_now ms l = whole hosts a b (Own a b) (Heard a b) (all_given hosts a b) ms l
 
   -- on each link the law's receiver has heard the connection's CLS; and it did not say its own before, or nothing was granted there
-  abbrev IsShut : (ms : List Moment) → Lawful hosts ms → ℕ → Type 0
+  abbrev pub IsShut : (ms : List Moment) → Lawful hosts ms → ℕ → Type 0
   IsShut ms l c = (m : ℕ) → (((at_now ms l).j m).x.receiver.over c ≡ true) × ((((at_now ms l).j m).x.receiver.first c ≡ false) ⊎ ((((at_now ms l).j m).x.receiver.granted c).messages ≡ 0))
 
   all_taken : (ms : List Moment) (l : Lawful hosts ms) (c : ℕ) → IsShut ms l c → (m : ℕ) → ((at_now ms l).j m).x.receiver.taken c ≡ ((at_now ms l).j m).x.sender.sent c
@@ -90,47 +90,47 @@ module _ (hosts : List Host) (a b : Host) where
     safe = safe_inv ((at_now ms l).j m).x ((at_now ms l).j m).joint.inv_x c
 
   -- a request is that of one connection
-  one_number : (ms : List Moment) → Lawful hosts ms → (receive send stamp g k : ℕ) → Own a b ms receive send stamp g → Own a b ms receive send stamp k → g ≡ k
+  pub one_number : (ms : List Moment) → Lawful hosts ms → (receive send stamp g k : ℕ) → Own a b ms receive send stamp g → Own a b ms receive send stamp k → g ≡ k
   one_number ms l receive send stamp g k o p =
       asks_once g k stamp (receiver (record { receive = receive; send = send }) (steps a b (law_events ms))).said (law_joined hosts ms l a b (record { receive = receive; send = send })).here.grows o p
 
-  one_stamp : (ms : List Moment) → Lawful hosts ms → (receive send p q g : ℕ) → Own a b ms receive send p g → Own a b ms receive send q g → p ≡ q
+  pub one_stamp : (ms : List Moment) → Lawful hosts ms → (receive send p q g : ℕ) → Own a b ms receive send p g → Own a b ms receive send q g → p ≡ q
   one_stamp ms l receive send p q g o r = (law_joined hosts ms l a b (record { receive = receive; send = send })).here.balanced.single g p q o r
 
   -- a sending life of the peer answers this request
-  record Answers (ms : List Moment) (s : Life) (name : Name) : Type 0 where
-    sending : sends s ≡ true
-    host : s.host ≡ b
-    peer : s.peer ≡ a
-    is : partner_request (crossings_of ms) s ≡ Some name
+  pub record Answers (ms : List Moment) (s : Life) (name : Name) : Type 0 where
+    pub sending : sends s ≡ true
+    pub host : s.host ≡ b
+    pub peer : s.peer ≡ a
+    pub is : partner_request (crossings_of ms) s ≡ Some name
 
-  abbrev IsNothing : Life → Type 0
+  abbrev pub IsNothing : Life → Type 0
   IsNothing s = (s.messages ≡ 0) × (s.bits ≡ [])
 
   -- the life's connection is shut, or the life is of before both met last
-  record Through (ms : List Moment) (l : Lawful hosts ms) (t : Life) : Type 0 where
-    late : IsOf t (present_in a b ms)
-    g : ℕ
-    own : Own a b ms t.socket t.foreign t.own_stamp g
-    shut : IsShut ms l (numbered t.socket t.foreign g)
-    early : (s : Life) → IsOf s (take (since a b ms) (lives_in ms)) → Answers ms s (own_request t) → IsNothing s
+  pub record Through (ms : List Moment) (l : Lawful hosts ms) (t : Life) : Type 0 where
+    pub late : IsOf t (present_in a b ms)
+    pub g : ℕ
+    pub own : Own a b ms t.socket t.foreign t.own_stamp g
+    pub shut : IsShut ms l (numbered t.socket t.foreign g)
+    pub early : (s : Life) → IsOf s (take (since a b ms) (lives_in ms)) → Answers ms s (own_request t) → IsNothing s
 
   -- whom it took all of
-  record Source (ms : List Moment) (t : Life) : Type 0 where
-    sender : Life
-    there : IsOf sender (lives_in ms)
-    matches : Match (crossings_of ms) t sender
-    bits : t.bits ≡ sender.bits
-    messages : t.messages ≡ sender.messages
+  pub record Source (ms : List Moment) (t : Life) : Type 0 where
+    pub sender : Life
+    pub there : IsOf sender (lives_in ms)
+    pub matches : Match (crossings_of ms) t sender
+    pub bits : t.bits ≡ sender.bits
+    pub messages : t.messages ≡ sender.messages
 
-  record Nothing (ms : List Moment) (t : Life) : Type 0 where
-    none : IsNothing t
-    all : (s : Life) → IsOf s (lives_in ms) → Answers ms s (own_request t) → IsNothing s
+  pub record Nothing (ms : List Moment) (t : Life) : Type 0 where
+    pub none : IsNothing t
+    pub all : (s : Life) → IsOf s (lives_in ms) → Answers ms s (own_request t) → IsNothing s
 
-  record Done (ms : List Moment) (t : Life) : Type 0 where
-    early : IsOf t (take (since a b ms) (lives_in ms))
-    over : t.ended ≡ true
-    done : Nothing ms t ⊎ ((o : Source ms t) × (o.sender.ended ≡ true))
+  pub record Done (ms : List Moment) (t : Life) : Type 0 where
+    pub early : IsOf t (take (since a b ms) (lives_in ms))
+    pub over : t.ended ≡ true
+    pub done : Nothing ms t ⊎ ((o : Source ms t) × (o.sender.ended ≡ true))
 
   -- ---- a life that is through has all that was sent
 
@@ -254,11 +254,11 @@ module _ (hosts : List Host) (a b : Host) where
     fresh new = begins_fresh hosts (event_in z) (events_of ms) (coupled_in hosts (z ∷ ms) l).run a b new
 
     -- a sending life of the peer that is of before both met last was over before, so it is as it was
-    record Before (s : Life) : Type 0 where
-      there : IsOf s (lives_in ms)
-      early : stay.begins a b (event_in z) (events_of ms) ≡ false → IsOf s (take (since a b ms) (lives_in ms))
+    pub record Before (s : Life) : Type 0 where
+      pub there : IsOf s (lives_in ms)
+      pub early : stay.begins a b (event_in z) (events_of ms) ≡ false → IsOf s (take (since a b ms) (lives_in ms))
 
-    before : (s : Life) → s.host ≡ b → s.peer ≡ a → sends s ≡ true → IsOf s (take (since a b (z ∷ ms)) (lives_in (z ∷ ms))) → Before s
+    pub before : (s : Life) → s.host ≡ b → s.peer ≡ a → sends s ≡ true → IsOf s (take (since a b (z ∷ ms)) (lives_in (z ∷ ms))) → Before s
     before s host peer kind i = by (stay.begins a b (event_in z) (events_of ms)) refl where
       was : (n : ℕ) (o : Older n ms z s) → o.life.ended ≡ true → (stay.begins a b (event_in z) (events_of ms) ≡ false → IsOf o.life (take (since a b ms) (lives_in ms))) → Before s
       was n o over early =
@@ -280,7 +280,7 @@ module _ (hosts : List Host) (a b : Host) where
           ])
           (λ e. absurd (let no : true ≡ false = sym new ∙ e in cc))
 
-    answers_before : (s : Life) (name : Name) → IsOf s (lives_in ms) → Answers (z ∷ ms) s name → Answers ms s name
+    pub answers_before : (s : Life) (name : Name) → IsOf s (lives_in ms) → Answers (z ∷ ms) s name → Answers ms s name
     answers_before s name i k = record { sending = k.sending; host = k.host; peer = k.peer; is = sym (request_on s i) ∙ k.is }
 
     -- no life that answers one of before both met last has sent anything if none had
@@ -385,7 +385,7 @@ module _ (hosts : List Host) (a b : Host) where
       shut_named x y n o = subst (λ (k : ℕ). IsShut (z ∷ ms) l (numbered k y.foreign h.g)) (sym n.socket) (subst (λ (k : ℕ). IsShut (z ∷ ms) l (numbered x.socket k h.g)) (sym n.foreign) o)
 
     -- whichever of the two it is
-    next_is : (t : Life) → t.host ≡ a → t.peer ≡ b → receives t ≡ true → IsOf t (lives_in ms) → Through ms (below hosts z ms l) t ⊎ Done ms t → Through (z ∷ ms) l ((grown z ms).change t) ⊎ Done (z ∷ ms) ((grown z ms).change t)
+    pub next_is : (t : Life) → t.host ≡ a → t.peer ≡ b → receives t ≡ true → IsOf t (lives_in ms) → Through ms (below hosts z ms l) t ⊎ Done ms t → Through (z ∷ ms) l ((grown z ms).change t) ⊎ Done (z ∷ ms) ((grown z ms).change t)
     next_is t host peer kind i (inr d) =
         inr (subst (λ (v : Life). Done (z ∷ ms) v) (sym ((grown z ms).still t d.over)) (done_on t i (early_on t d.over i (λ e. d.early)) d.over d.done))
     next_is t host peer kind i (inl h) = by (stay.begins a b (event_in z) (events_of ms)) refl where
@@ -402,7 +402,7 @@ module _ (hosts : List Host) (a b : Host) where
 
   -- ---- what it has
 
-  took_all : (ms : List Moment) (l : Lawful hosts ms) (t : Life) → t.host ≡ a → t.peer ≡ b → receives t ≡ true → IsOf t (lives_in ms) → Through ms l t ⊎ Done ms t → TookAll (crossings_of ms) (lives_in ms) t
+  pub took_all : (ms : List Moment) (l : Lawful hosts ms) (t : Life) → t.host ≡ a → t.peer ≡ b → receives t ≡ true → IsOf t (lives_in ms) → Through ms l t ⊎ Done ms t → TookAll (crossings_of ms) (lives_in ms) t
   took_all ms l t host peer kind i state s there m = by state where
     nothing_is : Nothing ms t → (t.bits ≡ s.bits) × (t.messages ≡ s.messages)
     nothing_is n =
@@ -421,6 +421,51 @@ module _ (hosts : List Host) (a b : Host) where
     by : Through ms l t ⊎ Done ms t → (t.bits ≡ s.bits) × (t.messages ≡ s.messages)
     by (inl h) = either (through ms l t host peer kind h)
     by (inr d) = either d.done
+
+-- ---- a life that isn't over, on its link
+
+module _ (hosts : List Host) (ms : List Moment) (l : Lawful hosts ms) (x : Life) (f : AtLink ms x) where
+  abbrev pub link_at : ℕ
+  link_at = closes.n hosts ms l x f
+
+  abbrev pub name_at : ℕ
+  name_at = closes.c hosts ms l x f
+
+  -- on another link nothing was granted in its connection
+  pub same_link : (m : ℕ) → 1 ≤ (((at_now hosts x.host x.peer ms l).j m).x.receiver.granted name_at).messages → m ≡ link_at
+  same_link m some =
+      subst (λ (z : Life). (q : PresentR x.host x.peer (Own x.host x.peer) (Heard x.host x.peer) ms (at_now hosts x.host x.peer ms l).j z) → q.link ≡ m → m ≡ link_at) (sym it_is) on r.is r.link where
+        r : HasR x.host x.peer (Own x.host x.peer) (Heard x.host x.peer) ms (at_now hosts x.host x.peer ms l).j m name_at
+        r = (at_now hosts x.host x.peer ms l).has_receiver m name_at some
+
+        socket : r.life.socket ≡ x.socket
+        socket = numbered_tells.own r.life.socket r.life.foreign r.is.g x.socket x.foreign (closes.known hosts ms l x f).g r.name
+
+        foreign : r.life.foreign ≡ x.foreign
+        foreign = numbered_tells.foreign r.life.socket r.life.foreign r.is.g x.socket x.foreign (closes.known hosts ms l x f).g r.name
+
+        gone : r.is.g ≡ (closes.known hosts ms l x f).g
+        gone = numbered_tells.gone r.life.socket r.life.foreign r.is.g x.socket x.foreign (closes.known hosts ms l x f).g r.name
+
+        own : Own x.host x.peer ms x.socket x.foreign r.life.own_stamp (closes.known hosts ms l x f).g
+        own =
+            subst (λ (k : ℕ). Own x.host x.peer ms k x.foreign r.life.own_stamp (closes.known hosts ms l x f).g) socket
+            (subst (λ (k : ℕ). Own x.host x.peer ms r.life.socket k r.life.own_stamp (closes.known hosts ms l x f).g) foreign (subst (λ (k : ℕ). Own x.host x.peer ms r.life.socket r.life.foreign r.life.own_stamp k) gone r.is.own))
+
+        stamp : r.life.own_stamp ≡ x.own_stamp
+        stamp = one_stamp hosts x.host x.peer ms l x.socket x.foreign r.life.own_stamp x.own_stamp (closes.known hosts ms l x f).g own (closes.known hosts ms l x f).own
+
+        request : own_request r.life ≡ own_request x
+        request =
+            ap (λ (k : ℕ). let v : Name = record { place = k; own = r.life.socket; foreign = r.life.foreign } in v) stamp
+            ∙ ap (λ (k : ℕ). let v : Name = record { place = x.own_stamp; own = k; foreign = r.life.foreign } in v) socket
+            ∙ ap (λ (k : ℕ). let v : Name = record { place = x.own_stamp; own = x.socket; foreign = k } in v) foreign
+
+        it_is : r.life ≡ x
+        it_is = one_own hosts Own Heard (λ v w. all_given hosts v w) ms l r.life x (of_drop (since x.host x.peer ms) r.life (lives_in ms) r.there) (is_of x (lives_in ms) f.there) request
+
+        on : (q : PresentR x.host x.peer (Own x.host x.peer) (Heard x.host x.peer) ms (at_now hosts x.host x.peer ms l).j x) → q.link ≡ m → m ≡ link_at
+        on q is = sym is ∙ closes.suc_is q.link link_at (sym (closes.is_here hosts ms l x f q.link q.g (q.going f.goes)).0 ∙ (closes.place hosts ms l x f).0)
 
 -- ---- where its end has taken the CLS
 
@@ -455,42 +500,6 @@ module _ (hosts : List Host) (ms : List Moment) (l : Lawful hosts ms) (x : Life)
   abbrev g : ℕ
   g = (closes.known hosts ms l x at_link).g
 
-  -- on another link nothing was granted in its connection
-  same_link : (m : ℕ) → 1 ≤ (((at_now hosts x.host x.peer ms l).j m).x.receiver.granted name_here).messages → m ≡ link_now
-  same_link m some =
-      subst (λ (z : Life). (q : PresentR x.host x.peer (Own x.host x.peer) (Heard x.host x.peer) ms (at_now hosts x.host x.peer ms l).j z) → q.link ≡ m → m ≡ link_now) (sym it_is) on r.is r.link where
-        r : HasR x.host x.peer (Own x.host x.peer) (Heard x.host x.peer) ms (at_now hosts x.host x.peer ms l).j m name_here
-        r = (at_now hosts x.host x.peer ms l).has_receiver m name_here some
-
-        socket : r.life.socket ≡ x.socket
-        socket = numbered_tells.own r.life.socket r.life.foreign r.is.g x.socket x.foreign g r.name
-
-        foreign : r.life.foreign ≡ x.foreign
-        foreign = numbered_tells.foreign r.life.socket r.life.foreign r.is.g x.socket x.foreign g r.name
-
-        gone : r.is.g ≡ g
-        gone = numbered_tells.gone r.life.socket r.life.foreign r.is.g x.socket x.foreign g r.name
-
-        own : Own x.host x.peer ms x.socket x.foreign r.life.own_stamp g
-        own =
-            subst (λ (k : ℕ). Own x.host x.peer ms k x.foreign r.life.own_stamp g) socket
-            (subst (λ (k : ℕ). Own x.host x.peer ms r.life.socket k r.life.own_stamp g) foreign (subst (λ (k : ℕ). Own x.host x.peer ms r.life.socket r.life.foreign r.life.own_stamp k) gone r.is.own))
-
-        stamp : r.life.own_stamp ≡ x.own_stamp
-        stamp = one_stamp hosts x.host x.peer ms l x.socket x.foreign r.life.own_stamp x.own_stamp g own (closes.known hosts ms l x at_link).own
-
-        request : own_request r.life ≡ own_request x
-        request =
-            ap (λ (k : ℕ). let v : Name = record { place = k; own = r.life.socket; foreign = r.life.foreign } in v) stamp
-            ∙ ap (λ (k : ℕ). let v : Name = record { place = x.own_stamp; own = k; foreign = r.life.foreign } in v) socket
-            ∙ ap (λ (k : ℕ). let v : Name = record { place = x.own_stamp; own = x.socket; foreign = k } in v) foreign
-
-        it_is : r.life ≡ x
-        it_is = one_own hosts Own Heard (λ v w. all_given hosts v w) ms l r.life x (of_drop (since x.host x.peer ms) r.life (lives_in ms) r.there) x_in request
-
-        on : (q : PresentR x.host x.peer (Own x.host x.peer) (Heard x.host x.peer) ms (at_now hosts x.host x.peer ms l).j x) → q.link ≡ m → m ≡ link_now
-        on q is = sym is ∙ closes.suc_is q.link link_now (sym (closes.is_here hosts ms l x at_link q.link q.g (q.going f.goes)).0 ∙ (closes.place hosts ms l x at_link).0)
-
   shut : IsShut hosts x.host x.peer ms l name_here
   shut m = (heard, by (((at_now hosts x.host x.peer ms l).j m).x.receiver.granted name_here).messages refl) where
     law_is : (k : ℕ) → ((at_now hosts x.host x.peer ms l).j k).x.receiver ≡ receiver_now numbered x.peer (suc k) (own_calls x.host x.peer ms)
@@ -504,7 +513,7 @@ module _ (hosts : List Host) (ms : List Moment) (l : Lawful hosts ms) (x : Life)
         → (((at_now hosts x.host x.peer ms l).j m).x.receiver.first name_here ≡ false) ⊎ ((((at_now hosts x.host x.peer ms l).j m).x.receiver.granted name_here).messages ≡ 0)
     by zero e = inr e
     by (suc k) e =
-        inl (ap (λ (r : Receiver). r.first name_here) (law_is m) ∙ ap (λ (v : ℕ). (receiver_now numbered x.peer (suc v) (own_calls x.host x.peer ms)).first name_here) (same_link m (omega (arith, e))) ∙ late_cls)
+        inl (ap (λ (r : Receiver). r.first name_here) (law_is m) ∙ ap (λ (v : ℕ). (receiver_now numbered x.peer (suc v) (own_calls x.host x.peer ms)).first name_here) (same_link hosts ms l x at_link m (omega (arith, e))) ∙ late_cls)
 
   shut_now : Through hosts x.host x.peer ms l x
   shut_now = record {

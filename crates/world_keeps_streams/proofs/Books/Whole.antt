@@ -73,6 +73,7 @@ module _ (a b : Host) (Own Heard : List Moment → ℕ → ℕ → ℕ → ℕ �
     pub took : Took x (receiver_now numbered b (suc link) (own_calls a b ms)) (numbered x.socket x.foreign g)
     pub own : Own ms x.socket x.foreign x.own_stamp g
     pub gone : x.ended ≡ false → g ≡ gone_now b (own_calls a b ms) x.socket x.foreign
+    pub over : x.ended ≡ true → suc g ≤ gone_now b (own_calls a b ms) x.socket x.foreign
     pub linked : x.ended ≡ false → (e : Entry) → Among e (pair_with b (program a ms).peers).entries → e.mine ≡ true → e.own ≡ x.socket → e.link ≡ Some (suc link)
 
   pub record Sends (ms : List Moment) (s : Life) : Type 0 where

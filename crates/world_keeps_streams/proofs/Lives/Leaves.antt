@@ -81,14 +81,14 @@ module _ (h p : Host) (events : List Event) (ready : stay.ready h p events ≡ t
   keeps_idle : keeps h p Idle events ≡ true
   keeps_idle = still Idle ready refl
 
-  keeps_text : (x y : Host) (l : ℕ) (text : List Bool) → keeps h p (In x y l (Other text)) events ≡ true
+  pub keeps_text : (x y : Host) (l : ℕ) (text : List Bool) → keeps h p (In x y l (Other text)) events ≡ true
   keeps_text x y l text = still (In x y l (Other text)) (by (are h p y x)) refl where
     by : (v : Bool) → is_ready (pair_moved (when v (Take (Other text))) (pair h p events)).phase ≡ true
     by true = ready
     by false = ready
 
   -- its next RST waits for a contact
-  keeps_out : (hosts : List Host) (y : Host) (l : ℕ) (m : Message) → IsRun hosts (Out h y l m ∷ events) → keeps h p (Out h y l m) events ≡ true
+  pub keeps_out : (hosts : List Host) (y : Host) (l : ℕ) (m : Message) → IsRun hosts (Out h y l m ∷ events) → keeps h p (Out h y l m) events ≡ true
   keeps_out hosts y l m run = still (Out h y l m) (by (are h p h y) refl m run.1) refl where
     by : (v : Bool) → are h p h y ≡ v → (n : Message) → MaySend (pair h y events) l n → is_ready (pair_moved (when v (Send l n)) (pair h p events)).phase ≡ true
     by false e n may = ready

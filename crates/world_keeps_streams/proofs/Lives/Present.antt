@@ -112,6 +112,7 @@ module _ (hosts : List Host) (a b : Host) (mine : (ms : List Moment) → Lawful 
           };
           own = own_request stays (suc n) g x i f k r c;
           gone = c.goes;
+          over = c.over;
           linked = c.linked;
         }
 

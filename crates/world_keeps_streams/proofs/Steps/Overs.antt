@@ -185,6 +185,7 @@ pub record Kept (old new : Receiver) (c : ℕ) : Type 0 where
   pub over : new.over c ≡ true
   pub first : new.first c ≡ old.first c
   pub granted : new.granted c ≡ old.granted c
+  pub taken : new.taken c ≡ old.taken c
 
 unlike : (r : Receiver) (c k : ℕ) → (c == k) ≡ true → r.over c ≡ true → r.over k ≡ false → ⊥
 unlike r c k e f g = let no : true ≡ false = sym f ∙ ap r.over (eqb-true c k e) ∙ g in absurd (cc)
@@ -203,7 +204,7 @@ open_unheard true false true e = absurd (let no : false ≡ true = e in cc)
 
 module _ (r : Receiver) (c : ℕ) (o : r.over c ≡ true) where
   itself : Kept r r c
-  itself = record { over = o; first = refl; granted = refl }
+  itself = record { over = o; first = refl; granted = refl; taken = refl }
 
   kept_close : (k : ℕ) (v : Bool) → r.over k ≡ v → (if v then r.first else for k true r.first) c ≡ r.first c
   kept_close k true e = refl
@@ -219,35 +220,47 @@ module _ (r : Receiver) (c : ℕ) (o : r.over c ≡ true) where
   kept_back m n None = itself
   kept_back m n (Some k) = by (receivers.is_open k r && holds r.allocation m n) refl where
     by : (v : Bool) → (receivers.is_open k r && holds r.allocation m n) ≡ v → Kept r (receivers.takes_back m n (Some k) r) c
-    by true t = rw t (record { over = o; first = refl; granted = refl })
+    by true t = rw t (record { over = o; first = refl; granted = refl; taken = refl })
     by false t = rw t itself
 
   kept_taken : (z : ℕ) (bits : List Bool) (e : Option ℕ) → Kept r (receivers.takes z bits e r) c
   kept_taken z bits None = itself
   kept_taken z bits (Some k) = by (receivers.is_open k r && is_size z (r.size k) && covers r.allocation (length bits)) refl where
+    open_there : (u v w : Bool) → (u && v && w) ≡ true → u ≡ true
+    open_there true v w e = refl
+    open_there false true w e = e
+    open_there false false w e = e
+
     by : (v : Bool) → (receivers.is_open k r && is_size z (r.size k) && covers r.allocation (length bits)) ≡ v → Kept r (receivers.takes z bits (Some k) r) c
-    by true t = rw t (record { over = o; first = refl; granted = refl })
+    by true t = rw t (record {
+      over = o;
+      first = refl;
+      granted = refl;
+      taken = for_other c k (r.taken k ++ bits ∷ []) r.taken
+          (λ same. unlike r c k same o (open_unheard r.opened r.closed (r.over k) (open_there (receivers.is_open k r) (is_size z (r.size k)) (covers r.allocation (length bits)) t)));
+    })
     by false t = rw t itself
 
   kept_move : (m : receivers.Move) → receivers.May m r → Kept r (receivers.moved m r) c
-  kept_move (receivers.Ask k) may = record { over = o; first = refl; granted = refl }
-  kept_move (receivers.Open k) may = record { over = o; first = refl; granted = refl }
+  kept_move (receivers.Ask k) may = record { over = o; first = refl; granted = refl; taken = refl }
+  kept_move (receivers.Open k) may = record { over = o; first = refl; granted = refl; taken = refl }
   kept_move (receivers.Grant k m n) may = record {
     over = o;
     first = refl;
     granted = for_other c k (counters.added (r.granted k) m n) r.granted (λ same. unlike r c k same o (open_unheard r.opened r.closed (r.over k) may.1));
+    taken = refl;
   }
   kept_move (receivers.AskBack k m n) may = itself
-  kept_move (receivers.Close k) may = record { over = o; first = kept_close k (r.over k) refl; granted = refl }
-  kept_move (receivers.Free k) may = record { over = o; first = refl; granted = refl }
+  kept_move (receivers.Close k) may = record { over = o; first = kept_close k (r.over k) refl; granted = refl; taken = refl }
+  kept_move (receivers.Free k) may = record { over = o; first = refl; granted = refl; taken = refl }
   kept_move (receivers.Take z bits) may = kept_taken z bits r.end
-  kept_move (receivers.Hear (Str k z)) may = record { over = o; first = refl; granted = refl }
+  kept_move (receivers.Hear (Str k z)) may = record { over = o; first = refl; granted = refl; taken = refl }
   kept_move (receivers.Hear (Ret k m n)) may = kept_back m n r.end
-  kept_move (receivers.Hear (Cls k)) may = record { over = kept_cls k; first = refl; granted = refl }
+  kept_move (receivers.Hear (Cls k)) may = record { over = kept_cls k; first = refl; granted = refl; taken = refl }
   kept_move (receivers.Hear c) may = itself
 
 kept_then : (r s t : Receiver) (c : ℕ) → Kept r s c → Kept s t c → Kept r t c
-kept_then r s t c k l = record { over = l.over; first = l.first ∙ k.first; granted = l.granted ∙ k.granted }
+kept_then r s t c k l = record { over = l.over; first = l.first ∙ k.first; granted = l.granted ∙ k.granted; taken = l.taken ∙ k.taken }
 
 kept_moves : (ms : List receivers.Move) (r : Receiver) (c : ℕ) → MayAllReceive ms r → r.over c ≡ true → Kept r (all_received ms r) c
 kept_moves [] r c may o = itself r c o
@@ -267,3 +280,28 @@ kept_calls number tells peer link c (m ∷ more) own i a o =
     (step_received number tells peer link (gone_now peer (more ++ own)) m.call m.pair m.listening (receiver_now number peer link (more ++ own)) (sender_now number peer link (more ++ own)) a.0 holds).0 in
     kept_then (receiver_now number peer link own) (receiver_now number peer link (more ++ own)) (receiver_now number peer link (m ∷ (more ++ own))) c before
     (kept_moves (received_at (name_now number peer (more ++ own)) link m.call m.pair m.listening) (receiver_now number peer link (more ++ own)) c may before.over)
+
+-- ---- calls by which none is heard
+
+abbrev pub HearsNone : Call → Type 0
+HearsNone (Hears stamp said c) = ⊥
+HearsNone k = Unit {0}
+
+abbrev pub AllHearNone : List calls.Moment → Type 0
+AllHearNone [] = Unit {0}
+AllHearNone (m ∷ ms) = HearsNone m.call × AllHearNone ms
+
+call_over : (name : ℕ → ℕ → ℕ) (link : ℕ) (k : Call) (q : PairState) (listening : List Listener) (r : Receiver) → HearsNone k → (all_received (received_at name link k q listening) r).over ≡ r.over
+call_over name link (Hears stamp said c) q listening r n = absurd n
+call_over name link (Takes l text) q listening r n = all_over (data_received link l text (header_of text)) (none_data link l text (header_of text)) r
+call_over name link (Says stamp c) q listening r n = all_over (received_out name link c q.entries) (none_out name link c q.entries) r
+call_over name link (OpensReceiver own foreign) q listening r n = all_over (asks_for link (name own foreign) (free_link q.entries)) (none_asks link (name own foreign) (free_link q.entries)) r
+call_over name link (Grants socket m n x) q listening r none = all_over (on_link link x (receivers.Grant (named name x) m n ∷ [])) (none_on link x (receivers.Grant (named name x) m n) tt) r
+call_over name link (AsksBack socket m n x) q listening r none = all_over (on_link link x (receivers.AskBack (named name x) m n ∷ [])) (none_on link x (receivers.AskBack (named name x) m n) tt) r
+call_over name link (Closes socket x) q listening r n = all_over (on_link link x (receivers.Close (named name x) ∷ [])) (none_on link x (receivers.Close (named name x)) tt) r
+call_over name link k q listening r n = refl
+
+pub over_same : (number : ℕ → ℕ → ℕ → ℕ) (peer : Host) (link : ℕ) (more own : List calls.Moment) → AllHearNone more → (receiver_now number peer link (more ++ own)).over ≡ (receiver_now number peer link own).over
+over_same number peer link [] own n = refl
+over_same number peer link (m ∷ more) own n =
+    call_over (name_now number peer (more ++ own)) link m.call m.pair m.listening (receiver_now number peer link (more ++ own)) n.0 ∙ over_same number peer link more own n.1

@@ -16,14 +16,14 @@ offset_bounds-lives-at c =
     search (rules, at)
 
 pub loop-at-init : goal.loop-at-init
-loop-at-init c = record { rest = refl; kept = kept_same c.args.lives.now; within = λ n h. h; back = λ handed. refl }
+loop-at-init c = record { rest = refl; kept = kept_same c.args.lives.now; within = λ n h. h; back = λ handed fates. refl }
 
 pub loop-at-preserved : goal.loop-at-preserved
 loop-at-preserved c = record {
   rest = next_changed (where_here (ends c.args.ending.now) life_ended) c.args.places.now c.loop-at.at-index c.loop-at.lives _ c.index-lives-at.result c.end_at.new.life (search rules) (search rules) c.loop-at.invariant.rest;
   kept = kept_set c.args.lives.now c.loop-at.lives (slice_index_or c.args.places.now c.loop-at.at-index 0) c.index-lives-at.result _ c.end_at.new.life c.loop-at.invariant.kept refl (ended_kept (slice_index_or c.args.places.now c.loop-at.at-index 0) c.loop-at.done.items c.end_at.new.done.items _ c.end_at.new.life c.end_at.ensures.noted);
   within = λ n h. counts_set n n c.loop-at.lives (slice_index_or c.args.places.now c.loop-at.at-index 0) c.end_at.new.life (omega arith) (c.loop-at.invariant.within n h) (c.end_at.ensures.within n (c.loop-at.invariant.within n h (slice_index_or c.args.places.now c.loop-at.at-index 0) c.index-lives-at.result (within (ends c.args.ending.now) c.args.lives.now c.loop-at.lives c.args.places.now c.loop-at.at-index 0 c.requires c.loop-at.invariant.kept (search rules))));
-  back = λ handed. end_back c.loop-at.done.items c.end_at.new.done.items (slice_index_or c.args.places.now c.loop-at.at-index 0) c.loop-at.lives handed c.index-lives-at.result _ c.end_at.new.life refl c.end_at.ensures.noted ∙ c.loop-at.invariant.back handed;
+  back = λ handed fates. end_back c.loop-at.done.items c.end_at.new.done.items (slice_index_or c.args.places.now c.loop-at.at-index 0) c.loop-at.lives handed fates c.index-lives-at.result _ c.end_at.new.life refl c.end_at.ensures.noted ∙ c.loop-at.invariant.back handed fates;
 }
 
 pub returns-in_err-end_at-clause-kept : goal.returns-in_err-end_at-clause-kept
@@ -37,10 +37,10 @@ pub returns-clause-kept : goal.returns-clause-kept
 returns-clause-kept c = c.loop-at.invariant.kept
 
 pub returns-in_err-end_at-clause-back : goal.returns-in_err-end_at-clause-back
-returns-in_err-end_at-clause-back c = λ handed. end_back c.loop-at.done.items c.end_at.new.done.items (slice_index_or c.args.places.now c.loop-at.at-index 0) c.loop-at.lives handed c.index-lives-at.result _ c.end_at.new.life refl c.end_at.ensures.noted ∙ c.loop-at.invariant.back handed
+returns-in_err-end_at-clause-back c = λ handed fates. end_back c.loop-at.done.items c.end_at.new.done.items (slice_index_or c.args.places.now c.loop-at.at-index 0) c.loop-at.lives handed fates c.index-lives-at.result _ c.end_at.new.life refl c.end_at.ensures.noted ∙ c.loop-at.invariant.back handed fates
 
 pub returns-clause-back : goal.returns-clause-back
-returns-clause-back c = λ handed. c.loop-at.invariant.back handed
+returns-clause-back c = λ handed fates. c.loop-at.invariant.back handed fates
 
 pub returns-in_err-end_at-clause-within : goal.returns-in_err-end_at-clause-within
 returns-in_err-end_at-clause-within c = λ n h. counts_set n n c.loop-at.lives (slice_index_or c.args.places.now c.loop-at.at-index 0) c.end_at.new.life (omega arith) (c.loop-at.invariant.within n h) (c.end_at.ensures.within n (c.loop-at.invariant.within n h (slice_index_or c.args.places.now c.loop-at.at-index 0) c.index-lives-at.result (within (ends c.args.ending.now) c.args.lives.now c.loop-at.lives c.args.places.now c.loop-at.at-index 0 c.requires c.loop-at.invariant.kept (search rules))))

@@ -1,4 +1,5 @@
 use Rattle.std.proofs.Common.{◌≡◌, ℕ, Bool, List, drop}
+use Rattle.promise.specs.declared.life.Fate.{Fate}
 use Rattle.net_sim.specs.Book.{life_ended}
 use Rattle.net_sim.specs.Inside.Counts.{AreWithin}
 use Rattle.net_sim.specs.Inside.Endings.{ends}
@@ -14,5 +15,5 @@ invariant-loop-at l = record {
   rest : changed_at (where_here (ends l.ending) life_ended) (drop l.at-index l.places) l.lives ≡ changed_at (where_here (ends l.ending) life_ended) l.places l.fn.lives;
   kept : AreKept l.fn.lives l.lives;
   within : (n : ℕ) → AreWithin n l.fn.lives → AreWithin n l.lives;
-  back : (handed : List (List Bool)) → GoesBack l.fn.done.items (state l.fn.lives handed) l.done.items (state l.lives handed);
+  back : (handed : List (List Bool)) (fates : List Fate) → GoesBack l.fn.done.items (state l.fn.lives handed fates) l.done.items (state l.lives handed fates);
 }

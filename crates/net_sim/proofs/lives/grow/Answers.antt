@@ -19,14 +19,14 @@ pub grow_at-requires : goal.grow_at-requires
 grow_at-requires c = c.loop-at.invariant.within (slice_index_or c.args.places.now c.loop-at.at-index 0) c.index-lives-at.result (within (lives_at c.args.host c.args.socket) c.args.lives.now c.loop-at.lives c.args.places.now c.loop-at.at-index 0 c.requires.places c.loop-at.invariant.kept (search rules))
 
 pub loop-at-init : goal.loop-at-init
-loop-at-init c = record { rest = refl; kept = kept_same c.args.lives.now; within = c.requires.within; back = λ handed. refl }
+loop-at-init c = record { rest = refl; kept = kept_same c.args.lives.now; within = c.requires.within; back = λ handed fates. refl }
 
 pub loop-at-preserved : goal.loop-at-preserved
 loop-at-preserved c = record {
   rest = next_changed (where_here (lives_at c.args.host c.args.socket) (grown c.args.growth.now)) c.args.places.now c.loop-at.at-index c.loop-at.lives _ c.index-lives-at.result c.grow_at.new.life (search rules) (search rules) c.loop-at.invariant.rest;
   kept = kept_set c.args.lives.now c.loop-at.lives (slice_index_or c.args.places.now c.loop-at.at-index 0) c.index-lives-at.result _ c.grow_at.new.life c.loop-at.invariant.kept refl (noted_kept (slice_index_or c.args.places.now c.loop-at.at-index 0) c.loop-at.done.items c.grow_at.new.done.items _ c.grow_at.new.life c.grow_at.ensures.noted);
   within = counts_set c.loop-at.changes c.grow_at.new.changes c.loop-at.lives (slice_index_or c.args.places.now c.loop-at.at-index 0) c.grow_at.new.life c.grow_at.ensures.more c.loop-at.invariant.within c.grow_at.ensures.within;
-  back = λ handed. noted_back c.loop-at.done.items c.grow_at.new.done.items (slice_index_or c.args.places.now c.loop-at.at-index 0) c.loop-at.lives handed c.index-lives-at.result _ c.grow_at.new.life refl c.grow_at.ensures.noted ∙ c.loop-at.invariant.back handed;
+  back = λ handed fates. noted_back c.loop-at.done.items c.grow_at.new.done.items (slice_index_or c.args.places.now c.loop-at.at-index 0) c.loop-at.lives handed fates c.index-lives-at.result _ c.grow_at.new.life refl c.grow_at.ensures.noted ∙ c.loop-at.invariant.back handed fates;
 }
 
 pub returns-in_err-grow_at-clause-kept : goal.returns-in_err-grow_at-clause-kept
@@ -40,10 +40,10 @@ pub returns-clause-kept : goal.returns-clause-kept
 returns-clause-kept c = c.loop-at.invariant.kept
 
 pub returns-in_err-grow_at-clause-back : goal.returns-in_err-grow_at-clause-back
-returns-in_err-grow_at-clause-back c = λ handed. noted_back c.loop-at.done.items c.grow_at.new.done.items (slice_index_or c.args.places.now c.loop-at.at-index 0) c.loop-at.lives handed c.index-lives-at.result _ c.grow_at.new.life refl c.grow_at.ensures.noted ∙ c.loop-at.invariant.back handed
+returns-in_err-grow_at-clause-back c = λ handed fates. noted_back c.loop-at.done.items c.grow_at.new.done.items (slice_index_or c.args.places.now c.loop-at.at-index 0) c.loop-at.lives handed fates c.index-lives-at.result _ c.grow_at.new.life refl c.grow_at.ensures.noted ∙ c.loop-at.invariant.back handed fates
 
 pub returns-clause-back : goal.returns-clause-back
-returns-clause-back c = λ handed. c.loop-at.invariant.back handed
+returns-clause-back c = λ handed fates. c.loop-at.invariant.back handed fates
 
 pub returns-in_err-grow_at-clause-within : goal.returns-in_err-grow_at-clause-within
 returns-in_err-grow_at-clause-within c = counts_set c.loop-at.changes c.grow_at.new.changes c.loop-at.lives (slice_index_or c.args.places.now c.loop-at.at-index 0) c.grow_at.new.life c.grow_at.ensures.more c.loop-at.invariant.within c.grow_at.ensures.within

@@ -1,4 +1,5 @@
 use Rattle.std.proofs.Common.{◌≡◌, Bool, List, drop}
+use Rattle.promise.specs.declared.life.Fate.{Fate}
 use Rattle.net_sim.specs.Book.{lives_at}
 use Rattle.net_sim.specs.Inside.Growing.{grown}
 use Rattle.net_sim.specs.Inside.Counts.{AreWithin}
@@ -14,5 +15,5 @@ invariant-loop-at l = record {
   rest : changed_at (where_here (lives_at l.host l.socket) (grown l.growth)) (drop l.at-index l.places) l.lives ≡ changed_at (where_here (lives_at l.host l.socket) (grown l.growth)) l.places l.fn.lives;
   kept : AreKept l.fn.lives l.lives;
   within : AreWithin l.changes l.lives;
-  back : (handed : List (List Bool)) → GoesBack l.fn.done.items (state l.fn.lives handed) l.done.items (state l.lives handed);
+  back : (handed : List (List Bool)) (fates : List Fate) → GoesBack l.fn.done.items (state l.fn.lives handed fates) l.done.items (state l.lives handed fates);
 }

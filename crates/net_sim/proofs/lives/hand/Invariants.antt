@@ -1,4 +1,5 @@
-use Rattle.std.proofs.Common.{◌≡◌, drop}
+use Rattle.std.proofs.Common.{◌≡◌, List, drop}
+use Rattle.promise.specs.declared.life.Fate.{Fate}
 use Rattle.net_sim.specs.Book.{lives_at}
 use Rattle.net_sim.specs.Inside.Undo.{GoesBack}
 use Rattle.net_sim.proofs.Books.Places.{handed_at}
@@ -9,5 +10,5 @@ use Rattle.net_sim.proofs.lives.hand.Given as goal
 abbrev pub invariant-loop-at : goal.invariant-loop-at
 invariant-loop-at l = record {
   rest : handed_at (lives_at l.host l.socket) l.bits (drop l.at-index l.places) l.lives l.handed ≡ handed_at (lives_at l.host l.socket) l.bits l.places l.lives l.fn.handed;
-  back : GoesBack l.fn.done.items (state l.lives l.fn.handed) l.done.items (state l.lives l.handed);
+  back : (fates : List Fate) → GoesBack l.fn.done.items (state l.lives l.fn.handed fates) l.done.items (state l.lives l.handed fates);
 }

@@ -1,5 +1,6 @@
 use Rattle.std.proofs.Common.{◌≡◌, arith, rules, List, [], ◌∷◌, ◌++◌, refl, ap, sym, subst, ◌∙◌}
 use Rattle.std.proofs.lemmas.List.Elements.{All-push}
+use Rattle.promise.specs.declared.life.Fate.TheVariants as fate
 use Rattle.promise.specs.declared.life.Life.{Life}
 use Rattle.net_sim.specs.Inside.Counts.{AreWithin, IsWithin}
 use Rattle.net_sim.specs.Inside.Open.{AreKnown}
@@ -11,7 +12,7 @@ use Rattle.net_sim.proofs.lives.Lives.begin.Goals as goal
 pub invariant_of-self-2 : goal.invariant_of-self-2
 invariant_of-self-2 c =
     let there : c.deref.result.now ≡ c.self.inside.lives.items = search rules in
-    let more : c.push_reserved-3.new.self.items ≡ c.self.inside.lives.items ++ c.args.life ∷ [] = search rules in
+    let more : c.push_reserved-4.new.self.items ≡ c.self.inside.lives.items ++ c.args.life ∷ [] = search rules in
     let known : AreKnown c.self.inside.open.known c.self.inside.open.hosts c.self.inside.open.sockets c.deref.result.now =
     subst (λ (xs : List Life). AreKnown c.self.inside.open.known c.self.inside.open.hosts c.self.inside.open.sockets xs) (sym there) c.self.invariant.0 in (
       subst (λ (xs : List Life). AreKnown c.enter.new.self.known c.enter.new.self.hosts c.enter.new.self.sockets xs) (ap (λ (xs : List Life). xs ++ c.args.life ∷ []) there ∙ sym more)
@@ -22,6 +23,8 @@ invariant_of-self-2 c =
 
 pub returns-clause-back : goal.returns-clause-back
 returns-clause-back c =
-    one_back c.args.done.now.items c.push_reserved.new.self.items (undo.Begun c.len.result c.len-2.result) c.args.self.now (state c.push_reserved-3.new.self.items c.push_reserved-2.new.self.items) (search rules)
-    (begun_back c.self.inside.lives.items c.push_reserved-3.new.self.items c.self.inside.handed.items c.push_reserved-2.new.self.items c.args.life c.new.result c.len.result c.len-2.result c.args.self.now
-    (search rules) (search rules) (search rules) (search rules) (search rules))
+    one_back c.args.done.now.items c.push_reserved.new.self.items (undo.Begun c.len.result c.len-2.result c.len-3.result) c.args.self.now
+    (state c.push_reserved-4.new.self.items c.push_reserved-3.new.self.items c.push_reserved-2.new.self.items) (search rules)
+    (begun_back c.self.inside.lives.items c.push_reserved-4.new.self.items c.self.inside.handed.items c.push_reserved-3.new.self.items c.self.inside.fates.items c.push_reserved-2.new.self.items
+    c.args.life c.new.result fate.Open c.len.result c.len-2.result c.len-3.result c.args.self.now
+    (search rules) (search rules) (search rules) (search rules) (search rules) (search rules) (search rules))

@@ -1,0 +1,378 @@
+-- How far lives are, and how a moment changes it: an open life ends by CLS only where its host's user is notified of that.
+use Rattle.std.proofs.Common.{◌≡◌, ◌⊎◌, inl, inr, ℕ, ◌==◌, ◌&&◌, Bool, true, false, not, if◌then◌else◌, List, [], ◌∷◌, ◌++◌, refl, ap, sym, subst, ◌∙◌}
+use Rattle.interface.specs.Host.{Host, same_host}
+use Rattle.interface.specs.declared.crossing.Crossing.{Crossing}
+use Rattle.interface.specs.declared.crossing.Crossing.TheVariants as crossing
+use Rattle.host_pairs.specs.declared.notice.Notice.{Notice}
+use Rattle.host_pairs.specs.declared.notice.Notice.TheVariants as notice
+use Rattle.host_pairs.proofs.lemmas.{both, not_is}
+use Rattle.sockets.specs.declared.request.Request.{Request}
+use Rattle.sockets.specs.declared.request.Request.TheVariants as request
+use Rattle.interface.proofs.lemmas.{same_host-true}
+use Rattle.promise.specs.Fates.{AreFated, IsBeside, is_over}
+use Rattle.promise.specs.declared.life.Fate.{Fate}
+use Rattle.promise.specs.declared.life.Fate.TheVariants as fate
+use Rattle.promise.specs.declared.life.Life.{Life}
+use Rattle.net_sim.specs.Book.{Kept, all_told, book_told, carried, changed_when, closing, fates_asked, fates_crossed, fates_told, fates_where, granted, life_ended, lives_asked, lives_at, lives_between, lives_crossed, lives_on, lives_told, lives_with, new_life, nothing, over_by_cls, returned, where_it}
+use Rattle.net_sim.specs.Story.{Moment, Crossed, Asked}
+use Rattle.net_sim.specs.Told.{host_in, kept_by, kept_in, notices_by}
+use Rattle.net_sim.proofs.lemmas.{by_fated, kept_fated, told_fated}
+use Rattle.world_keeps_streams.proofs.Lives.Lists.{IsOf, Named, named_itself}
+
+-- ---- lists that are changed
+
+pub record Was (x : Life) (f : Fate) (lives : List Life) (fates : List Fate) (test : Life → Bool) (change : Life → Life) (turn : Fate → Fate) : Type 0 where
+  pub life : Life
+  pub how : Fate
+  pub there : IsBeside life how lives fates
+  pub is : x ≡ changed_when (test life) change life
+  pub fate_is : f ≡ (if test life then turn how else how)
+
+was_where : (test : Life → Bool) (change : Life → Life) (turn : Fate → Fate) (lives : List Life) (fates : List Fate) (x : Life) (f : Fate) → IsBeside x f (where_it test change lives) (fates_where test turn lives fates)
+    → Was x f lives fates test change turn
+was_where test change turn [] fates x f i = absurd i
+was_where test change turn (y ∷ lives) [] x f i = absurd i
+was_where test change turn (y ∷ lives) (g ∷ fates) x f (inl e) = record { life = y; how = g; there = inl (refl, refl); is = e.0; fate_is = e.1 }
+was_where test change turn (y ∷ lives) (g ∷ fates) x f (inr i) =
+    let w : Was x f lives fates test change turn = was_where test change turn lives fates x f i in
+    record { life = w.life; how = w.how; there = inr w.there; is = w.is; fate_is = w.fate_is }
+
+was_life : (test : Life → Bool) (change : Life → Life) (lives : List Life) (fates : List Fate) (x : Life) (f : Fate) → IsBeside x f (where_it test change lives) fates → (y : Life) × IsBeside y f lives fates × (x ≡ changed_when (test y) change y)
+was_life test change [] fates x f i = absurd i
+was_life test change (y ∷ lives) [] x f i = absurd i
+was_life test change (y ∷ lives) (g ∷ fates) x f (inl e) = (y, inl (refl, e.1), e.0)
+was_life test change (y ∷ lives) (g ∷ fates) x f (inr i) = let w : (z : Life) × IsBeside z f lives fates × (x ≡ changed_when (test z) change z) = was_life test change lives fates x f i in (w.0, inr w.1, w.2)
+
+was_fate : (test : Life → Bool) (turn : Fate → Fate) (lives : List Life) (fates : List Fate) (x : Life) (f : Fate) → IsBeside x f lives (fates_where test turn lives fates) → (g : Fate) × IsBeside x g lives fates × (f ≡ (if test x then turn g else g))
+was_fate test turn [] fates x f i = absurd i
+was_fate test turn (y ∷ lives) [] x f i = absurd i
+was_fate test turn (y ∷ lives) (g ∷ fates) x f (inl e) = (g, inl (e.0, refl), e.1 ∙ ap (λ (z : Life). if test z then turn g else g) (sym e.0))
+was_fate test turn (y ∷ lives) (g ∷ fates) x f (inr i) = let w : (h : Fate) × IsBeside x h lives fates × (f ≡ (if test x then turn h else h)) = was_fate test turn lives fates x f i in (w.0, inr w.1, w.2)
+
+was_more : (lives : List Life) (fates : List Fate) (n : Life) (u : Fate) (x : Life) (f : Fate) → AreFated lives fates → IsBeside x f (lives ++ n ∷ []) (fates ++ u ∷ []) → IsBeside x f lives fates ⊎ (x ≡ n)
+was_more [] [] n u x f a (inl e) = inr e.0
+was_more [] [] n u x f a (inr i) = absurd i
+was_more [] (g ∷ fates) n u x f a i = absurd (let no : g ∷ fates ≡ [] = a in cc)
+was_more (y ∷ lives) [] n u x f a i = absurd a
+was_more (y ∷ lives) (g ∷ fates) n u x f a (inl e) = inl (inl e)
+was_more (y ∷ lives) (g ∷ fates) n u x f a (inr i) = elim (was_more lives fates n u x f a.1 i) [
+  | inl old ↦ inl (inr old)
+  | inr new ↦ inr new
+]
+
+-- a life is over where its fate says so
+pub beside_over : (lives : List Life) (fates : List Fate) (x : Life) (f : Fate) → AreFated lives fates → IsBeside x f lives fates → x.ended ≡ is_over f
+beside_over [] fates x f a i = absurd i
+beside_over (y ∷ lives) [] x f a i = absurd i
+beside_over (y ∷ lives) (g ∷ fates) x f a (inl e) = ap (λ (z : Life). z.ended) e.0 ∙ a.0 ∙ ap is_over (sym e.1)
+beside_over (y ∷ lives) (g ∷ fates) x f a (inr i) = beside_over lives fates x f a.1 i
+
+pub beside_of : {A : Type 0} (lives : List Life) (others : List A) (x : Life) (a : A) → IsBeside x a lives others → IsOf x lives
+beside_of {A} [] others x a i = absurd i
+beside_of {A} (y ∷ lives) [] x a i = absurd i
+beside_of {A} (y ∷ lives) (b ∷ others) x a (inl e) = inl e.0
+beside_of {A} (y ∷ lives) (b ∷ others) x a (inr i) = inr (beside_of lives others x a i)
+
+-- ---- a notice that an end is over
+
+abbrev pub IsEnd : Host → Notice → Type 0
+IsEnd p (notice.Ended socket peer foreign) = peer ≡ p
+IsEnd p n = ⊥
+
+abbrev pub TellsEnd : Host → List Notice → Type 0
+TellsEnd p [] = ⊥
+TellsEnd p (n ∷ ns) = IsEnd p n ⊎ TellsEnd p ns
+
+-- ---- what becomes of a life and its fate by notices
+
+pub record Turned (h : Host) (ns : List Notice) (x : Life) (f : Fate) (y : Life) (g : Fate) : Type 0 where
+  pub named : Named x y
+  pub granted : y.granted ≡ x.granted
+  pub opens : g ≡ fate.Open → f ≡ fate.Open
+  pub ends : g ≡ fate.Ended → (f ≡ fate.Ended) ⊎ ((f ≡ fate.Open) × (h ≡ x.host) × TellsEnd x.peer ns)
+  pub still : x.ended ≡ true → y ≡ x
+
+turned_same : (h : Host) (ns : List Notice) (x : Life) (f : Fate) → Turned h ns x f x f
+turned_same h ns x f = record { named = named_itself x; granted = refl; opens = λ e. e; ends = λ e. inl e; still = λ e. refl }
+
+turned_then : (h : Host) (n : Notice) (ns : List Notice) (x y z : Life) (f g k : Fate) → Turned h (n ∷ []) x f y g → Turned h ns y g z k → Turned h (n ∷ ns) x f z k
+turned_then h n ns x y z f g k a b = record {
+  named = record {
+    host = b.named.host ∙ a.named.host;
+    socket = b.named.socket ∙ a.named.socket;
+    peer = b.named.peer ∙ a.named.peer;
+    foreign = b.named.foreign ∙ a.named.foreign;
+    own = b.named.own ∙ a.named.own;
+    partner = b.named.partner ∙ a.named.partner;
+  };
+  granted = b.granted ∙ a.granted;
+  opens = λ e. a.opens (b.opens e);
+  ends = λ e. elim (b.ends e) [
+    | inl was ↦ first (a.ends was)
+    | inr now ↦ inr (a.opens now.0, now.1 ∙ a.named.host, inr (told (a.named.peer) now.2))
+  ];
+  still = λ e. b.still (ap (λ (v : Life). v.ended) (a.still e) ∙ e) ∙ a.still e;
+} where
+  told : y.peer ≡ x.peer → TellsEnd y.peer ns → TellsEnd x.peer ns
+  told e t = subst (λ (p : Host). TellsEnd p ns) e t
+
+  first : (f ≡ fate.Ended) ⊎ ((f ≡ fate.Open) × (h ≡ x.host) × TellsEnd x.peer (n ∷ [])) → (f ≡ fate.Ended) ⊎ ((f ≡ fate.Open) × (h ≡ x.host) × TellsEnd x.peer (n ∷ ns))
+  first (inl e) = inl e
+  first (inr (o, host, inl t)) = inr (o, host, inl t)
+  first (inr (o, host, inr t)) = absurd t
+
+-- a change of lives only
+turned_life : (h : Host) (ns : List Notice) (v : Bool) (change : Life → Life) (x : Life) (f : Fate) → ((z : Life) → Named z (change z)) → ((z : Life) → (change z).granted ≡ z.granted) → (v ≡ true → x.ended ≡ false)
+    → Turned h ns x f (changed_when v change x) f
+turned_life h ns true change x f names keeps goes = record {
+  named = names x;
+  granted = keeps x;
+  opens = λ e. e;
+  ends = λ e. inl e;
+  still = λ e. absurd (let no : true ≡ false = sym e ∙ goes refl in cc);
+}
+turned_life h ns false change x f names keeps goes = turned_same h ns x f
+
+-- lives that end
+turned_over : (h : Host) (ns : List Notice) (v : Bool) (turn : Fate → Fate) (x : Life) (f : Fate) → (v ≡ true → x.ended ≡ false) → ((g : Fate) → turn g ≡ fate.Open → ⊥) → (v ≡ true → turn f ≡ fate.Ended → (f ≡ fate.Open) × (h ≡ x.host) × TellsEnd x.peer ns)
+    → Turned h ns x f (changed_when v life_ended x) (if v then turn f else f)
+turned_over h ns true turn x f goes never ends = record {
+  named = record { host = refl; socket = refl; peer = refl; foreign = refl; own = refl; partner = refl };
+  granted = refl;
+  opens = λ e. absurd (never f e);
+  ends = λ e. inr (ends refl e);
+  still = λ e. absurd (let no : true ≡ false = sym e ∙ goes refl in cc);
+}
+turned_over h ns false turn x f goes never ends = turned_same h ns x f
+
+-- ---- which lives those are
+
+at_goes : (h : Host) (socket : ℕ) (x : Life) → lives_at h socket x ≡ true → x.ended ≡ false
+at_goes h socket x e = not_is x.ended (both (same_host h x.host && x.socket == socket) (not x.ended) e).1
+
+between_at : (h : Host) (socket : ℕ) (peer : Host) (foreign : ℕ) (x : Life) → lives_between h socket peer foreign x ≡ true → (lives_at h socket x ≡ true) × (peer ≡ x.peer)
+between_at h socket peer foreign x e =
+    let p : ((lives_at h socket x && same_host peer x.peer) ≡ true) × ((x.foreign == foreign) ≡ true) = both (lives_at h socket x && same_host peer x.peer) (x.foreign == foreign) e in
+    let q : (lives_at h socket x ≡ true) × (same_host peer x.peer ≡ true) = both (lives_at h socket x) (same_host peer x.peer) p.0 in
+    (q.0, same_host-true peer x.peer q.1)
+
+at_host : (h : Host) (socket : ℕ) (x : Life) → lives_at h socket x ≡ true → h ≡ x.host
+at_host h socket x e =
+    let p : ((same_host h x.host && x.socket == socket) ≡ true) × (not x.ended ≡ true) = both (same_host h x.host && x.socket == socket) (not x.ended) e in
+    same_host-true h x.host (both (same_host h x.host) (x.socket == socket) p.0).0
+
+with_goes : (h peer : Host) (x : Life) → lives_with h peer x ≡ true → x.ended ≡ false
+with_goes h peer x e = not_is x.ended (both (same_host h x.host && same_host peer x.peer) (not x.ended) e).1
+
+on_goes : (h : Host) (x : Life) → lives_on h x ≡ true → x.ended ≡ false
+on_goes h x e = not_is x.ended (both (same_host h x.host) (not x.ended) e).1
+
+-- ---- fates
+
+over_never : (g : Fate) → over_by_cls g ≡ fate.Open → ⊥
+over_never fate.Open e = absurd (let no : fate.Ended ≡ fate.Open = e in cc)
+over_never fate.Closing e = absurd (let no : fate.Closed ≡ fate.Open = e in cc)
+over_never fate.Closed e = absurd (let no : fate.Ended ≡ fate.Open = e in cc)
+over_never fate.Ended e = absurd (let no : fate.Ended ≡ fate.Open = e in cc)
+over_never fate.Reset e = absurd (let no : fate.Ended ≡ fate.Open = e in cc)
+over_never fate.Stopped e = absurd (let no : fate.Ended ≡ fate.Open = e in cc)
+
+-- only an open life that isn't over ends so
+over_open : (g : Fate) → is_over g ≡ false → over_by_cls g ≡ fate.Ended → g ≡ fate.Open
+over_open fate.Open o e = refl
+over_open fate.Closing o e = absurd (let no : fate.Closed ≡ fate.Ended = e in cc)
+over_open fate.Closed o e = absurd (let no : true ≡ false = o in cc)
+over_open fate.Ended o e = absurd (let no : true ≡ false = o in cc)
+over_open fate.Reset o e = absurd (let no : true ≡ false = o in cc)
+over_open fate.Stopped o e = absurd (let no : true ≡ false = o in cc)
+
+closing_open : (g : Fate) → closing g ≡ fate.Open → ⊥
+closing_open fate.Open e = absurd (let no : fate.Closing ≡ fate.Open = e in cc)
+closing_open fate.Closing e = absurd (let no : fate.Closing ≡ fate.Open = e in cc)
+closing_open fate.Closed e = absurd (let no : fate.Closed ≡ fate.Open = e in cc)
+closing_open fate.Ended e = absurd (let no : fate.Ended ≡ fate.Open = e in cc)
+closing_open fate.Reset e = absurd (let no : fate.Reset ≡ fate.Open = e in cc)
+closing_open fate.Stopped e = absurd (let no : fate.Stopped ≡ fate.Open = e in cc)
+
+closing_ended : (g : Fate) → closing g ≡ fate.Ended → g ≡ fate.Ended
+closing_ended fate.Open e = absurd (let no : fate.Closing ≡ fate.Ended = e in cc)
+closing_ended g e = e
+
+-- ---- a notice, and several
+
+-- a life and its fate come from such that were there, or nothing is granted in a new life
+abbrev pub Comes : Host → List Notice → List Life → List Fate → Life → Fate → Type 0
+Comes h ns lives fates y g = ((x : Life) × (f : Fate) × IsBeside x f lives fates × Turned h ns x f y g) ⊎ (y.granted ≡ nothing)
+
+lives_come : (h : Host) (ns : List Notice) (test : Life → Bool) (change : Life → Life) (lives : List Life) (fates : List Fate) (y : Life) (g : Fate) → ((z : Life) → Named z (change z)) → ((z : Life) → (change z).granted ≡ z.granted)
+    → ((z : Life) → test z ≡ true → z.ended ≡ false) → IsBeside y g (where_it test change lives) fates → Comes h ns lives fates y g
+lives_come h ns test change lives fates y g names keeps goes i =
+    let w : (x : Life) × IsBeside x g lives fates × (y ≡ changed_when (test x) change x) = was_life test change lives fates y g i in
+    inl (w.0, g, w.1, subst (λ (z : Life). Turned h ns w.0 g z g) (sym w.2) (turned_life h ns (test w.0) change w.0 g names keeps (goes w.0)))
+
+over_comes : (h : Host) (ns : List Notice) (test : Life → Bool) (turn : Fate → Fate) (lives : List Life) (fates : List Fate) (y : Life) (g : Fate) → ((z : Life) → test z ≡ true → z.ended ≡ false) → ((k : Fate) → turn k ≡ fate.Open → ⊥)
+    → ((x : Life) (k : Fate) → IsBeside x k lives fates → test x ≡ true → turn k ≡ fate.Ended → (k ≡ fate.Open) × (h ≡ x.host) × TellsEnd x.peer ns)
+    → IsBeside y g (where_it test life_ended lives) (fates_where test turn lives fates) → Comes h ns lives fates y g
+over_comes h ns test turn lives fates y g goes never ends i =
+    let w : Was y g lives fates test life_ended turn = was_where test life_ended turn lives fates y g i in
+    inl
+    (w.life, w.how, w.there, subst (λ (k : Fate). Turned h ns w.life w.how y k) (sym w.fate_is)
+    (subst (λ (z : Life). Turned h ns w.life w.how z (if test w.life then turn w.how else w.how)) (sym w.is) (turned_over h ns (test w.life) turn w.life w.how (goes w.life) never (ends w.life w.how w.there))))
+
+told_comes : (h : Host) (n : Notice) (lives : List Life) (fates : List Fate) (y : Life) (g : Fate) → AreFated lives fates → IsBeside y g (lives_told h n lives) (fates_told h n lives fates) → Comes h (n ∷ []) lives fates y g
+told_comes h (notice.Opened socket peer foreign own partner) lives fates y g a i = elim (was_more lives fates (new_life h socket peer foreign own partner) fate.Open y g a i) [
+  | inl old ↦ inl (y, g, old, turned_same h (notice.Opened socket peer foreign own partner ∷ []) y g)
+  | inr new ↦ inr (ap (λ (z : Life). z.granted) new)
+]
+told_comes h (notice.Ended socket peer foreign) lives fates y g a i =
+    over_comes h (notice.Ended socket peer foreign ∷ []) (lives_between h socket peer foreign) over_by_cls lives fates y g (λ z e. at_goes h socket z (between_at h socket peer foreign z e).0) over_never
+    (λ x k there e turns.
+    (let p : (lives_at h socket x ≡ true) × (peer ≡ x.peer) = between_at h socket peer foreign x e in
+    let over : is_over k ≡ false = sym (beside_over lives fates x k a there) ∙ at_goes h socket x p.0 in
+    (over_open k over turns, at_host h socket x p.0, inl p.1))) i
+told_comes h (notice.PairReset peer) lives fates y g a i =
+    over_comes h (notice.PairReset peer ∷ []) (lives_with h peer) (λ f. fate.Reset) lives fates y g (with_goes h peer) (λ k e. absurd (let no : fate.Reset ≡ fate.Open = e in cc))
+    (λ x k there e turns. absurd (let no : fate.Reset ≡ fate.Ended = turns in cc)) i
+told_comes h (notice.Sent socket bits) lives fates y g a i =
+    lives_come h (notice.Sent socket bits ∷ []) (lives_at h socket) (carried bits) lives fates y g (λ z. record { host = refl; socket = refl; peer = refl; foreign = refl; own = refl; partner = refl }) (λ z. refl) (at_goes h socket) i
+told_comes h (notice.Arrived socket bits) lives fates y g a i =
+    lives_come h (notice.Arrived socket bits ∷ []) (lives_at h socket) (carried bits) lives fates y g (λ z. record { host = refl; socket = refl; peer = refl; foreign = refl; own = refl; partner = refl }) (λ z. refl) (at_goes h socket) i
+told_comes h (notice.Returned socket messages bits) lives fates y g a i =
+    lives_come h (notice.Returned socket messages bits ∷ []) (lives_at h socket) (returned messages bits) lives fates y g (λ z. record { host = refl; socket = refl; peer = refl; foreign = refl; own = refl; partner = refl }) (λ z. refl) (at_goes h socket) i
+told_comes h n lives fates y g a i = inl (y, g, i, turned_same h (n ∷ []) y g)
+
+all_come : (h : Host) (ns : List Notice) (k : Kept) (y : Life) (g : Fate) → AreFated k.book.lives k.fates → IsBeside y g (all_told h ns k).book.lives (all_told h ns k).fates → Comes h ns k.book.lives k.fates y g
+all_come h [] k y g a i = inl (y, g, i, turned_same h [] y g)
+all_come h (n ∷ ns) k y g a i = by (all_come h ns (book_told h n k) y g (told_fated h n k.book.lives k.fates a) i) where
+  first : (x : Life) (f : Fate) → Turned h ns x f y g → Comes h (n ∷ []) k.book.lives k.fates x f → Comes h (n ∷ ns) k.book.lives k.fates y g
+  first x f t (inl o) = inl (o.0, o.1, o.2, turned_then h n ns o.0 x y o.1 f g o.3 t)
+  first x f t (inr none) = inr (t.granted ∙ none)
+
+  by : Comes h ns (lives_told h n k.book.lives) (fates_told h n k.book.lives k.fates) y g → Comes h (n ∷ ns) k.book.lives k.fates y g
+  by (inl o) = first o.0 o.1 o.3 (told_comes h n k.book.lives k.fates o.0 o.1 a o.2)
+  by (inr none) = inr none
+
+-- ---- the moment itself
+
+-- a user of the life's host closes its end, or grants there
+abbrev pub IsClose : Moment → Life → Type 0
+IsClose (Asked h (request.Close socket)) x = lives_at h socket x ≡ true
+IsClose y x = ⊥
+
+abbrev pub IsGrant : Moment → Type 0
+IsGrant (Asked h (request.Grant socket messages bits)) = Unit {0}
+IsGrant y = ⊥
+
+pub record Stepped (m : Moment) (x : Life) (f : Fate) (y : Life) (g : Fate) : Type 0 where
+  pub named : Named x y
+  pub granted : (y.granted ≡ x.granted) ⊎ IsGrant m
+  pub opens : g ≡ fate.Open → f ≡ fate.Open
+  pub unclosed : g ≡ fate.Open → IsClose m x → ⊥
+  pub ends : g ≡ fate.Ended → f ≡ fate.Ended
+  pub still : x.ended ≡ true → y ≡ x
+
+abbrev pub CameBy : Moment → List Life → List Fate → Life → Fate → Type 0
+CameBy m lives fates y g = (x : Life) × (f : Fate) × IsBeside x f lives fates × Stepped m x f y g
+
+same_step : (m : Moment) (x : Life) (f : Fate) → (IsClose m x → ⊥) → Stepped m x f x f
+same_step m x f none = record { named = named_itself x; granted = inl refl; opens = λ e. e; unclosed = λ e. none; ends = λ e. e; still = λ e. refl }
+
+down_step : (h : Host) (v : Bool) (x : Life) (f : Fate) → (v ≡ true → x.ended ≡ false) → Stepped (Crossed (crossing.Down h)) x f (changed_when v life_ended x) (if v then fate.Stopped else f)
+down_step h true x f goes = record {
+  named = record { host = refl; socket = refl; peer = refl; foreign = refl; own = refl; partner = refl };
+  granted = inl refl;
+  opens = λ e. absurd (let no : fate.Stopped ≡ fate.Open = e in cc);
+  unclosed = λ e i. i;
+  ends = λ e. absurd (let no : fate.Stopped ≡ fate.Ended = e in cc);
+  still = λ e. absurd (let no : true ≡ false = sym e ∙ goes refl in cc);
+}
+down_step h false x f goes = same_step (Crossed (crossing.Down h)) x f (λ i. i)
+
+crossed_step : (c : Crossing) (lives : List Life) (fates : List Fate) (y : Life) (g : Fate) → IsBeside y g (lives_crossed c lives) (fates_crossed c lives fates) → CameBy (Crossed c) lives fates y g
+crossed_step (crossing.Down h) lives fates y g i =
+    let w : Was y g lives fates (lives_on h) life_ended (λ f. fate.Stopped) = was_where (lives_on h) life_ended (λ f. fate.Stopped) lives fates y g i in
+    (w.life, w.how, w.there, subst (λ (k : Fate). Stepped (Crossed (crossing.Down h)) w.life w.how y k) (sym w.fate_is)
+    (subst (λ (z : Life). Stepped (Crossed (crossing.Down h)) w.life w.how z (if lives_on h w.life then fate.Stopped else w.how)) (sym w.is) (down_step h (lives_on h w.life) w.life w.how (on_goes h w.life))))
+crossed_step c lives fates y g i = (y, g, i, same_step (Crossed c) y g (λ e. e))
+
+close_step : (h : Host) (socket : ℕ) (v : Bool) (x : Life) (f : Fate) → lives_at h socket x ≡ v → Stepped (Asked h (request.Close socket)) x f x (if v then closing f else f)
+close_step h socket true x f is = record {
+  named = named_itself x;
+  granted = inl refl;
+  opens = λ e. absurd (closing_open f e);
+  unclosed = λ e i. closing_open f e;
+  ends = closing_ended f;
+  still = λ e. refl;
+}
+close_step h socket false x f is = same_step (Asked h (request.Close socket)) x f (λ i. absurd (let no : true ≡ false = sym i ∙ is in cc))
+
+grant_step : (h : Host) (socket messages bits : ℕ) (v : Bool) (x : Life) (f : Fate) → (v ≡ true → x.ended ≡ false) → Stepped (Asked h (request.Grant socket messages bits)) x f (changed_when v (granted messages bits) x) f
+grant_step h socket messages bits true x f goes = record {
+  named = record { host = refl; socket = refl; peer = refl; foreign = refl; own = refl; partner = refl };
+  granted = inr tt;
+  opens = λ e. e;
+  unclosed = λ e i. i;
+  ends = λ e. e;
+  still = λ e. absurd (let no : true ≡ false = sym e ∙ goes refl in cc);
+}
+grant_step h socket messages bits false x f goes = same_step (Asked h (request.Grant socket messages bits)) x f (λ i. i)
+
+asked_step : (h : Host) (r : Request) (lives : List Life) (fates : List Fate) (y : Life) (g : Fate) → IsBeside y g (lives_asked h r lives) (fates_asked h r lives fates) → CameBy (Asked h r) lives fates y g
+asked_step h (request.Close socket) lives fates y g i =
+    let w : (k : Fate) × IsBeside y k lives fates × (g ≡ (if lives_at h socket y then closing k else k)) = was_fate (lives_at h socket) closing lives fates y g i in
+    (y, w.0, w.1, subst (λ (k : Fate). Stepped (Asked h (request.Close socket)) y w.0 y k) (sym w.2) (close_step h socket (lives_at h socket y) y w.0 refl))
+asked_step h (request.Grant socket messages bits) lives fates y g i =
+    let w : (x : Life) × IsBeside x g lives fates × (y ≡ changed_when (lives_at h socket x) (granted messages bits) x) = was_life (lives_at h socket) (granted messages bits) lives fates y g i in
+    (w.0, g, w.1, subst (λ (z : Life). Stepped (Asked h (request.Grant socket messages bits)) w.0 g z g) (sym w.2) (grant_step h socket messages bits (lives_at h socket w.0) w.0 g (at_goes h socket w.0)))
+asked_step h r lives fates y g i = (y, g, i, same_step (Asked h r) y g (λ e. e))
+
+by_step : (m : Moment) (k : Kept) (y : Life) (g : Fate) → IsBeside y g (kept_by m k).book.lives (kept_by m k).fates → CameBy m k.book.lives k.fates y g
+by_step (Crossed c) k y g i = crossed_step c k.book.lives k.fates y g i
+by_step (Asked h r) k y g i = asked_step h r k.book.lives k.fates y g i
+
+-- ---- a moment, with its notices
+
+pub record Moved (m : Moment) (ms : List Moment) (x : Life) (f : Fate) (y : Life) (g : Fate) : Type 0 where
+  pub named : Named x y
+  pub granted : (y.granted ≡ x.granted) ⊎ IsGrant m
+  pub opens : g ≡ fate.Open → f ≡ fate.Open
+  pub unclosed : g ≡ fate.Open → IsClose m x → ⊥
+  pub ends : g ≡ fate.Ended → (f ≡ fate.Ended) ⊎ ((f ≡ fate.Open) × (host_in m ≡ x.host) × TellsEnd x.peer (notices_by m ms))
+  pub still : x.ended ≡ true → y ≡ x
+
+abbrev pub Came : Moment → List Moment → Life → Fate → Type 0
+Came m ms y g = ((x : Life) × (f : Fate) × IsBeside x f (kept_in ms).book.lives (kept_in ms).fates × Moved m ms x f y g) ⊎ (y.granted ≡ nothing)
+
+pub came : (m : Moment) (ms : List Moment) (y : Life) (g : Fate) → IsBeside y g (kept_in (m ∷ ms)).book.lives (kept_in (m ∷ ms)).fates → Came m ms y g
+came m ms y g i = by (all_come (host_in m) (notices_by m ms) (kept_by m (kept_in ms)) y g (by_fated m (kept_in ms) (kept_fated ms)) i) where
+  both_steps : (z : Life) (k : Fate) → Turned (host_in m) (notices_by m ms) z k y g → CameBy m (kept_in ms).book.lives (kept_in ms).fates z k → Came m ms y g
+  both_steps z k t o = inl (
+    o.0,
+    o.1,
+    o.2,
+    record {
+      named = record {
+        host = t.named.host ∙ o.3.named.host;
+        socket = t.named.socket ∙ o.3.named.socket;
+        peer = t.named.peer ∙ o.3.named.peer;
+        foreign = t.named.foreign ∙ o.3.named.foreign;
+        own = t.named.own ∙ o.3.named.own;
+        partner = t.named.partner ∙ o.3.named.partner;
+      };
+      granted = elim o.3.granted [
+        | inl e ↦ inl (t.granted ∙ e)
+        | inr p ↦ inr p
+      ];
+      opens = λ e. o.3.opens (t.opens e);
+      unclosed = λ e. o.3.unclosed (t.opens e);
+      ends = λ e. elim (t.ends e) [
+        | inl was ↦ inl (o.3.ends was)
+        | inr now ↦ inr (o.3.opens now.0, now.1 ∙ o.3.named.host, subst (λ (p : Host). TellsEnd p (notices_by m ms)) o.3.named.peer now.2)
+      ];
+      still = λ e. t.still (ap (λ (v : Life). v.ended) (o.3.still e) ∙ e) ∙ o.3.still e;
+    },
+  )
+
+  by : Comes (host_in m) (notices_by m ms) (kept_by m (kept_in ms)).book.lives (kept_by m (kept_in ms)).fates y g → Came m ms y g
+  by (inl o) = both_steps o.0 o.1 o.3 (by_step m (kept_in ms) o.0 o.1 o.2)
+  by (inr none) = inr none

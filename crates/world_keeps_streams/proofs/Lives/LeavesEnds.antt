@@ -1,0 +1,149 @@
+-- What a program reports by a moment with which its host leaves a peer: of no end with that peer that it is over.
+use Rattle.std.proofs.Common.{◌≡◌, ◌⊎◌, inl, inr, ℕ, ◌==◌, ◌||◌, not, Bool, true, false, if◌then◌else◌, List, [], ◌∷◌, ◌++◌, refl, ap, sym, subst, ◌∙◌}
+use Rattle.interface.specs.Host.{Host, same_host}
+use Rattle.interface.specs.declared.address.Flow.{Flow}
+use Rattle.interface.specs.declared.crossing.Answer.{Answer}
+use Rattle.interface.specs.declared.crossing.Answer.TheVariants as answer
+use Rattle.interface.specs.declared.crossing.Crossing.TheVariants as crossing
+use Rattle.interface.specs.declared.crossing.Inbound.TheVariants as inbound
+use Rattle.interface.specs.declared.message.HostMessage.{HostMessage}
+use Rattle.ncp_control.specs.declared.command.Command.TheVariants as command
+use Rattle.host_pairs.specs.Control.{Legal, orders_of}
+use Rattle.host_pairs.specs.Entries.{is_busy}
+use Rattle.ncp_control.specs.Phases.{is_ready}
+use Rattle.ncp_control.specs.declared.phase.Phase.{Phase}
+use Rattle.ncp_control.specs.declared.phase.Phase.TheVariants as phase
+use Rattle.host_pairs.specs.Turn.{TurnState, answered_turn, failed_by, freed, is_gone, message_taken, reply_notices, reset_notices, settled_turn}
+use Rattle.host_pairs.specs.declared.notice.Notice.{Notice}
+use Rattle.host_pairs.specs.declared.notice.Notice.TheVariants as notice
+use Rattle.reset_law.specs.Events.{In, Message, Other}
+use Rattle.reset_law.specs.Stays as stay
+use Rattle.reset_law.proofs.lemmas.{stays_ready}
+use Rattle.sockets.specs.Accepting.{accepted, after_turn, turn_of}
+use Rattle.sockets.specs.Pairs.{NcpState, pair_with}
+use Rattle.sockets.specs.Requests.{served_notices}
+use Rattle.sockets.specs.declared.request.Request.{Request}
+use Rattle.sockets.specs.declared.request.Request.TheVariants as request
+use Rattle.net_sim.specs.Projection.{message_on}
+use Rattle.net_sim.specs.Story.{Asked, Crossed, Moment, event_in, events_of, places, program}
+use Rattle.net_sim.specs.Told.{host_in, notices_by}
+use Rattle.net_sim.proofs.lemmas.{Coupled}
+use Rattle.world_keeps_lives.proofs.lemmas.{clash}
+use Rattle.world_keeps_pairing.specs.Steps.{keeps}
+use Rattle.world_keeps_pairing.proofs.lemmas.{AText, AnRrp, AnRst, Sort, sort_of}
+use Rattle.world_keeps_streams.proofs.Lives.Fates.{IsEnd, TellsEnd}
+use Rattle.world_keeps_streams.proofs.Lives.Leaves.{keeps_out, keeps_text}
+use Rattle.world_keeps_streams.proofs.Requests.Sides.{Lawful, coupled_in}
+use Rattle.world_keeps_streams.proofs.Stays.Resets.{leaves_by}
+
+-- ---- notices of no such end
+
+abbrev IsQuiet : Notice → Type 0
+IsQuiet (notice.Ended socket peer foreign) = ⊥
+IsQuiet n = Unit {0}
+
+abbrev AreQuiet : List Notice → Type 0
+AreQuiet [] = Unit {0}
+AreQuiet (n ∷ ns) = IsQuiet n × AreQuiet ns
+
+not_end : (p : Host) (n : Notice) → IsQuiet n → IsEnd p n → ⊥
+not_end p (notice.Ended socket peer foreign) q e = q
+not_end p n q e = e
+
+quiet_tells : (p : Host) (ns : List Notice) → AreQuiet ns → TellsEnd p ns → ⊥
+quiet_tells p [] q t = t
+quiet_tells p (n ∷ ns) q (inl e) = not_end p n q.0 e
+quiet_tells p (n ∷ ns) q (inr t) = quiet_tells p ns q.1 t
+
+-- ---- a program
+
+module _ (s : NcpState) (stamp : ℕ) where
+  if_quiet : (v : Bool) (x y : NcpState × List Notice) → AreQuiet x.1 → AreQuiet y.1 → AreQuiet (if v then x else y).1
+  if_quiet true x y a b = a
+  if_quiet false x y a b = b
+
+  fails : (peer : Host) (ph : Phase) (t : TurnState) → t.notices ≡ [] → AreQuiet (failed_by peer ph t).notices
+  fails peer phase.Closed t e = subst (λ (ns : List Notice). AreQuiet ns) (sym e) tt
+  fails peer phase.Want t e = subst (λ (ns : List Notice). AreQuiet ns) (sym e) tt
+  fails peer (phase.Gone early) t e = subst (λ (ns : List Notice). AreQuiet (ns ++ notice.ContactFailed peer ∷ [])) (sym e) (tt, tt)
+  fails peer phase.Heard t e = subst (λ (ns : List Notice). AreQuiet (ns ++ notice.ContactFailed peer ∷ [])) (sym e) (tt, tt)
+  fails peer phase.Ready t e = subst (λ (ns : List Notice). AreQuiet (ns ++ notice.PairReset peer ∷ [])) (sym e) (tt, tt)
+
+  answer_turn : (peer : Host) (link : ℕ) (kind : Answer) → AreQuiet (answered_turn peer kind link (turn_of s peer)).notices
+  answer_turn peer link answer.Rfnm = tt
+  answer_turn peer link kind = lost (is_gone (pair_with peer s.peers).phase || not (pair_with peer s.peers).owed) where
+    lost : (v : Bool) → AreQuiet (if v then failed_by peer (pair_with peer s.peers).phase (record (turn_of s peer) { pair = freed link (pair_with peer s.peers) }) else settled_turn (record (turn_of s peer) { pair = freed link (pair_with peer s.peers) })).notices
+    lost true = fails peer (pair_with peer s.peers).phase (record (turn_of s peer) { pair = freed link (pair_with peer s.peers) }) refl
+    lost false = tt
+
+  answer_quiet : (kind : Answer) (f : Flow) → AreQuiet (accepted s (inbound.Answer kind f) stamp).1
+  unfolding accepted
+  answer_quiet kind f =
+      if_quiet (same_host s.own f.source) (if is_busy (pair_with f.destination s.peers).busy f.link.0 then after_turn s f.destination (answered_turn f.destination kind f.link.0 (turn_of s f.destination)) else (s, [])) (s, [])
+      (if_quiet (is_busy (pair_with f.destination s.peers).busy f.link.0) (after_turn s f.destination (answered_turn f.destination kind f.link.0 (turn_of s f.destination))) (s, [])
+      (answer_turn f.destination f.link.0 kind) tt) tt
+
+  message_quiet : (m : HostMessage) → AreQuiet (message_taken m.flow.source stamp m.flow.link.0 m.text (turn_of s m.flow.source)).notices → AreQuiet (accepted s (inbound.Message m) stamp).1
+  unfolding accepted
+  message_quiet m q = if_quiet (same_host s.own m.flow.destination) (after_turn s m.flow.source (message_taken m.flow.source stamp m.flow.link.0 m.text (turn_of s m.flow.source))) (s, []) q tt
+
+  reset_told : (peer : Host) (ph : Phase) → AreQuiet (reset_notices peer ph)
+  reset_told peer phase.Closed = (tt, tt)
+  reset_told peer phase.Ready = (tt, tt)
+  reset_told peer ph = tt
+
+  reply_told : (peer : Host) (ph : Phase) → AreQuiet (reply_notices peer ph)
+  reply_told peer phase.Heard = (tt, tt)
+  reply_told peer ph = tt
+
+  reset_quiet : (m : HostMessage) → (m.flow.link.0 == 0) ≡ true → orders_of m.text ≡ Legal command.Rst ∷ [] → AreQuiet (accepted s (inbound.Message m) stamp).1
+  reset_quiet m zero orders = message_quiet m (rw (zero, orders) (reset_told m.flow.source (pair_with m.flow.source s.peers).phase))
+
+  reply_quiet : (m : HostMessage) → (m.flow.link.0 == 0) ≡ true → orders_of m.text ≡ Legal command.Rrp ∷ [] → AreQuiet (accepted s (inbound.Message m) stamp).1
+  reply_quiet m zero orders = message_quiet m (rw (zero, orders) (reply_told m.flow.source (pair_with m.flow.source s.peers).phase))
+
+  contact_told : (peer : Host) (v : Bool) → AreQuiet (if v then notice.PairReset peer ∷ [] else [])
+  contact_told peer true = (tt, tt)
+  contact_told peer false = tt
+
+  request_quiet : (r : Request) → AreQuiet (served_notices s r)
+  unfolding served_notices
+  request_quiet (request.Contact peer) = contact_told peer (is_ready (pair_with peer s.peers).phase)
+  request_quiet r = tt
+
+-- ---- a moment
+
+module _ (hosts : List Host) (p : Host) where
+  out_quiet : (m : HostMessage) (ms : List Moment) → Lawful hosts (Crossed (crossing.Out m) ∷ ms) → stay.stays m.flow.source p (events_of (Crossed (crossing.Out m) ∷ ms)) ≡ false → stay.stays m.flow.source p (events_of ms) ≡ true
+      → AreQuiet (notices_by (Crossed (crossing.Out m)) ms)
+  out_quiet m ms l left before =
+      let c : Coupled hosts (Crossed (crossing.Out m) ∷ ms) = coupled_in hosts (Crossed (crossing.Out m) ∷ ms) l in
+      clash _ (keeps m.flow.source p (event_in (Crossed (crossing.Out m))) (events_of ms))
+      (keeps_out m.flow.source p (events_of ms) (stays_ready (events_of ms) m.flow.source p before) hosts m.flow.destination m.flow.link.0 (message_on m.flow.link.0 m.text) c.run)
+      (leaves_by m.flow.source p (event_in (Crossed (crossing.Out m))) (events_of ms) before left)
+
+  in_quiet : (m : HostMessage) (ms : List Moment) → stay.stays m.flow.destination p (events_of (Crossed (crossing.In m) ∷ ms)) ≡ false → stay.stays m.flow.destination p (events_of ms) ≡ true
+      → AreQuiet (notices_by (Crossed (crossing.In m)) ms)
+  in_quiet m ms left before = by (sort_of m.flow.link.0 m.text) where
+    by : Sort m.flow.link.0 m.text → AreQuiet (notices_by (Crossed (crossing.In m)) ms)
+    by (AnRst zero orders is) = reset_quiet (program m.flow.destination ms) (places ms) m zero orders
+    by (AnRrp zero orders is) = reply_quiet (program m.flow.destination ms) (places ms) m zero orders
+    by (AText is) =
+        clash _ (keeps m.flow.destination p (In m.flow.source m.flow.destination m.flow.link.0 (Other m.text)) (events_of ms))
+        (keeps_text m.flow.destination p (events_of ms) (stays_ready (events_of ms) m.flow.destination p before) m.flow.source m.flow.destination m.flow.link.0 m.text)
+        (subst (λ (n : Message). keeps m.flow.destination p (In m.flow.source m.flow.destination m.flow.link.0 n) (events_of ms) ≡ false) is (leaves_by m.flow.destination p (event_in (Crossed (crossing.In m))) (events_of ms) before left))
+
+  quiet : (y : Moment) (ms : List Moment) → Lawful hosts (y ∷ ms) → stay.stays (host_in y) p (events_of (y ∷ ms)) ≡ false → stay.stays (host_in y) p (events_of ms) ≡ true → AreQuiet (notices_by y ms)
+  quiet (Crossed (crossing.Out m)) ms l left before = out_quiet m ms l left before
+  quiet (Crossed (crossing.In m)) ms l left before = in_quiet m ms left before
+  quiet (Crossed (crossing.Answer kind f)) ms l left before = answer_quiet (program f.source ms) (places ms) kind f
+  quiet (Crossed (crossing.Down g)) ms l left before = tt
+  quiet (Crossed (crossing.Up g)) ms l left before = tt
+  quiet (Asked g r) ms l left before = request_quiet (program g ms) (places ms) r
+
+  -- so a host that reports the end of a connection with a peer stays with it
+  pub still_stays : (y : Moment) (ms : List Moment) → Lawful hosts (y ∷ ms) → stay.stays (host_in y) p (events_of ms) ≡ true → TellsEnd p (notices_by y ms) → stay.stays (host_in y) p (events_of (y ∷ ms)) ≡ true
+  still_stays y ms l before t = by (stay.stays (host_in y) p (events_of (y ∷ ms))) refl where
+    by : (v : Bool) → stay.stays (host_in y) p (events_of (y ∷ ms)) ≡ v → stay.stays (host_in y) p (events_of (y ∷ ms)) ≡ true
+    by true e = e
+    by false e = absurd (quiet_tells p (notices_by y ms) (quiet y ms l e before) t)

@@ -1,0 +1,225 @@
+-- A receiving end that a user closed grants nothing more, by what the law's receiver has of its connection.
+use Rattle.std.proofs.Common.{◌≡◌, ◌⊎◌, inl, inr, ℕ, ◌==◌, ◌&&◌, Bool, true, false, not, if◌then◌else◌, List, [], ◌∷◌, ◌++◌, length, Option, Some, None, refl, ap, sym, subst, ◌∙◌, eq-eqb}
+use Rattle.std.proofs.lemmas.Bool.{eqb-true}
+use Rattle.interface.specs.Host.{Host}
+use Rattle.ncp_control.specs.Allocation as counters
+use Rattle.ncp_control.specs.declared.allocation.Allocation.{Allocation}
+use Rattle.stream_law.specs.Words.{Rts, Str, All, Gvb, Ret, Cls, covers, for, holds, is_size}
+use Rattle.stream_law.specs.Receivers as receivers
+use Rattle.stream_law.specs.Receivers.{Receiver}
+use Rattle.stream_law.proofs.lemmas.{for_here, some_is}
+use Rattle.host_pairs.specs.Entries.{receives_on}
+use Rattle.host_pairs.specs.Pair.{PairState}
+use Rattle.host_pairs.specs.declared.entry.Entry.{Entry}
+use Rattle.host_pairs.specs.declared.listener.Listener.{Listener}
+use Rattle.host_keeps_streams.specs.Closings.{MayAllReceive, all_received}
+use Rattle.host_keeps_streams.specs.Histories as calls
+use Rattle.host_keeps_streams.specs.Histories.{AreAllowed, Call, Closes, HasClosed, IsClosing, IsHistory, IsTelling, gone_now, name_now, received_at, receiver_now, sender_now}
+use Rattle.host_keeps_streams.specs.Names.{named}
+use Rattle.host_keeps_streams.proofs.lemmas.{Holds, holds_now, step_received}
+
+-- ---- a connection that was asked for
+
+abbrev pub Known : Receiver → Type 0
+Known r = (c : ℕ) → r.end ≡ Some c → r.asked c ≡ true
+
+-- it was asked for, and if its end is there, its CLS is said
+pub record IsShut (r : Receiver) (c : ℕ) : Type 0 where
+  pub asked : r.asked c ≡ true
+  pub closed : r.end ≡ Some c → r.closed ≡ true
+
+-- and nothing was granted in it
+pub record IsBare (r : Receiver) (c : ℕ) : Type 0 where
+  pub shut : IsShut r c
+  pub none : (r.granted c).messages ≡ 0
+
+-- ---- moves that leave all of this
+
+record Same (r t : Receiver) : Type 0 where
+  end : t.end ≡ r.end
+  asked : t.asked ≡ r.asked
+  closed : t.closed ≡ r.closed
+  granted : t.granted ≡ r.granted
+
+same_itself : (r : Receiver) → Same r r
+same_itself r = record { end = refl; asked = refl; closed = refl; granted = refl }
+
+same_back : (m n : ℕ) (o : Option ℕ) (r : Receiver) → Same r (receivers.takes_back m n o r)
+same_back m n None r = same_itself r
+same_back m n (Some k) r = by (receivers.is_open k r && holds r.allocation m n) refl where
+  by : (v : Bool) → (receivers.is_open k r && holds r.allocation m n) ≡ v → Same r (receivers.takes_back m n (Some k) r)
+  by true t = rw t (record { end = refl; asked = refl; closed = refl; granted = refl })
+  by false t = rw t (same_itself r)
+
+same_taken : (z : ℕ) (bits : List Bool) (o : Option ℕ) (r : Receiver) → Same r (receivers.takes z bits o r)
+same_taken z bits None r = same_itself r
+same_taken z bits (Some k) r = by (receivers.is_open k r && is_size z (r.size k) && covers r.allocation (length bits)) refl where
+  by : (v : Bool) → (receivers.is_open k r && is_size z (r.size k) && covers r.allocation (length bits)) ≡ v → Same r (receivers.takes z bits (Some k) r)
+  by true t = rw t (record { end = refl; asked = refl; closed = refl; granted = refl })
+  by false t = rw t (same_itself r)
+
+known_same : (r t : Receiver) → Same r t → Known r → Known t
+known_same r t s k c e = ap (λ (f : ℕ → Bool). f c) s.asked ∙ k c (sym s.end ∙ e)
+
+shut_same : (r t : Receiver) (c : ℕ) → Same r t → IsShut r c → IsShut t c
+shut_same r t c s h = record { asked = ap (λ (f : ℕ → Bool). f c) s.asked ∙ h.asked; closed = λ e. s.closed ∙ h.closed (sym s.end ∙ e) }
+
+bare_same : (r t : Receiver) (c : ℕ) → Same r t → IsBare r c → IsBare t c
+bare_same r t c s h = record { shut = shut_same r t c s h.shut; none = ap (λ (f : ℕ → Allocation). (f c).messages) s.granted ∙ h.none }
+
+-- ---- one move
+
+unlike : (v : Bool) → v ≡ true → v ≡ false → ⊥
+unlike v e f = let no : true ≡ false = sym e ∙ f in absurd (cc)
+
+known_move : (m : receivers.Move) (r : Receiver) → Known r → Known (receivers.moved m r)
+known_move (receivers.Ask k) r h c e = let same : k ≡ c = some_is k c e in subst (λ (j : ℕ). for k true r.asked j ≡ true) same (for_here k true r.asked)
+known_move (receivers.Open k) r h c e = h c e
+known_move (receivers.Grant k m n) r h c e = h c e
+known_move (receivers.AskBack k m n) r h c e = h c e
+known_move (receivers.Close k) r h c e = h c e
+known_move (receivers.Free k) r h c e = absurd (let no : None ≡ Some c = e in cc)
+known_move (receivers.Take z bits) r h c e = known_same r (receivers.takes z bits r.end r) (same_taken z bits r.end r) h c e
+known_move (receivers.Hear (Str k z)) r h c e = h c e
+known_move (receivers.Hear (Ret k m n)) r h c e = known_same r (receivers.takes_back m n r.end r) (same_back m n r.end r) h c e
+known_move (receivers.Hear (Cls k)) r h c e = h c e
+known_move (receivers.Hear w) r h c e = h c e
+
+asked_more : (k c : ℕ) (f : ℕ → Bool) → f c ≡ true → for k true f c ≡ true
+asked_more k c f e = by (c == k) where
+  by : (v : Bool) → (if v then true else f c) ≡ true
+  by true = refl
+  by false = e
+
+for_other : {A : Type 0} (c k : ℕ) (x : A) (f : ℕ → A) → ((c == k) ≡ true → ⊥) → for k x f c ≡ f c
+for_other {A} c k x f off = by (c == k) refl where
+  by : (v : Bool) → (c == k) ≡ v → (if v then x else f c) ≡ f c
+  by true e = absurd (off e)
+  by false e = refl
+
+open_unclosed : (u v w : Bool) → (u && not v && not w) ≡ true → v ≡ false
+open_unclosed u false w e = refl
+open_unclosed true true w e = absurd (let no : false ≡ true = e in cc)
+open_unclosed false true w e = absurd (let no : false ≡ true = e in cc)
+
+shut_move : (m : receivers.Move) (r : Receiver) (c : ℕ) → receivers.May m r → IsShut r c → IsShut (receivers.moved m r) c
+shut_move (receivers.Ask k) r c may h = record {
+  asked = asked_more k c r.asked h.asked;
+  closed = λ e. absurd (unlike (r.asked c) h.asked (subst (λ (j : ℕ). r.asked j ≡ false) (some_is k c e) may.1));
+}
+shut_move (receivers.Open k) r c may h = record { asked = h.asked; closed = h.closed }
+shut_move (receivers.Grant k m n) r c may h = record { asked = h.asked; closed = h.closed }
+shut_move (receivers.AskBack k m n) r c may h = h
+shut_move (receivers.Close k) r c may h = record { asked = h.asked; closed = λ e. refl }
+shut_move (receivers.Free k) r c may h = record { asked = h.asked; closed = λ e. absurd (let no : None ≡ Some c = e in cc) }
+shut_move (receivers.Take z bits) r c may h = shut_same r (receivers.takes z bits r.end r) c (same_taken z bits r.end r) h
+shut_move (receivers.Hear (Str k z)) r c may h = record { asked = h.asked; closed = h.closed }
+shut_move (receivers.Hear (Ret k m n)) r c may h = shut_same r (receivers.takes_back m n r.end r) c (same_back m n r.end r) h
+shut_move (receivers.Hear (Cls k)) r c may h = record { asked = h.asked; closed = h.closed }
+shut_move (receivers.Hear w) r c may h = h
+
+bare_move : (m : receivers.Move) (r : Receiver) (c : ℕ) → receivers.May m r → IsBare r c → IsBare (receivers.moved m r) c
+bare_move (receivers.Grant k m n) r c may h = record {
+  shut = shut_move (receivers.Grant k m n) r c may h.shut;
+  none = ap (λ (a : Allocation). a.messages) (for_other c k (counters.added (r.granted k) m n) r.granted other) ∙ h.none;
+} where
+  other : (c == k) ≡ true → ⊥
+  other e =
+      let same : c ≡ k = eqb-true c k e in
+      unlike r.closed (h.shut.closed (may.0 ∙ ap (λ (j : ℕ). Some j) (sym same))) (open_unclosed r.opened r.closed (r.over k) may.1)
+bare_move (receivers.Take z bits) r c may h = bare_same r (receivers.takes z bits r.end r) c (same_taken z bits r.end r) h
+bare_move (receivers.Hear (Ret k m n)) r c may h = bare_same r (receivers.takes_back m n r.end r) c (same_back m n r.end r) h
+bare_move (receivers.Ask k) r c may h = record { shut = shut_move (receivers.Ask k) r c may h.shut; none = h.none }
+bare_move (receivers.Open k) r c may h = record { shut = shut_move (receivers.Open k) r c may h.shut; none = h.none }
+bare_move (receivers.AskBack k m n) r c may h = h
+bare_move (receivers.Close k) r c may h = record { shut = shut_move (receivers.Close k) r c may h.shut; none = h.none }
+bare_move (receivers.Free k) r c may h = record { shut = shut_move (receivers.Free k) r c may h.shut; none = h.none }
+bare_move (receivers.Hear (Str k z)) r c may h = record { shut = shut_move (receivers.Hear (Str k z)) r c may h.shut; none = h.none }
+bare_move (receivers.Hear (Cls k)) r c may h = record { shut = shut_move (receivers.Hear (Cls k)) r c may h.shut; none = h.none }
+bare_move (receivers.Hear w) r c may h = h
+
+-- ---- several
+
+known_moves : (ms : List receivers.Move) (r : Receiver) → Known r → Known (all_received ms r)
+known_moves [] r h = h
+known_moves (m ∷ ms) r h = known_moves ms (receivers.moved m r) (known_move m r h)
+
+asked_move : (m : receivers.Move) (r : Receiver) (c : ℕ) → r.asked c ≡ true → (receivers.moved m r).asked c ≡ true
+asked_move (receivers.Ask k) r c h = asked_more k c r.asked h
+asked_move (receivers.Take z bits) r c h = ap (λ (f : ℕ → Bool). f c) (same_taken z bits r.end r).asked ∙ h
+asked_move (receivers.Hear (Ret k m n)) r c h = ap (λ (f : ℕ → Bool). f c) (same_back m n r.end r).asked ∙ h
+asked_move (receivers.Hear (Str k z)) r c h = h
+asked_move (receivers.Hear (Cls k)) r c h = h
+asked_move (receivers.Hear w) r c h = h
+asked_move m r c h = h
+
+asked_moves : (ms : List receivers.Move) (r : Receiver) (c : ℕ) → r.asked c ≡ true → (all_received ms r).asked c ≡ true
+asked_moves [] r c h = h
+asked_moves (m ∷ ms) r c h = asked_moves ms (receivers.moved m r) c (asked_move m r c h)
+
+shut_moves : (ms : List receivers.Move) (r : Receiver) (c : ℕ) → MayAllReceive ms r → IsShut r c → IsShut (all_received ms r) c
+shut_moves [] r c may h = h
+shut_moves (m ∷ ms) r c may h = shut_moves ms (receivers.moved m r) c may.1 (shut_move m r c may.0 h)
+
+bare_moves : (ms : List receivers.Move) (r : Receiver) (c : ℕ) → MayAllReceive ms r → IsBare r c → IsBare (all_received ms r) c
+bare_moves [] r c may h = h
+bare_moves (m ∷ ms) r c may h = bare_moves ms (receivers.moved m r) c may.1 (bare_move m r c may.0 h)
+
+-- ---- calls
+
+-- where a user closes it
+shut_here : (name : ℕ → ℕ → ℕ) (link c : ℕ) (k : Call) (q : PairState) (listening : List Listener) (r : Receiver) → Known r → MayAllReceive (received_at name link k q listening) r → IsClosing name link c k
+    → IsShut (all_received (received_at name link k q listening) r) c
+shut_here name link c (Closes socket e) q listening r known may i = by (receives_on link e) i.0 may where
+  by : (v : Bool) → v ≡ true → MayAllReceive (if v then receivers.Close (named name e) ∷ [] else []) r → IsShut (all_received (if v then receivers.Close (named name e) ∷ [] else []) r) c
+  by true t m = record { asked = subst (λ (j : ℕ). r.asked j ≡ true) i.1 (known (named name e) m.0.0); closed = λ f. refl }
+  by false t m = absurd (let no : false ≡ true = t in cc)
+shut_here name link c k q listening r known may i = absurd i
+
+module _ (number : ℕ → ℕ → ℕ → ℕ) (tells : IsTelling number) (peer : Host) (link : ℕ) where
+  may_call : (m : calls.Moment) (own : List calls.Moment) → IsHistory peer (m ∷ own) → AreAllowed number peer link (m ∷ own) → MayAllReceive (received_at (name_now number peer own) link m.call m.pair m.listening) (receiver_now number peer link own)
+  may_call m own i a =
+      let holds : Holds number tells link (gone_now peer own) m.pair.entries (receiver_now number peer link own) (sender_now number peer link own) =
+      subst (λ (es : List Entry). Holds number tells link (gone_now peer own) es (receiver_now number peer link own) (sender_now number peer link own)) (sym i.0) (holds_now number tells peer link own i.1 a.1) in
+      (step_received number tells peer link (gone_now peer own) m.call m.pair m.listening (receiver_now number peer link own) (sender_now number peer link own) a.0 holds).0
+
+  pub known_calls : (own : List calls.Moment) → Known (receiver_now number peer link own)
+  known_calls [] c e = absurd (let no : None ≡ Some c = e in cc)
+  known_calls (m ∷ own) c e = known_moves (received_at (name_now number peer own) link m.call m.pair m.listening) (receiver_now number peer link own) (known_calls own) c e
+
+  pub asked_calls : (c : ℕ) (more own : List calls.Moment) → (receiver_now number peer link own).asked c ≡ true → (receiver_now number peer link (more ++ own)).asked c ≡ true
+  asked_calls c [] own h = h
+  asked_calls c (m ∷ more) own h = asked_moves (received_at (name_now number peer (more ++ own)) link m.call m.pair m.listening) (receiver_now number peer link (more ++ own)) c (asked_calls c more own h)
+
+  -- once a user has closed it
+  pub closed_shut : (c : ℕ) (own : List calls.Moment) → IsHistory peer own → AreAllowed number peer link own → HasClosed number peer link c own → IsShut (receiver_now number peer link own) c
+  closed_shut c [] i a h = absurd h
+  closed_shut c (m ∷ own) i a (inl here) =
+      shut_here (name_now number peer own) link c m.call m.pair m.listening (receiver_now number peer link own) (known_calls own) (may_call m own i a) here
+  closed_shut c (m ∷ own) i a (inr older) =
+      shut_moves (received_at (name_now number peer own) link m.call m.pair m.listening) (receiver_now number peer link own) c (may_call m own i a) (closed_shut c own i.1 a.1 older)
+
+  pub bare_calls : (c : ℕ) (more own : List calls.Moment) → IsHistory peer (more ++ own) → AreAllowed number peer link (more ++ own) → IsBare (receiver_now number peer link own) c → IsBare (receiver_now number peer link (more ++ own)) c
+  bare_calls c [] own i a h = h
+  bare_calls c (m ∷ more) own i a h =
+      bare_moves (received_at (name_now number peer (more ++ own)) link m.call m.pair m.listening) (receiver_now number peer link (more ++ own)) c (may_call m (more ++ own) i a)
+      (bare_calls c more own i.1 a.1 h)
+
+  -- ---- whether a user has
+
+  does_close : (c : ℕ) (name : ℕ → ℕ → ℕ) (k : Call) → IsClosing name link c k ⊎ (IsClosing name link c k → ⊥)
+  does_close c name (Closes socket e) = by (receives_on link e) (named name e == c) refl refl where
+    by : (v w : Bool) → receives_on link e ≡ v → (named name e == c) ≡ w → IsClosing name link c (Closes socket e) ⊎ (IsClosing name link c (Closes socket e) → ⊥)
+    by true true f g = inl (f, eqb-true (named name e) c g)
+    by true false f g = inr (λ i. unlike (named name e == c) (eq-eqb (named name e) c i.1) g)
+    by false w f g = inr (λ i. unlike (receives_on link e) i.0 f)
+  does_close c name k = inr (λ i. i)
+
+  pub has_closed : (c : ℕ) (own : List calls.Moment) → HasClosed number peer link c own ⊎ (HasClosed number peer link c own → ⊥)
+  has_closed c [] = inr (λ i. i)
+  has_closed c (m ∷ own) = by (does_close c (name_now number peer own) m.call) (has_closed c own) where
+    by : IsClosing (name_now number peer own) link c m.call ⊎ (IsClosing (name_now number peer own) link c m.call → ⊥) → HasClosed number peer link c own ⊎ (HasClosed number peer link c own → ⊥)
+        → HasClosed number peer link c (m ∷ own) ⊎ (HasClosed number peer link c (m ∷ own) → ⊥)
+    by (inl here) o = inl (inl here)
+    by (inr none) (inl older) = inl (inr older)
+    by (inr none) (inr never) = inr (λ i. elim i [ inl h ↦ none h | inr h ↦ never h ])
