@@ -61,7 +61,15 @@ fn has_taken(
     if !receives(life) {
         return true;
     }
-    !is_found(Sought::Loss(handed), asked, life, last, before, names, lives)
+    !is_found(
+        Sought::Loss(handed),
+        asked,
+        life,
+        last,
+        before,
+        names,
+        lives,
+    )
 }
 
 /// Returns whether the life at a place lost nothing, where its partner ended it. Those before it lost nothing: so where an earlier one

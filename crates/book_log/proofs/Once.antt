@@ -187,19 +187,22 @@ life_once x y p q e =
     let how : x.1 ≡ y.1 = fate_once x.1 y.1 p.logged q.logged (first_same e13) in
     let ended : x.0.ended ≡ y.0.ended = p.over ∙ ap is_over how ∙ sym q.over in
     let bits : x.0.bits ≡ y.0.bits = bits_once x.0.bits y.0.bits p.life.bits q.life.bits (first_same e8) (first_same (rest_same e13)) in
-    λ i. (record {
-      host = host i;
-      socket = socket i;
-      peer = peer i;
-      foreign = foreign i;
-      own_stamp = own i;
-      partner_stamp = partner i;
-      bits = bits i;
-      messages = messages i;
-      granted = granted i;
-      returned = returned i;
-      ended = ended i;
-    }, how i)
+    λ i. (
+      record {
+        host = host i;
+        socket = socket i;
+        peer = peer i;
+        foreign = foreign i;
+        own_stamp = own i;
+        partner_stamp = partner i;
+        bits = bits i;
+        messages = messages i;
+        granted = granted i;
+        returned = returned i;
+        ended = ended i;
+      },
+      how i,
+    )
 
 operand_once : (k : Kind) (x y : OperandOf k) → IsMeant k x → IsMeant k y → words_of k x ≡ words_of k y → x ≡ y
 operand_once Outs x y p q e = message_once x y p q e

@@ -192,10 +192,7 @@ pub(crate) struct Counts {
 /// Reads `HOST SOCKET PEER FOREIGN OWN PARTNER KIND MESSAGES BITS GM GB RM RB FATE OCTETS`
 ///
 /// Errors: `AllocError`.
-fn read_life(
-    alloc: Global,
-    mut words: Words<'_>,
-) -> Result<Option<(Life, Fate)>, AllocError>
+fn read_life(alloc: Global, mut words: Words<'_>) -> Result<Option<(Life, Fate)>, AllocError>
     ensures { IfOk result (ReadsWords life_words IsLived (words_left words.entry)) }
 {
     let Some(ends) = read_ends(&mut words) else {

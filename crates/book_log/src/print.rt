@@ -93,11 +93,7 @@ fn print_logged<W: Output>(crossing: &Crossing, writer: &mut W) -> Result<(), Wr
 }
 
 /// Prints lives with their fates and bits.
-fn print_lives<W: Output>(
-    lives: &[Life],
-    fates: &[Fate],
-    writer: &mut W,
-) -> Result<(), WriteFailed>
+fn print_lives<W: Output>(lives: &[Life], fates: &[Fate], writer: &mut W) -> Result<(), WriteFailed>
     requires { W.failed writer.old ≡ false }
     ensures written { OnOk result (Appends (W.contents writer.old) (W.contents writer.new) (text_of life_line (zip lives.now fates.now))) }
     ensures valid { OnOk result (All (λ x. IsLife x.0) (zip lives.now fates.now)) }

@@ -213,7 +213,13 @@ fn log_world<C: Carrier, W: Output>(
         Ok(()) => {
             let book = book_of(&world);
             let fates = world.fates();
-            Ok(write_log(book.crossings(), book.lives(), world.handed(), fates, writer)?)
+            Ok(write_log(
+                book.crossings(),
+                book.lives(),
+                world.handed(),
+                fates,
+                writer,
+            )?)
         }
         Err(_) => Err(ScriptFault::OutOfMemory),
     }
