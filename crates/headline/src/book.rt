@@ -2,6 +2,7 @@
 
 ghost use Rattle.std.specs.Prelude.{◌≡◌};
 ghost use Rattle.headline.specs.Promise.{IsExact};
+ghost use Rattle.promise.specs.Fates.{AreFated, ClosesWhole};
 ghost use Rattle.promise.specs.Promised.{Promised};
 
 use interface::Carrier;
@@ -32,10 +33,16 @@ use net_sim::{Book, World};
 /// and neither program has anything to say (`calm`). The crossings determine the bits of all lives (`firsts`): a
 /// life's messages are the first on its link after both of its requests, and each message that went out is one of a
 /// sending life.
+///
+/// By `fated` there is one fate for each life, and it says whether the life is over. By `whole` an orderly close loses
+/// nothing: a receiving life that is over by CLS, and that nobody at its host had closed (its fate is `Ended`), took
+/// all that the life which it matches sent, and if it took any bit, all that was handed over there.
 pub fn book_of<C: Carrier>(world: &World<C>) -> &Book
     ensures value { result.now ≡ world.now.kept }
     ensures promise { Promised (C.calls.seen world.now.carrier).hosts result.now.book result.now.handed }
     ensures lawful { IsExact C.calls.seen world.now }
+    ensures fated { AreFated result.now.book.lives result.now.fates }
+    ensures whole { ClosesWhole result.now.book.crossings result.now.book.lives result.now.handed result.now.fates }
 {
     world.book()
 }

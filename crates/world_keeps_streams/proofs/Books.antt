@@ -12,6 +12,7 @@ pub mod Comes
 pub mod Counts
 pub mod Ended
 pub mod Ending
+pub mod EndingHanded
 pub mod Firsts
 pub mod Given
 pub mod Goes

@@ -6,6 +6,7 @@ pub use Rattle.world_keeps_streams.proofs.Books.Arrives.{world_arrives}
 pub use Rattle.world_keeps_streams.proofs.Books.Calm.{world_calms}
 pub use Rattle.world_keeps_streams.proofs.Books.Comes.{world_comes}
 pub use Rattle.world_keeps_streams.proofs.Books.Closes.{world_rests}
+pub use Rattle.world_keeps_streams.proofs.Books.EndingHanded.{world_ended}
 pub use Rattle.world_keeps_streams.proofs.Books.Handed.{world_handed_over}
 pub use Rattle.world_keeps_streams.proofs.Books.Later.{world_closes}
 pub use Rattle.world_keeps_streams.proofs.Books.Firsts.{world_firsts}

@@ -14,6 +14,7 @@ ghost use Rattle.net_sim.specs.Told.{notices_by};
 ghost use Rattle.net_sim.specs.World.{WorldState};
 ghost use Rattle.net_sim.specs.Worked.{eight};
 ghost use Rattle.net_sim.specs.WorkedMoments.{all_given, bits_sent, connected, eight_sent, sent_moments};
+ghost use Rattle.promise.specs.Fates.{ClosesWhole};
 ghost use Rattle.world_keeps_lives.specs.Firsts.{FirstBook};
 ghost use Rattle.world_keeps_streams.specs.Worked.{close_back, ended_moments, over_eight, over_gave, quit_moments, stopped_moments, took, took_eight};
 ghost use Rattle.world_keeps_streams.specs.Worked.{asked_moments, calm_moments, giving_end, granted_moments, granted_more, granting_moments, left_at, returned_moments, returning_moments, taking_end};
@@ -25,7 +26,7 @@ ghost use Rattle.world_keeps_lives.specs.WorkedFormed.{gave};
 ghost use Rattle.world_keeps_streams.specs.Closes.{AllClose, AllHanded, EachHanded, IsClosedByPartner, TookHanded, WasClosedBy, WasClosedByPartner};
 ghost use Rattle.world_keeps_streams.specs.Laws.Programs.{ProgramsCalls, ProgramsAllowed, ProgramsReceiver, ProgramsSender};
 ghost use Rattle.world_keeps_streams.specs.Laws.Streams.{StreamsFront, StreamsWhole, StreamsTaken, StreamsSent};
-ghost use Rattle.world_keeps_streams.specs.Laws.Lives.{LivesSource, LivesCloses, LivesFirsts, LivesArrives, LivesAgree, LivesAnswered, LivesRests, LivesSent};
+ghost use Rattle.world_keeps_streams.specs.Laws.Lives.{LivesSource, LivesCloses, LivesFirsts, LivesArrives, LivesAgree, LivesAnswered, LivesRests, LivesSent, LivesEnded, LivesWhole};
 ghost use Rattle.world_keeps_streams.specs.Laws.Worlds.{WorldsSource, WorldsSent};
 ghost use Rattle.world_keeps_streams.specs.Laws.WorkedCalls.{WorkedCallsFirst};
 
@@ -69,6 +70,12 @@ pub fn lives()
     // and all that was handed over in the life that it matches, if that had begun when the CLS was taken
     ensures handed { (hosts : List Host) (moments : List Moment) → HaveAddresses hosts → mail.IsRun hosts (crossings_of moments) → IsTimeline hosts moments → EachHanded moments }
 
+    // a receiving life whose fate is that it has ended was closed by its partner and by no user of its host, if it took any bit
+    ensures ended { LivesEnded }
+
+    // so an orderly close loses nothing: such a life took all that its partner sent, and if it took any bit, all that was handed over there
+    ensures whole { LivesWhole }
+
     // the messages of each life are the first on its link after both of its requests, and each message that goes out is one of a sending life: so crossings
     // determine the bits of all lives
     ensures firsts { LivesFirsts }
@@ -101,6 +108,7 @@ pub fn worlds<C: Carrier>()
     ensures source { WorldsSource C.calls.seen }
     ensures closes { (hosts : List Host) (w : WorldState C) → (lawful : IsLawful C.calls.seen hosts w) → AllClose lawful.whole.moments }
     ensures handed { (hosts : List Host) (w : WorldState C) → (lawful : IsLawful C.calls.seen hosts w) → AllHanded lawful.whole.moments }
+    ensures whole { (hosts : List Host) (w : WorldState C) → IsLawful C.calls.seen hosts w → ClosesWhole w.kept.book.crossings w.kept.book.lives w.kept.handed w.kept.fates }
     ensures firsts { (hosts : List Host) (w : WorldState C) → IsLawful C.calls.seen hosts w → FirstBook w.kept.book.crossings w.kept.book.lives }
     ensures arrives { (hosts : List Host) (w : WorldState C) → (lawful : IsLawful C.calls.seen hosts w) → AllArrive lawful.whole.moments }
     ensures comes { (hosts : List Host) (w : WorldState C) → (lawful : IsLawful C.calls.seen hosts w) → AllCome lawful.whole.moments }

@@ -76,7 +76,7 @@ same (y ∷ newer) ms x i =
     }
 
 -- a life of a list that has its own request is it
-names_of : (hosts : List Host) (newer ms : List Moment) → Lawful hosts (newer ++ ms) → (x y : Life)
+pub names_of : (hosts : List Host) (newer ms : List Moment) → Lawful hosts (newer ++ ms) → (x y : Life)
     → IsOf x (lives_in ms) → IsOf y (lives_in (newer ++ ms))
     → own_request y ≡ own_request x → Named x y
 names_of hosts newer ms l x y i j e =

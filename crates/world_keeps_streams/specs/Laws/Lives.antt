@@ -7,6 +7,8 @@ use Rattle.interface.specs.declared.address.Flow.{Flow}
 use Rattle.interface.specs.declared.crossing.Answer.TheVariants as answer
 use Rattle.interface.specs.declared.crossing.Crossing.TheVariants as crossing
 use Rattle.interface.specs.declared.message.HostMessage.{HostMessage}
+use Rattle.promise.specs.Fates.{ClosesWhole, IsBeside}
+use Rattle.promise.specs.declared.life.Fate.TheVariants as fate
 use Rattle.promise.specs.declared.life.Life.{Life}
 use Rattle.net_sim.specs.Clean.{HaveAddresses}
 use Rattle.promise.specs.Safe.{IsGranted, Match, Source, receives}
@@ -72,3 +74,16 @@ abbrev pub LivesAgree : Type 0
 LivesAgree =
     (hosts : List Host) (moments : List Moment) → HaveAddresses hosts → mail.IsRun hosts (crossings_of moments) → IsTimeline hosts moments →
     (receiver sender : Life) → (settled : AreSettled moments receiver sender) → Agree receiver settled.rest.end.end settled.giver.end
+
+-- a receiving life that has ended, and took any bit, was closed by its partner and by no user of its host
+abbrev pub LivesEnded : Type 0
+LivesEnded =
+    (hosts : List Host) (moments : List Moment) → HaveAddresses hosts → mail.IsRun hosts (crossings_of moments) → IsTimeline hosts moments →
+    (receiver : Life) → IsBeside receiver fate.Ended (kept_in moments).book.lives (kept_in moments).fates → receives receiver ≡ true →
+    (receiver.bits ≡ [] → ⊥) → WasClosedByPartner moments receiver
+
+-- and an orderly close loses nothing
+abbrev pub LivesWhole : Type 0
+LivesWhole =
+    (hosts : List Host) (moments : List Moment) → HaveAddresses hosts → mail.IsRun hosts (crossings_of moments) → IsTimeline hosts moments →
+    ClosesWhole (crossings_of moments) (kept_in moments).book.lives (kept_in moments).handed (kept_in moments).fates

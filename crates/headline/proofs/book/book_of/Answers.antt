@@ -1,6 +1,9 @@
 use Rattle.std.proofs.Common.{sym, subst}
 use Rattle.net_sim.specs.Book.{Kept}
+use Rattle.promise.specs.Fates.{AreFated, ClosesWhole}
 use Rattle.promise.specs.Promised.{Promised}
+use Rattle.net_sim.proofs.lemmas.{world_fated}
+use Rattle.world_keeps_streams.proofs.lemmas.{world_ended}
 use Rattle.headline.proofs.Promise.{exact, promised}
 use Rattle.headline.proofs.book.book_of.Goals as goal
 
@@ -10,3 +13,13 @@ returns-clause-promise g c =
 
 pub returns-clause-lawful : goal.returns-clause-lawful
 returns-clause-lawful g c = exact g.C.Carrier.calls.seen c.args.world.now c.book.ensures.lawful
+
+pub returns-clause-fated : goal.returns-clause-fated
+returns-clause-fated g c =
+    subst (λ (k : Kept). AreFated k.book.lives k.fates) (sym c.book.ensures.value)
+    (world_fated g.C.Carrier.calls.seen (g.C.Carrier.calls.seen c.args.world.now.carrier).hosts c.args.world.now c.book.ensures.lawful)
+
+pub returns-clause-whole : goal.returns-clause-whole
+returns-clause-whole g c =
+    subst (λ (k : Kept). ClosesWhole k.book.crossings k.book.lives k.handed k.fates) (sym c.book.ensures.value)
+    (world_ended g.C.Carrier.calls.seen (g.C.Carrier.calls.seen c.args.world.now.carrier).hosts c.args.world.now c.book.ensures.lawful)

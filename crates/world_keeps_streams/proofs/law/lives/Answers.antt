@@ -5,6 +5,7 @@ use Rattle.world_keeps_streams.proofs.Books.Arrives.{arrives}
 use Rattle.world_keeps_streams.proofs.Books.Calm.{all_calm}
 use Rattle.world_keeps_streams.proofs.Books.Closes.{rests}
 use Rattle.world_keeps_streams.proofs.Books.Comes.{all_come}
+use Rattle.world_keeps_streams.proofs.Books.EndingHanded.{closes_all, ended_by_partner}
 use Rattle.world_keeps_streams.proofs.Books.Handed.{took_handed}
 use Rattle.world_keeps_streams.proofs.Books.Later.{closes_whole}
 use Rattle.world_keeps_streams.proofs.Books.Firsts.{firsts}
@@ -42,3 +43,9 @@ returns-clause-comes c hosts moments addresses run time = all_come hosts moments
 
 pub returns-clause-calm : goal.returns-clause-calm
 returns-clause-calm c hosts moments addresses run time = all_calm hosts moments (addresses, run, time)
+
+pub returns-clause-ended : goal.returns-clause-ended
+returns-clause-ended c hosts moments addresses run time receiver there kind some = ended_by_partner hosts moments (addresses, run, time) receiver there kind some
+
+pub returns-clause-whole : goal.returns-clause-whole
+returns-clause-whole c hosts moments addresses run time = closes_all hosts moments (addresses, run, time)

@@ -5,6 +5,7 @@ use Rattle.world_keeps_streams.proofs.Books.Arrives.{world_arrives}
 use Rattle.world_keeps_streams.proofs.Books.Calm.{world_calms}
 use Rattle.world_keeps_streams.proofs.Books.Closes.{world_rests}
 use Rattle.world_keeps_streams.proofs.Books.Comes.{world_comes}
+use Rattle.world_keeps_streams.proofs.Books.EndingHanded.{world_ended}
 use Rattle.world_keeps_streams.proofs.Books.Handed.{world_handed_over}
 use Rattle.world_keeps_streams.proofs.Books.Later.{world_closes}
 use Rattle.world_keeps_streams.proofs.Books.Firsts.{world_firsts}
@@ -42,3 +43,6 @@ returns-clause-comes g c hosts w lawful = world_comes g.C.Carrier.calls.seen hos
 
 pub returns-clause-calm : goal.returns-clause-calm
 returns-clause-calm g c hosts w lawful = world_calms g.C.Carrier.calls.seen hosts w lawful
+
+pub returns-clause-whole : goal.returns-clause-whole
+returns-clause-whole g c hosts w lawful = world_ended g.C.Carrier.calls.seen hosts w lawful
