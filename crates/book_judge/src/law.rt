@@ -39,13 +39,13 @@ pub fn worked_strays()
 
 /// Lists without lives: a book of none is whole, and of one the list shows that it is malformed. Nothing else is named of that.
 pub fn worked_broken()
-    ensures whole { IsBroken unbroken [] [] [] }
-    ensures list { (h : List Bool) → IsBroken (only_malformed (finding.List 0)) [] [] (h ∷ []) }
+    ensures whole { IsBroken unbroken [] [] [] [] }
+    ensures list { (h : List Bool) → IsBroken (only_malformed (finding.List 0)) [] [] (h ∷ []) [] }
 
     // not as a life, not as whole, and no part beside it
-    ensures no_life { (h : List Bool) (n : ℕ) → IsBroken (only_malformed (finding.Life n)) [] [] (h ∷ []) → ⊥ }
-    ensures not_whole { (h : List Bool) → IsBroken unbroken [] [] (h ∷ []) → ⊥ }
-    ensures no_part { (h : List Bool) (found : Finding) → IsBroken (record (only_malformed (finding.List 0)) { grants = Some found }) [] [] (h ∷ []) → ⊥ }
+    ensures no_life { (h : List Bool) (n : ℕ) → IsBroken (only_malformed (finding.Life n)) [] [] (h ∷ []) [] → ⊥ }
+    ensures not_whole { (h : List Bool) → IsBroken unbroken [] [] (h ∷ []) [] → ⊥ }
+    ensures no_part { (h : List Bool) (found : Finding) → IsBroken (record (only_malformed (finding.List 0)) { grants = Some found }) [] [] (h ∷ []) [] → ⊥ }
 {}
 
 /// Lives of small logs, the newest crossing first.
