@@ -30,11 +30,6 @@ called_take calls old new h answer gives shown = record { gives = (answer, gives
 
 -- ---- what it changes
 
-pub has_happened : {C : Type 0} (calls : Calls C) (members : C → List (List ℕ)) (texts : List (List ℕ)) (old new : C) (e : RawEvent) (r : Result (Unit {0}) CarrierFault) (before after : List Crossing)
-    → texts ≡ members old → IsOneCall e → Called calls old e r new → GoesOn r → before ≡ reverse (calls.seen old).log → after ≡ reverse (calls.seen new).log → HasHappened calls members texts e (drop (length before) after) r new
-has_happened calls members texts old new e r before after are one called goes was is =
-    record { old = old; known = are; one_call = one; gives = called.gives; goes_on = goes; grown = gained (calls.seen old) (calls.seen new) before after called.grew was is }
-
 -- as it happens in a replay
 pub happens : {C : Type 0} (calls : Calls C) (members : C → List (List ℕ)) (texts : List (List ℕ)) (e : RawEvent) (crossings : List Crossing) (r : Result (Unit {0}) CarrierFault) (new : C) → (h : HasHappened calls members texts e crossings r new)
     → Happens calls h.old e new (shown_crossings crossings ++ shown_refusal r)

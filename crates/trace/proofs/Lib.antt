@@ -5,9 +5,7 @@ pub mod Left
 pub mod Named
 pub mod PlainWords
 pub mod Printed
-pub mod Asking
 pub mod FirstLine
-pub mod Whole
 pub mod Each
 pub mod Rest
 pub mod Calms

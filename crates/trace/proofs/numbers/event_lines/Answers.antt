@@ -1,11 +1,17 @@
-use Rattle.std.proofs.Common.{◌≤◌, ◌<◌, ◌+◌, ◌++◌, arith, length, refl, sym, ap, ◌∙◌}
-use Rattle.std.proofs.lemmas.List.{append-nil}
-use Rattle.script.specs.Script.{lines_of, lines_after}
-use Rattle.script.proofs.lemmas.{drop_next, length_next, line_count}
+use Rattle.std.proofs.Common.{◌≡◌, ℕ, ◌+◌, true, false, not, List, [], ◌∷◌, ◌++◌, if◌then◌else◌, sym, ap, ◌∙◌, ◌≤◌, ◌<◌, arith, length, refl}
+use Rattle.std.proofs.lemmas.List.{append_assoc, append-nil}
+use Rattle.script.specs.Script.{is_passed_over, lines_of, lines_after}
 use Rattle.trace.specs.Traces.{asking_from}
-use Rattle.trace.proofs.Asking.{asking_next, asking_past}
+use Rattle.script.proofs.lemmas.{drop_next, length_next, line_count}
 use Rattle.trace.proofs.numbers.event_lines.Goals as goal
 use Rattle.trace.proofs.numbers.event_lines.Goals.{then-not-is_passed_over+in_ok-push, else-not-is_passed_over}
+
+asking_past : (numbers : List ℕ) (n : ℕ) (line : List ℕ) (lines : List (List ℕ)) → is_passed_over line ≡ true → numbers ++ asking_from n (line ∷ lines) ≡ numbers ++ asking_from (n + 1) lines
+asking_past numbers n line lines passed = ap (λ p. numbers ++ ((if not p then n ∷ [] else []) ++ asking_from (n + 1) lines)) passed
+
+asking_next : (numbers : List ℕ) (n : ℕ) (line : List ℕ) (lines : List (List ℕ)) → is_passed_over line ≡ false → numbers ++ asking_from n (line ∷ lines) ≡ (numbers ++ n ∷ []) ++ asking_from (n + 1) lines
+asking_next numbers n line lines asked =
+    ap (λ p. numbers ++ ((if not p then n ∷ [] else []) ++ asking_from (n + 1) lines)) asked ∙ sym (append_assoc numbers (n ∷ []) (asking_from (n + 1) lines))
 
 pub lines-init : goal.lines-init
 lines-init c = (refl, ap (λ xs. xs ++ asking_from 1 (lines_of c.args.script.now)) c.new-numbers.ensures.items, c.requires)
