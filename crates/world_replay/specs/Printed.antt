@@ -108,9 +108,13 @@ state_text true = codes "ended"
 state_text false = codes "open"
 
 -- both ends, the host's own first, and the places of their requests in the log; its kind; the messages and bits that it has
--- carried, that were granted and that were returned; whether it has ended
-abbrev pub life_text : Life → List ℕ
-life_text x =
+-- carried, that were granted and that were returned; and a word for how far it is
+abbrev pub worded_life : Life → List ℕ → List ℕ
+worded_life x word =
     words (codes "life" ∷ host_text x.host ∷ decimal x.socket ∷ host_text x.peer ∷ decimal x.foreign ∷ decimal x.own_stamp ∷ decimal x.partner_stamp
     ∷ kind_text x.socket ∷ decimal x.messages ∷ decimal (length x.bits) ∷ decimal x.granted.messages ∷ decimal x.granted.bits
-    ∷ decimal x.returned.messages ∷ decimal x.returned.bits ∷ state_text x.ended ∷ [])
+    ∷ decimal x.returned.messages ∷ decimal x.returned.bits ∷ word ∷ [])
+
+-- a book only says whether it has ended
+abbrev pub life_text : Life → List ℕ
+life_text x = worded_life x (state_text x.ended)

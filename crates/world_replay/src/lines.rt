@@ -55,16 +55,16 @@ fn reason_name(failure: &Failure) -> &'static str
     }
 }
 
-/// The line for a life of a connection, without its end.
+/// The line for a life of a connection, without its end, and its last word, for how far the life is.
 #[derive(Drop)]
-pub struct LifeLine<'a>(pub &'a Life);
+pub struct LifeLine<'a>(pub &'a Life, pub &'a str);
 
-/// Prints both ends, the places of their requests in the log, the kind, what was carried, granted and returned, and
-/// whether it has ended.
+/// Prints both ends, the places of their requests in the log, the kind, what was carried, granted and returned, and the
+/// last word.
 impl fmt::Display for LifeLine<'_> {
-    ghost use Rattle.world_replay.specs.Printed.{life_text};
+    ghost use Rattle.world_replay.specs.Printed.{worded_life};
 
-    ghost output = { λ line. Some (life_text line.0.now) };
+    ghost output = { λ line. Some (worded_life line.0.now line.1.now) };
 
     fn fmt<W: fmt::Write>(&self, f: &mut fmt::Formatter<W>) -> fmt::Result {
         let Life {
@@ -78,11 +78,11 @@ impl fmt::Display for LifeLine<'_> {
             messages,
             granted,
             returned,
-            ended,
+            ended: _,
         } = self.0;
         let bits = bits.len();
         let kind = if *socket % 2 == 0 { "receive" } else { "send" };
-        let state = if *ended { "ended" } else { "open" };
+        let state = self.1;
         write!(
             f,
             "life {host} {socket} {peer} {foreign} {own_stamp} {partner_stamp} {kind} {messages} {bits} {} {} {} {} {state}",

@@ -8,7 +8,7 @@ ghost use Rattle.replay.specs.Failing.{TellsCannotWrite, TellsFailure};
 ghost use Rattle.replay.specs.declared.print.Detail.{Detail};
 ghost use Rattle.script.specs.Input.{ended_line};
 ghost use Rattle.world_replay.specs.Output.{lives_output, output, shown_crossings, shown_in_turn, shown_notices, shown_refusal, told_in_turn};
-ghost use Rattle.world_replay.specs.Printed.{problem_name, refusal_name, report_text, reported_text, shown_octet, told_text};
+ghost use Rattle.world_replay.specs.Printed.{life_text, problem_name, refusal_name, report_text, reported_text, shown_octet, state_text, told_text};
 ghost use Rattle.world_replay.specs.Steps.{Fronts};
 
 use crate::lines::{LifeLine, OutcomeLine};
@@ -277,7 +277,26 @@ pub fn print_lives<W: Output>(lives: &[Life], writer: &mut W) -> Result<(), Writ
     ensures failed { TellsFailure result (W.failed writer.new) }
 {
     for life in lives {
-        writeln!(writer, "{}", LifeLine(life))?;
+        print_life(life, writer)?;
     }
     Ok(())
+}
+
+/// Writes the line of a life.
+///
+/// Errors: `WriteFailed`.
+fn print_life<W: Output>(life: &Life, writer: &mut W) -> Result<(), WriteFailed>
+    requires { W.failed writer.old ≡ false }
+    ensures written { OnOk result (Appends (W.contents writer.old) (W.contents writer.new) (ended_line (life_text life.now))) }
+    ensures failed { TellsFailure result (W.failed writer.new) }
+{
+    let state = state_name(life.ended);
+    writeln!(writer, "{}", LifeLine(life, state))
+}
+
+/// Returns the word for whether a life has ended.
+fn state_name(ended: bool) -> &'static str
+    ensures { result.now ≡ state_text ended }
+{
+    if ended { "ended" } else { "open" }
 }
