@@ -1,17 +1,18 @@
 -- The lines of a book, in their order, and the first bad one.
 use Rattle.std.proofs.Common.{◌≡◌, ℕ, ◌<◌, ◌≤◌, ◌==◌, ◌&&◌, Bool, true, false, suc, List, [], ◌∷◌, ◌++◌, Some, None, codes, length, map, refl, sym, ap, ap₂, ◌∙◌, arith, subst, append_assoc, append-nil, if◌then◌else◌}
-use Rattle.std.proofs.lemmas.Bool.{false≢true}
+use Rattle.std.proofs.lemmas.Bool.{eqb-true, false≢true}
 use Rattle.std.proofs.lemmas.List.{map-append}
 use Rattle.std.proofs.lemmas.List.Elements.{All-append, All-cons, All-head, All-map, All-nil, All-tail, All-weaker}
 use Rattle.std.proofs.lemmas.Grind.{flat_map-append}
-use Rattle.std.specs.List.{All}
+use Rattle.std.specs.List.{All, zip}
 use Rattle.interface.specs.declared.crossing.Crossing.{Crossing}
 use Rattle.interface.specs.declared.crossing.Crossing.TheVariants as crossing
+use Rattle.promise.specs.declared.life.Fate.{Fate}
 use Rattle.promise.specs.declared.life.Life.{Life}
 use Rattle.script.specs.Input.{ended_line}
 use Rattle.script.specs.Steps.{Lacks}
 use Rattle.script.proofs.lemmas.{SameCut, same_cut, uncut}
-use Rattle.book_log.specs.Log.{Begins, Book, IsBadLine, IsBook, IsCrossing, IsHanded, IsLife, IsLog, log_lines, text_of_lines}
+use Rattle.book_log.specs.Log.{Begins, Book, IsBadLine, IsBook, IsCrossing, IsHanded, IsLived, IsLog, log_lines, text_of_lines}
 use Rattle.book_log.specs.Steps.{IsLine, added, is_bare, line_text}
 use Rattle.book_log.specs.declared.lines.Line.{Line}
 use Rattle.book_log.specs.declared.lines.Line.TheVariants as line
@@ -20,8 +21,11 @@ use Rattle.book_log.proofs.Cuts.{first_same, rest_same}
 
 -- ---- the lines that describe a book, without the last one
 
+abbrev pub lived : Life × Fate → Line
+lived x = line.Lived x.0 x.1
+
 abbrev pub told : Book → List Line
-told b = map (λ c. line.Crossed c) b.crossings ++ (map (λ x. line.Lived x) b.lives ++ map (λ bits. line.Handed bits) b.handed)
+told b = map (λ c. line.Crossed c) b.crossings ++ (map lived b.lives ++ map (λ bits. line.Handed bits) b.handed)
 
 abbrev pub all_told : Book → List Line
 all_told b = told b ++ line.End ∷ []
@@ -36,14 +40,14 @@ map_twice f g (x ∷ xs) = ap (λ ys. g (f x) ∷ ys) (map_twice f g xs)
 pub lines_are : (b : Book) → log_lines b ≡ texts (all_told b)
 lines_are b =
     let cs : List Line = map (λ c. line.Crossed c) b.crossings in
-    let xs : List Line = map (λ x. line.Lived x) b.lives in
+    let xs : List Line = map lived b.lives in
     let hs : List Line = map (λ bits. line.Handed bits) b.handed in
     let last : List Line = line.End ∷ [] in
     sym (ap texts (append_assoc cs (xs ++ hs) last ∙ ap (λ ys. cs ++ ys) (append_assoc xs hs last))
     ∙ map-append line_text cs (xs ++ (hs ++ last))
     ∙ ap₂ (λ (u v : List (List ℕ)). u ++ v) (map_twice (λ c. line.Crossed c) line_text b.crossings)
     (map-append line_text xs (hs ++ last)
-    ∙ ap₂ (λ (u v : List (List ℕ)). u ++ v) (map_twice (λ x. line.Lived x) line_text b.lives)
+    ∙ ap₂ (λ (u v : List (List ℕ)). u ++ v) (map_twice lived line_text b.lives)
     (map-append line_text hs last ∙ ap (λ u. u ++ texts last) (map_twice (λ bits. line.Handed bits) line_text b.handed))))
 
 all_map : {X Y : Type 0} (P : Y → Type 0) (f : X → Y) (xs : List X) → All (λ x. P (f x)) xs → All P (map f xs)
@@ -52,7 +56,7 @@ all_map P f xs h = All-map P f xs h
 pub told_are : (b : Book) → IsBook b → All IsLine (told b)
 told_are b is =
     All-append IsLine (map (λ c. line.Crossed c) b.crossings) _ (all_map IsLine (λ c. line.Crossed c) b.crossings is.crossings)
-    (All-append IsLine (map (λ x. line.Lived x) b.lives) _ (all_map IsLine (λ x. line.Lived x) b.lives is.lives) (all_map IsLine (λ bits. line.Handed bits) b.handed is.handed))
+    (All-append IsLine (map lived b.lives) _ (all_map IsLine lived b.lives is.lives) (all_map IsLine (λ bits. line.Handed bits) b.handed is.handed))
 
 pub all_told_are : (b : Book) → IsBook b → All IsLine (all_told b)
 all_told_are b is = All-append IsLine (told b) (line.End ∷ []) (told_are b is) (All-cons IsLine line.End [] tt (All-nil IsLine))
@@ -62,7 +66,7 @@ all_told_are b is = All-append IsLine (told b) (line.End ∷ []) (told_are b is)
 -- crossings, lives, lists of bits, and the last line
 abbrev pub rank : Line → ℕ
 rank (line.Crossed c) = 0
-rank (line.Lived x) = 1
+rank (line.Lived x f) = 1
 rank (line.Handed bits) = 2
 rank line.End = 3
 
@@ -145,10 +149,10 @@ all_in_order cs xs hs c x h =
 pub book_in_order : (b : Book) → InOrder (all_told b)
 book_in_order b =
     let cs : List Line = map (λ c. line.Crossed c) b.crossings in
-    let xs : List Line = map (λ x. line.Lived x) b.lives in
+    let xs : List Line = map lived b.lives in
     let hs : List Line = map (λ bits. line.Handed bits) b.handed in
     subst InOrder (sym (append_assoc cs (xs ++ hs) (line.End ∷ []) ∙ ap (λ ys. cs ++ ys) (append_assoc xs hs (line.End ∷ []))))
-    (all_in_order cs xs hs (all_of 0 (λ c. line.Crossed c) b.crossings (λ c. refl)) (all_of 1 (λ x. line.Lived x) b.lives (λ x. refl)) (all_of 2 (λ bits. line.Handed bits) b.handed (λ bits. refl)))
+    (all_in_order cs xs hs (all_of 0 (λ c. line.Crossed c) b.crossings (λ c. refl)) (all_of 1 lived b.lives (λ x. refl)) (all_of 2 (λ bits. line.Handed bits) b.handed (λ bits. refl)))
 
 -- a list with its lines distinguished from the texts
 pub record Split (ls : List Line) (front : List (List ℕ)) (text : List ℕ) (more : List (List ℕ)) : Type 0 where
@@ -228,7 +232,7 @@ low_ranks : (b : Book) → All (λ t. text_rank t < 3) (texts (told b))
 low_ranks b =
     All-map (λ t. text_rank t < 3) line_text (told b)
     (All-append (λ l. text_rank (line_text l) < 3) (map (λ c. line.Crossed c) b.crossings) _ (low 0 (λ c. line.Crossed c) b.crossings (omega arith) (λ c. refl))
-    (All-append (λ l. text_rank (line_text l) < 3) (map (λ x. line.Lived x) b.lives) _ (low 1 (λ x. line.Lived x) b.lives (omega arith) (λ x. refl)) (low 2 (λ bits. line.Handed bits) b.handed (omega arith) (λ bits. refl))))
+    (All-append (λ l. text_rank (line_text l) < 3) (map lived b.lives) _ (low 1 lived b.lives (omega arith) (λ x. refl)) (low 2 (λ bits. line.Handed bits) b.handed (omega arith) (λ bits. refl))))
   where
     low : {X : Type 0} (r : ℕ) (f : X → Line) (xs : List X) → r < 3 → ((x : X) → rank (f x) ≡ r) → All (λ l. text_rank (line_text l) < 3) (map f xs)
     low r f xs few same = All-weaker (λ l. rank l ≡ r) (λ l. text_rank (line_text l) < 3) (λ l is. let is_rank : text_rank (line_text l) ≡ rank l = rank_is l in omega (arith, is, is_rank)) (map f xs) (all_of r f xs same)
@@ -337,29 +341,29 @@ pub record Added (l : Line) (old new : Book) : Type 0 where
 with_crossing : (c : Crossing) (b : Book) → b.lives ≡ [] → b.handed ≡ [] → Added (line.Crossed c) b (record b { crossings = b.crossings ++ c ∷ [] })
 with_crossing c b lives handed = record {
   lines =
-      let none : map (λ x. line.Lived x) b.lives ++ map (λ bits. line.Handed bits) b.handed ≡ [] = ap₂ (λ (xs : List Life) (hs : List (List Bool)). map (λ x. line.Lived x) xs ++ map (λ bits. line.Handed bits) hs) lives handed in
+      let none : map lived b.lives ++ map (λ bits. line.Handed bits) b.handed ≡ [] = ap₂ (λ (xs : List (Life × Fate)) (hs : List (List Bool)). map lived xs ++ map (λ bits. line.Handed bits) hs) lives handed in
       let cs : List Line = map (λ d. line.Crossed d) b.crossings in
       ap₂ (λ (us vs : List Line). us ++ vs) (map-append (λ d. line.Crossed d) b.crossings (c ∷ [])) none
       ∙ append-nil (cs ++ line.Crossed c ∷ []) ∙ ap (λ us. us ++ line.Crossed c ∷ []) (sym (append-nil cs) ∙ ap (λ vs. cs ++ vs) (sym none));
   valid = λ is l. record { crossings = All-append IsCrossing b.crossings (c ∷ []) is.crossings (All-cons IsCrossing c [] l (All-nil IsCrossing)); lives = is.lives; handed = is.handed };
 }
 
-with_life : (x : Life) (b : Book) → b.handed ≡ [] → Added (line.Lived x) b (record b { lives = b.lives ++ x ∷ [] })
-with_life x b handed = record {
+with_life : (x : Life) (f : Fate) (b : Book) → b.handed ≡ [] → Added (line.Lived x f) b (record b { lives = b.lives ++ (x, f) ∷ [] })
+with_life x f b handed = record {
   lines =
       let none : map (λ bits. line.Handed bits) b.handed ≡ [] = ap (map (λ bits. line.Handed bits)) handed in
       let cs : List Line = map (λ d. line.Crossed d) b.crossings in
-      let xs : List Line = map (λ y. line.Lived y) b.lives in
-      ap (λ us. cs ++ us) (ap₂ (λ (us vs : List Line). us ++ vs) (map-append (λ y. line.Lived y) b.lives (x ∷ [])) none ∙ append-nil (xs ++ line.Lived x ∷ []))
-      ∙ sym (append_assoc cs xs (line.Lived x ∷ [])) ∙ ap (λ us. (cs ++ us) ++ line.Lived x ∷ []) (sym (append-nil xs) ∙ ap (λ vs. xs ++ vs) (sym none));
-  valid = λ is l. record { crossings = is.crossings; lives = All-append IsLife b.lives (x ∷ []) is.lives (All-cons IsLife x [] l (All-nil IsLife)); handed = is.handed };
+      let xs : List Line = map lived b.lives in
+      ap (λ us. cs ++ us) (ap₂ (λ (us vs : List Line). us ++ vs) (map-append lived b.lives ((x, f) ∷ [])) none ∙ append-nil (xs ++ line.Lived x f ∷ []))
+      ∙ sym (append_assoc cs xs (line.Lived x f ∷ [])) ∙ ap (λ us. (cs ++ us) ++ line.Lived x f ∷ []) (sym (append-nil xs) ∙ ap (λ vs. xs ++ vs) (sym none));
+  valid = λ is l. record { crossings = is.crossings; lives = All-append IsLived b.lives ((x, f) ∷ []) is.lives (All-cons IsLived (x, f) [] l (All-nil IsLived)); handed = is.handed };
 }
 
 with_list : (bits : List Bool) (b : Book) → Added (line.Handed bits) b (record b { handed = b.handed ++ bits ∷ [] })
 with_list bits b = record {
   lines =
       let cs : List Line = map (λ d. line.Crossed d) b.crossings in
-      let xs : List Line = map (λ y. line.Lived y) b.lives in
+      let xs : List Line = map lived b.lives in
       let hs : List Line = map (λ h. line.Handed h) b.handed in
       ap (λ us. cs ++ (xs ++ us)) (map-append (λ h. line.Handed h) b.handed (bits ∷ []))
       ∙ ap (λ us. cs ++ us) (sym (append_assoc xs hs (line.Handed bits ∷ []))) ∙ sym (append_assoc cs (xs ++ hs) (line.Handed bits ∷ []));
@@ -379,10 +383,32 @@ was_added (line.Crossed c) old new e = by (is_bare old.lives && is_bare old.hand
         let both = and_both (is_bare old.lives) (is_bare old.handed) bare in
         subst (Added (line.Crossed c) old) (some_same is) (with_crossing c old (bare_nil old.lives both.0) (bare_nil old.handed both.1))
     by false bare is = absurd (none_some is)
-was_added (line.Lived x) old new e = by (is_bare old.handed) refl e
+was_added (line.Lived x f) old new e = by (is_bare old.handed) refl e
   where
-    by : (t : Bool) → is_bare old.handed ≡ t → (if t then Some (record old { lives = old.lives ++ x ∷ [] }) else None) ≡ Some new → Added (line.Lived x) old new
-    by true bare is = subst (Added (line.Lived x) old) (some_same is) (with_life x old (bare_nil old.handed bare))
+    by : (t : Bool) → is_bare old.handed ≡ t → (if t then Some (record old { lives = old.lives ++ (x, f) ∷ [] }) else None) ≡ Some new → Added (line.Lived x f) old new
+    by true bare is = subst (Added (line.Lived x f) old) (some_same is) (with_life x f old (bare_nil old.handed bare))
     by false bare is = absurd (none_some is)
 was_added (line.Handed bits) old new e = subst (Added (line.Handed bits) old) (some_same e) (with_list bits old)
 was_added line.End old new e = absurd (none_some e)
+
+-- ---- lives and their fates, in two lists
+
+zip_more : {X Y : Type 0} (xs : List X) (ys : List Y) (x : X) (y : Y) → length ys ≡ length xs → zip (xs ++ x ∷ []) (ys ++ y ∷ []) ≡ zip xs ys ++ (x, y) ∷ []
+zip_more [] [] x y n = refl
+zip_more [] (v ∷ ys) x y n = absurd (omega (arith, n))
+zip_more (u ∷ xs) [] x y n = absurd (omega (arith, n))
+zip_more {X} {Y} (u ∷ xs) (v ∷ ys) x y n = ap (λ (zs : List (X × Y)). (u, v) ∷ zs) (zip_more xs ys x y (omega (arith, n)))
+
+pub life_added : (crossings : List Crossing) (xs us : List Life) (fs vs : List Fate) (handed : List (List Bool)) (x : Life) (f : Fate) (old : Book) → length fs ≡ length xs → us ≡ xs ++ x ∷ [] → vs ≡ fs ++ f ∷ []
+    → record { crossings = crossings; lives = zip xs fs; handed = handed } ≡ old → record { crossings = crossings; lives = zip us vs; handed = handed } ≡ record old { lives = old.lives ++ (x, f) ∷ [] }
+life_added crossings xs us fs vs handed x f old n p q is =
+    let made : List (Life × Fate) → Book = λ zs. record { crossings = crossings; lives = zs; handed = handed } in
+    ap made (ap₂ (λ (ls : List Life) (gs : List Fate). zip ls gs) p q ∙ zip_more xs fs x f n) ∙ ap (λ (b : Book). record b { lives = b.lives ++ (x, f) ∷ [] }) is
+
+pub bare_lives : (xs : List (Life × Fate)) → (length (map (λ (x : Life × Fate). x.0) xs) == 0) ≡ is_bare xs
+bare_lives [] = refl
+bare_lives (x ∷ xs) = by (length (map (λ (y : Life × Fate). y.0) (x ∷ xs)) == 0) refl
+  where
+    by : (t : Bool) → (length (map (λ (y : Life × Fate). y.0) (x ∷ xs)) == 0) ≡ t → t ≡ false
+    by true e = (let some : length (map (λ (y : Life × Fate). y.0) (x ∷ xs)) ≡ 0 = eqb-true (length (map (λ (y : Life × Fate). y.0) (x ∷ xs))) 0 e in absurd (omega (arith, some)))
+    by false e = refl

@@ -4,13 +4,14 @@ use Rattle.std.proofs.lemmas.Bool.{eqb-true, false≢true}
 use Rattle.std.proofs.lemmas.List.{length-append, map-append}
 use Rattle.std.proofs.lemmas.List.Elements.{All-cons, All-head, All-nil, All-tail}
 use Rattle.std.specs.List.{All}
+use Rattle.promise.specs.declared.life.Fate.{Fate}
 use Rattle.promise.specs.declared.life.Life.{Life}
 use Rattle.script.specs.Steps.{Lacks}
-use Rattle.book_log.specs.Log.{Book, IsBadLine, IsBook, IsCrossing, IsHanded, IsLife, IsLog, text_of_lines}
+use Rattle.book_log.specs.Log.{Book, IsBadLine, IsBook, IsCrossing, IsHanded, IsLived, IsLog, text_of_lines}
 use Rattle.book_log.specs.Steps.{IsLine, added, is_bare, line_text, opening_book}
 use Rattle.book_log.specs.declared.lines.Line.{Line}
 use Rattle.book_log.specs.declared.lines.Line.TheVariants as line
-use Rattle.book_log.proofs.Books.{Added, Follows, Next, bad_line, begins_all, begins_told, last_line, middle_of, next, no_end, not_whole, rank, rank_is, text_of_lines_more, text_rank, texts, this_line, told, was_added}
+use Rattle.book_log.proofs.Books.{Added, Follows, Next, bad_line, begins_all, begins_told, last_line, lived, middle_of, next, no_end, not_whole, rank, rank_is, text_of_lines_more, text_rank, texts, this_line, told, was_added}
 
 -- how far reading has got: these lines are read, and they describe this book
 pub record Reached (text left : List ℕ) (b : Book) (passed : ℕ) : Type 0 where
@@ -19,7 +20,7 @@ pub record Reached (text left : List ℕ) (b : Book) (passed : ℕ) : Type 0 whe
   pub counted : passed ≡ length (texts (told b))
 
 no_book : IsBook opening_book
-no_book = record { crossings = All-nil IsCrossing; lives = All-nil IsLife; handed = All-nil IsHanded }
+no_book = record { crossings = All-nil IsCrossing; lives = All-nil IsLived; handed = All-nil IsHanded }
 
 pub start : (text : List ℕ) (b : Book) → b ≡ opening_book → Reached text text b 0
 start text b e = subst (λ (c : Book). Reached text text c 0) (sym e) (record { parted = refl; valid = no_book; counted = refl })
@@ -79,10 +80,10 @@ front_of P [] ys h = All-nil P
 front_of P (x ∷ xs) ys h = All-cons P x xs (All-head P x (xs ++ ys) h) (front_of P xs ys (All-tail P x (xs ++ ys) h))
 
 -- where a line follows all lines of a book of which one has a higher rank
-after_lives : (r : ℕ) (lives : List Life) → is_bare lives ≡ false → r < 1 → All (λ l. Follows (text_rank (line_text l)) r) (map (λ x. line.Lived x) lives) → ⊥
+after_lives : (r : ℕ) (lives : List (Life × Fate)) → is_bare lives ≡ false → r < 1 → All (λ l. Follows (text_rank (line_text l)) r) (map lived lives) → ⊥
 after_lives r [] some low h = false≢true (sym some)
 after_lives r (x ∷ lives) some low h =
-    let f : Follows 1 r = All-head (λ l. Follows (text_rank (line_text l)) r) (line.Lived x) (map (λ y. line.Lived y) lives) h in
+    let f : Follows 1 r = All-head (λ l. Follows (text_rank (line_text l)) r) (lived x) (map lived lives) h in
     let le : 1 ≤ r = f.order in
     absurd (omega (arith, le, low))
 
@@ -100,25 +101,25 @@ none_some e = cc
 no_place : (l : Line) (b : Book) → l ≢ line.End → added l b ≡ None → All (λ k. Follows (text_rank (line_text k)) (rank l)) (told b) → ⊥
 no_place (line.Crossed c) b other none h =
     let cs : List Line = map (λ d. line.Crossed d) b.crossings in
-    let xs : List Line = map (λ x. line.Lived x) b.lives in
+    let xs : List Line = map lived b.lives in
     let hs : List Line = map (λ bits. line.Handed bits) b.handed in
     let P : Line → Type 0 = λ k. Follows (text_rank (line_text k)) 0 in
     let behind : All P (xs ++ hs) = back_of P cs (xs ++ hs) h in
     by (is_bare b.lives) (is_bare b.handed) refl refl none (front_of P xs hs behind) (back_of P xs hs behind)
   where
     by : (p q : Bool) → is_bare b.lives ≡ p → is_bare b.handed ≡ q → (if p && q then Some (record b { crossings = b.crossings ++ c ∷ [] }) else None) ≡ None
-        → All (λ k. Follows (text_rank (line_text k)) 0) (map (λ x. line.Lived x) b.lives) → All (λ k. Follows (text_rank (line_text k)) 0) (map (λ bits. line.Handed bits) b.handed) → ⊥
+        → All (λ k. Follows (text_rank (line_text k)) 0) (map lived b.lives) → All (λ k. Follows (text_rank (line_text k)) 0) (map (λ bits. line.Handed bits) b.handed) → ⊥
     by true true lives handed e x y = none_some e
     by true false lives handed e x y = after_lists 0 b.handed handed (omega arith) y
     by false q lives handed e x y = after_lives 0 b.lives lives (omega arith) x
-no_place (line.Lived x) b other none h =
+no_place (line.Lived x f) b other none h =
     let cs : List Line = map (λ d. line.Crossed d) b.crossings in
-    let xs : List Line = map (λ y. line.Lived y) b.lives in
+    let xs : List Line = map lived b.lives in
     let hs : List Line = map (λ bits. line.Handed bits) b.handed in
     let P : Line → Type 0 = λ k. Follows (text_rank (line_text k)) 1 in
     by (is_bare b.handed) refl none (back_of P xs hs (back_of P cs (xs ++ hs) h))
   where
-    by : (q : Bool) → is_bare b.handed ≡ q → (if q then Some (record b { lives = b.lives ++ x ∷ [] }) else None) ≡ None → All (λ k. Follows (text_rank (line_text k)) 1) (map (λ bits. line.Handed bits) b.handed) → ⊥
+    by : (q : Bool) → is_bare b.handed ≡ q → (if q then Some (record b { lives = b.lives ++ (x, f) ∷ [] }) else None) ≡ None → All (λ k. Follows (text_rank (line_text k)) 1) (map (λ bits. line.Handed bits) b.handed) → ⊥
     by true handed e y = none_some e
     by false handed e y = after_lists 1 b.handed handed (omega arith) y
 no_place (line.Handed bits) b other none h = none_some none

@@ -10,12 +10,14 @@ use Rattle.interface.specs.declared.crossing.Answer.{Answer}
 use Rattle.interface.specs.declared.crossing.Answer.TheVariants as answer
 use Rattle.interface.specs.declared.crossing.Crossing.TheVariants as crossing
 use Rattle.interface.specs.declared.message.HostMessage.{HostMessage}
+use Rattle.promise.specs.declared.life.Fate.{Fate}
+use Rattle.promise.specs.declared.life.Fate.TheVariants as fate
 use Rattle.promise.specs.declared.life.Life.{Life}
 use Rattle.script.specs.Spelling.{IsFlow, IsHost, IsMessage, ReadsAs, octets_text}
 use Rattle.script.specs.Steps.{Lacks}
 use Rattle.script.proofs.lemmas.{unmarked_where}
-use Rattle.world_replay.specs.Printed.{kind_text, state_text, words}
-use Rattle.book_log.specs.Log.{IsHanded, IsLife, answer_name}
+use Rattle.world_replay.specs.Printed.{kind_text, words}
+use Rattle.book_log.specs.Log.{IsHanded, IsLived, answer_name, fate_name}
 use Rattle.book_log.specs.Steps.{IsAnswer, IsLine, IsShort, ReadsShort, answer_words, flow_words, handed_words, host_words, life_words, line_text, line_words, message_words, words_in}
 use Rattle.book_log.specs.declared.lines.Line.{Line}
 use Rattle.book_log.specs.declared.lines.Line.TheVariants as line
@@ -40,7 +42,7 @@ OperandOf Ins = HostMessage
 OperandOf Answers = Answer × Flow
 OperandOf Downs = Host
 OperandOf Ups = Host
-OperandOf Lives = Life
+OperandOf Lives = Life × Fate
 OperandOf Lists = List Bool
 OperandOf Ends = Unit {0}
 
@@ -60,7 +62,7 @@ IsMeant Ins m = IsMessage m
 IsMeant Answers a = IsAnswer a
 IsMeant Downs h = IsHost h
 IsMeant Ups h = IsHost h
-IsMeant Lives x = IsLife x
+IsMeant Lives x = IsLived x
 IsMeant Lists bits = IsHanded bits
 IsMeant Ends e = Unit {0}
 
@@ -70,7 +72,7 @@ keyword (line.Crossed (crossing.In m)) = codes "in"
 keyword (line.Crossed (crossing.Answer kind f)) = codes "answer"
 keyword (line.Crossed (crossing.Down h)) = codes "down"
 keyword (line.Crossed (crossing.Up h)) = codes "up"
-keyword (line.Lived x) = codes "life"
+keyword (line.Lived x f) = codes "life"
 keyword (line.Handed bits) = codes "handed"
 keyword line.End = codes "end"
 
@@ -90,7 +92,7 @@ operand (line.Crossed (crossing.In m)) = m
 operand (line.Crossed (crossing.Answer kind f)) = (kind, f)
 operand (line.Crossed (crossing.Down h)) = h
 operand (line.Crossed (crossing.Up h)) = h
-operand (line.Lived x) = x
+operand (line.Lived x f) = (x, f)
 operand (line.Handed bits) = bits
 operand line.End = tt
 
@@ -101,7 +103,7 @@ make Ins m = line.Crossed (crossing.In m)
 make Answers a = line.Crossed (crossing.Answer a.0 a.1)
 make Downs h = line.Crossed (crossing.Down h)
 make Ups h = line.Crossed (crossing.Up h)
-make Lives x = line.Lived x
+make Lives x = line.Lived x.0 x.1
 make Lists bits = line.Handed bits
 make Ends e = line.End
 
@@ -142,11 +144,11 @@ joined_more : (w : List ℕ) (ws : List (List ℕ)) (last : List ℕ) → join_w
 joined_more w [] last = refl
 joined_more w (v ∷ ws) last = append_assoc w (32 ∷ join_with_byte 32 (v ∷ ws)) (32 ∷ last) ∙ ap (λ xs. w ++ 32 ∷ xs) (joined_more v ws last)
 
-abbrev life_front : Life → List (List ℕ)
-life_front x =
+abbrev life_front : Life → Fate → List (List ℕ)
+life_front x f =
     host_text x.host ∷ decimal x.socket ∷ host_text x.peer ∷ decimal x.foreign ∷ decimal x.own_stamp ∷ decimal x.partner_stamp
     ∷ kind_text x.socket ∷ decimal x.messages ∷ decimal (length x.bits) ∷ decimal x.granted.messages ∷ decimal x.granted.bits
-    ∷ decimal x.returned.messages ∷ decimal x.returned.bits ∷ state_text x.ended ∷ []
+    ∷ decimal x.returned.messages ∷ decimal x.returned.bits ∷ fate_name f ∷ []
 
 pub spelled : (l : Line) → line_text l ≡ join_with_byte 32 (line_words l)
 spelled (line.Crossed (crossing.Out m)) = ap (λ xs. codes "out " ++ xs) (message_joined m)
@@ -154,8 +156,8 @@ spelled (line.Crossed (crossing.In m)) = ap (λ xs. codes "in " ++ xs) (message_
 spelled (line.Crossed (crossing.Answer kind f)) = refl
 spelled (line.Crossed (crossing.Down h)) = append-nil (crossing_text (crossing.Down h))
 spelled (line.Crossed (crossing.Up h)) = append-nil (crossing_text (crossing.Up h))
-spelled (line.Lived x) =
-    ap (λ xs. xs ++ 32 ∷ octets_text x.bits) (words_joined (codes "life") (life_front x)) ∙ joined_more (codes "life") (life_front x) (octets_text x.bits)
+spelled (line.Lived x f) =
+    ap (λ xs. xs ++ 32 ∷ octets_text x.bits) (words_joined (codes "life") (life_front x f)) ∙ joined_more (codes "life") (life_front x f) (octets_text x.bits)
 spelled (line.Handed bits) = refl
 spelled line.End = refl
 
@@ -170,7 +172,7 @@ keyword_word (line.Crossed (crossing.In m)) = key_word (codes "in") (unmarked_wh
 keyword_word (line.Crossed (crossing.Answer kind f)) = key_word (codes "answer") (unmarked_where 32 (codes "answer") refl) (unmarked_where 10 (codes "answer") refl)
 keyword_word (line.Crossed (crossing.Down h)) = key_word (codes "down") (unmarked_where 32 (codes "down") refl) (unmarked_where 10 (codes "down") refl)
 keyword_word (line.Crossed (crossing.Up h)) = key_word (codes "up") (unmarked_where 32 (codes "up") refl) (unmarked_where 10 (codes "up") refl)
-keyword_word (line.Lived x) = key_word (codes "life") (unmarked_where 32 (codes "life") refl) (unmarked_where 10 (codes "life") refl)
+keyword_word (line.Lived x f) = key_word (codes "life") (unmarked_where 32 (codes "life") refl) (unmarked_where 10 (codes "life") refl)
 keyword_word (line.Handed bits) = key_word (codes "handed") (unmarked_where 32 (codes "handed") refl) (unmarked_where 10 (codes "handed") refl)
 keyword_word line.End = key_word (codes "end") (unmarked_where 32 (codes "end") refl) (unmarked_where 10 (codes "end") refl)
 
@@ -187,9 +189,13 @@ kind_word socket = by (socket % 2 == 0)
     by true = key_word (codes "receive") (unmarked_where 32 (codes "receive") refl) (unmarked_where 10 (codes "receive") refl)
     by false = key_word (codes "send") (unmarked_where 32 (codes "send") refl) (unmarked_where 10 (codes "send") refl)
 
-state_word : (ended : Bool) → IsWord (state_text ended)
-state_word true = key_word (codes "ended") (unmarked_where 32 (codes "ended") refl) (unmarked_where 10 (codes "ended") refl)
-state_word false = key_word (codes "open") (unmarked_where 32 (codes "open") refl) (unmarked_where 10 (codes "open") refl)
+fate_word : (f : Fate) → IsWord (fate_name f)
+fate_word fate.Open = key_word (codes "open") (unmarked_where 32 (codes "open") refl) (unmarked_where 10 (codes "open") refl)
+fate_word fate.Closing = key_word (codes "open") (unmarked_where 32 (codes "open") refl) (unmarked_where 10 (codes "open") refl)
+fate_word fate.Closed = key_word (codes "closed") (unmarked_where 32 (codes "closed") refl) (unmarked_where 10 (codes "closed") refl)
+fate_word fate.Ended = key_word (codes "ended") (unmarked_where 32 (codes "ended") refl) (unmarked_where 10 (codes "ended") refl)
+fate_word fate.Reset = key_word (codes "reset") (unmarked_where 32 (codes "reset") refl) (unmarked_where 10 (codes "reset") refl)
+fate_word fate.Stopped = key_word (codes "stopped") (unmarked_where 32 (codes "stopped") refl) (unmarked_where 10 (codes "stopped") refl)
 
 flow_words_are : (f : Flow) (rest : List (List ℕ)) → IsFlow f → AreWords rest → AreWords (flow_words f ++ rest)
 flow_words_are f rest is are =
@@ -202,14 +208,14 @@ message_words_are m is =
     flow_words_are m.flow (decimal (length m.text) ∷ octets_text m.text ∷ []) is.0
     ((number_word (length m.text) (omega arith), (octets_word m.text, tt)))
 
-life_words_are : (x : Life) → IsLife x → AreWords (life_words x)
-life_words_are x is =
-    let socket : x.socket < 2 ^ 32 = is.socket in
-    let foreign : x.foreign < 2 ^ 32 = is.foreign in
-    let own : x.own_stamp < 2 ^ 64 = is.own in
-    let partner : x.partner_stamp < 2 ^ 64 = is.partner in
-    let bits : length x.bits < 2 ^ 64 = is.bits in
-    (host_word x.host is.host, (number_word x.socket (omega arith), (host_word x.peer is.peer, (number_word x.foreign (omega arith), (number_word x.own_stamp (omega arith), (number_word x.partner_stamp (omega arith), (kind_word x.socket, (number_word x.messages is.messages, (number_word (length x.bits) (omega arith), (number_word x.granted.messages is.granted.0, (number_word x.granted.bits is.granted.1, (number_word x.returned.messages is.returned.0, (number_word x.returned.bits is.returned.1, (state_word x.ended, (octets_word x.bits, tt)))))))))))))))
+life_words_are : (x : Life) (f : Fate) → IsLived (x, f) → AreWords (life_words (x, f))
+life_words_are x f is =
+    let socket : x.socket < 2 ^ 32 = is.life.socket in
+    let foreign : x.foreign < 2 ^ 32 = is.life.foreign in
+    let own : x.own_stamp < 2 ^ 64 = is.life.own in
+    let partner : x.partner_stamp < 2 ^ 64 = is.life.partner in
+    let bits : length x.bits < 2 ^ 64 = is.life.bits in
+    (host_word x.host is.life.host, (number_word x.socket (omega arith), (host_word x.peer is.life.peer, (number_word x.foreign (omega arith), (number_word x.own_stamp (omega arith), (number_word x.partner_stamp (omega arith), (kind_word x.socket, (number_word x.messages is.life.messages, (number_word (length x.bits) (omega arith), (number_word x.granted.messages is.life.granted.0, (number_word x.granted.bits is.life.granted.1, (number_word x.returned.messages is.life.returned.0, (number_word x.returned.bits is.life.returned.1, (fate_word f, (octets_word x.bits, tt)))))))))))))))
 
 behind_are : (l : Line) → IsLine l → AreWords (words_of (made (keyword l)) (operand l))
 behind_are (line.Crossed (crossing.Out m)) is = message_words_are m is
@@ -217,7 +223,7 @@ behind_are (line.Crossed (crossing.In m)) is = message_words_are m is
 behind_are (line.Crossed (crossing.Answer kind f)) is = (answer_word kind, (flow_words_are f [] is tt))
 behind_are (line.Crossed (crossing.Down h)) is = (host_word h is, tt)
 behind_are (line.Crossed (crossing.Up h)) is = (host_word h is, tt)
-behind_are (line.Lived x) is = life_words_are x is
+behind_are (line.Lived x f) is = life_words_are x f is
 behind_are (line.Handed bits) is =
     let few : length bits < 2 ^ 64 = is in
     (number_word (length bits) (omega arith), (octets_word bits, tt))
@@ -268,7 +274,7 @@ no_short text first left cut out in_ life handed none l meant e = by l meant (sy
     by (line.Crossed (crossing.Answer kind f)) is same = none (line.Crossed (crossing.Answer kind f)) is same
     by (line.Crossed (crossing.Down h)) is same = none (line.Crossed (crossing.Down h)) is same
     by (line.Crossed (crossing.Up h)) is same = none (line.Crossed (crossing.Up h)) is same
-    by (line.Lived x) is same = life (first_same same)
+    by (line.Lived x f) is same = life (first_same same)
     by (line.Handed bits) is same = handed (first_same same)
     by line.End is same = none line.End tt same
 
@@ -277,7 +283,7 @@ pub short_line : (l : Line) → IsShort l → IsLine l
 short_line (line.Crossed (crossing.Out m)) is = absurd is
 short_line (line.Crossed (crossing.In m)) is = absurd is
 short_line (line.Crossed c) is = is
-short_line (line.Lived x) is = absurd is
+short_line (line.Lived x f) is = absurd is
 short_line (line.Handed bits) is = absurd is
 short_line line.End is = tt
 

@@ -11,17 +11,19 @@ use Rattle.interface.specs.declared.crossing.Answer.TheVariants as answer
 use Rattle.interface.specs.declared.crossing.Crossing.{Crossing}
 use Rattle.interface.specs.declared.message.HostMessage.{HostMessage}
 use Rattle.promise.specs.declared.life.Amount.{Amount}
+use Rattle.promise.specs.Fates.{is_over}
+use Rattle.promise.specs.declared.life.Fate.{Fate}
+use Rattle.promise.specs.declared.life.Fate.TheVariants as fate
 use Rattle.promise.specs.declared.life.Life.{Life}
 use Rattle.script.specs.Input.{ended_line}
 use Rattle.script.specs.Spelling.{IsFlow, IsMessage, octets_text}
 use Rattle.script.specs.Steps.{Lacks}
 use Rattle.script.proofs.lemmas.{SameCut, host_once, same_cut, text_once}
-use Rattle.world_replay.specs.Printed.{state_text}
-use Rattle.book_log.specs.Log.{Book, IsAmount, IsBadLine, IsLife, IsLog, answer_name, log_lines, text_of_lines}
+use Rattle.book_log.specs.Log.{Book, IsAmount, IsBadLine, IsLived, IsLog, answer_name, fate_name, log_lines, logged_fate, text_of_lines}
 use Rattle.book_log.specs.Steps.{IsLine, flow_words, life_words, line_text, message_words, words_in}
 use Rattle.book_log.specs.declared.lines.Line.{Line}
 use Rattle.book_log.specs.declared.lines.Line.TheVariants as line
-use Rattle.book_log.proofs.Books.{Longer, all_of, all_told, all_told_are, begins_ends, ended_more, lines_are, log_ends, longer, nil_not, not_ended, rank, texts, told}
+use Rattle.book_log.proofs.Books.{Longer, all_of, all_told, all_told_are, begins_ends, ended_more, lines_are, lived, log_ends, longer, nil_not, not_ended, rank, texts, told}
 use Rattle.book_log.proofs.Cuts.{first_same, rest_same}
 use Rattle.book_log.proofs.Keywords.{Answers, Downs, Ends, Ins, IsMeant, Kind, Lists, Lives, OperandOf, Outs, Ups, cut_line, is_meant, keyword, made, made_again, make, operand, words_are, words_of}
 use Rattle.book_log.proofs.Numbers.{decimal_once}
@@ -108,11 +110,42 @@ kind_once answer.NotTaken answer.Incomplete e = absurd (unlike (codes "nottaken"
 kind_once answer.NotTaken answer.Dead e = absurd (unlike (codes "nottaken") (codes "dead") refl refl e)
 kind_once answer.NotTaken answer.NotTaken e = refl
 
-state_once : (a b : Bool) → state_text a ≡ state_text b → a ≡ b
-state_once true true e = refl
-state_once true false e = absurd (unlike (codes "ended") (codes "open") refl refl e)
-state_once false true e = absurd (unlike (codes "open") (codes "ended") refl refl e)
-state_once false false e = refl
+-- a fate that is logged as another has no word of its own
+not_closing : (P : Type 0) → logged_fate fate.Closing ≡ fate.Closing → P
+not_closing P e = absurd (cc)
+
+fate_once : (f g : Fate) → logged_fate f ≡ f → logged_fate g ≡ g → fate_name f ≡ fate_name g → f ≡ g
+fate_once fate.Closing g p q e = not_closing (fate.Closing ≡ g) p
+fate_once fate.Open fate.Open p q e = refl
+fate_once fate.Open fate.Closing p q e = not_closing (fate.Open ≡ fate.Closing) q
+fate_once fate.Open fate.Closed p q e = absurd (unlike (codes "open") (codes "closed") refl refl e)
+fate_once fate.Open fate.Ended p q e = absurd (unlike (codes "open") (codes "ended") refl refl e)
+fate_once fate.Open fate.Reset p q e = absurd (unlike (codes "open") (codes "reset") refl refl e)
+fate_once fate.Open fate.Stopped p q e = absurd (unlike (codes "open") (codes "stopped") refl refl e)
+fate_once fate.Closed fate.Open p q e = absurd (unlike (codes "closed") (codes "open") refl refl e)
+fate_once fate.Closed fate.Closing p q e = not_closing (fate.Closed ≡ fate.Closing) q
+fate_once fate.Closed fate.Closed p q e = refl
+fate_once fate.Closed fate.Ended p q e = absurd (unlike (codes "closed") (codes "ended") refl refl e)
+fate_once fate.Closed fate.Reset p q e = absurd (unlike (codes "closed") (codes "reset") refl refl e)
+fate_once fate.Closed fate.Stopped p q e = absurd (unlike (codes "closed") (codes "stopped") refl refl e)
+fate_once fate.Ended fate.Open p q e = absurd (unlike (codes "ended") (codes "open") refl refl e)
+fate_once fate.Ended fate.Closing p q e = not_closing (fate.Ended ≡ fate.Closing) q
+fate_once fate.Ended fate.Closed p q e = absurd (unlike (codes "ended") (codes "closed") refl refl e)
+fate_once fate.Ended fate.Ended p q e = refl
+fate_once fate.Ended fate.Reset p q e = absurd (unlike (codes "ended") (codes "reset") refl refl e)
+fate_once fate.Ended fate.Stopped p q e = absurd (unlike (codes "ended") (codes "stopped") refl refl e)
+fate_once fate.Reset fate.Open p q e = absurd (unlike (codes "reset") (codes "open") refl refl e)
+fate_once fate.Reset fate.Closing p q e = not_closing (fate.Reset ≡ fate.Closing) q
+fate_once fate.Reset fate.Closed p q e = absurd (unlike (codes "reset") (codes "closed") refl refl e)
+fate_once fate.Reset fate.Ended p q e = absurd (unlike (codes "reset") (codes "ended") refl refl e)
+fate_once fate.Reset fate.Reset p q e = refl
+fate_once fate.Reset fate.Stopped p q e = absurd (unlike (codes "reset") (codes "stopped") refl refl e)
+fate_once fate.Stopped fate.Open p q e = absurd (unlike (codes "stopped") (codes "open") refl refl e)
+fate_once fate.Stopped fate.Closing p q e = not_closing (fate.Stopped ≡ fate.Closing) q
+fate_once fate.Stopped fate.Closed p q e = absurd (unlike (codes "stopped") (codes "closed") refl refl e)
+fate_once fate.Stopped fate.Ended p q e = absurd (unlike (codes "stopped") (codes "ended") refl refl e)
+fate_once fate.Stopped fate.Reset p q e = absurd (unlike (codes "stopped") (codes "reset") refl refl e)
+fate_once fate.Stopped fate.Stopped p q e = refl
 
 amount_once : (a b : Amount) → IsAmount a → IsAmount b → decimal a.messages ≡ decimal b.messages → decimal a.bits ≡ decimal b.bits → a ≡ b
 amount_once a b p q e d =
@@ -120,16 +153,16 @@ amount_once a b p q e d =
     let bits : a.bits ≡ b.bits = decimal_once a.bits b.bits p.1 q.1 d in
     λ i. record { messages = messages i; bits = bits i }
 
-life_once : (x y : Life) → IsLife x → IsLife y → life_words x ≡ life_words y → x ≡ y
+life_once : (x y : Life × Fate) → IsLived x → IsLived y → life_words x ≡ life_words y → x ≡ y
 life_once x y p q e =
-    let x_socket : x.socket < 2 ^ 32 = p.socket in
-    let y_socket : y.socket < 2 ^ 32 = q.socket in
-    let x_foreign : x.foreign < 2 ^ 32 = p.foreign in
-    let y_foreign : y.foreign < 2 ^ 32 = q.foreign in
-    let x_own : x.own_stamp < 2 ^ 64 = p.own in
-    let y_own : y.own_stamp < 2 ^ 64 = q.own in
-    let x_partner : x.partner_stamp < 2 ^ 64 = p.partner in
-    let y_partner : y.partner_stamp < 2 ^ 64 = q.partner in
+    let x_socket : x.0.socket < 2 ^ 32 = p.life.socket in
+    let y_socket : y.0.socket < 2 ^ 32 = q.life.socket in
+    let x_foreign : x.0.foreign < 2 ^ 32 = p.life.foreign in
+    let y_foreign : y.0.foreign < 2 ^ 32 = q.life.foreign in
+    let x_own : x.0.own_stamp < 2 ^ 64 = p.life.own in
+    let y_own : y.0.own_stamp < 2 ^ 64 = q.life.own in
+    let x_partner : x.0.partner_stamp < 2 ^ 64 = p.life.partner in
+    let y_partner : y.0.partner_stamp < 2 ^ 64 = q.life.partner in
     let e1 = rest_same e in
     let e2 = rest_same e1 in
     let e3 = rest_same e2 in
@@ -142,30 +175,34 @@ life_once x y p q e =
     let e11 = rest_same e10 in
     let e12 = rest_same e11 in
     let e13 = rest_same e12 in
-    let host : x.host ≡ y.host = host_once x.host y.host p.host q.host (first_same e) in
-    let socket : x.socket ≡ y.socket = decimal_once x.socket y.socket (omega arith) (omega arith) (first_same e1) in
-    let peer : x.peer ≡ y.peer = host_once x.peer y.peer p.peer q.peer (first_same e2) in
-    let foreign : x.foreign ≡ y.foreign = decimal_once x.foreign y.foreign (omega arith) (omega arith) (first_same e3) in
-    let own : x.own_stamp ≡ y.own_stamp = decimal_once x.own_stamp y.own_stamp (omega arith) (omega arith) (first_same e4) in
-    let partner : x.partner_stamp ≡ y.partner_stamp = decimal_once x.partner_stamp y.partner_stamp (omega arith) (omega arith) (first_same e5) in
-    let messages : x.messages ≡ y.messages = decimal_once x.messages y.messages p.messages q.messages (first_same e7) in
-    let granted : x.granted ≡ y.granted = amount_once x.granted y.granted p.granted q.granted (first_same e9) (first_same e10) in
-    let returned : x.returned ≡ y.returned = amount_once x.returned y.returned p.returned q.returned (first_same e11) (first_same e12) in
-    let ended : x.ended ≡ y.ended = state_once x.ended y.ended (first_same e13) in
-    let bits : x.bits ≡ y.bits = bits_once x.bits y.bits p.bits q.bits (first_same e8) (first_same (rest_same e13)) in
-    λ i. record {
-      host = host i;
-      socket = socket i;
-      peer = peer i;
-      foreign = foreign i;
-      own_stamp = own i;
-      partner_stamp = partner i;
-      bits = bits i;
-      messages = messages i;
-      granted = granted i;
-      returned = returned i;
-      ended = ended i;
-    }
+    let host : x.0.host ≡ y.0.host = host_once x.0.host y.0.host p.life.host q.life.host (first_same e) in
+    let socket : x.0.socket ≡ y.0.socket = decimal_once x.0.socket y.0.socket (omega arith) (omega arith) (first_same e1) in
+    let peer : x.0.peer ≡ y.0.peer = host_once x.0.peer y.0.peer p.life.peer q.life.peer (first_same e2) in
+    let foreign : x.0.foreign ≡ y.0.foreign = decimal_once x.0.foreign y.0.foreign (omega arith) (omega arith) (first_same e3) in
+    let own : x.0.own_stamp ≡ y.0.own_stamp = decimal_once x.0.own_stamp y.0.own_stamp (omega arith) (omega arith) (first_same e4) in
+    let partner : x.0.partner_stamp ≡ y.0.partner_stamp = decimal_once x.0.partner_stamp y.0.partner_stamp (omega arith) (omega arith) (first_same e5) in
+    let messages : x.0.messages ≡ y.0.messages = decimal_once x.0.messages y.0.messages p.life.messages q.life.messages (first_same e7) in
+    let granted : x.0.granted ≡ y.0.granted = amount_once x.0.granted y.0.granted p.life.granted q.life.granted (first_same e9) (first_same e10) in
+    let returned : x.0.returned ≡ y.0.returned = amount_once x.0.returned y.0.returned p.life.returned q.life.returned (first_same e11) (first_same e12) in
+    let how : x.1 ≡ y.1 = fate_once x.1 y.1 p.logged q.logged (first_same e13) in
+    let ended : x.0.ended ≡ y.0.ended = p.over ∙ ap is_over how ∙ sym q.over in
+    let bits : x.0.bits ≡ y.0.bits = bits_once x.0.bits y.0.bits p.life.bits q.life.bits (first_same e8) (first_same (rest_same e13)) in
+    λ i. (
+      record {
+        host = host i;
+        socket = socket i;
+        peer = peer i;
+        foreign = foreign i;
+        own_stamp = own i;
+        partner_stamp = partner i;
+        bits = bits i;
+        messages = messages i;
+        granted = granted i;
+        returned = returned i;
+        ended = ended i;
+      },
+      how i,
+    )
 
 operand_once : (k : Kind) (x y : OperandOf k) → IsMeant k x → IsMeant k y → words_of k x ≡ words_of k y → x ≡ y
 operand_once Outs x y p q e = message_once x y p q e
@@ -207,21 +244,21 @@ lines_once (k ∷ ks) (l ∷ ls) p q e =
 crossings_told : List Line → List Crossing
 crossings_told [] = []
 crossings_told (line.Crossed c ∷ ls) = c ∷ crossings_told ls
-crossings_told (line.Lived x ∷ ls) = crossings_told ls
+crossings_told (line.Lived x f ∷ ls) = crossings_told ls
 crossings_told (line.Handed bits ∷ ls) = crossings_told ls
 crossings_told (line.End ∷ ls) = crossings_told ls
 
-lives_told : List Line → List Life
+lives_told : List Line → List (Life × Fate)
 lives_told [] = []
 lives_told (line.Crossed c ∷ ls) = lives_told ls
-lives_told (line.Lived x ∷ ls) = x ∷ lives_told ls
+lives_told (line.Lived x f ∷ ls) = (x, f) ∷ lives_told ls
 lives_told (line.Handed bits ∷ ls) = lives_told ls
 lives_told (line.End ∷ ls) = lives_told ls
 
 lists_told : List Line → List (List Bool)
 lists_told [] = []
 lists_told (line.Crossed c ∷ ls) = lists_told ls
-lists_told (line.Lived x ∷ ls) = lists_told ls
+lists_told (line.Lived x f ∷ ls) = lists_told ls
 lists_told (line.Handed bits ∷ ls) = bits ∷ lists_told ls
 lists_told (line.End ∷ ls) = lists_told ls
 
@@ -230,10 +267,10 @@ unfolding crossings_told lives_told lists_told
 past_crossings [] ls = (refl, refl, refl)
 past_crossings (c ∷ cs) ls = let t = past_crossings cs ls in (ap (λ (xs : List Crossing). c ∷ xs) t.0, t.1, t.2)
 
-past_lives : (xs : List Life) (ls : List Line) → (crossings_told (map (λ x. line.Lived x) xs ++ ls) ≡ crossings_told ls) × (lives_told (map (λ x. line.Lived x) xs ++ ls) ≡ xs ++ lives_told ls) × (lists_told (map (λ x. line.Lived x) xs ++ ls) ≡ lists_told ls)
+past_lives : (xs : List (Life × Fate)) (ls : List Line) → (crossings_told (map lived xs ++ ls) ≡ crossings_told ls) × (lives_told (map lived xs ++ ls) ≡ xs ++ lives_told ls) × (lists_told (map lived xs ++ ls) ≡ lists_told ls)
 unfolding crossings_told lives_told lists_told
 past_lives [] ls = (refl, refl, refl)
-past_lives (x ∷ xs) ls = let t = past_lives xs ls in (t.0, ap (λ (ys : List Life). x ∷ ys) t.1, t.2)
+past_lives (x ∷ xs) ls = let t = past_lives xs ls in (t.0, ap (λ (ys : List (Life × Fate)). x ∷ ys) t.1, t.2)
 
 past_lists : (hs : List (List Bool)) → (crossings_told (map (λ bits. line.Handed bits) hs) ≡ []) × (lives_told (map (λ bits. line.Handed bits) hs) ≡ []) × (lists_told (map (λ bits. line.Handed bits) hs) ≡ hs)
 unfolding crossings_told lives_told lists_told
@@ -242,12 +279,12 @@ past_lists (h ∷ hs) = let t = past_lists hs in (t.0, t.1, ap (λ (ys : List (L
 
 told_back : (b : Book) → (crossings_told (told b) ≡ b.crossings) × (lives_told (told b) ≡ b.lives) × (lists_told (told b) ≡ b.handed)
 told_back b =
-    let xs : List Line = map (λ x. line.Lived x) b.lives in
+    let xs : List Line = map lived b.lives in
     let hs : List Line = map (λ bits. line.Handed bits) b.handed in
     let c = past_crossings b.crossings (xs ++ hs) in
     let x = past_lives b.lives hs in
     let h = past_lists b.handed in
-    (c.0 ∙ ap (λ (ys : List Crossing). b.crossings ++ ys) (x.0 ∙ h.0) ∙ append-nil b.crossings, c.1 ∙ x.1 ∙ ap (λ (ys : List Life). b.lives ++ ys) h.1 ∙ append-nil b.lives, c.2 ∙ x.2 ∙ h.2)
+    (c.0 ∙ ap (λ (ys : List Crossing). b.crossings ++ ys) (x.0 ∙ h.0) ∙ append-nil b.crossings, c.1 ∙ x.1 ∙ ap (λ (ys : List (Life × Fate)). b.lives ++ ys) h.1 ∙ append-nil b.lives, c.2 ∙ x.2 ∙ h.2)
 
 last_off : (ks ls : List Line) → ks ++ line.End ∷ [] ≡ ls ++ line.End ∷ [] → All (λ l. l ≢ line.End) ks → All (λ l. l ≢ line.End) ls → ks ≡ ls
 last_off [] [] e p q = refl
@@ -261,7 +298,7 @@ not_last r few ls h = All-weaker (λ l. rank l ≡ r) (λ l. l ≢ line.End) (λ
 none_last : (b : Book) → All (λ l. l ≢ line.End) (told b)
 none_last b =
     All-append (λ l. l ≢ line.End) (map (λ c. line.Crossed c) b.crossings) _ (not_last 0 (omega arith) _ (all_of 0 (λ c. line.Crossed c) b.crossings (λ c. refl)))
-    (All-append (λ l. l ≢ line.End) (map (λ x. line.Lived x) b.lives) _ (not_last 1 (omega arith) _ (all_of 1 (λ x. line.Lived x) b.lives (λ x. refl))) (not_last 2 (omega arith) _ (all_of 2 (λ bits. line.Handed bits) b.handed (λ bits. refl))))
+    (All-append (λ l. l ≢ line.End) (map lived b.lives) _ (not_last 1 (omega arith) _ (all_of 1 lived b.lives (λ x. refl))) (not_last 2 (omega arith) _ (all_of 2 (λ bits. line.Handed bits) b.handed (λ bits. refl))))
 
 told_once : (b c : Book) → told b ≡ told c → b ≡ c
 told_once b c e =

@@ -1,15 +1,25 @@
 -- What is written of a book is its log.
-use Rattle.std.proofs.Common.{◌≡◌, ℕ, ◌+◌, ◌*◌, ◌/◌, ◌%◌, ◌<◌, ◌≤◌, Bool, false, List, [], ◌∷◌, ◌++◌, Option, codes, drop, length, map, slice_index, slice_index_or, refl, sym, ap, ap₂, ◌∙◌, arith, subst, append_assoc, append-nil}
-use Rattle.std.proofs.lemmas.List.{drop-drop, drop_all, get_or-drop, length-drop}
+use Rattle.std.proofs.Common.{◌≡◌, ℕ, zero, suc, ◌+◌, ◌*◌, ◌/◌, ◌%◌, ◌<◌, ◌≤◌, Bool, false, List, [], ◌∷◌, ◌++◌, Option, Some, None, codes, drop, get_or, length, map, slice_index, slice_index_or, take, refl, sym, ap, ap₂, ◌∙◌, arith, subst, append_assoc, append-nil}
+use Rattle.std.proofs.lemmas.List.{drop-drop, drop_all, get_or-drop, length-drop, take_all}
+use Rattle.std.proofs.lemmas.List.Elements.{All-cons, All-head, All-more, All-nil, All-tail}
+use Rattle.std.proofs.lemmas.Option.{get_or_from_slice_get, slice_get_within}
+use Rattle.std.proofs.lemmas.Slice.Zip.{firsts-zip, get_or-zip, length-zip, seconds-zip}
 use Rattle.std.proofs.lemmas.Grind.{flat_map-append}
+use Rattle.std.specs.List.{All, slice_get, zip}
 use Rattle.std.specs.Io.KnownBytes.{Appends}
 use Rattle.std.proofs.KnownBytes.{Appends-nil, Appends-trans}
 use Rattle.bit_messages.specs.Octets.{octet, octets_of}
 use Rattle.hex.specs.Hex.{encode_upper, encode_with, upper_digits}
+use Rattle.promise.specs.Fates.{AreFated, is_over}
+use Rattle.promise.specs.declared.life.Fate.{Fate}
+use Rattle.promise.specs.declared.life.Fate.TheVariants as fate
+use Rattle.promise.specs.declared.life.Life.{Life}
 use Rattle.replay.specs.InTurn.{text_of}
+use Rattle.replay.proofs.lemmas.{text_more}
 use Rattle.script.specs.Input.{ended_line}
 use Rattle.script.specs.Spelling.{octets_text}
-use Rattle.book_log.specs.Log.{Book, handed_line, life_line, log_text, logged_line, text_of_lines}
+use Rattle.world_replay.specs.Printed.{worded_life}
+use Rattle.book_log.specs.Log.{Book, IsLife, IsLived, fate_name, handed_line, life_line, log_text, logged_fate, logged_line, text_of_lines}
 use Rattle.book_log.specs.Steps.{octet_at}
 
 -- ---- octets of bits
@@ -87,6 +97,105 @@ pub line_written : (front octets : List ℕ) (a b c d : Option (List ℕ)) → A
 line_written front octets a b c d h k l =
     subst (Appends a d) (ap (λ xs. xs ++ codes "\n") (append_assoc front (codes " ") octets))
     (Appends-trans a c d ((front ++ codes " ") ++ octets) (codes "\n") (Appends-trans a b c (front ++ codes " ") octets h k) l)
+
+-- ---- lives with their fates
+
+pair_is : (lives : List Life) (fates : List Fate) (place : ℕ) (x : Life) (f : Fate) → place < length lives → x ≡ get_or lives place x → slice_get fates place ≡ Some f
+    → (x, f) ≡ get_or (zip lives fates) place (x, f)
+pair_is lives fates place x f lt is at =
+    let how : f ≡ get_or fates place f = sym (get_or_from_slice_get fates place f f at) in
+    let both : (x, f) ≡ (get_or lives place x, get_or fates place f) = λ i. (is i, how i) in
+    both ∙ sym (get_or-zip lives fates place (x, f) lt (slice_get_within fates place f at))
+
+pub pair_written : (lives : List Life) (fates : List Fate) (place : ℕ) (x : Life) (f : Fate) (a b c : Option (List ℕ)) → place < length lives → x ≡ get_or lives place x → slice_get fates place ≡ Some f
+    → Appends a b (text_of life_line (take place (zip lives fates))) → Appends b c (ended_line (life_line (x, f))) → Appends a c (text_of life_line (take (place + 1) (zip lives fates)))
+pair_written lives fates place x f a b c lt is at before now =
+    let within : place < length (zip lives fates) = omega (arith, lt, slice_get_within fates place f at, length-zip lives fates) in
+    text_more life_line (zip lives fates) place (x, f) a b c within before
+    (subst (λ (p : Life × Fate). Appends b c (ended_line (life_line p))) (pair_is lives fates place x f lt is at) now)
+
+pub pair_valid : (lives : List Life) (fates : List Fate) (place : ℕ) (x : Life) (f : Fate) → place < length lives → x ≡ get_or lives place x → slice_get fates place ≡ Some f
+    → All (λ (p : Life × Fate). IsLife p.0) (take place (zip lives fates)) → IsLife x → All (λ (p : Life × Fate). IsLife p.0) (take (place + 1) (zip lives fates))
+pair_valid lives fates place x f lt is at before valid =
+    let P : Life × Fate → Type 0 = λ p. IsLife p.0 in
+    let within : place < length (zip lives fates) = omega (arith, lt, slice_get_within fates place f at, length-zip lives fates) in
+    All-more P (zip lives fates) place (x, f) within before (subst P (pair_is lives fates place x f lt is at) valid)
+
+-- no life is left, or no fate
+pub pairs_end : (lives : List Life) (fates : List Fate) (place : ℕ) → length lives ≤ place → take place (zip lives fates) ≡ zip lives fates
+pairs_end lives fates place le = take_all place (zip lives fates) (omega (arith, le, length-zip lives fates))
+
+past_end : {X : Type 0} (xs : List X) (i : ℕ) → slice_get xs i ≡ None → length xs ≤ i
+past_end [] i e = omega arith
+past_end (x ∷ xs) zero e = absurd (cc)
+past_end (x ∷ xs) (suc i) e = omega (arith, past_end xs i e)
+
+pub fates_end : (lives : List Life) (fates : List Fate) (place : ℕ) → slice_get fates place ≡ None → take place (zip lives fates) ≡ zip lives fates
+fates_end lives fates place none = take_all place (zip lives fates) (omega (arith, past_end fates place none, length-zip lives fates))
+
+pub whole_written : (lives : List Life) (fates : List Fate) (place : ℕ) (a b : Option (List ℕ)) → take place (zip lives fates) ≡ zip lives fates
+    → Appends a b (text_of life_line (take place (zip lives fates))) → Appends a b (text_of life_line (zip lives fates))
+whole_written lives fates place a b all written = subst (λ (xs : List (Life × Fate)). Appends a b (text_of life_line xs)) all written
+
+pub whole_valid : (lives : List Life) (fates : List Fate) (place : ℕ) → take place (zip lives fates) ≡ zip lives fates
+    → All (λ (p : Life × Fate). IsLife p.0) (take place (zip lives fates)) → All (λ (p : Life × Fate). IsLife p.0) (zip lives fates)
+whole_valid lives fates place all valid = subst (All (λ (p : Life × Fate). IsLife p.0)) all valid
+
+-- the word that was written is the name of a fate
+pub named_front : (x : Life) (f : Fate) (name : List ℕ) (a b : Option (List ℕ)) → name ≡ fate_name f → Appends a b (worded_life x name ++ codes " ") → Appends a b (worded_life x (fate_name f) ++ codes " ")
+named_front x f name a b e h = subst (λ (n : List ℕ). Appends a b (worded_life x n ++ codes " ")) e h
+
+-- what is logged of a fate has its name, and says as much
+logged_name : (f : Fate) → fate_name (logged_fate f) ≡ fate_name f
+logged_name fate.Open = refl
+logged_name fate.Closing = refl
+logged_name fate.Closed = refl
+logged_name fate.Ended = refl
+logged_name fate.Reset = refl
+logged_name fate.Stopped = refl
+
+logged_twice : (f : Fate) → logged_fate (logged_fate f) ≡ logged_fate f
+logged_twice fate.Open = refl
+logged_twice fate.Closing = refl
+logged_twice fate.Closed = refl
+logged_twice fate.Ended = refl
+logged_twice fate.Reset = refl
+logged_twice fate.Stopped = refl
+
+pub logged_over : (f : Fate) → is_over (logged_fate f) ≡ is_over f
+logged_over fate.Open = refl
+logged_over fate.Closing = refl
+logged_over fate.Closed = refl
+logged_over fate.Ended = refl
+logged_over fate.Reset = refl
+logged_over fate.Stopped = refl
+
+pub logged_lives : (lives : List Life) (fates : List Fate) → text_of life_line (zip lives fates) ≡ text_of life_line (zip lives (map logged_fate fates))
+logged_lives [] fates = refl
+logged_lives (x ∷ lives) [] = refl
+logged_lives (x ∷ lives) (f ∷ fates) =
+    ap₂ (λ (u v : List ℕ). u ++ v) (ap (λ (n : List ℕ). ended_line (worded_life x n ++ (codes " " ++ octets_text x.bits))) (sym (logged_name f))) (logged_lives lives fates)
+
+pub lives_valid : (lives : List Life) (fates : List Fate) → AreFated lives fates → All (λ (p : Life × Fate). IsLife p.0) (zip lives fates) → All IsLived (zip lives (map logged_fate fates))
+lives_valid [] fates are all = All-nil IsLived
+lives_valid (x ∷ lives) [] are all = absurd are
+lives_valid (x ∷ lives) (f ∷ fates) are all =
+    let P : Life × Fate → Type 0 = λ p. IsLife p.0 in
+    All-cons IsLived (x, logged_fate f) (zip lives (map logged_fate fates))
+    (record { life = All-head P (x, f) (zip lives fates) all; logged = logged_twice f; over = are.0 ∙ sym (logged_over f) })
+    (lives_valid lives fates are.1 (All-tail P (x, f) (zip lives fates) all))
+
+-- the lives and fates of what is logged
+fated_counts : (lives : List Life) (fates : List Fate) → AreFated lives fates → length (map logged_fate fates) ≡ length lives
+fated_counts [] fates are = ap (λ (fs : List Fate). length (map logged_fate fs)) are
+fated_counts (x ∷ lives) [] are = absurd are
+fated_counts (x ∷ lives) (f ∷ fates) are = ap suc (fated_counts lives fates are.1)
+
+pub lives_back : (lives : List Life) (fates : List Fate) → AreFated lives fates → map (λ (x : Life × Fate). x.0) (zip lives (map logged_fate fates)) ≡ lives
+lives_back lives fates are = firsts-zip lives (map logged_fate fates) (fated_counts lives fates are)
+
+pub fates_back : (lives : List Life) (fates : List Fate) → AreFated lives fates → map (λ (x : Life × Fate). x.1) (zip lives (map logged_fate fates)) ≡ map logged_fate fates
+fates_back lives fates are = seconds-zip lives (map logged_fate fates) (fated_counts lives fates are)
 
 -- ---- the whole
 

@@ -4,10 +4,11 @@ use Rattle.std.specs.Prelude.{IsTrue, ◌↔◌}
 use Rattle.std.specs.Fmt.{decimal}
 use Rattle.interface.specs.declared.address.Flow.{Flow}
 use Rattle.interface.specs.declared.message.HostMessage.{HostMessage}
+use Rattle.promise.specs.declared.life.Fate.{Fate}
 use Rattle.promise.specs.declared.life.Life.{Life}
 use Rattle.script.specs.Spelling.{IsMessage, octets_text}
 use Rattle.world_replay.specs.Printed.{kind_text}
-use Rattle.book_log.specs.Log.{IsHanded, IsLife}
+use Rattle.book_log.specs.Log.{IsHanded, IsLived}
 use Rattle.book_log.specs.Steps.{AreCounts, AreEnds, TakesAs, TakesWords, counts_words, ends_words, flow_words, handed_words, is_over, life_words, message_words}
 use Rattle.book_log.specs.declared.lines.Counts.{Counts}
 use Rattle.book_log.specs.declared.lines.Ends.{Ends}
@@ -82,23 +83,23 @@ too_long words left last f bits is behind small long m meant e =
 abbrev pub ends_of : Life → Ends
 ends_of x = record { host = x.host; socket = x.socket; peer = x.peer; foreign = x.foreign; own_stamp = x.own_stamp; partner_stamp = x.partner_stamp }
 
-abbrev pub counts_of : Life → Counts
-counts_of x = record { messages = x.messages; bits = length x.bits; granted = x.granted; returned = x.returned; ended = x.ended }
+abbrev pub counts_of : Life × Fate → Counts
+counts_of x = record { messages = x.0.messages; bits = length x.0.bits; granted = x.0.granted; returned = x.0.returned; fate = x.1 }
 
 after_seven : {words left more : List (List ℕ)} {a b d e f g h i j k l m n o : List ℕ} → words ≡ a ∷ b ∷ d ∷ e ∷ f ∷ g ∷ h ∷ left → words ≡ i ∷ j ∷ k ∷ l ∷ m ∷ n ∷ o ∷ more → left ≡ more
 after_seven p q = rest_same (rest_same (rest_same (rest_same (after_three p q))))
 
-pub no_ends : (words : List (List ℕ)) → TakesWords ends_words AreEnds words None [] → (x : Life) → IsLife x → words ≢ life_words x
+pub no_ends : (words : List (List ℕ)) → TakesWords ends_words AreEnds words None [] → (x : Life × Fate) → IsLived x → words ≢ life_words x
 no_ends words none x meant e =
-    none (ends_of x) (drop 7 (life_words x)) (record { host = meant.host; socket = meant.socket; peer = meant.peer; foreign = meant.foreign; own = meant.own; partner = meant.partner }) e
+    none (ends_of x.0) (drop 7 (life_words x)) (record { host = meant.life.host; socket = meant.life.socket; peer = meant.life.peer; foreign = meant.life.foreign; own = meant.life.own; partner = meant.life.partner }) e
 
-pub no_counts : (words left : List (List ℕ)) (ends : Ends) → words ≡ ends_words ends ++ left → TakesWords counts_words AreCounts left None [] → (x : Life) → IsLife x → words ≢ life_words x
+pub no_counts : (words left : List (List ℕ)) (ends : Ends) → words ≡ ends_words ends ++ left → TakesWords counts_words AreCounts left None [] → (x : Life × Fate) → IsLived x → words ≢ life_words x
 no_counts words left ends is none x meant e =
-    none (counts_of x) (octets_text x.bits ∷ []) (record { messages = meant.messages; bits = meant.bits; granted = meant.granted; returned = meant.returned }) (after_seven is e)
+    none (counts_of x) (octets_text x.0.bits ∷ []) (record { messages = meant.life.messages; bits = meant.life.bits; granted = meant.life.granted; returned = meant.life.returned; fate = meant.logged }) (after_seven is e)
 
 pub no_life_bits : (words left behind last : List (List ℕ)) (ends : Ends) (counts : Counts) → words ≡ ends_words ends ++ left → left ≡ counts_words counts ++ behind → counts.bits < 2 ^ 64
-    → TakesAs octets_text (λ bits. length bits ≡ counts.bits) behind None last → (x : Life) → IsLife x → words ≢ life_words x
+    → TakesAs octets_text (λ bits. length bits ≡ counts.bits) behind None last → (x : Life × Fate) → IsLived x → words ≢ life_words x
 no_life_bits words left behind last ends counts is then_is small none x meant e =
-    let few : length x.bits < 2 ^ 64 = meant.bits in
-    let same : counts.bits ≡ length x.bits = decimal_once counts.bits (length x.bits) (omega arith) (omega arith) (first_same (after then_is (after_seven is e))) in
-    none x.bits [] (sym same) (after_seven then_is (after_seven is e))
+    let few : length x.0.bits < 2 ^ 64 = meant.life.bits in
+    let same : counts.bits ≡ length x.0.bits = decimal_once counts.bits (length x.0.bits) (omega arith) (omega arith) (first_same (after then_is (after_seven is e))) in
+    none x.0.bits [] (sym same) (after_seven then_is (after_seven is e))

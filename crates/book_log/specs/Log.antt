@@ -1,5 +1,5 @@
 -- The log of a book: its lines, and which octets are one.
-use Rattle.std.specs.Prelude.{◌≡◌, ℕ, ◌^◌, ◌<◌, Bool, List, [], ◌∷◌, ◌++◌, length, map, codes, suc}
+use Rattle.std.specs.Prelude.{◌≡◌, ℕ, ◌^◌, ◌<◌, Bool, List, [], ◌∷◌, ◌++◌, length, map, codes, suc, zip}
 use Rattle.std.specs.Fmt.{decimal}
 use Rattle.std.specs.List.{All, flat_map}
 use Rattle.interface.specs.Printed.{flow_text}
@@ -7,21 +7,43 @@ use Rattle.interface.specs.declared.crossing.Answer.{Answer}
 use Rattle.interface.specs.declared.crossing.Answer.TheVariants as answer
 use Rattle.interface.specs.declared.crossing.Crossing.{Crossing}
 use Rattle.interface.specs.declared.crossing.Crossing.TheVariants as crossing
+use Rattle.promise.specs.Fates.{is_over}
 use Rattle.promise.specs.declared.life.Amount.{Amount}
+use Rattle.promise.specs.declared.life.Fate.{Fate}
+use Rattle.promise.specs.declared.life.Fate.TheVariants as fate
 use Rattle.promise.specs.declared.life.Life.{Life}
 use Rattle.replay.specs.Output.{crossing_line}
 use Rattle.replay.specs.declared.print.Detail.TheVariants.{Texts}
 use Rattle.script.specs.Input.{ended_line}
 use Rattle.script.specs.Spelling.{IsFlow, IsHost, IsMessage, octets_text}
-use Rattle.world_replay.specs.Printed.{life_text}
+use Rattle.world_replay.specs.Printed.{worded_life}
 use Rattle.book_log.specs.declared.fault.LogFault.{LogFault}
 use Rattle.book_log.specs.declared.fault.LogFault.TheVariants as fault
 
--- what a log describes: what crossed, oldest first, the lives of connections, and lists of bits that were handed over
+-- what a log describes: what crossed, oldest first, the lives of connections, each with its fate, and lists of bits that were handed over
 pub record Book : Type 0 where
   pub crossings : List Crossing
-  pub lives : List Life
+  pub lives : List (Life × Fate)
   pub handed : List (List Bool)
+
+abbrev pub lives_of : Book → List Life
+lives_of b = map (λ (x : Life × Fate). x.0) b.lives
+
+abbrev pub fates_of : Book → List Fate
+fates_of b = map (λ (x : Life × Fate). x.1) b.lives
+
+-- of a life that continues a log doesn't say whether somebody at its host has closed its end
+abbrev pub logged_fate : Fate → Fate
+logged_fate fate.Open = fate.Open
+logged_fate fate.Closing = fate.Open
+logged_fate fate.Closed = fate.Closed
+logged_fate fate.Ended = fate.Ended
+logged_fate fate.Reset = fate.Reset
+logged_fate fate.Stopped = fate.Stopped
+
+-- what a log says of lives with these fates
+abbrev pub logged_book : List Crossing → List Life → List (List Bool) → List Fate → Book
+logged_book crossings lives handed fates = record { crossings = crossings; lives = zip lives (map logged_fate fates); handed = handed }
 
 -- ---- lines
 
@@ -40,9 +62,18 @@ logged_line (crossing.Answer kind f) = codes "answer " ++ (answer_name kind ++ (
 logged_line (crossing.Down h) = crossing_line Texts (crossing.Down h)
 logged_line (crossing.Up h) = crossing_line Texts (crossing.Up h)
 
--- a life as `--book` prints it, and the octets of what it sent or took
-abbrev pub life_line : Life → List ℕ
-life_line x = life_text x ++ (codes " " ++ octets_text x.bits)
+-- the word for how far a life is, and how it ended
+abbrev pub fate_name : Fate → List ℕ
+fate_name fate.Open = codes "open"
+fate_name fate.Closing = codes "open"
+fate_name fate.Closed = codes "closed"
+fate_name fate.Ended = codes "ended"
+fate_name fate.Reset = codes "reset"
+fate_name fate.Stopped = codes "stopped"
+
+-- a life as `--book` prints it, but for that word, and the octets of what it sent or took
+abbrev pub life_line : Life × Fate → List ℕ
+life_line x = worded_life x.0 (fate_name x.1) ++ (codes " " ++ octets_text x.0.bits)
 
 -- how many bits were handed over in a life, and their octets
 abbrev pub handed_line : List Bool → List ℕ
@@ -88,9 +119,15 @@ pub record IsLife (x : Life) : Type 0 where
   pub granted : IsAmount x.granted
   pub returned : IsAmount x.returned
 
+-- a life with one of the fates that have a word of their own, which says whether it is over
+pub record IsLived (x : Life × Fate) : Type 0 where
+  pub life : IsLife x.0
+  pub logged : logged_fate x.1 ≡ x.1
+  pub over : x.0.ended ≡ is_over x.1
+
 pub record IsBook (b : Book) : Type 0 where
   pub crossings : All IsCrossing b.crossings
-  pub lives : All IsLife b.lives
+  pub lives : All IsLived b.lives
   pub handed : All IsHanded b.handed
 
 -- ---- reading

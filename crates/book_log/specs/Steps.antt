@@ -11,11 +11,13 @@ use Rattle.interface.specs.declared.crossing.Answer.{Answer}
 use Rattle.interface.specs.declared.crossing.Crossing.TheVariants as crossing
 use Rattle.interface.specs.declared.message.HostMessage.{HostMessage}
 use Rattle.promise.specs.declared.life.Amount.{Amount}
+use Rattle.promise.specs.Fates as fates
+use Rattle.promise.specs.declared.life.Fate.{Fate}
 use Rattle.promise.specs.declared.life.Life.{Life}
 use Rattle.script.specs.Spelling.{IsFlow, IsHost, octets_text}
 use Rattle.std.specs.declared.alloc.AllocError.{AllocError}
-use Rattle.world_replay.specs.Printed.{kind_text, state_text}
-use Rattle.book_log.specs.Log.{Book, IsAmount, IsCrossing, IsHanded, IsLife, answer_name, handed_line, life_line, logged_line}
+use Rattle.world_replay.specs.Printed.{kind_text}
+use Rattle.book_log.specs.Log.{Book, IsAmount, IsCrossing, IsHanded, IsLived, answer_name, fate_name, handed_line, life_line, logged_fate, logged_line}
 use Rattle.book_log.specs.declared.lines.Counts.{Counts}
 use Rattle.book_log.specs.declared.lines.Ends.{Ends}
 use Rattle.book_log.specs.declared.lines.Line.{Line}
@@ -89,21 +91,22 @@ handed_words bits = decimal (length bits) ∷ octets_text bits ∷ []
 abbrev pub amount_words : Amount → List (List ℕ)
 amount_words a = decimal a.messages ∷ decimal a.bits ∷ []
 
-abbrev pub life_words : Life → List (List ℕ)
+abbrev pub life_words : Life × Fate → List (List ℕ)
 life_words x =
-    host_text x.host ∷ decimal x.socket ∷ host_text x.peer ∷ decimal x.foreign ∷ decimal x.own_stamp ∷ decimal x.partner_stamp
-    ∷ kind_text x.socket ∷ decimal x.messages ∷ decimal (length x.bits) ∷ decimal x.granted.messages ∷ decimal x.granted.bits
-    ∷ decimal x.returned.messages ∷ decimal x.returned.bits ∷ state_text x.ended ∷ octets_text x.bits ∷ []
+    host_text x.0.host ∷ decimal x.0.socket ∷ host_text x.0.peer ∷ decimal x.0.foreign ∷ decimal x.0.own_stamp ∷ decimal x.0.partner_stamp
+    ∷ kind_text x.0.socket ∷ decimal x.0.messages ∷ decimal (length x.0.bits) ∷ decimal x.0.granted.messages ∷ decimal x.0.granted.bits
+    ∷ decimal x.0.returned.messages ∷ decimal x.0.returned.bits ∷ fate_name x.1 ∷ octets_text x.0.bits ∷ []
 
 abbrev pub host_words : Host → List (List ℕ)
 host_words h = host_text h ∷ []
 
--- every answer has a word, and so has every state of a life
+-- every answer has a word
 abbrev pub IsKind : Answer → Type 0
 IsKind kind = Unit {0}
 
-abbrev pub IsState : Bool → Type 0
-IsState ended = Unit {0}
+-- a fate that has a word of its own
+abbrev pub IsFate : Fate → Type 0
+IsFate f = logged_fate f ≡ f
 
 -- the words of a life, in three parts
 abbrev pub ends_words : Ends → List (List ℕ)
@@ -119,13 +122,14 @@ pub record AreEnds (e : Ends) : Type 0 where
   pub partner : e.partner_stamp < 2 ^ 64
 
 abbrev pub counts_words : Counts → List (List ℕ)
-counts_words k = decimal k.messages ∷ decimal k.bits ∷ amount_words k.granted ++ (amount_words k.returned ++ state_text k.ended ∷ [])
+counts_words k = decimal k.messages ∷ decimal k.bits ∷ amount_words k.granted ++ (amount_words k.returned ++ fate_name k.fate ∷ [])
 
 pub record AreCounts (k : Counts) : Type 0 where
   pub messages : k.messages < 2 ^ 128
   pub bits : k.bits < 2 ^ 64
   pub granted : IsAmount k.granted
   pub returned : IsAmount k.returned
+  pub fate : IsFate k.fate
 
 abbrev pub life_of : Ends → Counts → List Bool → Life
 life_of e k bits = record {
@@ -139,7 +143,7 @@ life_of e k bits = record {
   messages = k.messages;
   granted = k.granted;
   returned = k.returned;
-  ended = k.ended;
+  ended = fates.is_over k.fate;
 }
 
 -- the words of a line
@@ -149,7 +153,7 @@ line_words (line.Crossed (crossing.In m)) = codes "in" ∷ message_words m
 line_words (line.Crossed (crossing.Answer kind f)) = codes "answer" ∷ answer_words (kind, f)
 line_words (line.Crossed (crossing.Down h)) = codes "down" ∷ host_words h
 line_words (line.Crossed (crossing.Up h)) = codes "up" ∷ host_words h
-line_words (line.Lived x) = codes "life" ∷ life_words x
+line_words (line.Lived x f) = codes "life" ∷ life_words (x, f)
 line_words (line.Handed bits) = codes "handed" ∷ handed_words bits
 line_words line.End = codes "end" ∷ []
 
@@ -160,7 +164,7 @@ IsShort (line.Crossed (crossing.In m)) = ⊥
 IsShort (line.Crossed (crossing.Answer kind f)) = IsFlow f
 IsShort (line.Crossed (crossing.Down h)) = IsHost h
 IsShort (line.Crossed (crossing.Up h)) = IsHost h
-IsShort (line.Lived x) = ⊥
+IsShort (line.Lived x f) = ⊥
 IsShort (line.Handed bits) = ⊥
 IsShort line.End = Unit {0}
 
@@ -183,7 +187,7 @@ is_bare (x ∷ xs) = false
 -- a book with what a line describes at its end; none where the line may not be there
 abbrev pub added : Line → Book → Option Book
 added (line.Crossed c) b = if is_bare b.lives && is_bare b.handed then Some (record b { crossings = b.crossings ++ c ∷ [] }) else None
-added (line.Lived x) b = if is_bare b.handed then Some (record b { lives = b.lives ++ x ∷ [] }) else None
+added (line.Lived x f) b = if is_bare b.handed then Some (record b { lives = b.lives ++ (x, f) ∷ [] }) else None
 added (line.Handed bits) b = Some (record b { handed = b.handed ++ bits ∷ [] })
 added line.End b = None
 
@@ -196,12 +200,12 @@ Adds l old (Err e) new = Unit {0}
 
 abbrev pub line_text : Line → List ℕ
 line_text (line.Crossed c) = logged_line c
-line_text (line.Lived x) = life_line x
+line_text (line.Lived x f) = life_line (x, f)
 line_text (line.Handed bits) = handed_line bits
 line_text line.End = codes "end"
 
 abbrev pub IsLine : Line → Type 0
 IsLine (line.Crossed c) = IsCrossing c
-IsLine (line.Lived x) = IsLife x
+IsLine (line.Lived x f) = IsLived (x, f)
 IsLine (line.Handed bits) = IsHanded bits
 IsLine line.End = Unit {0}

@@ -1,29 +1,36 @@
 //! The book that a log describes.
 
-ghost use Rattle.std.specs.Prelude.{◌≡◌};
-ghost use Rattle.book_log.specs.Steps.{Adds, opening_book};
+ghost use Rattle.std.specs.Prelude.{◌≡◌, ◌∷◌, ◌++◌, [], OnOk};
+ghost use Rattle.book_log.specs.Log.{fates_of, lives_of};
+ghost use Rattle.book_log.specs.Steps.{Adds, is_bare, opening_book};
 
 use crate::lines::Line;
 use interface::Crossing;
 use net_sim::{BitLog, Life};
+use promise::Fate;
 use std::alloc::{AllocError, Global};
 use std::marker::Model;
 
-/// The book that a log describes: its crossings, the oldest first, its lives, and lists of bits that were handed over. A log may have
-/// more or fewer of these lists than lives.
+/// The book that a log describes: its crossings, the oldest first, its lives with their fates, and lists of bits that were handed over.
+/// A log may have more or fewer of these lists than lives.
 #[derive(Drop)]
 pub struct LoggedBook {
     crossings: Vec<Crossing>,
     lives: Vec<Life>,
+    /// As many as there are lives.
+    fates: Vec<Fate>,
     handed: Vec<BitLog>,
 }
 
 impl Model for LoggedBook {
+    ghost use Rattle.std.specs.Prelude.{◌≡◌, length, zip};
     ghost use Rattle.book_log.specs.Log.{Book};
 
     ghost Value = { Book };
 
-    ghost view = { λ b. record { crossings = b.crossings.items; lives = b.lives.items; handed = b.handed.items } };
+    ghost view = { λ b. record { crossings = b.crossings.items; lives = zip b.lives.items b.fates.items; handed = b.handed.items } };
+
+    ghost invariant = { λ b. length b.fates.items ≡ length b.lives.items };
 }
 
 impl LoggedBook {
@@ -34,6 +41,7 @@ impl LoggedBook {
         LoggedBook {
             crossings: Vec::new(alloc),
             lives: Vec::new(alloc),
+            fates: Vec::new(alloc),
             handed: Vec::new(alloc),
         }
     }
@@ -47,9 +55,16 @@ impl LoggedBook {
 
     /// Returns the lives of connections.
     pub fn lives(&self) -> &[Life]
-        ensures { result.now ≡ self.now.lives }
+        ensures { result.now ≡ lives_of self.now }
     {
         &self.lives
+    }
+
+    /// Returns the fates of these lives.
+    pub fn fates(&self) -> &[Fate]
+        ensures { result.now ≡ fates_of self.now }
+    {
+        &self.fates
     }
 
     /// Returns what was handed over to be sent.
@@ -67,13 +82,41 @@ impl LoggedBook {
         ensures { Adds line self.old result self.new }
     {
         match line {
-            Line::Crossed(crossing) if self.lives.is_empty() && self.handed.is_empty() => {
+            Line::Crossed(crossing) if self.has_no_life() && self.has_no_list() => {
                 self.crossings.push(crossing)?;
             }
-            Line::Lived(life) if self.handed.is_empty() => self.lives.push(life)?,
+            Line::Lived(life, fate) if self.has_no_list() => self.add_life(life, fate)?,
             Line::Handed(bits) => self.handed.push(bits)?,
-            Line::Crossed(_) | Line::Lived(_) | Line::End => return Ok(false),
+            Line::Crossed(_) | Line::Lived(_, _) | Line::End => return Ok(false),
         }
         Ok(true)
+    }
+
+    /// Puts a life with its fate at the end.
+    ///
+    /// Errors: `AllocError`.
+    fn add_life(&mut self, life: Life, fate: Fate) -> Result<(), AllocError>
+        ensures { OnOk result (self.new ≡ record self.old { lives = self.old.lives ++ (life, fate) ∷ [] }) }
+    {
+        self.fates.push(fate)?;
+        let Ok(()) = self.lives.push(life) else {
+            self.fates.pop();
+            return Err(AllocError);
+        };
+        Ok(())
+    }
+
+    /// Returns whether there is no life.
+    fn has_no_life(&self) -> bool
+        ensures { result ≡ is_bare self.now.lives }
+    {
+        self.lives().is_empty()
+    }
+
+    /// Returns whether there is no list.
+    fn has_no_list(&self) -> bool
+        ensures { result ≡ is_bare self.now.handed }
+    {
+        self.handed.is_empty()
     }
 }

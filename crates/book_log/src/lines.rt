@@ -1,16 +1,18 @@
 //! The lines of a log.
 
+ghost use Rattle.promise.specs.Fates.{is_over};
 ghost use Rattle.std.specs.Prelude.{◌≡◌, ◌↔◌, IfOk, IsTrue};
 ghost use Rattle.script.specs.Spelling.{IsHost, IsMessage, ReadsAs};
-ghost use Rattle.world_replay.specs.Printed.{kind_text, state_text};
-ghost use Rattle.book_log.specs.Log.{IsAmount, IsHanded, IsLife, answer_name};
-ghost use Rattle.book_log.specs.Steps.{AreCounts, AreEnds, IsAnswer, IsKind, IsLine, IsState, ReadsShort, ReadsWords, TakesWords, amount_words, answer_words, counts_words, ends_words, handed_words};
+ghost use Rattle.world_replay.specs.Printed.{kind_text};
+ghost use Rattle.book_log.specs.Log.{IsAmount, IsHanded, IsLived, answer_name, fate_name};
+ghost use Rattle.book_log.specs.Steps.{AreCounts, AreEnds, IsAnswer, IsFate, IsKind, IsLine, ReadsShort, ReadsWords, TakesWords, amount_words, answer_words, counts_words, ends_words, handed_words};
 ghost use Rattle.book_log.specs.Steps.{host_words, life_of, life_words, line_text, message_words, words_left};
 
 use crate::words::Words;
 use bit_messages::Bits;
 use interface::{Answer, Crossing, Flow, HostAddr, HostMessage, Text};
 use net_sim::{Amount, BitLog, Life};
+use promise::Fate;
 use std::alloc::{AllocError, Global};
 
 /// What a line of a log describes.
@@ -18,8 +20,8 @@ use std::alloc::{AllocError, Global};
 pub(crate) enum Line {
     /// What crossed.
     Crossed(Crossing),
-    /// A life.
-    Lived(Life),
+    /// A life, and how far it is.
+    Lived(Life, Fate),
     /// What was handed over in a life.
     Handed(BitLog),
     /// That nothing follows.
@@ -49,10 +51,10 @@ pub(crate) fn read_line(alloc: Global, line: &[u8]) -> Result<Option<Line>, Allo
         return Ok(Some(Line::Crossed(Crossing::In(message))));
     }
     if first == b"life".as_slice() {
-        let Some(life) = read_life(alloc, words)? else {
+        let Some((life, fate)) = read_life(alloc, words)? else {
             return Ok(None);
         };
-        return Ok(Some(Line::Lived(life)));
+        return Ok(Some(Line::Lived(life, fate)));
     }
     if first == b"handed".as_slice() {
         let Some(bits) = read_handed(alloc, words)? else {
@@ -177,21 +179,21 @@ pub(crate) struct Ends {
     pub partner_stamp: usize,
 }
 
-/// The counts of a life, and whether it has ended.
+/// The counts of a life, and how far it is.
 #[derive(Drop)]
 pub(crate) struct Counts {
     pub messages: u128,
     pub bits: usize,
     pub granted: Amount,
     pub returned: Amount,
-    pub ended: bool,
+    pub fate: Fate,
 }
 
-/// Reads `HOST SOCKET PEER FOREIGN OWN PARTNER KIND MESSAGES BITS GM GB RM RB STATE OCTETS`
+/// Reads `HOST SOCKET PEER FOREIGN OWN PARTNER KIND MESSAGES BITS GM GB RM RB FATE OCTETS`
 ///
 /// Errors: `AllocError`.
-fn read_life(alloc: Global, mut words: Words<'_>) -> Result<Option<Life>, AllocError>
-    ensures { IfOk result (ReadsWords life_words IsLife (words_left words.entry)) }
+fn read_life(alloc: Global, mut words: Words<'_>) -> Result<Option<(Life, Fate)>, AllocError>
+    ensures { IfOk result (ReadsWords life_words IsLived (words_left words.entry)) }
 {
     let Some(ends) = read_ends(&mut words) else {
         return Ok(None);
@@ -205,7 +207,9 @@ fn read_life(alloc: Global, mut words: Words<'_>) -> Result<Option<Life>, AllocE
     if !words.is_over() {
         return Ok(None);
     }
-    Ok(Some(life_of(ends, counts, BitLog::from_bits(alloc, bits))))
+    let fate = counts.fate;
+    let life = life_of(ends, counts, BitLog::from_bits(alloc, bits));
+    Ok(Some((life, fate)))
 }
 
 /// Returns the life with these ends, counts and bits.
@@ -223,7 +227,7 @@ fn life_of(ends: Ends, counts: Counts, bits: BitLog) -> Life
         messages: counts.messages,
         granted: counts.granted,
         returned: counts.returned,
-        ended: counts.ended,
+        ended: is_over(counts.fate),
     }
 }
 
@@ -262,7 +266,7 @@ fn is_kind(word: &[u8], socket: u32) -> bool
     }
 }
 
-/// Reads `MESSAGES BITS GM GB RM RB STATE`
+/// Reads `MESSAGES BITS GM GB RM RB FATE`
 fn read_counts(words: &mut Words<'_>) -> Option<Counts>
     ensures { TakesWords counts_words AreCounts (words_left words.old) result (words_left words.new) }
 {
@@ -271,13 +275,13 @@ fn read_counts(words: &mut Words<'_>) -> Option<Counts>
     let granted = read_amount(words)?;
     let returned = read_amount(words)?;
     let state = words.next()?;
-    let ended = read_state(state)?;
+    let fate = read_fate(state)?;
     Some(Counts {
         messages,
         bits,
         granted,
         returned,
-        ended,
+        fate,
     })
 }
 
@@ -290,15 +294,31 @@ fn read_amount(words: &mut Words<'_>) -> Option<Amount>
     Some(Amount { messages, bits })
 }
 
-/// Returns whether a word says that a life has ended.
-fn read_state(word: &[u8]) -> Option<bool>
-    ensures { ReadsAs state_text IsState word.now result }
+/// Returns the fate that a word names.
+fn read_fate(word: &[u8]) -> Option<Fate>
+    ensures { ReadsAs fate_name IsFate word.now result }
 {
-    if word == b"ended".as_slice() {
-        Some(true)
-    } else if word == b"open".as_slice() {
-        Some(false)
+    if word == b"open".as_slice() {
+        Some(Fate::Open)
+    } else if word == b"closed".as_slice() {
+        Some(Fate::Closed)
+    } else if word == b"ended".as_slice() {
+        Some(Fate::Ended)
+    } else if word == b"reset".as_slice() {
+        Some(Fate::Reset)
+    } else if word == b"stopped".as_slice() {
+        Some(Fate::Stopped)
     } else {
         None
+    }
+}
+
+/// Returns whether a life with this fate is over.
+fn is_over(fate: Fate) -> bool
+    ensures { result ≡ is_over fate }
+{
+    match fate {
+        Fate::Open | Fate::Closing => false,
+        Fate::Closed | Fate::Ended | Fate::Reset | Fate::Stopped => true,
     }
 }

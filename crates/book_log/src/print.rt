@@ -1,6 +1,6 @@
 //! Writing a log.
 
-ghost use Rattle.std.specs.Prelude.{◌≡◌, ◌∷◌, [], ◌+◌, ◌*◌, ◌/◌, ◌%◌, ◌<◌, ◌≤◌, OnOk, false, length, slice_index, slice_index_or};
+ghost use Rattle.std.specs.Prelude.{◌≡◌, ◌∷◌, [], ◌+◌, ◌*◌, ◌/◌, ◌%◌, ◌<◌, ◌≤◌, OnOk, false, length, slice_get, slice_index, slice_index_or, zip};
 ghost use Rattle.std.specs.Io.KnownBytes.{Appends};
 ghost use Rattle.bit_messages.specs.Octets.{bit_value, octets_of};
 ghost use Rattle.hex.specs.Hex.{encode_upper, upper_digits};
@@ -9,12 +9,14 @@ ghost use Rattle.replay.specs.InTurn.{text_of};
 ghost use Rattle.script.specs.Input.{ended_line};
 ghost use Rattle.script.specs.Spelling.{octets_text};
 ghost use Rattle.std.specs.List.{All};
-ghost use Rattle.book_log.specs.Log.{IsBook, IsCrossing, IsHanded, IsLife, handed_line, life_line, log_text, logged_line};
+ghost use Rattle.book_log.specs.Log.{IsBook, IsCrossing, IsHanded, IsLife, fate_name, handed_line, life_line, log_text, logged_book, logged_line};
 ghost use Rattle.book_log.specs.Steps.{octet_at};
+ghost use Rattle.promise.specs.Fates.{AreFated};
 
 use crate::ranges::{has_crossing_ranges, has_life_ranges, has_list_range};
 use interface::{Answer, Crossing};
 use net_sim::{BitLog, Life};
+use promise::Fate;
 use replay::{Detail, Output, WriteFailed, print_crossing};
 use std::fmt;
 use world_replay::LifeLine;
@@ -39,23 +41,25 @@ impl fmt::Display for AnswerName {
     }
 }
 
-/// Writes the log of a book: these crossings, the oldest first, these lives, and what was handed over in each. What is written is
-/// read again as this book, since the values of all three are in the ranges that a log describes (`valid`): their types have no others.
+/// Writes the log of a book: these crossings, the oldest first, these lives with their fates, and what was handed over in each. What is
+/// written is read again as this book where each fate says whether its life is over (`valid`): all values are in the ranges that a
+/// log describes, since their types have no others. A life without a fate isn't written.
 ///
 /// Errors: `WriteFailed`.
 pub fn print_log<W: Output>(
     crossings: &[Crossing],
     lives: &[Life],
     handed: &[BitLog],
+    fates: &[Fate],
     writer: &mut W,
 ) -> Result<(), WriteFailed>
     requires { W.failed writer.old ≡ false }
-    ensures written { OnOk result (Appends (W.contents writer.old) (W.contents writer.new) (log_text (record { crossings = crossings.now; lives = lives.now; handed = handed.now }))) }
-    ensures valid { OnOk result (IsBook (record { crossings = crossings.now; lives = lives.now; handed = handed.now })) }
+    ensures written { OnOk result (Appends (W.contents writer.old) (W.contents writer.new) (log_text (logged_book crossings.now lives.now handed.now fates.now))) }
+    ensures valid { OnOk result (AreFated lives.now fates.now → IsBook (logged_book crossings.now lives.now handed.now fates.now)) }
     ensures failed { TellsFailure result (W.failed writer.new) }
 {
     print_crossings(crossings, writer)?;
-    print_lives(lives, writer)?;
+    print_lives(lives, fates, writer)?;
     print_lists(handed, writer)?;
     writer.write_all(b"end\n")
 }
@@ -88,29 +92,53 @@ fn print_logged<W: Output>(crossing: &Crossing, writer: &mut W) -> Result<(), Wr
     }
 }
 
-/// Prints lives with their bits.
-fn print_lives<W: Output>(lives: &[Life], writer: &mut W) -> Result<(), WriteFailed>
+/// Prints lives with their fates and bits.
+fn print_lives<W: Output>(lives: &[Life], fates: &[Fate], writer: &mut W) -> Result<(), WriteFailed>
     requires { W.failed writer.old ≡ false }
-    ensures written { OnOk result (Appends (W.contents writer.old) (W.contents writer.new) (text_of life_line lives.now)) }
-    ensures valid { OnOk result (All IsLife lives.now) }
+    ensures written { OnOk result (Appends (W.contents writer.old) (W.contents writer.new) (text_of life_line (zip lives.now fates.now))) }
+    ensures valid { OnOk result (All (λ x. IsLife x.0) (zip lives.now fates.now)) }
     ensures failed { TellsFailure result (W.failed writer.new) }
 {
-    for life in lives {
+    for (place, life) in lives.iter().enumerate() {
+        let Some(fate) = fate_at(fates, place) else {
+            return Ok(());
+        };
         has_life_ranges(life);
-        print_life(life, writer)?;
+        print_life(life, fate, writer)?;
     }
     Ok(())
 }
 
-/// Prints a life with its bits.
-fn print_life<W: Output>(life: &Life, writer: &mut W) -> Result<(), WriteFailed>
+/// Returns the fate at a place.
+fn fate_at(fates: &[Fate], place: usize) -> Option<Fate>
+    ensures { result ≡ slice_get fates.now place }
+{
+    fates.get(place).copied()
+}
+
+/// Prints a life with its fate and bits.
+fn print_life<W: Output>(life: &Life, fate: Fate, writer: &mut W) -> Result<(), WriteFailed>
     requires { W.failed writer.old ≡ false }
-    ensures written { OnOk result (Appends (W.contents writer.old) (W.contents writer.new) (ended_line (life_line life.now))) }
+    ensures written { OnOk result (Appends (W.contents writer.old) (W.contents writer.new) (ended_line (life_line (life.now, fate)))) }
     ensures failed { TellsFailure result (W.failed writer.new) }
 {
-    write!(writer, "{} ", LifeLine(life))?;
+    let name = fate_name(fate);
+    write!(writer, "{} ", LifeLine(life, name))?;
     print_bits(&life.bits, writer)?;
     writer.write_all(b"\n")
+}
+
+/// Returns the word for how far a life is.
+fn fate_name(fate: Fate) -> &'static str
+    ensures { result.now ≡ fate_name fate }
+{
+    match fate {
+        Fate::Open | Fate::Closing => "open",
+        Fate::Closed => "closed",
+        Fate::Ended => "ended",
+        Fate::Reset => "reset",
+        Fate::Stopped => "stopped",
+    }
 }
 
 /// Prints lists of bits.

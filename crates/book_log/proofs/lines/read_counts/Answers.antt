@@ -19,5 +19,5 @@ returns-in_err-returned c = rw c.from_residual-in_err-returned.ensures (λ y res
 pub returns-in_err-state : goal.returns-in_err-state
 returns-in_err-state c = rw c.from_residual-in_err-state.ensures (λ y rest meant e. absurd (no_word c.in_err-state.ensures.0 (after_two c.in_ok-returned.ensures.0 (after_two c.in_ok-granted.ensures.0 (after c.in_ok-bits.ensures.0 (after c.in_ok-messages.ensures.0 e))))))
 
-pub returns-in_err-ended : goal.returns-in_err-ended
-returns-in_err-ended c = rw c.from_residual-in_err-ended.ensures (λ y rest meant e. c.in_err-ended.ensures y.ended tt (front c.in_ok-state.ensures (after_two c.in_ok-returned.ensures.0 (after_two c.in_ok-granted.ensures.0 (after c.in_ok-bits.ensures.0 (after c.in_ok-messages.ensures.0 e))))))
+pub returns-in_err-fate : goal.returns-in_err-fate
+returns-in_err-fate c = rw c.from_residual-in_err-fate.ensures (λ y rest meant e. c.in_err-fate.ensures y.fate meant.fate (front c.in_ok-state.ensures (after_two c.in_ok-returned.ensures.0 (after_two c.in_ok-granted.ensures.0 (after c.in_ok-bits.ensures.0 (after c.in_ok-messages.ensures.0 e))))))

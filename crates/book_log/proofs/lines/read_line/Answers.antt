@@ -37,7 +37,7 @@ pub returns-then-eq-3 : goal.returns-then-eq-3
 returns-then-eq-3 c =
     let is : c.in-Some.first.now ≡ codes "life" = search rules in
     let read = rw c.in-Some-4.is at c.in_ok-life.ensures in
-    (read_as c.args.line.now c.in-Some.first.now (words_left c.next.new.self) (line.Lived c.in-Some-4.life) (sym c.of-words.ensures ∙ c.in-Some.ensures) is read.0, read.1)
+    (read_as c.args.line.now c.in-Some.first.now (words_left c.next.new.self) (line.Lived c.in-Some-4.life c.in-Some-4.fate) (sym c.of-words.ensures ∙ c.in-Some.ensures) is read.0, read.1)
 
 pub returns-in_default-5 : goal.returns-in_default-5
 returns-in_default-5 c =

@@ -1,17 +1,29 @@
-use Rattle.std.proofs.Common.{subst}
-use Rattle.std.proofs.lemmas.List.Elements.{All-more}
-use Rattle.std.specs.Io.KnownBytes.{Appends}
-use Rattle.replay.proofs.lemmas.{text_more}
-use Rattle.script.specs.Input.{ended_line}
-use Rattle.promise.specs.declared.life.Life.{Life}
-use Rattle.book_log.specs.Log.{IsLife, life_line}
+use Rattle.std.proofs.Common.{arith, sym}
+use Rattle.book_log.proofs.Printed.{fates_end, pair_valid, pair_written, pairs_end, whole_valid, whole_written}
 use Rattle.book_log.proofs.print.print_lives.Goals as goal
 
-pub loop-life-preserved : goal.loop-life-preserved
-loop-life-preserved g c = (
-  text_more (life_line) c.args.lives.now c.loop-life.life-index c.life-item.result (g.W.Output.contents c.args.writer.now) (g.W.Output.contents c.loop-life.writer) (g.W.Output.contents c.print_life.new.writer)
-      c.loop-life-test.true c.loop-life.invariant.0
-      (subst (λ (x : Life). Appends (g.W.Output.contents c.loop-life.writer) (g.W.Output.contents c.print_life.new.writer) (ended_line (life_line x))) c.life-item.is c.in_ok-print_life.ensures.written),
+pub loop-place-preserved : goal.loop-place-preserved
+loop-place-preserved g c = (
+  pair_written c.args.lives.now c.args.fates.now c.loop-place.place c.index-lives-place.result c.in-Some.fate (g.W.Output.contents c.args.writer.now) (g.W.Output.contents c.loop-place.writer) (g.W.Output.contents c.print_life.new.writer)
+      c.loop-place-test.true c.index-lives-place.is (sym c.in-Some.ensures) c.loop-place.invariant.0 c.in_ok-print_life.ensures.written,
   c.in_ok-print_life.ensures.failed,
-  All-more IsLife c.args.lives.now c.loop-life.life-index c.life-item.result c.loop-life-test.true c.loop-life.invariant.2 (subst IsLife c.life-item.is c.has_life_ranges.ensures),
+  pair_valid c.args.lives.now c.args.fates.now c.loop-place.place c.index-lives-place.result c.in-Some.fate c.loop-place-test.true c.index-lives-place.is (sym c.in-Some.ensures) c.loop-place.invariant.2 c.has_life_ranges.ensures,
 )
+
+pub returns-in_default-clause-written : goal.returns-in_default-clause-written
+returns-in_default-clause-written g c =
+    whole_written c.args.lives.now c.args.fates.now c.loop-place.place (g.W.Output.contents c.args.writer.now) (g.W.Output.contents c.loop-place.writer)
+    (fates_end c.args.lives.now c.args.fates.now c.loop-place.place (sym c.in_default.ensures)) c.loop-place.invariant.0
+
+pub returns-in_default-clause-valid : goal.returns-in_default-clause-valid
+returns-in_default-clause-valid g c =
+    whole_valid c.args.lives.now c.args.fates.now c.loop-place.place (fates_end c.args.lives.now c.args.fates.now c.loop-place.place (sym c.in_default.ensures)) c.loop-place.invariant.2
+
+pub returns-clause-written : goal.returns-clause-written
+returns-clause-written g c =
+    whole_written c.args.lives.now c.args.fates.now c.loop-place.place (g.W.Output.contents c.args.writer.now) (g.W.Output.contents c.loop-place.writer)
+    (pairs_end c.args.lives.now c.args.fates.now c.loop-place.place (omega (arith, c.loop-place-test.false))) c.loop-place.invariant.0
+
+pub returns-clause-valid : goal.returns-clause-valid
+returns-clause-valid g c =
+    whole_valid c.args.lives.now c.args.fates.now c.loop-place.place (pairs_end c.args.lives.now c.args.fates.now c.loop-place.place (omega (arith, c.loop-place-test.false))) c.loop-place.invariant.2

@@ -1,9 +1,13 @@
 use Rattle.std.proofs.Common.{◌≡◌, false, take}
-use Rattle.std.specs.List.{All}
+use Rattle.std.specs.List.{All, zip}
 use Rattle.std.specs.Io.KnownBytes.{Appends}
+use Rattle.promise.specs.declared.life.Fate.{Fate}
+use Rattle.promise.specs.declared.life.Life.{Life}
 use Rattle.replay.specs.InTurn.{text_of}
 use Rattle.book_log.specs.Log.{IsLife, life_line}
 use Rattle.book_log.proofs.print.print_lives.Given as goal
 
-abbrev pub invariant-loop-life : goal.invariant-loop-life
-invariant-loop-life g l = Appends (g.W.Output.contents l.fn.writer) (g.W.Output.contents l.writer) (text_of life_line (take l.life-index l.lives)) × (g.W.Output.failed l.writer ≡ false) × All IsLife (take l.life-index l.lives)
+abbrev pub invariant-loop-place : goal.invariant-loop-place
+invariant-loop-place g l =
+    Appends (g.W.Output.contents l.fn.writer) (g.W.Output.contents l.writer) (text_of life_line (take l.place (zip l.lives l.fates))) × (g.W.Output.failed l.writer ≡ false)
+    × All (λ (p : Life × Fate). IsLife p.0) (take l.place (zip l.lives l.fates))
